@@ -1,0 +1,7 @@
+pub mod Faults
+pub mod FaultAt
+pub mod Meter
+pub mod Outcome
+pub mod Stopping
+pub mod Blame
+pub mod Each

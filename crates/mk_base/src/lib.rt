@@ -1,0 +1,14 @@
+//! What every crate of the make language shares: the kinds of fault, a fault with its place, the
+//! budget of an evaluation, and the one type by which work stops.
+#![tactic(auto)]
+
+mod faults;
+mod metering;
+mod stopping;
+
+pub use faults::{Fault, FaultKind};
+pub use metering::{Budget, QUESTIONS, UNITS};
+pub use stopping::Stop;
+
+#[cfg(test)]
+mod tests;

@@ -1,0 +1,3 @@
+pub mod TextMap
+pub mod PartLemmas
+pub mod ExpansionLemmas

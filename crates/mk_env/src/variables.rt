@@ -1,0 +1,68 @@
+ghost use Rattle.std.specs.Prelude.{◌≡◌, ◌∷◌, OnOk, OnErr, ◌↔◌, IsTrue, option_map, is_some};
+ghost use Rattle.std.specs.Option.{option_copied};
+ghost use Rattle.std.specs.FinMap as finite;
+
+use std::alloc::{AllocError, Global};
+use std::collections::BTreeMap;
+use std::marker::Model;
+
+/// The variables of a makefile: from each name that is defined to its text, which is kept as it was
+/// assigned and expanded where it is used.
+#[derive(Drop)]
+pub struct Env {
+    alloc: Global,
+    variables: BTreeMap<String, String>,
+}
+
+impl Model for Env {
+    ghost use Rattle.std.specs.Prelude.{List, ℕ};
+    ghost use Rattle.std.specs.Coded.{coded_ℕ, coded_list};
+    ghost use Rattle.std.specs.FinMap as finite;
+    ghost use Rattle.mk_env.specs.Texts.{Variables, texts_of};
+
+    ghost Value = { Variables };
+
+    ghost coded = { finite.code (coded_list coded_ℕ) (coded_list coded_ℕ) };
+
+    ghost view = { λ e. texts_of e.variables.entries };
+}
+
+impl Env {
+    /// No variable at all. It takes no memory.
+    pub fn new(alloc: Global) -> Env
+        ensures { result ≡ finite.empty }
+    {
+        Env {
+            alloc,
+            variables: BTreeMap::new(alloc),
+        }
+    }
+
+    /// Gives the variable this text, whatever it had. Without memory nothing changes.
+    pub fn set(&mut self, name: &str, text: &str) -> Result<(), AllocError>
+        ensures ok { OnOk result (self.new ≡ finite.insert self.old name.now text.now) }
+        ensures err { OnErr result (self.new ≡ self.old) }
+    {
+        let name = String::from_str(self.alloc, name)?;
+        let text = String::from_str(self.alloc, text)?;
+        self.variables.insert(name, text)?;
+        Ok(())
+    }
+
+    /// The variable's text as it was assigned; none where it isn't defined.
+    pub fn get(&self, name: &str) -> Option<&str>
+        ensures { option_copied result ≡ finite.get self.now name.now }
+    {
+        match self.variables.get(name) {
+            Some(text) => Some(text.as_str()),
+            None => None,
+        }
+    }
+
+    /// Whether the variable is defined.
+    pub fn defined(&self, name: &str) -> bool
+        ensures { result ≡ is_some (finite.get self.now name.now) }
+    {
+        self.variables.contains_key(name)
+    }
+}

@@ -1,0 +1,5 @@
+pub mod Expanded
+pub mod Lines
+pub mod Meaning
+pub mod Telling
+pub mod Deeds

@@ -1,0 +1,12 @@
+//! The meaning of makefiles: what variables one leaves, what it costs, or its first fault.
+#![tactic(auto)]
+
+mod evaluation;
+mod outcome;
+mod reading;
+
+pub use evaluation::{evaluate, value};
+pub use outcome::{Evaluated, Failed, Valued};
+
+#[cfg(test)]
+mod tests;

@@ -1,0 +1,73 @@
+ghost use Rattle.std.specs.Prelude.{◌≡◌, string_bytes};
+ghost use Rattle.mk_eval.specs.Telling as telling;
+
+use mk_base::{Fault, Stop};
+use mk_env::Env;
+use std::marker::Model;
+
+/// What a makefile leaves: its variables, and the units of work that it cost.
+#[derive(Drop)]
+pub struct Evaluated {
+    /// The variables, as they stand behind the last line.
+    pub env: Env,
+    /// The units spent.
+    pub cost: u64,
+}
+
+/// The first fault of a makefile, or of a value, and the units spent until there.
+#[derive(Debug, Drop)]
+pub struct Failed {
+    /// The fault, with its file and line.
+    pub fault: Fault,
+    /// The units spent.
+    pub cost: u64,
+}
+
+/// What the value of a variable expands to.
+#[derive(Debug, Drop)]
+pub struct Valued {
+    text: String,
+    cost: u64,
+}
+
+impl Model for Valued {
+    ghost use Rattle.std.specs.Prelude.{string_bytes};
+    ghost use Rattle.mk_eval.specs.Expanded.{Expanded};
+
+    ghost Value = { Expanded };
+
+    ghost view = { λ v. record { text = string_bytes v.text; cost = v.cost } };
+}
+
+impl Valued {
+    pub(crate) fn new(text: String, cost: u64) -> Valued
+        ensures { result ≡ record { text = string_bytes text; cost = cost } }
+    {
+        Valued { text, cost }
+    }
+
+    /// The text.
+    pub fn text(&self) -> &str
+        ensures { result.now ≡ self.now.text }
+    {
+        self.text.as_str()
+    }
+
+    /// The units spent, in a budget of the value's own.
+    pub fn cost(&self) -> u64
+        ensures { result ≡ self.now.cost }
+    {
+        self.cost
+    }
+}
+
+/// The stop, a fault being told with the units spent.
+pub(crate) fn with_cost(stop: Stop<Fault>, cost: u64) -> Stop<Failed>
+    ensures { result ≡ telling.with_cost cost stop }
+{
+    match stop {
+        Stop::Fault(fault) => Stop::Fault(Failed { fault, cost }),
+        Stop::Store => Stop::Store,
+        Stop::Memory => Stop::Memory,
+    }
+}

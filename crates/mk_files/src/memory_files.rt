@@ -1,0 +1,89 @@
+// A world of files kept in memory.
+ghost use Rattle.std.specs.Prelude.{◌≡◌, OnOk, OnErr};
+ghost use Rattle.std.specs.Option.{option_copied};
+ghost use Rattle.std.specs.FinMap as map;
+ghost use Rattle.mk_files.specs.Holding.{nothing, with_file, without_file, shelf_of};
+
+use crate::shared::Content;
+use crate::worlds::Files;
+use mk_paths::{FilesFault, Name, Names};
+use std::alloc::{AllocError, Global};
+use std::collections::BTreeMap;
+use std::marker::Model;
+
+/// A world of files in memory, which keeps no log. Clauses see its map and how many readings failed.
+#[derive(Debug, Drop)]
+pub struct MemoryFiles {
+    files: BTreeMap<String, Content>,
+    failures: u64,
+}
+
+impl Model for MemoryFiles {
+    ghost use Rattle.mk_files.specs.Holding.{Holding, holding_code, files_of};
+
+    ghost Value = { Holding };
+
+    ghost coded = { holding_code };
+
+    ghost view = { λ held. record { files = files_of held.files.entries; failures = held.failures } };
+}
+
+impl MemoryFiles {
+    /// No file at all. It takes no memory.
+    pub fn new(alloc: Global) -> MemoryFiles
+        ensures { result ≡ nothing }
+    {
+        MemoryFiles {
+            files: BTreeMap::new(alloc),
+            failures: 0,
+        }
+    }
+
+    /// Gives the file of this name this content, whether or not it was there. Without memory nothing
+    /// changes.
+    pub fn put(&mut self, name: Name, content: Content) -> Result<(), AllocError>
+        ensures ok { OnOk result (self.new ≡ with_file self.old name content) }
+        ensures err { OnErr result (self.new ≡ self.old) }
+    {
+        self.files.insert(name.into_text(), content)?;
+        Ok(())
+    }
+
+    /// Takes the file of this name away, and tells whether it was there.
+    pub fn remove(&mut self, name: &Name) -> bool
+        ensures was_there { result ≡ map.contains_key self.old.files name.now }
+        ensures removed { self.new ≡ without_file self.old name.now }
+    {
+        self.files.remove(name.as_str()).is_some()
+    }
+
+    /// The content of the file of this name; `None` where it isn't there.
+    pub fn get(&self, name: &Name) -> Option<&Content>
+        ensures { option_copied result ≡ map.get self.now.files name.now }
+    {
+        self.files.get(name.as_str())
+    }
+}
+
+impl Names for MemoryFiles {
+    ghost shelf = { shelf_of };
+
+    fn has(&mut self, name: &Name) -> Result<bool, FilesFault> {
+        Ok(self.files.contains_key(name.as_str()))
+    }
+}
+
+impl Files for MemoryFiles {
+    fn read(&mut self, name: &Name) -> Result<Option<Content>, FilesFault> {
+        let Some(content) = self.get(name) else {
+            return Ok(None);
+        };
+        match content.share() {
+            Ok(shared) => Ok(Some(shared)),
+            Err(_error) => {
+                self.failures = self.failures.saturating_add(1);
+                Err(FilesFault::Memory)
+            }
+        }
+    }
+}

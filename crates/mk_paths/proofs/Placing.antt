@@ -1,0 +1,112 @@
+-- The search for a directory's makefile, one tree after another.
+use Rattle.std.proofs.Common.{◌≡◌, ◌∙◌, sym, ap, refl, inl, inr, ℕ, Bool, true, false, cond, List, [], ◌∷◌, ◌++◌, map, Option, Some, None, append_assoc}
+use Rattle.std.proofs.lemmas.List.{append-nil}
+use Rattle.std.specs.List.{find, cons_option}
+use Rattle.std.specs.Option.{option_map}
+use Rattle.std.specs.Result.{result_ok}
+use Rattle.std.specs.FinMap.{contains_key}
+use Rattle.mk_paths.specs.FileName.{resolved}
+use Rattle.mk_paths.specs.World.{FileMap, Presence, Question, Shelf, Answers, Fails, noted, failed}
+use Rattle.mk_paths.specs.Place.{makefile_in, candidates, place, up_to_first, places_asked, AsksPlaces, StopsAsking}
+use Rattle.mk_paths.specs.declared.asking.FilesFault.{FilesFault}
+use Rattle.mk_paths.specs.declared.asking.FilesFault.TheVariants.{Memory}
+
+-- the search has these trees before it: what was asked, and what is to be asked and found, are those of all trees
+pub record IsUnderway (old now : Shelf) (trees all : List (List ℕ)) (directory : List ℕ) : Type 0 where
+  pub asked : List Question
+  pub state : now ≡ noted old asked
+  pub rest : asked ++ places_asked old.files trees directory ≡ places_asked old.files all directory
+  pub finds : place old.files trees directory ≡ place old.files all directory
+
+log_kept : (log : Option (List Question)) → option_map (λ questions. questions ++ []) log ≡ log
+log_kept None = refl
+log_kept (Some questions) = ap Some (append-nil questions)
+
+noted-nil : (world : Shelf) → noted world [] ≡ world
+noted-nil world = ap (λ log. record world { log = log }) (log_kept world.log)
+
+log_twice : (log : Option (List Question)) (first second : List Question) → option_map (λ questions. questions ++ second) (option_map (λ questions. questions ++ first) log) ≡ option_map (λ questions. questions ++ (first ++ second)) log
+log_twice None first second = refl
+log_twice (Some questions) first second = ap Some (append_assoc questions first second)
+
+noted-noted : (world : Shelf) (first second : List Question) → noted (noted world first) second ≡ noted world (first ++ second)
+noted-noted world first second = ap (λ log. record world { log = log }) (log_twice world.log first second)
+
+pub begins : (old : Shelf) (all : List (List ℕ)) (directory : List ℕ) → IsUnderway old old all all directory
+begins old all directory = record { asked = []; state = sym (noted-nil old); rest = refl; finds = refl }
+
+-- the candidates of the trees, the first tree's first
+module _ (files : FileMap) (tree : List ℕ) (trees : List (List ℕ)) (directory : List ℕ) where
+  no_candidate : result_ok (resolved (makefile_in tree directory)) ≡ None → candidates (tree ∷ trees) directory ≡ candidates trees directory
+  no_candidate none = ap (λ o. cons_option o (candidates trees directory)) none
+
+  one_candidate : (name : List ℕ) → result_ok (resolved (makefile_in tree directory)) ≡ Some name → candidates (tree ∷ trees) directory ≡ name ∷ candidates trees directory
+  one_candidate name some = ap (λ o. cons_option o (candidates trees directory)) some
+
+asked_of : FileMap → List (List ℕ) → List Question
+asked_of files names = map (λ name. (name, Presence (contains_key files name))) (up_to_first files names)
+
+-- an answer joins what was asked before
+asked_next : (old now new : Shelf) (asked : List Question) (name : List ℕ) (there : Bool) → now ≡ noted old asked → Answers now new name (Presence there)
+    → (there ≡ contains_key old.files name) × (new ≡ noted old (asked ++ (name, Presence there) ∷ []))
+asked_next old now new asked name there state answer = (
+  answer.0 ∙ ap (λ (world : Shelf). contains_key world.files name) state,
+  answer.1 ∙ ap (λ world. noted world ((name, Presence there) ∷ [])) state ∙ noted-noted old asked ((name, Presence there) ∷ []),
+)
+
+-- what is asked, and found, from a name on
+asked_from : (files : FileMap) (name : List ℕ) (names : List (List ℕ)) (there : Bool) → there ≡ contains_key files name
+    → asked_of files (name ∷ names) ≡ (name, Presence there) ∷ asked_of files (cond there [] names)
+unfolding asked_of
+asked_from files name names true is = ap (λ b. (name, Presence b) ∷ map (λ n. (n, Presence (contains_key files n))) (cond b [] (up_to_first files names))) (sym is)
+asked_from files name names false is = ap (λ b. (name, Presence b) ∷ map (λ n. (n, Presence (contains_key files n))) (cond b [] (up_to_first files names))) (sym is)
+
+found_from : (files : FileMap) (name : List ℕ) (names : List (List ℕ)) (there : Bool) → there ≡ contains_key files name
+    → find (contains_key files) (name ∷ names) ≡ cond there (Some name) (find (contains_key files) names)
+found_from files name names there is = ap (λ b. cond b (Some name) (find (contains_key files) names)) (sym is)
+
+pub passes : {old now : Shelf} {all : List (List ℕ)} (tree : List ℕ) (trees : List (List ℕ)) (directory : List ℕ) → result_ok (resolved (makefile_in tree directory)) ≡ None → IsUnderway old now (tree ∷ trees) all directory → IsUnderway old now trees all directory
+unfolding asked_of
+passes {old} {now} {all} tree trees directory none h =
+    let same = no_candidate old.files tree trees directory none in
+    record {
+      asked = h.asked;
+      state = h.state;
+      rest = ap (λ names. h.asked ++ asked_of old.files names) (sym same) ∙ h.rest;
+      finds = ap (find (contains_key old.files)) (sym same) ∙ h.finds;
+    }
+
+pub misses : {old now new : Shelf} {all : List (List ℕ)} (tree : List ℕ) (trees : List (List ℕ)) (directory name : List ℕ) → result_ok (resolved (makefile_in tree directory)) ≡ Some name → Answers now new name (Presence false)
+    → IsUnderway old now (tree ∷ trees) all directory → IsUnderway old new trees all directory
+unfolding asked_of
+misses {old} {now} {new} {all} tree trees directory name some answer h =
+    let one = one_candidate old.files tree trees directory name some in
+    let names = candidates trees directory in
+    let next = asked_next old now new h.asked name false h.state answer in
+    record {
+      asked = h.asked ++ (name, Presence false) ∷ [];
+      state = next.1;
+      rest = append_assoc h.asked ((name, Presence false) ∷ []) (asked_of old.files names)
+          ∙ ap (λ more. h.asked ++ more) (sym (ap (asked_of old.files) one ∙ asked_from old.files name names false next.0)) ∙ h.rest;
+      finds = sym (ap (find (contains_key old.files)) one ∙ found_from old.files name names false next.0) ∙ h.finds;
+    }
+
+pub hits : {old now new : Shelf} {all : List (List ℕ)} (tree : List ℕ) (trees : List (List ℕ)) (directory name : List ℕ) → result_ok (resolved (makefile_in tree directory)) ≡ Some name → Answers now new name (Presence true)
+    → IsUnderway old now (tree ∷ trees) all directory → (Some name ≡ place old.files all directory) × AsksPlaces old new all directory
+unfolding asked_of
+hits {old} {now} {new} {all} tree trees directory name some answer h =
+    let one = one_candidate old.files tree trees directory name some in
+    let names = candidates trees directory in
+    let next = asked_next old now new h.asked name true h.state answer in (
+      sym (ap (find (contains_key old.files)) one ∙ found_from old.files name names true next.0) ∙ h.finds,
+      next.1 ∙ ap (noted old) (ap (λ more. h.asked ++ more) (sym (ap (asked_of old.files) one ∙ asked_from old.files name names true next.0)) ∙ h.rest),
+    )
+
+pub ends : {old now : Shelf} {all : List (List ℕ)} (directory : List ℕ) → IsUnderway old now [] all directory → (None ≡ place old.files all directory) × AsksPlaces old now all directory
+ends {old} {now} {all} directory h = (h.finds, h.state ∙ ap (noted old) (sym (append-nil h.asked) ∙ h.rest))
+
+pub stops : {old now new : Shelf} {all trees : List (List ℕ)} {directory : List ℕ} (fault : FilesFault) → Fails now new → IsUnderway old now trees all directory → StopsAsking old new all directory fault
+stops {old} {now} {new} {all} {trees} {directory} fault fails h = (h.asked, places_asked old.files trees directory, sym h.rest, inl (fails ∙ ap failed h.state))
+
+pub starves : {old now : Shelf} {all trees : List (List ℕ)} {directory : List ℕ} (fault : FilesFault) → fault ≡ Memory → IsUnderway old now trees all directory → StopsAsking old now all directory fault
+starves {old} {now} {all} {trees} {directory} fault is h = (h.asked, places_asked old.files trees directory, sym h.rest, inr (is, h.state))

@@ -1,0 +1,8 @@
+-- The text so far is the parts up to here, each behind a slash.
+use Rattle.std.proofs.Common.{◌≡◌, take}
+use Rattle.std.specs.String.{string_bytes}
+use Rattle.mk_paths.specs.FileName.{joined, now_all}
+use Rattle.mk_paths.proofs.file_name.join.Given as goal
+
+abbrev pub invariant-loop-part : goal.invariant-loop-part
+invariant-loop-part l = string_bytes l.text ≡ joined (now_all (take l.part-index l.parts))

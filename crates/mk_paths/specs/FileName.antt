@@ -1,0 +1,60 @@
+-- What file a name stands for: names of files in ports trees, as in /ports/editors/vim/Makefile (ports(7)).
+use Rattle.std.specs.Prelude.{◌≡◌, ℕ, ◌-◌, ◌==◌, nat_le, ◌&&◌, ◌||◌, if◌then◌else◌, Bool, List, [], ◌∷◌, ◌++◌, map, length, take, Option, Some, None, Result, Ok, Err, option_and_then, codes, slice_index}
+use Rattle.std.specs.List.{slice_split, flat_map, list_all}
+use Rattle.std.specs.Str.{bytes_eq}
+use Rattle.std.specs.Borrow.{Bor}
+use Rattle.mk_paths.specs.declared.file_name.NameFault.{NameFault}
+use Rattle.mk_paths.specs.declared.file_name.NameFault.TheVariants.{BadName, Above}
+
+-- the byte `/`
+abbrev pub slash : ℕ
+slash = 47
+
+-- a byte of a file name: printable ASCII, and no blank
+abbrev pub is_plain : ℕ → Bool
+is_plain byte = nat_le 33 byte && nat_le byte 126
+
+-- the parts of a name, which slashes separate
+abbrev pub parts_of : List ℕ → List (List ℕ)
+parts_of text = slice_split (λ byte. byte == slash) text
+
+-- the parts without the last, where there is one
+abbrev pub without_last : List (List ℕ) → Option (List (List ℕ))
+without_last kept = if length kept == 0 then None else Some (take (length kept - 1) kept)
+
+-- the parts kept so far, with the next: an empty part and `.` add nothing, and `..` removes the part before it
+abbrev pub with_part : List (List ℕ) → List ℕ → Option (List (List ℕ))
+with_part kept part =
+    if bytes_eq part [] || bytes_eq part (codes ".") then Some kept
+    else if bytes_eq part (codes "..") then without_last kept
+    else Some (kept ++ part ∷ [])
+
+-- the parts kept so far, with all that come; none where a `..` has no part before it
+unfoldable pub kept_parts : List (List ℕ) → List (List ℕ) → Option (List (List ℕ))
+kept_parts kept [] = Some kept
+kept_parts kept (part ∷ more) = option_and_then (λ next. kept_parts next more) (with_part kept part)
+
+-- each part behind a slash
+abbrev pub joined : List (List ℕ) → List ℕ
+joined parts = flat_map (λ part. slash ∷ part) parts
+
+-- the name of the parts, of which there are two or more, in 255 bytes at most
+abbrev pub name_of : Option (List (List ℕ)) → Result (List ℕ) NameFault
+name_of None = Err Above
+name_of (Some parts) = if nat_le 2 (length parts) && nat_le (length (joined parts)) 255 then Ok (joined parts) else Err BadName
+
+-- the file that a text names: a slash comes first, and each byte is plain
+abbrev pub resolved : List ℕ → Result (List ℕ) NameFault
+resolved text = if slice_index text 0 == slash && list_all is_plain text then name_of (kept_parts [] (parts_of text)) else Err BadName
+
+-- the name of a file that a makefile in a directory means: an absolute name stands as it is
+abbrev pub name_under : List ℕ → List ℕ → List ℕ
+name_under directory file = if slice_index file 0 == slash then file else directory ++ slash ∷ file
+
+-- a name that is its own resolved name
+pub record IsResolved (name : List ℕ) : Type 0 where
+  pub itself : resolved name ≡ Ok name
+
+-- what texts behind references are
+abbrev pub now_all : List (Bor (List ℕ)) → List (List ℕ)
+now_all texts = map (λ text. text.now) texts

@@ -1,0 +1,4 @@
+pub mod FileName
+pub mod World
+pub mod SearchPath
+pub mod Place

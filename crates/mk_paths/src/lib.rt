@@ -1,0 +1,15 @@
+//! File names, the search path of ports trees, and the place of a directory's makefile (ports(7)).
+#![tactic(auto)]
+
+mod asking;
+mod file_name;
+mod places;
+mod search_path;
+
+pub use asking::{FilesFault, Names};
+pub use file_name::{Name, NameFault};
+pub use places::find;
+pub use search_path::{PathFault, SearchPath, Settings};
+
+#[cfg(test)]
+mod tests;

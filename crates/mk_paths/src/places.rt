@@ -1,0 +1,54 @@
+// Where a directory's makefile is.
+ghost use Rattle.std.specs.Prelude.{◌≡◌, IfOk, IfErr, OnOk};
+ghost use Rattle.std.specs.Result.{result_ok};
+ghost use Rattle.mk_paths.specs.FileName.{resolved};
+ghost use Rattle.mk_paths.specs.Place.{place, makefile_in, AsksPlaces, StopsAsking};
+
+use crate::asking::{FilesFault, Names};
+use crate::file_name::{Name, NameFault};
+use crate::search_path::SearchPath;
+use std::alloc::{AllocError, Global};
+
+/// The name of a directory's makefile in the first tree of the search path that has it, as in
+/// `/ports/editors/vim/Makefile`; `None` where no tree has it.
+///
+/// The trees are asked in their order, up to the first that has the makefile; a tree in which the text is no
+/// file name has none, and asks nothing. `Store` and `Memory` come from the files, which then count one more
+/// failure; `Memory` comes too where none is left for a name, and then nothing is counted.
+pub fn find<N: Names>(
+    alloc: Global,
+    names: &mut N,
+    path: &SearchPath,
+    directory: &str,
+) -> Result<Option<Name>, FilesFault>
+    ensures place { IfOk result (λ found. found ≡ place (N.shelf names.old).files path.now directory.now) }
+    ensures asked { OnOk result (AsksPlaces (N.shelf names.old) (N.shelf names.new) path.now directory.now) }
+    ensures fault { IfErr result (StopsAsking (N.shelf names.old) (N.shelf names.new) path.now directory.now) }
+{
+    let trees = path.trees();
+    for tree in trees {
+        let Some(name) = candidate(alloc, tree.as_str(), directory)? else {
+            continue;
+        };
+        let there = names.has(&name)?;
+        if there {
+            return Ok(Some(name));
+        }
+    }
+    Ok(None)
+}
+
+// The name of a directory's makefile in a tree, if the text is one.
+fn candidate(alloc: Global, tree: &str, directory: &str) -> Result<Option<Name>, AllocError>
+    ensures { IfOk result (λ name. name ≡ result_ok (resolved (makefile_in tree.now directory.now))) }
+{
+    let mut text = String::from_str(alloc, tree)?;
+    text.push_str("/")?;
+    text.push_str(directory)?;
+    text.push_str("/Makefile")?;
+    match Name::read(alloc, text.as_str()) {
+        Ok(name) => Ok(Some(name)),
+        Err(NameFault::Memory) => Err(AllocError),
+        Err(NameFault::BadName | NameFault::Above) => Ok(None),
+    }
+}

@@ -1,0 +1,157 @@
+// The ports trees that are searched for a port's directory.
+ghost use Rattle.std.specs.Prelude.{◌≡◌, IfOk, IsErrOf, map};
+ghost use Rattle.std.specs.List.{list_all};
+ghost use Rattle.std.specs.String.{string_bytes};
+ghost use Rattle.mk_paths.specs.SearchPath.{search_path, is_search_path, may_be_in_part, is_part, is_tree, trees_of, standard_trees, IsSearchPath};
+ghost use Rattle.mk_paths.specs.FileName.{now_all};
+ghost use Rattle.mk_paths.specs.declared.search_path.PathFault.TheVariants.{Memory};
+
+use crate::file_name::is_plain_byte;
+use std::alloc::{AllocError, Global};
+use std::marker::Model;
+
+/// The most trees of a search path.
+const MOST_TREES: usize = 8;
+
+/// Why a text is no search path.
+#[derive(Clone, Copy, Debug, PartialEq, Eq)]
+pub enum PathFault {
+    /// No tree or more than eight, or one that isn't a slash and one part.
+    BadPath,
+    /// No memory for the trees.
+    Memory,
+}
+
+impl From<AllocError> for PathFault {
+    ghost from_gives = { λ _ fault. fault ≡ Memory };
+
+    fn from(_failed: AllocError) -> PathFault {
+        PathFault::Memory
+    }
+}
+
+/// The trees that are searched for a port's directory, the first one first (PORTSDIR_PATH of
+/// bsd.port.mk(5)): one to eight, each `/name`. Clauses see the list of the trees' bytes.
+#[derive(Debug, Drop)]
+pub struct SearchPath {
+    trees: Vec<String>,
+}
+
+impl Model for SearchPath {
+    ghost use Rattle.std.specs.Prelude.{List, ℕ, map};
+    ghost use Rattle.std.specs.String.{string_bytes};
+    ghost use Rattle.mk_paths.specs.SearchPath.{IsSearchPath};
+
+    ghost Value = { List (List ℕ) };
+
+    ghost view = { λ path. map string_bytes path.trees.items };
+
+    ghost invariant = { λ path. IsSearchPath (map string_bytes path.trees.items) };
+}
+
+impl SearchPath {
+    /// The trees of a text, which colons separate: one to eight, each a slash and one part of printable ASCII
+    /// without blanks, which isn't `.` or `..` and has no slash or colon. A tree may be named again.
+    ///
+    /// Any other text is `BadPath`; `Memory` comes where none is left.
+    pub fn read(alloc: Global, text: &str) -> Result<SearchPath, PathFault>
+        ensures ok { IfOk result (λ path. search_path text.now ≡ Some path) }
+        ensures bad_path { IsErrOf result PathFault.BadPath → search_path text.now ≡ None }
+    {
+        let trees = split_at_colons(alloc, text)?;
+        if !is_path(&trees) {
+            return Err(PathFault::BadPath);
+        }
+        Ok(SearchPath {
+            trees: copies_of(alloc, &trees)?,
+        })
+    }
+
+    /// The path `/ports:/mystuff`, with which a tenant begins.
+    pub fn standard(alloc: Global) -> Result<SearchPath, AllocError>
+        ensures { IfOk result (λ path. path ≡ standard_trees) }
+    {
+        SearchPath::read(alloc, "/ports:/mystuff").map_err(|_| AllocError)
+    }
+
+    /// The trees, the first one searched first.
+    pub fn trees(&self) -> &[String]
+        ensures trees { map string_bytes result.now ≡ self.now }
+        ensures is_path { IsSearchPath self.now }
+    {
+        self.trees.as_slice()
+    }
+}
+
+/// What a world of files is read with: the search path of its ports.
+#[derive(Debug, Drop)]
+pub struct Settings {
+    /// The trees that are searched for a port's directory.
+    pub path: SearchPath,
+}
+
+// Whether the texts are one to eight trees.
+fn is_path(texts: &[&str]) -> bool
+    ensures { result ≡ is_search_path (now_all texts.now) }
+{
+    !texts.is_empty() && texts.len() <= MOST_TREES && are_trees(texts)
+}
+
+// Whether each text is a tree.
+fn are_trees(texts: &[&str]) -> bool
+    ensures { result ≡ list_all (λ text. is_tree text.now) texts.now }
+{
+    texts.iter().all(|text| is_tree_text(text))
+}
+
+// Whether a text is a slash and one part.
+fn is_tree_text(text: &str) -> bool
+    ensures { result ≡ is_tree text.now }
+{
+    match text.strip_prefix('/') {
+        Some(part) => is_part_text(part),
+        None => false,
+    }
+}
+
+// Whether a text is one part of a tree's name.
+fn is_part_text(part: &str) -> bool
+    ensures { result ≡ is_part part.now }
+{
+    match part {
+        "" | "." | ".." => false,
+        _ => has_part_bytes(part),
+    }
+}
+
+// Whether each byte may stand in the part of a tree's name.
+fn has_part_bytes(text: &str) -> bool
+    ensures { result ≡ list_all may_be_in_part text.now }
+{
+    text.bytes().all(|byte| is_part_byte(byte))
+}
+
+// Whether a byte may stand in the part of a tree's name.
+fn is_part_byte(byte: u8) -> bool
+    ensures { result ≡ may_be_in_part byte }
+{
+    is_plain_byte(byte) && byte != b'/' && byte != b':'
+}
+
+// The trees between the colons of a text.
+fn split_at_colons(alloc: Global, text: &str) -> Result<Vec<&str>, AllocError>
+    ensures { IfOk result (λ trees. now_all trees.items ≡ trees_of text.now) }
+{
+    text.split(':').collect(alloc)
+}
+
+// The same texts, each of its own.
+fn copies_of(alloc: Global, texts: &[&str]) -> Result<Vec<String>, AllocError>
+    ensures { IfOk result (λ copies. map string_bytes copies.items ≡ now_all texts.now) }
+{
+    let mut copies = Vec::with_capacity(alloc, texts.len())?;
+    for text in texts {
+        copies.push(String::from_str(alloc, text)?)?;
+    }
+    Ok(copies)
+}

@@ -1,0 +1,15 @@
+-- Blanks, as make(1) takes them around words: spaces and tabs.
+use Rattle.std.specs.Prelude.{ℕ, Bool, ◌==◌, ◌||◌, List, [], ◌∷◌, reverse, if◌then◌else◌}
+
+-- a blank is a space or a tab
+abbrev pub is_blank : ℕ → Bool
+is_blank b = b == 32 || b == 9
+
+-- a text without the blanks that it begins with
+abbrev pub skip_blanks : List ℕ → List ℕ
+skip_blanks [] = []
+skip_blanks (b ∷ rest) = if is_blank b then skip_blanks rest else b ∷ rest
+
+-- a text without the blanks at both its ends
+unfoldable pub trim_blanks : List ℕ → List ℕ
+trim_blanks text = reverse (skip_blanks (reverse (skip_blanks text)))

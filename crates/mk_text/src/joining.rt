@@ -1,0 +1,163 @@
+//! Logical lines: source lines joined where they end in a backslash.
+ghost use Rattle.std.specs.Prelude.{◌≡◌, ◌++◌, IfOk, string_bytes};
+ghost use Rattle.mk_text.specs.Lines.{goes_on, unmarked, continued, line_at, logical_lines};
+
+use crate::blanks::{skip_blanks, trim_blanks};
+use crate::comments::without_comment;
+use std::alloc::{AllocError, Global};
+use std::marker::Model;
+
+/// A logical line of a makefile: one or more source lines, joined and without their comment. A
+/// contract sees it as a `LogicalLine`.
+#[derive(Debug, Drop)]
+pub struct Logical {
+    text: String,
+    line: u64,
+    command: bool,
+}
+
+impl Model for Logical {
+    ghost use Rattle.std.specs.Prelude.{string_bytes};
+    ghost use Rattle.mk_text.specs.Lines.{LogicalLine};
+
+    ghost Value = { LogicalLine };
+
+    ghost view = { λ l. record { text = string_bytes l.text; line = l.line; command = l.command } };
+}
+
+impl Logical {
+    /// Its text: of a command line as it stands, the leading tab too; of any other without its
+    /// comment and without blanks at both its ends.
+    pub fn text(&self) -> &str
+        ensures { result.now ≡ self.now.text }
+    {
+        self.text.as_str()
+    }
+
+    /// The number of its first source line, counted from 1.
+    pub fn line(&self) -> u64
+        ensures { result ≡ self.now.line }
+    {
+        self.line
+    }
+
+    /// Whether it is a command line: one that begins with a tab.
+    pub fn is_command(&self) -> bool
+        ensures { result ≡ self.now.command }
+    {
+        self.command
+    }
+}
+
+/// The source lines of one logical line as far as they are read, joined.
+#[derive(Drop)]
+struct Run {
+    joined: String,
+    line: u64,
+}
+
+impl Run {
+    /// The run that begins with this source line, whose number is `line`.
+    fn begin(alloc: Global, piece: &str, line: u64) -> Result<Run, AllocError>
+        ensures text { IfOk result (λ run. string_bytes run.joined ≡ unmarked piece.now) }
+        ensures line { IfOk result (λ run. run.line ≡ line) }
+    {
+        Ok(Run {
+            joined: String::from_str(alloc, unmarked(piece))?,
+            line,
+        })
+    }
+
+    /// The run with one more source line.
+    fn with(mut self, piece: &str) -> Result<Run, AllocError>
+        ensures text { IfOk result (λ run.
+            string_bytes run.joined ≡ string_bytes self.joined ++ continued piece.now) }
+        ensures line { IfOk result (λ run. run.line ≡ self.line) }
+    {
+        self.joined.push(' ')?;
+        self.joined.push_str(unmarked(skip_blanks(piece)))?;
+        Ok(self)
+    }
+
+    /// The logical line of a whole run.
+    fn finish(self, alloc: Global) -> Result<Logical, AllocError>
+        ensures { IfOk result (λ logical. logical ≡ line_at self.line (string_bytes self.joined)) }
+    {
+        let Run { joined, line } = self;
+        if joined.as_str().starts_with('\t') {
+            return Ok(Logical {
+                text: joined,
+                line,
+                command: true,
+            });
+        }
+        let plain = without_comment(alloc, joined.as_str())?;
+        Ok(Logical {
+            text: String::from_str(alloc, trim_blanks(plain.as_str()))?,
+            line,
+            command: false,
+        })
+    }
+}
+
+/// Whether a source line goes on in the next: whether it ends in a backslash.
+fn goes_on(piece: &str) -> bool
+    ensures { result ≡ goes_on piece.now }
+{
+    piece.ends_with('\\')
+}
+
+/// A source line without the backslash at its end.
+fn unmarked(piece: &str) -> &str
+    ensures { result.now ≡ unmarked piece.now }
+{
+    match piece.strip_suffix('\\') {
+        Some(kept) => kept,
+        None => piece,
+    }
+}
+
+/// The logical lines of a makefile, blank ones too.
+///
+/// Source lines end at line feeds alone, and behind a last line feed stands one more, empty, source
+/// line: so there is always a logical line. A carriage return is an ordinary character.
+///
+/// A source line with a backslash as its last character is joined to the next. In place of the
+/// joint, from that backslash up to the first byte of the next source line that is no blank (space
+/// or tab), stands a single space; what the source line has before its backslash stays, blanks too.
+/// A backslash that is the last character of the whole text is left out.
+///
+/// Then, for each joined line: with a tab in front it is a command line, and nothing more is done to
+/// it. Else it ends before its first `#` that has no backslash directly before it, each `\#` in front
+/// of that stands for a plain `#`, and the blanks at both its ends are left out.
+///
+/// Each line has the number of its first source line, from 1. The time is linear in the length of
+/// `text`.
+///
+/// # Errors
+///
+/// `AllocError` where there is no memory for the lines.
+pub fn logical_lines(alloc: Global, text: &str) -> Result<Vec<Logical>, AllocError>
+    ensures { IfOk result (λ lines. lines.items ≡ logical_lines text.now) }
+{
+    let mut lines = Vec::new(alloc);
+    let mut open: Option<Run> = None;
+    let mut number: u64 = 0;
+    for piece in text.split('\n') {
+        number += 1;
+        let run = match open {
+            Some(run) => run.with(piece)?,
+            None => Run::begin(alloc, piece, number)?,
+        };
+        if goes_on(piece) {
+            open = Some(run);
+        } else {
+            lines.push(run.finish(alloc)?)?;
+            open = None;
+        }
+    }
+    if let Some(run) = open {
+        lines.push(run.finish(alloc)?)?;
+    }
+    Ok(lines)
+}

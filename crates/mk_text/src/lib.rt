@@ -1,0 +1,13 @@
+//! Logical lines and words of makefiles.
+#![tactic(auto)]
+
+mod blanks;
+mod comments;
+mod joining;
+mod splitting;
+#[cfg(test)]
+mod tests;
+
+pub use blanks::trim_blanks;
+pub use joining::{Logical, logical_lines};
+pub use splitting::{Span, words};
