@@ -1,0 +1,8 @@
+pub mod FixedReplies
+pub mod FieldLemmas
+pub mod ConnLemmas
+pub mod PutLemmas
+pub mod LengthLemmas
+pub mod StreamLemmas
+pub mod StreamLaws
+pub mod DecodeLemmas

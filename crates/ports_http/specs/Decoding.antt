@@ -1,0 +1,38 @@
+-- A whole stream, decoded piece by piece.
+use Rattle.std.specs.Prelude.{◌≡◌, ◌≢◌, ℕ, MatchBool, List, [], ◌∷◌, ◌++◌, if◌then◌else◌, Result, Ok, Err}
+use Rattle.ports_http.specs.declared.fault.HeadFault.{HeadFault}
+use Rattle.ports_http.specs.declared.stream.StreamEnd.{StreamEnd}
+use Rattle.ports_http.specs.declared.stream.StreamEnd.TheVariants as ends
+use Rattle.ports_http.specs.Messages.{RequestMessage}
+use Rattle.ports_http.specs.Streams.{End, waiting, refused, closed, Cuts, Begins, Waits}
+use Rattle.ports_http.specs.Incoming.{Incoming}
+
+-- how a stream ends, where these bytes are left
+abbrev pub end_of : StreamEnd → List ℕ → End
+end_of ends.Waiting unread = waiting unread
+end_of (ends.Refused fault) unread = refused fault
+end_of ends.Closed unread = closed
+
+-- the stream is these requests and this end, whatever bytes are left
+abbrev pub Decodes : List ℕ → List RequestMessage → StreamEnd → Type 0
+Decodes stream requests end = (unread : List ℕ) × Cuts stream requests (end_of end unread)
+
+-- the requests with one more
+abbrev pub with_found : List RequestMessage → Result RequestMessage HeadFault → List RequestMessage
+with_found requests (Ok request) = requests ++ request ∷ []
+with_found requests (Err fault) = requests
+
+-- the end that a request or a head refusal makes
+abbrev pub end_behind : Result RequestMessage HeadFault → StreamEnd
+end_behind (Ok request) = if request.close then ends.Closed else ends.Waiting
+end_behind (Err fault) = ends.Refused fault
+
+-- what is unread waits, or the stream is over
+abbrev pub IsSettled : Incoming → Type 0
+IsSettled incoming = MatchBool incoming.over (Unit {0}) (Waits incoming.unread)
+
+-- what was decoded so far: requests in front of what is unread, or the whole stream, which is over
+abbrev pub DecodedSoFar : List ℕ → Incoming → List RequestMessage → StreamEnd → Type 0
+DecodedSoFar stream incoming requests end =
+    MatchBool incoming.over ((end ≢ ends.Waiting) × Cuts stream requests (end_of end []))
+    ((end ≡ ends.Waiting) × Begins stream requests incoming.unread)

@@ -1,0 +1,14 @@
+pub mod Limits
+pub mod Messages
+pub mod Fields
+pub mod Heads
+pub mod Streams
+pub mod Incoming
+pub mod Replies
+pub mod Spans
+pub mod ConnView
+pub mod ReplyView
+pub mod RequestView
+pub mod Puts
+pub mod Laws
+pub mod Decoding

@@ -1,0 +1,102 @@
+-- The bytes of a reply (RFC 9112, sections 2 to 4), and the fixed replies.
+use Rattle.std.specs.Prelude.{ℕ, ◌≤◌, Bool, List, [], ◌∷◌, ◌++◌, length, if◌then◌else◌, codes, decimal, Option, Some, None}
+use Rattle.std.specs.List.{flat_map}
+use Rattle.ports_http.specs.declared.method.Method.{Method}
+use Rattle.ports_http.specs.declared.fault.HeadFault.{HeadFault}
+use Rattle.ports_http.specs.declared.fault.HeadFault.TheVariants as fault
+use Rattle.ports_http.specs.declared.reply.Status.{Status}
+use Rattle.ports_http.specs.declared.reply.Status.TheVariants as status
+use Rattle.ports_http.specs.declared.reply.Content.{Content}
+use Rattle.ports_http.specs.declared.reply.Content.TheVariants.{Json, Octets}
+use Rattle.ports_http.specs.Limits.{fixed_limit}
+use Rattle.ports_http.specs.Messages.{ReplyMessage}
+use Rattle.ports_http.specs.Heads.{method_text}
+
+-- a status code and its phrase
+abbrev pub status_text : Status → List ℕ
+status_text status.Success = codes "200 OK"
+status_text status.BadRequest = codes "400 Bad Request"
+status_text status.Forbidden = codes "403 Forbidden"
+status_text status.NotFound = codes "404 Not Found"
+status_text status.MethodNotAllowed = codes "405 Method Not Allowed"
+status_text status.Conflict = codes "409 Conflict"
+status_text status.LengthRequired = codes "411 Length Required"
+status_text status.PayloadTooLarge = codes "413 Payload Too Large"
+status_text status.UnprocessableEntity = codes "422 Unprocessable Entity"
+status_text status.HeaderFieldsTooLarge = codes "431 Request Header Fields Too Large"
+status_text status.NotImplemented = codes "501 Not Implemented"
+status_text status.ServiceUnavailable = codes "503 Service Unavailable"
+
+-- a line of a head
+abbrev pub line : List ℕ → List ℕ
+line text = text ++ codes "\r\n"
+
+-- the media type of a body
+abbrev pub content_text : Content → List ℕ
+content_text Json = codes "application/json"
+content_text Octets = codes "application/octet-stream"
+
+-- the Content-Type line, where there is a type
+abbrev pub content_line : Option Content → List ℕ
+content_line None = []
+content_line (Some content) = line (codes "Content-Type: " ++ content_text content)
+
+-- a method behind another one
+abbrev pub next_method : Method → List ℕ
+next_method method = codes ", " ++ method_text method
+
+-- the Allow line, where methods are allowed
+abbrev pub allow_line : List Method → List ℕ
+allow_line [] = []
+allow_line (method ∷ methods) = line (codes "Allow: " ++ method_text method ++ flat_map next_method methods)
+
+-- the Connection line, where the connection closes
+abbrev pub close_line : Bool → List ℕ
+close_line close = if close then line (codes "Connection: close") else []
+
+-- the head of a reply whose body has that many bytes
+abbrev pub reply_head : ReplyMessage → Bool → ℕ → List ℕ
+reply_head reply close size =
+    line (codes "HTTP/1.1 " ++ status_text reply.status)
+    ++ content_line reply.content
+    ++ line (codes "Content-Length: " ++ decimal size)
+    ++ allow_line reply.allow
+    ++ close_line close
+    ++ line []
+
+-- the bytes of a reply
+unfoldable pub reply_text : ReplyMessage → Bool → List ℕ
+reply_text reply close = reply_head reply close (length reply.body) ++ reply.body
+
+-- the status that answers a head refusal
+abbrev pub fault_status : HeadFault → Status
+fault_status fault.Malformed = status.BadRequest
+fault_status fault.HeadTooLarge = status.HeaderFieldsTooLarge
+fault_status fault.UnknownMethod = status.NotImplemented
+fault_status fault.TransferEncoding = status.NotImplemented
+fault_status fault.HostCount = status.BadRequest
+fault_status fault.ContentLength = status.BadRequest
+fault_status fault.LengthRequired = status.LengthRequired
+fault_status fault.BodyTooLarge = status.PayloadTooLarge
+
+-- the reply to a head refusal: no body
+abbrev pub fault_reply : HeadFault → ReplyMessage
+fault_reply fault = record { status = fault_status fault; body = []; content = None; allow = [] }
+
+-- the reply to a request without a known key
+abbrev pub unknown_key : ReplyMessage
+unknown_key =
+    record { status = status.Forbidden; body = codes "{\"error\":\"Key\"}"; content = Some Json; allow = [] }
+
+-- the reply where the store or the memory failed
+abbrev pub store_failed : ReplyMessage
+store_failed = record {
+  status = status.ServiceUnavailable;
+  body = codes "{\"error\":\"Store\"}";
+  content = Some Json;
+  allow = [];
+}
+
+-- the reply fits the bytes that are kept for a fixed one
+abbrev pub IsFixed : ReplyMessage → Bool → Type 0
+IsFixed reply close = length (reply_text reply close) ≤ fixed_limit

@@ -1,0 +1,190 @@
+//! The bytes of one connection that aren't taken yet.
+ghost use Rattle.std.specs.Prelude.{◌≡◌, ◌+◌, ◌≤◌, length, drop, vec_len, vec_capacity, IfOk, IfSome, IsUtf8, option_map};
+ghost use Rattle.httparse.specs.Spans.{IsWithin, span_bytes};
+ghost use Rattle.ports_http.specs.Incoming.{opening, ended, room_of, fed, passed, TakesOrLoses};
+ghost use Rattle.ports_http.specs.Spans.{message_at, IsWholeWithin};
+
+use crate::fault::HeadFault;
+use crate::first::{First, Whole, read_first};
+use crate::request::{Request, TakeError};
+use httparse::spans::Span;
+use std::alloc::{AllocError, Global};
+use std::marker::Model;
+use std::str;
+
+/// The most bytes that stand unread: a greatest head and a greatest body.
+const UNREAD_LIMIT: usize = 73_728;
+
+/// What is reserved. Bytes that were taken stay in front until the buffer is full; then the unread
+/// ones move to its front, which so costs no more than the bytes that were fed.
+const RESERVED: usize = 147_456;
+
+/// The bytes of one connection that aren't taken yet. A contract sees them as an `Incoming`: the
+/// unread bytes, and whether the stream is over.
+#[derive(Drop)]
+pub struct Conn {
+    buffer: Vec<u8>,
+    // where the unread bytes begin
+    start: usize,
+    // how many bytes are missing at least of the body that stands first
+    missing: usize,
+    over: bool,
+}
+
+impl Model for Conn {
+    ghost use Rattle.ports_http.specs.Incoming.{Incoming};
+
+    ghost Value = { Incoming };
+
+    ghost use Rattle.ports_http.specs.ConnView.{conn_view, IsConn};
+
+    ghost view = { conn_view };
+
+    ghost invariant = { IsConn };
+}
+
+impl Conn {
+    /// A connection that has just opened, with all its buffers reserved. Err: no memory.
+    pub fn new(alloc: Global) -> Result<Conn, AllocError>
+        ensures { IfOk result (λ conn. conn ≡ opening) }
+    {
+        Ok(Conn {
+            buffer: Vec::with_capacity(alloc, RESERVED)?,
+            start: 0,
+            missing: 0,
+            over: false,
+        })
+    }
+
+    /// How many bytes may be fed: 73,728 less those that stand unread, and none once it is over.
+    pub fn room(&self) -> usize
+        ensures { result ≡ room_of self.now }
+    {
+        if self.over {
+            return 0;
+        }
+        UNREAD_LIMIT - (self.buffer.len() - self.start)
+    }
+
+    /// Whether the stream is over: a request that closes or a head refusal was taken, or `close`
+    /// was called. Nothing more is taken then.
+    pub fn is_over(&self) -> bool
+        ensures { result ≡ self.now.over }
+    {
+        self.over
+    }
+
+    /// Puts the bytes behind those that stand unread. It takes no memory.
+    pub fn feed(&mut self, bytes: &[u8])
+        requires { length bytes.now ≤ room_of self.old }
+        ensures { self.new ≡ fed self.old bytes.now }
+    {
+        self.start = make_room(&mut self.buffer, self.start, bytes.len());
+        self.buffer.extend_from_slice(bytes).unwrap();
+        self.missing = self.missing.saturating_sub(bytes.len());
+    }
+
+    /// Ends the stream, and drops what stands unread.
+    pub fn close(&mut self)
+        ensures { self.new ≡ ended }
+    {
+        self.buffer.clear();
+        self.start = 0;
+        self.missing = 0;
+        self.over = true;
+    }
+
+    /// Passes over a request of that many bytes.
+    fn pass(&mut self, size: usize, close: bool)
+        requires { size ≤ length self.old.unread }
+        ensures { self.new ≡ passed self.old size close }
+    {
+        if close {
+            self.close();
+        } else {
+            self.start += size;
+            self.missing = 0;
+        }
+    }
+
+    /// Takes the request that stands first, or its head refusal, which ends the stream, as does a
+    /// request that closes. None: the stream is over, or no whole request stands there yet.
+    /// `TakeError::Memory`: there was no memory for the request, and its bytes are gone.
+    pub fn next_request(
+        &mut self,
+        alloc: Global,
+    ) -> Result<Option<Result<Request, HeadFault>>, TakeError>
+        ensures { TakesOrLoses self.old result self.new }
+    {
+        if self.over {
+            return Ok(None);
+        }
+        if self.missing > 0 {
+            return Ok(None);
+        }
+        let unread = &self.buffer[self.start..];
+        match read_first(unread) {
+            First::Waiting(missing) => {
+                self.missing = missing;
+                Ok(None)
+            }
+            First::Refused(fault) => {
+                self.close();
+                Ok(Some(Err(fault)))
+            }
+            First::Ready(whole) => {
+                let copied = request_at(alloc, unread, &whole);
+                self.pass(whole.body.end, whole.close);
+                match copied {
+                    Ok(request) => Ok(Some(Ok(request))),
+                    Err(_) => Err(TakeError::Memory { close: whole.close }),
+                }
+            }
+        }
+    }
+}
+
+/// Makes room for more bytes: where they don't fit behind, the bytes from `start` on move to the
+/// front. Where those begin then.
+fn make_room(buffer: &mut Vec<u8>, start: usize, more: usize) -> usize
+    requires start { start ≤ vec_len buffer.old }
+    requires fits { vec_len buffer.old + more ≤ vec_capacity buffer.old + start }
+    ensures kept { drop result buffer.new.items ≡ drop start buffer.old.items }
+    ensures start { result ≤ vec_len buffer.new }
+    ensures fits { vec_len buffer.new + more ≤ vec_capacity buffer.new }
+    ensures room { vec_capacity buffer.new ≡ vec_capacity buffer.old }
+{
+    if more <= buffer.capacity() - buffer.len() {
+        return start;
+    }
+    let left = buffer.len() - start;
+    buffer.rotate_left(start);
+    buffer.truncate(left);
+    0
+}
+
+/// The request whose parts stand there. Err: no memory.
+fn request_at(alloc: Global, unread: &[u8], whole: &Whole) -> Result<Request, AllocError>
+    requires within { IsWholeWithin unread.now whole.now }
+    requires text { IsUtf8 (span_bytes unread.now whole.now.target) }
+    ensures { IfOk result (λ request. request ≡ message_at unread.now whole.now) }
+{
+    let target = str::from_utf8(whole.target.of(unread)).unwrap();
+    Ok(Request {
+        method: whole.method,
+        target: String::from_str(alloc, target)?,
+        body: Vec::from_slice(alloc, whole.body.of(unread))?,
+        key: key_at(alloc, unread, whole.key)?,
+        close: whole.close,
+    })
+}
+
+fn key_at(alloc: Global, unread: &[u8], key: Option<Span>) -> Result<Option<Vec<u8>>, AllocError>
+    requires { IfSome key (IsWithin (length unread.now)) }
+    ensures { IfOk result (λ bytes. option_map (λ k. k.items) bytes ≡ option_map (span_bytes unread.now) key) }
+{
+    match key {
+        Some(span) => Ok(Some(Vec::from_slice(alloc, span.of(unread))?)),
+        None => Ok(None),
+    }
+}

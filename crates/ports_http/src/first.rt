@@ -1,0 +1,96 @@
+//! What stands first in the unread bytes.
+ghost use Rattle.std.specs.Prelude.{◌≡◌, ◌≤◌, ◌<◌, length, take, drop};
+ghost use Rattle.httparse.specs.Grammar.{RequestHead};
+ghost use Rattle.ports_http.specs.Limits.{head_limit};
+ghost use Rattle.ports_http.specs.Spans.{CoversHead, StandsFirst};
+
+use crate::announced::announced;
+use crate::fault::HeadFault;
+use crate::fields::{closes, key_of};
+use crate::method::Method;
+use httparse::spans::{EMPTY_HEADER_SPAN, HeaderSpan, RequestSpans, Span, parse_request};
+use httparse::{Error, Status};
+
+/// The most bytes of a head.
+const HEAD_LIMIT: usize = 8_192;
+
+/// The most field lines of a head.
+const FIELD_LIMIT: usize = 32;
+
+/// What stands first.
+pub(crate) enum First {
+    /// No whole request yet: so many bytes of a body are missing, or some of a head (0).
+    Waiting(usize),
+    Refused(HeadFault),
+    Ready(Whole),
+}
+
+/// A whole request: its method, where its parts are, and whether it closes. It ends where its body
+/// ends.
+#[derive(Clone, Copy)]
+pub(crate) struct Whole {
+    pub(crate) method: Method,
+    pub(crate) target: Span,
+    pub(crate) body: Span,
+    pub(crate) key: Option<Span>,
+    pub(crate) close: bool,
+}
+
+/// What stands first in the unread bytes.
+pub(crate) fn read_first(unread: &[u8]) -> First
+    ensures { StandsFirst unread.now result }
+{
+    let mut fields = [EMPTY_HEADER_SPAN; FIELD_LIMIT];
+    match parse_request(front(unread), &mut fields) {
+        Ok(Status::Complete(spans)) => behind_head(unread, &spans, &fields[..spans.headers]),
+        Ok(Status::Partial) => {
+            if unread.len() < HEAD_LIMIT {
+                First::Waiting(0)
+            } else {
+                First::Refused(HeadFault::HeadTooLarge)
+            }
+        }
+        Err(error) => match error {
+            Error::TooManyHeaders => First::Refused(HeadFault::HeadTooLarge),
+            _ => First::Refused(HeadFault::Malformed),
+        },
+    }
+}
+
+/// The bytes that a head may take.
+fn front(unread: &[u8]) -> &[u8]
+    ensures { result.now ≡ take head_limit unread.now }
+{
+    if unread.len() < HEAD_LIMIT {
+        unread
+    } else {
+        &unread[..HEAD_LIMIT]
+    }
+}
+
+/// What stands first, where a whole head does.
+fn behind_head(unread: &[u8], spans: &RequestSpans, fields: &[HeaderSpan]) -> First
+    requires { (head : RequestHead) × CoversHead unread.now spans.now fields.now head }
+    ensures { StandsFirst unread.now result }
+{
+    let word = spans.method.of(unread);
+    match announced(word, spans.version, unread, fields) {
+        Err(fault) => First::Refused(fault),
+        Ok((method, length)) => {
+            let come = unread.len() - spans.len;
+            if come < length {
+                return First::Waiting(length - come);
+            }
+            First::Ready(Whole {
+                method,
+                target: spans.path,
+                body: Span {
+                    start: spans.len,
+                    end: spans.len + length,
+                },
+                key: key_of(unread, fields),
+                close: closes(spans.version, unread, fields),
+            })
+        }
+    }
+}

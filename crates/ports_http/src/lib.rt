@@ -1,0 +1,27 @@
+//! HTTP/1.0 and 1.1 as a server of small requests speaks it: requests cut from the bytes of a
+//! connection, and the bytes of replies (RFC 9110, RFC 9112).
+//!
+//! Bodies have a Content-Length; transfer codings, trailers and `Expect` aren't read.
+#![tactic(auto)]
+
+mod announced;
+mod conn;
+mod fault;
+mod fields;
+mod first;
+pub mod laws;
+mod method;
+mod reply;
+mod request;
+mod stream;
+#[cfg(test)]
+mod tests;
+mod write;
+
+pub use conn::Conn;
+pub use fault::HeadFault;
+pub use method::Method;
+pub use reply::{Body, Content, Reply, Status};
+pub use request::{Request, TakeError};
+pub use stream::{Decoded, StreamEnd, decode};
+pub use write::{write_fixed, write_reply};

@@ -1,0 +1,42 @@
+//! The methods that are served.
+ghost use Rattle.std.specs.Prelude.{◌≡◌, Result, Ok, Err};
+ghost use Rattle.ports_http.specs.Heads.{method_text, method_named};
+
+use crate::fault::HeadFault;
+
+/// A method (RFC 9110, section 9). No other is served.
+#[derive(Clone, Copy, Debug, PartialEq, Eq)]
+pub enum Method {
+    Get,
+    Put,
+    Delete,
+}
+
+impl Method {
+    /// The method's word, as it stands in a head.
+    pub fn as_str(self) -> &'static str
+        ensures { result.now ≡ method_text self }
+    {
+        match self {
+            Method::Get => "GET",
+            Method::Put => "PUT",
+            Method::Delete => "DELETE",
+        }
+    }
+}
+
+/// The method of that word, in capitals; any other is `HeadFault::UnknownMethod`.
+#[tactic(auto, unfolding(crate::specs::Heads::method_named))]
+pub(crate) fn method_of(word: &[u8]) -> Result<Method, HeadFault>
+    ensures { result ≡ method_named word.now }
+{
+    if word == b"GET".as_slice() {
+        Ok(Method::Get)
+    } else if word == b"PUT".as_slice() {
+        Ok(Method::Put)
+    } else if word == b"DELETE".as_slice() {
+        Ok(Method::Delete)
+    } else {
+        Err(HeadFault::UnknownMethod)
+    }
+}

@@ -1,0 +1,172 @@
+//! Replies.
+ghost use Rattle.std.specs.Prelude.{◌≡◌, [], Bool, Option, Some, None};
+ghost use Rattle.ports_http.specs.Messages.{ReplyMessage};
+ghost use Rattle.ports_http.specs.Replies.{status_text, content_text, unknown_key, store_failed, IsFixed};
+
+use crate::method::Method;
+use std::marker::Model;
+
+/// A status code with its phrase (RFC 9110, section 15). No other is answered.
+#[derive(Clone, Copy, Debug, PartialEq, Eq)]
+pub enum Status {
+    Success,
+    BadRequest,
+    Forbidden,
+    NotFound,
+    MethodNotAllowed,
+    Conflict,
+    LengthRequired,
+    PayloadTooLarge,
+    UnprocessableEntity,
+    HeaderFieldsTooLarge,
+    NotImplemented,
+    ServiceUnavailable,
+}
+
+impl Status {
+    /// The code, a blank and the phrase, as in `200 OK`.
+    pub fn as_str(self) -> &'static str
+        ensures { result.now ≡ status_text self }
+    {
+        match self {
+            Status::Success => "200 OK",
+            Status::BadRequest => "400 Bad Request",
+            Status::Forbidden => "403 Forbidden",
+            Status::NotFound => "404 Not Found",
+            Status::MethodNotAllowed => "405 Method Not Allowed",
+            Status::Conflict => "409 Conflict",
+            Status::LengthRequired => "411 Length Required",
+            Status::PayloadTooLarge => "413 Payload Too Large",
+            Status::UnprocessableEntity => "422 Unprocessable Entity",
+            Status::HeaderFieldsTooLarge => "431 Request Header Fields Too Large",
+            Status::NotImplemented => "501 Not Implemented",
+            Status::ServiceUnavailable => "503 Service Unavailable",
+        }
+    }
+}
+
+/// The media type of a body.
+#[derive(Clone, Copy, Debug, PartialEq, Eq)]
+pub enum Content {
+    /// `application/json`
+    Json,
+    /// `application/octet-stream`
+    Octets,
+}
+
+impl Content {
+    /// The media type's name.
+    pub fn as_str(self) -> &'static str
+        ensures { result.now ≡ content_text self }
+    {
+        match self {
+            Content::Json => "application/json",
+            Content::Octets => "application/octet-stream",
+        }
+    }
+}
+
+/// The bytes of a reply's body. A fixed text takes no memory.
+#[derive(Drop)]
+pub enum Body {
+    Fixed(&'static str),
+    Owned(Vec<u8>),
+}
+
+/// A reply. A contract sees it as a `ReplyMessage`: the status, the bytes of the body, its media
+/// type, and the methods of its Allow field, none where there is no such field.
+#[derive(Drop)]
+pub struct Reply {
+    pub status: Status,
+    pub body: Body,
+    pub content: Option<Content>,
+    pub allow: &'static [Method],
+}
+
+impl Model for Reply {
+    ghost use Rattle.ports_http.specs.Messages.{ReplyMessage};
+
+    ghost Value = { ReplyMessage };
+
+    ghost use Rattle.ports_http.specs.ReplyView.{reply_view};
+
+    ghost view = { reply_view };
+}
+
+impl Reply {
+    /// A reply whose body is a text of the program's own, which takes no memory.
+    pub fn of_text(status: Status, content: Option<Content>, text: &'static str) -> Reply
+        ensures { result ≡ record { status = status; body = text.now; content = content; allow = [] } }
+    {
+        Reply {
+            status,
+            body: Body::Fixed(text),
+            content,
+            allow: &[],
+        }
+    }
+
+    /// A reply with these bytes as its body.
+    pub fn of_bytes(status: Status, content: Option<Content>, body: Vec<u8>) -> Reply
+        ensures { result ≡ record { status = status; body = body.items; content = content; allow = [] } }
+    {
+        Reply {
+            status,
+            body: Body::Owned(body),
+            content,
+            allow: &[],
+        }
+    }
+
+    /// The same reply with an Allow field of these methods.
+    pub fn with_allow(self, allow: &'static [Method]) -> Reply
+        ensures { result ≡ record self { allow = allow.now } }
+    {
+        let Reply {
+            status,
+            body,
+            content,
+            ..
+        } = self;
+        Reply {
+            status,
+            body,
+            content,
+            allow,
+        }
+    }
+
+    /// The reply to a request without a known key: 403 and `{"error":"Key"}`.
+    pub fn unknown_key() -> Reply
+        ensures value { result ≡ unknown_key }
+        ensures fixed { (close : Bool) → IsFixed result close }
+    {
+        Reply::of_text(
+            Status::Forbidden,
+            Some(Content::Json),
+            "{\"error\":\"Key\"}",
+        )
+    }
+
+    /// The reply where the store or the memory failed: 503 and `{"error":"Store"}`.
+    pub fn store_failed() -> Reply
+        ensures value { result ≡ store_failed }
+        ensures fixed { (close : Bool) → IsFixed result close }
+    {
+        Reply::of_text(
+            Status::ServiceUnavailable,
+            Some(Content::Json),
+            "{\"error\":\"Store\"}",
+        )
+    }
+
+    /// The bytes of the body.
+    pub fn body(&self) -> &[u8]
+        ensures { result.now ≡ self.now.body }
+    {
+        match &self.body {
+            Body::Fixed(text) => text.as_bytes(),
+            Body::Owned(bytes) => bytes.as_slice(),
+        }
+    }
+}

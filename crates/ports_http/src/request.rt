@@ -1,0 +1,50 @@
+//! Requests.
+use crate::method::Method;
+use std::error::Error;
+use std::fmt;
+use std::marker::Model;
+
+/// A request. A contract sees it as a `RequestMessage`.
+#[derive(Drop)]
+pub struct Request {
+    pub method: Method,
+    /// The request target as it stands in the head.
+    pub target: String,
+    /// The bytes that Content-Length announces; none without it.
+    pub body: Vec<u8>,
+    /// The value of `X-Ports-Key`, where there is exactly one.
+    pub key: Option<Vec<u8>>,
+    /// Whether the connection ends behind the request: with HTTP/1.0, or by `Connection: close`.
+    pub close: bool,
+}
+
+impl Model for Request {
+    ghost use Rattle.ports_http.specs.Messages.{RequestMessage};
+
+    ghost Value = { RequestMessage };
+
+    ghost use Rattle.ports_http.specs.RequestView.{request_view};
+
+    ghost view = { request_view };
+}
+
+/// Why no request could be handed out.
+#[derive(Clone, Copy, Debug, PartialEq, Eq)]
+pub enum TakeError {
+    /// There was no memory for the request. Its bytes are gone; `close` is what it said.
+    Memory { close: bool },
+}
+
+impl fmt::Display for TakeError {
+    ghost use Rattle.std.specs.Prelude.{Some, codes};
+
+    ghost output = { λ _. Some (codes "out of memory") };
+
+    fn fmt<W: fmt::Write>(&self, f: &mut fmt::Formatter<W>) -> fmt::Result {
+        match self {
+            TakeError::Memory { .. } => write!(f, "out of memory"),
+        }
+    }
+}
+
+impl Error for TakeError {}

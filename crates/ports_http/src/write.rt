@@ -1,0 +1,125 @@
+//! The bytes of replies.
+ghost use Rattle.std.specs.Prelude.{◌≡◌, ◌+◌, ◌≤◌, ◌<◌, [], ◌++◌, length, decimal, IfOk, OnOk, OnErr, vec_len, vec_capacity};
+ghost use Rattle.std.specs.List.{flat_map};
+ghost use Rattle.ports_http.specs.Limits.{fixed_limit};
+ghost use Rattle.ports_http.specs.Puts.{Puts};
+ghost use Rattle.ports_http.specs.Replies.{reply_text, reply_head, line, content_line, next_method, allow_line, close_line, status_text, IsFixed};
+
+use crate::method::Method;
+use crate::reply::{Content, Reply};
+use itoa::Buffer;
+use std::alloc::{AllocError, Global};
+
+/// The bytes of a reply, which says `Connection: close` where the connection closes behind it.
+/// Err: no memory.
+pub fn write_reply(alloc: Global, reply: &Reply, close: bool) -> Result<Vec<u8>, AllocError>
+    ensures { IfOk result (λ bytes. bytes.items ≡ reply_text reply.now close) }
+{
+    let mut out = Vec::new(alloc);
+    put_reply(reply, close, &mut out)?;
+    Ok(out)
+}
+
+/// The same bytes, put into an empty `Vec` that has room for a fixed reply. It takes no memory.
+pub fn write_fixed(reply: &Reply, close: bool, out: &mut Vec<u8>)
+    requires fixed { IsFixed reply.now close }
+    requires empty { out.old.items ≡ [] }
+    requires room { fixed_limit ≤ vec_capacity out.old }
+    ensures text { out.new.items ≡ reply_text reply.now close }
+    ensures kept { vec_capacity out.old ≤ vec_capacity out.new }
+{
+    put_reply(reply, close, out).unwrap();
+}
+
+/// Adds the bytes of a reply. An error comes only where the room was too small.
+#[tactic(auto, unfolding(crate::specs::Replies::reply_text))]
+fn put_reply(reply: &Reply, close: bool, out: &mut Vec<u8>) -> Result<(), AllocError>
+    ensures { Puts out.old (reply_text reply.now close) result out.new }
+{
+    let body = reply.body();
+    put_head(reply, close, body.len(), out)?;
+    out.extend_from_slice(body)?;
+    Ok(())
+}
+
+/// Adds all but the body, which has that many bytes.
+fn put_head(reply: &Reply, close: bool, size: usize, out: &mut Vec<u8>) -> Result<(), AllocError>
+    ensures { Puts out.old (reply_head reply.now close size) result out.new }
+{
+    put_line("HTTP/1.1 ", reply.status.as_str(), out)?;
+    put_content(reply.content, out)?;
+    put_line("Content-Length: ", Buffer::new().format(size), out)?;
+    put_allow(reply.allow, out)?;
+    put_close(close, out)?;
+    put_line("", "", out)
+}
+
+/// Adds the Content-Type line, where there is a type.
+fn put_content(content: Option<Content>, out: &mut Vec<u8>) -> Result<(), AllocError>
+    ensures { Puts out.old (content_line content) result out.new }
+{
+    match content {
+        Some(content) => put_line("Content-Type: ", content.as_str(), out),
+        None => Ok(()),
+    }
+}
+
+/// Adds the Connection line, where the connection closes.
+fn put_close(close: bool, out: &mut Vec<u8>) -> Result<(), AllocError>
+    ensures { Puts out.old (close_line close) result out.new }
+{
+    if close {
+        put_line("Connection: ", "close", out)
+    } else {
+        Ok(())
+    }
+}
+
+/// Adds the Allow line, where there are methods.
+fn put_allow(allow: &[Method], out: &mut Vec<u8>) -> Result<(), AllocError>
+    ensures { Puts out.old (allow_line allow.now) result out.new }
+{
+    match allow.split_first() {
+        None => Ok(()),
+        Some((first, more)) => {
+            put_text("Allow: ", out)?;
+            put_text(first.as_str(), out)?;
+            put_methods(more, out)?;
+            put_line("", "", out)
+        }
+    }
+}
+
+/// Adds each method after a comma and a blank.
+fn put_methods(methods: &[Method], out: &mut Vec<u8>) -> Result<(), AllocError>
+    ensures { Puts out.old (flat_map next_method methods.now) result out.new }
+{
+    for method in methods {
+        put_method(*method, out)?;
+    }
+    Ok(())
+}
+
+/// Adds a method after a comma and a blank.
+fn put_method(method: Method, out: &mut Vec<u8>) -> Result<(), AllocError>
+    ensures { Puts out.old (next_method method) result out.new }
+{
+    put_text(", ", out)?;
+    put_text(method.as_str(), out)
+}
+
+/// Adds a line of these two parts.
+fn put_line(name: &str, value: &str, out: &mut Vec<u8>) -> Result<(), AllocError>
+    ensures { Puts out.old (line (name.now ++ value.now)) result out.new }
+{
+    put_text(name, out)?;
+    put_text(value, out)?;
+    put_text("\r\n", out)
+}
+
+/// Adds a text.
+fn put_text(text: &str, out: &mut Vec<u8>) -> Result<(), AllocError>
+    ensures { Puts out.old text.now result out.new }
+{
+    out.extend_from_slice(text.as_bytes())
+}

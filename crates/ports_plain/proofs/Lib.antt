@@ -1,0 +1,4 @@
+mod Keeping
+mod LiteralRoutes
+mod RouteTable
+mod TargetLemmas

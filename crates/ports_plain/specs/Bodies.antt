@@ -1,0 +1,25 @@
+-- The bodies of replies: JSON values, the members of an object in the order of their names' bytes (RFC 8259).
+use Rattle.std.specs.Prelude.{ℕ, true, List, [], Option, is_some, unwrap_or, codes}
+use Rattle.serde_json.specs.Data.{Data, boolean, number, unsigned, string, object, no_members, member}
+
+-- `{"stored":true}`
+abbrev pub stored_body : Data
+stored_body = object (member (codes "stored") (boolean true) no_members)
+
+-- a refusal, by its word
+abbrev pub error_body : List ℕ → Data
+error_body word = object (member (codes "error") (string word) no_members)
+
+-- a fault of a makefile: the number of its kind, and the line and the file where it arose
+abbrev pub fault_body : ℕ → ℕ → List ℕ → Data
+fault_body kind line name =
+    object (member (codes "error") (string (codes "Fault"))
+    (member (codes "kind") (number (unsigned kind))
+    (member (codes "line") (number (unsigned line))
+    (member (codes "name") (string name) no_members))))
+
+-- a variable: whether it is defined, and its value, the empty text where it isn't
+abbrev pub variable_body : Option (List ℕ) → Data
+variable_body value =
+    object (member (codes "defined") (boolean (is_some value))
+    (member (codes "value") (string (unwrap_or value [])) no_members))

@@ -1,0 +1,9 @@
+pub mod Target
+pub mod Parameters
+pub mod Routes
+pub mod Directory
+pub mod Bodies
+pub mod Replies
+pub mod Plain
+pub mod Writing
+pub mod Refusing

@@ -1,0 +1,25 @@
+-- The path and the query of a request's target (RFC 9112, 3.2).
+use Rattle.std.specs.Prelude.{ℕ, ◌==◌, nat_eq, if◌then◌else◌, Bool, List, ◌∷◌, drop, length, codes}
+use Rattle.std.specs.List.{starts_with, before_first, after_first}
+
+abbrev pub is_slash : ℕ → Bool
+is_slash byte = byte == 47
+
+abbrev pub is_mark : ℕ → Bool
+is_mark byte = byte == 63
+
+-- what comes before the host of a target in absolute form
+abbrev pub scheme : List ℕ
+scheme = codes "http://"
+
+-- the target without scheme and host: a slash, and what follows the first slash behind the scheme
+abbrev pub local_part : List ℕ → List ℕ
+local_part target = if starts_with nat_eq target scheme then 47 ∷ after_first is_slash (drop (length scheme) target) else target
+
+-- the path ends at the first question mark, and stands as it is written
+abbrev pub path_of : List ℕ → List ℕ
+path_of target = before_first is_mark (local_part target)
+
+-- the query is what follows that mark, and empty where there is none
+abbrev pub query_of : List ℕ → List ℕ
+query_of target = after_first is_mark (local_part target)

@@ -1,0 +1,72 @@
+// The replies of the service.
+ghost use Rattle.std.specs.Prelude.{◌≡◌, IfOk, false};
+ghost use Rattle.std.specs.Option.{option_copied};
+ghost use Rattle.serde_json.specs.View.{view};
+ghost use Rattle.serde_json.specs.Written.{has_float};
+ghost use Rattle.ports_plain.specs.Replies.{json_reply as json_reply_of, refusal as refusal_of, not_allowed as not_allowed_on, methods_of, faulty as faulty_at, stored as stored_reply, variable as variable_reply};
+
+use crate::bodies;
+use crate::routing::Route;
+use mk_base::Fault;
+use ports_http::{Content, Method, Reply, Status};
+use serde_json::Value;
+use std::alloc::{AllocError, Global};
+
+// A reply with a JSON value.
+fn json_reply(alloc: Global, status: Status, value: &Value) -> Result<Reply, AllocError>
+    requires { has_float (view value.now) ≡ false }
+    ensures { IfOk result (λ reply. reply ≡ json_reply_of status (view value.now)) }
+{
+    let text = value.to_string(alloc)?;
+    Ok(Reply::of_bytes(status, Some(Content::Json), text.into_bytes()))
+}
+
+// A refusal, by its word.
+pub fn refusal(alloc: Global, status: Status, word: &str) -> Result<Reply, AllocError>
+    ensures { IfOk result (λ reply. reply ≡ refusal_of status word.now) }
+{
+    let body = bodies::error(alloc, word)?;
+    json_reply(alloc, status, &body)
+}
+
+// The methods of a route.
+fn methods_of_route(route: Route) -> &'static [Method]
+    ensures { result.now ≡ methods_of route }
+{
+    match route {
+        Route::File => &[Method::Put],
+        Route::Var => &[Method::Get],
+    }
+}
+
+// A method that the route doesn't have.
+pub fn not_allowed(alloc: Global, route: Route) -> Result<Reply, AllocError>
+    ensures { IfOk result (λ reply. reply ≡ not_allowed_on route) }
+{
+    let reply = refusal(alloc, Status::MethodNotAllowed, "Method")?;
+    Ok(reply.with_allow(methods_of_route(route)))
+}
+
+// A makefile at fault.
+pub fn faulty(alloc: Global, fault: &Fault) -> Result<Reply, AllocError>
+    ensures { IfOk result (λ reply. reply ≡ faulty_at fault.now) }
+{
+    let body = bodies::fault(alloc, fault.kind().number(), fault.line(), fault.name())?;
+    json_reply(alloc, Status::UnprocessableEntity, &body)
+}
+
+// A file was stored.
+pub fn stored(alloc: Global) -> Result<Reply, AllocError>
+    ensures { IfOk result (λ reply. reply ≡ stored_reply) }
+{
+    let body = bodies::stored(alloc)?;
+    json_reply(alloc, Status::Success, &body)
+}
+
+// The value of a variable, or that it isn't defined.
+pub fn variable(alloc: Global, value: Option<&str>) -> Result<Reply, AllocError>
+    ensures { IfOk result (λ reply. reply ≡ variable_reply (option_copied value.entry)) }
+{
+    let body = bodies::variable(alloc, value)?;
+    json_reply(alloc, Status::Success, &body)
+}

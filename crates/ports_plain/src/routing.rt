@@ -1,0 +1,51 @@
+// The routes of the service.
+ghost use Rattle.std.specs.Prelude.{◌≡◌, OnOk, Ok};
+ghost use Rattle.matchit.specs.Route.{parse_route};
+ghost use Rattle.matchit.specs.Router.{InsertsRead};
+ghost use Rattle.ports_plain.specs.Routes.{route_of, rows};
+
+use matchit::Router;
+use std::alloc::{AllocError, Global};
+
+/// What a path of the service stands for.
+#[derive(Clone, Copy, Debug, PartialEq, Eq)]
+pub enum Route {
+    /// `/v1/file`: one of the tenant's files.
+    File,
+    /// `/v1/var`: a variable of a port's makefile.
+    Var,
+}
+
+/// The routes of the service by their paths.
+#[derive(Drop)]
+pub struct Routes {
+    router: Router<Route>,
+    ghost fixed: { router ≡ rows },
+}
+
+impl Routes {
+    /// The routes, in the order of their paths' bytes. Its one error is want of memory.
+    pub fn new(alloc: Global) -> Result<Routes, AllocError> {
+        let mut router = Router::new(alloc);
+        add(&mut router, "/v1/file", Route::File)?;
+        add(&mut router, "/v1/var", Route::Var)?;
+        Ok(Routes { router })
+    }
+
+    /// The route of a path, which is compared as it is written; none where there is no such route.
+    pub fn find(&self, path: &str) -> Option<Route>
+        ensures { result ≡ route_of path.now }
+    {
+        match self.router.at(path) {
+            Ok(found) => Some(*found.value),
+            Err(_missing) => None,
+        }
+    }
+}
+
+// Adds a route that no earlier one hinders.
+fn add(router: &mut Router<Route>, path: &str, route: Route) -> Result<(), AllocError>
+    ensures { OnOk result (InsertsRead (parse_route path.now) route router.old router.new (Ok tt)) }
+{
+    router.insert(path, route).map_err(|_error| AllocError)
+}

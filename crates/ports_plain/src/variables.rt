@@ -1,0 +1,77 @@
+// The route of variables.
+ghost use Rattle.std.specs.Prelude.{◌≡◌, IfOk, codes};
+ghost use Rattle.mk_paths.specs.SearchPath.{standard_trees};
+ghost use Rattle.mk_eval.specs.Meaning.{means};
+ghost use Rattle.mk_eval.specs.Telling.{Tells};
+ghost use Rattle.ports_plain.specs.Plain.{get_variable as get_variable_of, valued, value_after};
+ghost use Rattle.ports_plain.specs.Parameters.{parameter as parameter_of};
+ghost use Rattle.ports_plain.specs.Refusing.{Keeps, KeepsOrStops};
+
+use crate::directory::is_directory;
+use crate::parameters::parameter;
+use crate::refused::Refused;
+use crate::replies::{faulty, refusal, variable};
+use mk_base::Stop;
+use mk_eval::{Failed, Valued, evaluate, value};
+use mk_files::MemoryFiles;
+use mk_paths::{Name, SearchPath, find};
+use ports_http::{Reply, Status};
+use std::alloc::Global;
+
+// The variable that the query names, of the directory that it names.
+pub fn get_variable(
+    alloc: Global,
+    files: &mut MemoryFiles,
+    trees: &SearchPath,
+    query: &str,
+) -> Result<Reply, Refused>
+    requires { trees.now ≡ standard_trees }
+    ensures ok { IfOk result (λ reply. reply ≡ get_variable_of files.old.files (parameter_of (codes "path") query.now) (parameter_of (codes "name") query.now)) }
+    ensures keeps { Keeps files.old files.new result }
+{
+    let path = parameter(alloc, query, "path")?;
+    let name = parameter(alloc, query, "name")?;
+    let (Some(path), Some(name)) = (path, name) else {
+        return Ok(refusal(alloc, Status::BadRequest, "Parameter")?);
+    };
+    if !is_directory(path.as_str()) {
+        return Ok(refusal(alloc, Status::BadRequest, "Path")?);
+    }
+    match find(alloc, files, trees, path.as_str())? {
+        Some(makefile) => variable_after_makefile(alloc, files, &makefile, name.as_str()),
+        None => Ok(refusal(alloc, Status::NotFound, "NoPort")?),
+    }
+}
+
+// The variable after the evaluation of a makefile.
+fn variable_after_makefile(
+    alloc: Global,
+    files: &mut MemoryFiles,
+    makefile: &Name,
+    name: &str,
+) -> Result<Reply, Refused>
+    ensures ok { IfOk result (λ reply. reply ≡ valued (value_after makefile.now name.now (means files.old.files makefile.now))) }
+    ensures keeps { Keeps files.old files.new result }
+{
+    match value_in(alloc, files, makefile, name) {
+        Ok(Some(known)) => Ok(variable(alloc, Some(known.text()))?),
+        Ok(None) => Ok(variable(alloc, None)?),
+        Err(Stop::Fault(failed)) => Ok(faulty(alloc, &failed.fault)?),
+        Err(Stop::Store) => Err(Refused::Store),
+        Err(Stop::Memory) => Err(Refused::Memory),
+    }
+}
+
+// The value of a variable after the evaluation of a makefile.
+fn value_in(
+    alloc: Global,
+    files: &mut MemoryFiles,
+    makefile: &Name,
+    name: &str,
+) -> Result<Option<Valued>, Stop<Failed>>
+    ensures value { Tells (λ value. value) result (value_after makefile.now name.now (means files.old.files makefile.now)) }
+    ensures keeps { KeepsOrStops files.old files.new result }
+{
+    let evaluated = evaluate(alloc, files, makefile)?;
+    value(alloc, &evaluated, makefile, name)
+}
