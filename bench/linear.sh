@@ -1,0 +1,51 @@
+#!/usr/bin/env bash
+# Shows that the time for a makefile, and for a script, grows with its size: times for sizes n, 2n and
+# 4n. Prints three lines for each, size and seconds; each should be about twice the one before.
+set -eu
+top=$(cd "$(dirname "$0")/.." && pwd)
+work=$(mktemp -d)
+trap 'rm -rf "$work"' EXIT
+"$top/run" --help >/dev/null
+
+# seconds FILE: of the best of three runs of the script
+seconds() {
+    for _ in 1 2 3; do
+        local from to
+        from=$(date +%s%N)
+        "$top/crates/portsd/out/portsd" replay alpha <"$1" >"$work/out"
+        to=$(date +%s%N)
+        echo $(((to - from) / 1000))
+    done | sort -n | head -1 | awk '{ printf "%.3f", $1 / 1000000 }'
+}
+
+# An upload of a file of one-letter assignments, and then so many times the value of a variable of it:
+# each is an evaluation of the whole file.
+makefile_script() {
+    local bytes=$1 asks=200 body
+    body=$(awk -v n=$((bytes / 4)) 'BEGIN { for (i = 0; i < n; i++) printf "%c=x\\n", 97 + i % 26 }')
+    echo "open 0"
+    echo "piece 0 PUT /v1/file?name=/ports/a/b/Makefile HTTP/1.1\\r\\nHost: x\\r\\nX-Ports-Key: alpha\\r\\nContent-Length: $((bytes / 4 * 4))\\r\\n\\r\\n$body"
+    echo "turn 0"
+    echo "wrote 0 all"
+    for _ in $(seq $asks); do
+        echo "piece 0 GET /v1/var?path=a/b&name=a HTTP/1.1\\r\\nHost: x\\r\\nX-Ports-Key: alpha\\r\\n\\r\\n"
+        echo "turn 0"
+        echo "wrote 0 all"
+    done
+}
+
+lines_script() {
+    echo "open 0"
+    awk -v n="$1" 'BEGIN { for (i = 1; i < n; i++) print "turn 0" }'
+}
+
+echo "a makefile of so many bytes, evaluated 200 times"
+for bytes in 16384 32768 65536; do
+    makefile_script $bytes >"$work/script"
+    echo "$bytes bytes  $(seconds "$work/script") s"
+done
+echo "a script of so many lines"
+for lines in 50000 100000 200000; do
+    lines_script $lines >"$work/script"
+    echo "$lines lines  $(seconds "$work/script") s"
+done

@@ -1,0 +1,12 @@
+mod Lists
+mod KeyLemmas
+mod TakingLemmas
+mod OpenedLemmas
+mod StepLemmas
+mod RunLemmas
+mod PlainAnswers
+mod Serving
+mod StepsServe
+mod RunsServe
+mod AlikeLemmas
+mod ChangeLemmas

@@ -1,0 +1,44 @@
+-- Places, writes and look-ups in lists.
+use Rattle.std.proofs.Common.{◌≡◌, ◌≢◌, ◌<◌, ℕ, zero, suc, ◌+◌, Bool, List, [], ◌∷◌, length, drop, take, ◌-◌, Some, refl, ap, cond, arith, length-drop}
+use Rattle.std.specs.Prelude.{map, replicate, slice_get, position, not, ◌||◌}
+use Rattle.std.specs.List.{prefix_len, list_any}
+use Rattle.std.proofs.Math.ListN.{set}
+use Rattle.std.proofs.Math.Seq.{take-length}
+
+-- a test of mapped elements
+pub prefix_len-map : {X Y : Type 0} (p : Y → Bool) (f : X → Y) (xs : List X) → prefix_len p (map f xs) ≡ prefix_len (λ x. p (f x)) xs
+prefix_len-map p f [] = refl
+prefix_len-map p f (x ∷ xs) = ap (λ n. cond (p (f x)) (1 + n) 0) (prefix_len-map p f xs)
+
+pub length-map : {X Y : Type 0} (f : X → Y) (xs : List X) → length (map f xs) ≡ length xs
+length-map f [] = refl
+length-map f (x ∷ xs) = ap suc (length-map f xs)
+
+pub position-map : {X Y : Type 0} (p : Y → Bool) (f : X → Y) (xs : List X) → position p (map f xs) ≡ position (λ x. p (f x)) xs
+position-map p f xs = rw (prefix_len-map (λ y. not (p y)) f xs, length-map f xs)
+
+pub list_any-map : {X Y : Type 0} (p : Y → Bool) (f : X → Y) (xs : List X) → list_any p (map f xs) ≡ list_any (λ x. p (f x)) xs
+list_any-map p f [] = refl
+list_any-map p f (x ∷ xs) = ap (λ b. p (f x) || b) (list_any-map p f xs)
+
+-- an element that is written
+pub slice_get-set_same : {X : Type 0} (xs : List X) (i : ℕ) (x : X) → i < length xs → slice_get (set xs i x) i ≡ Some x
+slice_get-set_same [] i x lt = absurd (omega arith)
+slice_get-set_same (y ∷ xs) zero x lt = refl
+slice_get-set_same (y ∷ xs) (suc i) x lt = slice_get-set_same xs i x (omega arith)
+
+pub slice_get-set_other : {X : Type 0} (xs : List X) (i j : ℕ) (x : X) → j ≢ i → slice_get (set xs i x) j ≡ slice_get xs j
+slice_get-set_other [] i j x ne = refl
+slice_get-set_other (y ∷ xs) zero zero x ne = absurd (ne refl)
+slice_get-set_other (y ∷ xs) zero (suc j) x ne = refl
+slice_get-set_other (y ∷ xs) (suc i) zero x ne = refl
+slice_get-set_other (y ∷ xs) (suc i) (suc j) x ne = slice_get-set_other xs i j x (λ e. ne (ap suc e))
+
+-- all that is left is taken
+pub take-rest : {X : Type 0} (n : ℕ) (xs : List X) → take (length xs - n) (drop n xs) ≡ drop n xs
+take-rest n xs = rw (← length-drop n xs) (take-length (drop n xs))
+
+-- the same value for each element
+pub map-same : {X Y : Type 0} (y : Y) (xs : List X) → map (λ x. y) xs ≡ replicate (length xs) y
+map-same y [] = refl
+map-same y (x ∷ xs) = ap (λ ys. y ∷ ys) (map-same y xs)

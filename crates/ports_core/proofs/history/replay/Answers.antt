@@ -1,0 +1,40 @@
+use Rattle.std.proofs.Common.{◌≡◌, refl, true, length, arith}
+use Rattle.std.proofs.lemmas.Option.{slice_get_read}
+use Rattle.ports_core.specs.declared.history.Step.{Step}
+use Rattle.ports_core.specs.Keys.{key_texts}
+use Rattle.ports_core.specs.State.{new_state}
+use Rattle.ports_core.proofs.KeyLemmas.{length_texts}
+use Rattle.ports_core.proofs.RunsServe.{run_plainly}
+use Rattle.ports_core.proofs.RunLemmas.{run_next, run_none, run_all}
+use Rattle.ports_core.proofs.history.replay.Goals as goal
+
+pub loop-index-init : goal.loop-index-init
+loop-index-init c = run_none (new_state (key_texts c.args.config.keys.items)) c.in_ok-service.service c.args.events.now c.in_ok-steps.steps.items c.in_ok-service.ensures.ok c.in_ok-steps.ensures.items
+
+-- the event that was tested isn't allowed
+pub returns-then-not-allows-clause-err : goal.returns-then-not-allows-clause-err
+returns-then-not-allows-clause-err c = (
+  c.loop-index.invariant,
+  λ t within. run_plainly (key_texts c.args.config.keys.items) _ _ _ t (omega (arith, length_texts c.args.config.keys.items, within)) c.loop-index.invariant,
+  (
+    c.index-events-index.result,
+    slice_get_read c.args.events.now (length c.args.events.now) c.loop-index.index c.index-events-index.result refl c.loop-index-test.true c.index-events-index.is,
+    λ allowed. let yes : c.allows.result ≡ true = c.allows.ensures.1 allowed in let refused = c.if-not-allows.true in cc,
+  ),
+)
+
+pub loop-index-preserved : goal.loop-index-preserved
+loop-index-preserved c =
+    let step : Step = record { told = c.step-told.result; sent = c.in_ok-sent.sent } in
+    run_next (new_state (key_texts c.args.config.keys.items)) c.loop-index.service c.step-told.new.self c.args.events.now c.loop-index.index c.index-events-index.result c.loop-index.steps.items c.push.new.self.items step
+    c.loop-index-test.true c.index-events-index.is c.loop-index.invariant
+    (record { allowed = c.allows.ensures.0 c.if-not-allows.false; sent = c.in_ok-sent.ensures; does = c.step-told.ensures })
+    c.in_ok-push.ensures.items
+
+pub returns-clause-run : goal.returns-clause-run
+returns-clause-run c = run_all (new_state (key_texts c.args.config.keys.items)) c.loop-index.service c.args.events.now c.loop-index.index c.loop-index.steps.items c.loop-index-test.false c.loop-index.invariant
+
+pub returns-clause-plainly : goal.returns-clause-plainly
+returns-clause-plainly c = λ t within.
+    run_plainly (key_texts c.args.config.keys.items) c.args.events.now c.loop-index.steps.items c.loop-index.service t (omega (arith, length_texts c.args.config.keys.items, within))
+    (run_all (new_state (key_texts c.args.config.keys.items)) c.loop-index.service c.args.events.now c.loop-index.index c.loop-index.steps.items c.loop-index-test.false c.loop-index.invariant)

@@ -1,0 +1,12 @@
+use Rattle.std.proofs.Common.{sym, inl, arith}
+use Rattle.ports_core.specs.Keys.{key_texts}
+use Rattle.ports_core.proofs.StepLemmas.{opened, on_ok}
+use Rattle.ports_core.proofs.OpenedLemmas.{is_eq-nat_cmp_other}
+use Rattle.ports_core.proofs.service.Service.open.Goals as goal
+
+pub returns : goal.returns
+returns c =
+    let updates = on_ok _ c.insert.result (sym c.if-is_err.ensures.value) c.insert.ensures.updates in
+    rw (← c.self.view_is)
+    (inl (opened (key_texts c.self.inside.keys.items) c.self.inside.next c.nothing.result c.self.inside.tenants.items c.self.inside.lines.entries c.insert.new.self.entries c.in-Ok.line
+    (omega arith) (let h = c.if-self.false in omega arith) c.nothing.ensures c.in-Ok.ensures updates.1 (λ d ne. updates.2 d (is_eq-nat_cmp_other c.self.inside.next d ne))))

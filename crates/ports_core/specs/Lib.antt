@@ -1,0 +1,17 @@
+pub mod Keys
+pub mod Slices
+pub mod Lines
+pub mod Telling
+pub mod Taking
+pub mod Opened
+pub mod State
+pub mod Steps
+pub mod Changes
+pub mod Runs
+pub mod Books
+pub mod Plainly
+pub mod Alike
+pub mod Replays
+pub mod OutboxView
+pub mod TenantView
+pub mod ServiceView

@@ -1,0 +1,85 @@
+//! What happens to a service, and what it tells.
+ghost use Rattle.std.specs.Prelude.{◌≡◌, Option, Some, None};
+ghost use Rattle.ports_core.specs.Telling.{quiet};
+
+use ports_http::Reply;
+
+/// Something that happens to a service. Connections go by the number they had when they opened,
+/// tenants by the place of their key.
+#[derive(Drop)]
+pub enum Event {
+    /// A connection opens; its number is the next one.
+    Open(u64),
+    /// Bytes came on a connection, no more than it has room for.
+    Piece(u64, Vec<u8>),
+    /// The other side of a connection sends no more.
+    End(u64),
+    /// A connection is lost: it reads and writes no more.
+    Fault(u64),
+    /// That many of a connection's pending bytes were written; all of them where no number is given.
+    Wrote(u64, Option<usize>),
+    /// A tenant's turn: its first waiting request is answered.
+    Turn(usize),
+}
+
+/// A reply that is told: whose request it answers, and the connection that asked. There is no tenant
+/// where the request entered no queue: a head refusal, a request without a known key, or one for
+/// which there was no memory.
+#[derive(Drop)]
+pub struct Tell {
+    pub tenant: Option<usize>,
+    pub conn: u64,
+    pub reply: Reply,
+}
+
+/// Why a connection wasn't opened.
+#[derive(Clone, Copy, Debug, PartialEq, Eq)]
+pub enum Refused {
+    /// 16 connections are open, or no number is left.
+    Connections,
+    /// There was no memory for its buffers.
+    Memory,
+}
+
+/// What an event told: at most one reply, the refusal of a connection that was to open, the
+/// connection that closed, and the units of work and the answers checked, both 0 so far.
+#[derive(Drop)]
+pub struct Told {
+    pub reply: Option<Tell>,
+    pub refused: Option<Refused>,
+    pub closed: Option<u64>,
+    pub units: u64,
+    pub checks: u64,
+}
+
+impl Told {
+    /// Nothing is told.
+    pub(crate) fn nothing() -> Told
+        ensures { result ≡ quiet }
+    {
+        Told::of(None, None)
+    }
+
+    /// A reply is told, or none, and a connection closes, or none.
+    pub(crate) fn of(reply: Option<Tell>, closed: Option<u64>) -> Told
+        ensures { result ≡ record { reply = reply; refused = None; closed = closed; units = 0; checks = 0 } }
+    {
+        Told {
+            reply,
+            refused: None,
+            closed,
+            units: 0,
+            checks: 0,
+        }
+    }
+
+    /// A connection isn't opened.
+    pub(crate) fn refusal(refused: Refused) -> Told
+        ensures { result ≡ record quiet { refused = Some refused } }
+    {
+        Told {
+            refused: Some(refused),
+            ..Told::nothing()
+        }
+    }
+}

@@ -1,0 +1,102 @@
+//! A whole run.
+ghost use Rattle.std.specs.Prelude.{◌≡◌, IfOk, IfErr};
+ghost use Rattle.ports_core.specs.State.{IsAllowed};
+ghost use Rattle.ports_core.specs.Runs.{sent_by};
+ghost use Rattle.ports_core.specs.Replays.{IsRun, TellsPlainly, EndsEarly};
+ghost use Rattle.ports_core.specs.declared.history.ReplayFault.TheVariants as faults;
+
+use crate::event::{Event, Told};
+use crate::keys::Config;
+use crate::service::{NewFault, Service};
+use std::alloc::{AllocError, AllocFailed, Global};
+
+/// What an event of a run told, and the bytes that it took off its connection: those that a Wrote
+/// says were written.
+#[derive(Drop)]
+pub struct Step {
+    pub told: Told,
+    pub sent: Vec<u8>,
+}
+
+/// A run: one step for each event, and the service as the last event left it.
+#[derive(Drop)]
+pub struct Transcript {
+    pub steps: Vec<Step>,
+    pub service: Service,
+}
+
+/// Why a run stopped.
+#[derive(Drop)]
+pub enum ReplayFault {
+    /// The event at this place isn't allowed; the transcript is that of the events before it.
+    NotAllowed { index: usize, done: Transcript },
+    /// The service couldn't begin.
+    New(NewFault),
+    /// There was no memory for the transcript.
+    Memory,
+}
+
+impl From<NewFault> for ReplayFault {
+    ghost from_gives = { λ why fault. fault ≡ faults.New why };
+
+    fn from(fault: NewFault) -> ReplayFault {
+        ReplayFault::New(fault)
+    }
+}
+
+impl From<AllocError> for ReplayFault {
+    ghost from_gives = { λ _ fault. fault ≡ faults.Memory };
+
+    fn from(_error: AllocError) -> ReplayFault {
+        ReplayFault::Memory
+    }
+}
+
+impl<T: Drop> From<AllocFailed<T>> for ReplayFault {
+    ghost from_gives = { λ _ fault. fault ≡ faults.Memory };
+
+    fn from(_error: AllocFailed<T>) -> ReplayFault {
+        ReplayFault::Memory
+    }
+}
+
+/// Runs the events over a service that begins with the config.
+///
+/// The replies told to a tenant, other than 503, are, in order, those of a plain service that has only
+/// this tenant's requests, less those that still wait at the end.
+///
+/// Ok: the transcript. Err: `NotAllowed` at the first event that isn't allowed, `New` where the service
+/// can't begin, `Memory` where there is none for the transcript.
+pub fn replay(alloc: Global, config: Config, events: &[Event]) -> Result<Transcript, ReplayFault>
+    ensures run { IfOk result (IsRun config events.now) }
+    ensures plainly { IfOk result (TellsPlainly config events.now) }
+    ensures err { IfErr result (EndsEarly config events.now) }
+{
+    let mut service = Service::new(alloc, config)?;
+    let mut steps = Vec::with_capacity(alloc, events.len())?;
+    for (index, event) in events.iter().enumerate() {
+        if !service.allows(event) {
+            let done = Transcript { steps, service };
+            return Err(ReplayFault::NotAllowed { index, done });
+        }
+        let sent = bytes_sent(alloc, &service, event)?;
+        let told = service.step(event);
+        steps.push(Step { told, sent })?;
+    }
+    Ok(Transcript { steps, service })
+}
+
+/// The bytes that an event takes off its connection.
+fn bytes_sent(alloc: Global, service: &Service, event: &Event) -> Result<Vec<u8>, AllocError>
+    requires { IsAllowed event.now service.now }
+    ensures { IfOk result (λ bytes. bytes.items ≡ sent_by event.now service.now) }
+{
+    let Event::Wrote(conn, count) = event else {
+        return Ok(Vec::new(alloc));
+    };
+    let pending = service.pending(*conn);
+    match count {
+        Some(count) => Vec::from_slice(alloc, &pending[..*count]),
+        None => Vec::from_slice(alloc, pending),
+    }
+}

@@ -1,0 +1,87 @@
+//! The keys of the tenants, and the sizes that a service begins with.
+ghost use Rattle.std.specs.Prelude.{◌≡◌};
+ghost use Rattle.std.specs.String.{string_bytes};
+ghost use Rattle.std.specs.List.{list_all};
+ghost use Rattle.ports_core.specs.Keys.{is_size, is_count, is_key, is_key_byte, are_apart, are_keys, key_texts};
+
+/// The most tenants, and the most bytes of a key.
+const MOST: usize = 64;
+
+/// The greatest size of a cache.
+const GREATEST_SIZE: u32 = 65_536;
+
+/// What a service begins with: the tenants' keys, in the order of the tenants' numbers, and how many
+/// parsed files and how many evaluations the caches may hold. The sizes have no effect yet.
+///
+/// It is fit with 1 to 64 keys, none of them twice, each of 1 to 64 bytes of printable ASCII without
+/// blanks, and with sizes from 1 to 65,536.
+#[derive(Debug, Drop)]
+pub struct Config {
+    pub keys: Vec<String>,
+    pub parses: u32,
+    pub evals: u32,
+}
+
+impl Config {
+    ghost use Rattle.ports_core.specs.Keys.{is_fit};
+
+    /// Whether a service can begin with it.
+    pub fn is_fit(&self) -> bool
+        ensures { result ≡ is_fit self.now }
+    {
+        is_size(self.parses) && is_size(self.evals) && are_keys(&self.keys)
+    }
+}
+
+fn is_size(size: u32) -> bool
+    ensures { result ≡ is_size size }
+{
+    1 <= size && size <= GREATEST_SIZE
+}
+
+fn is_count(count: usize) -> bool
+    ensures { result ≡ is_count count }
+{
+    1 <= count && count <= MOST
+}
+
+/// Whether the tenants can have these keys.
+#[tactic(auto, using(crate::proofs::KeyLemmas::texts_of_keys))]
+fn are_keys(keys: &[String]) -> bool
+    ensures { result ≡ are_keys (key_texts keys.now) }
+{
+    is_count(keys.len()) && are_all_keys(keys) && are_apart(keys)
+}
+
+fn are_all_keys(keys: &[String]) -> bool
+    ensures { result ≡ list_all (λ key. is_key (string_bytes key)) keys.now }
+{
+    keys.iter().all(is_key)
+}
+
+/// Whether a text can be a key.
+fn is_key(key: &String) -> bool
+    ensures { result ≡ is_key (string_bytes key.now) }
+{
+    is_count(key.len()) && is_plain(key.as_str())
+}
+
+/// Whether each byte is printable ASCII that isn't a blank.
+fn is_plain(text: &str) -> bool
+    ensures { result ≡ list_all is_key_byte text.now }
+{
+    text.bytes().all(|byte| 33 <= byte && byte <= 126)
+}
+
+/// Whether no key stands there twice.
+fn are_apart(keys: &[String]) -> bool
+    ensures { result ≡ are_apart (key_texts keys.now) }
+{
+    for (i, key) in keys.iter().enumerate() {
+        let others = &keys[i + 1..];
+        if others.contains(key) {
+            return false;
+        }
+    }
+    true
+}

@@ -1,0 +1,36 @@
+//! What holds of every run, as functions that do nothing.
+ghost use Rattle.std.specs.Prelude.{◌≡◌, ℕ, ◌<◌, List, length};
+ghost use Rattle.ports_core.specs.declared.event.Event.{Event};
+ghost use Rattle.ports_core.specs.declared.event.Told.{Told};
+ghost use Rattle.ports_core.specs.declared.history.Step.{Step};
+ghost use Rattle.ports_core.specs.State.{State, new_state};
+ghost use Rattle.ports_core.specs.Steps.{Does};
+ghost use Rattle.ports_core.specs.Changes.{ChangesSlices};
+ghost use Rattle.ports_core.specs.Runs.{Run};
+ghost use Rattle.ports_core.specs.Plainly.{IsToldPlainly};
+ghost use Rattle.ports_core.specs.Alike.{own_requests, AreToldAlike};
+
+/// What an event does to the tenants' files and waiting requests: the opening or the loss of a
+/// connection changes nothing; bytes that come or are written, or an end, add at most one request at
+/// the end of one queue; a turn of a tenant takes that tenant's first request off its queue, if there
+/// is one, tells its reply to the connection that asked, and changes that tenant's files alone.
+pub fn each_event_changes_so_much()
+    ensures { (event : Event) (told : Told) (old new : State) → Does event told old new → ChangesSlices event told old new }
+{}
+
+/// In every run of a service from its beginning, whatever events come and whichever tenant's turns,
+/// the replies told to a tenant, other than 503, are those of the plain service to the tenant's own
+/// requests, in their order, less those that still wait.
+pub fn each_tenant_is_told_plainly()
+    ensures { (keys : List (List ℕ)) (events : List Event) (steps : List Step) (service : State) (t : ℕ)
+        → t < length keys → Run (new_state keys) events steps service → IsToldPlainly keys t events steps service }
+{}
+
+/// Where a tenant's own requests in one run are those of a tenant in another run, the two are told
+/// equal replies as far as both are told, and all of them once none of their requests waits. What
+/// others stored, asked or left unread in either run changes nothing.
+pub fn equal_requests_are_told_alike()
+    ensures { (keys other_keys : List (List ℕ)) (t u : ℕ) (events other_events : List Event) (steps others : List Step) (service other : State)
+        → (told : IsToldPlainly keys t events steps service) (told_there : IsToldPlainly other_keys u other_events others other)
+        → own_requests told ≡ own_requests told_there → AreToldAlike t steps service u others other }
+{}

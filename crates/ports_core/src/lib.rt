@@ -1,0 +1,29 @@
+//! The service: connections, the queues of their requests, and the turns that answer them.
+//!
+//! A `Service` holds the files of up to 64 tenants and up to 16 connections. It changes by one event
+//! at a time: bytes that came or were written, the end or the loss of a connection, or a turn of a
+//! tenant, which answers the request that stands first in that tenant's queue. `replay` runs a
+//! whole list of events.
+#![tactic(auto)]
+
+mod event;
+mod history;
+mod intake;
+mod keys;
+mod laws;
+mod line;
+mod lines;
+mod outbox;
+mod service;
+mod tenant;
+
+pub use event::{Event, Refused, Tell, Told};
+pub use history::{ReplayFault, Step, Transcript, replay};
+pub use keys::Config;
+pub use laws::{
+    each_event_changes_so_much, each_tenant_is_told_plainly, equal_requests_are_told_alike,
+};
+pub use service::{NewFault, Service};
+
+#[cfg(test)]
+mod tests;

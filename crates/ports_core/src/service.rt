@@ -1,0 +1,226 @@
+//! The service, one event at a time.
+ghost use Rattle.std.specs.Prelude.{◌≡◌, ◌<◌, ◌↔◌, false, Bool, IsTrue, IfOk, IsErrOf, length, replicate};
+ghost use Rattle.ports_core.specs.Slices.{new_slice};
+ghost use Rattle.ports_core.specs.declared.service.NewFault.TheVariants.{Memory};
+
+use crate::event::{Event, Refused, Tell, Told};
+use crate::keys::Config;
+use crate::line::Line;
+use crate::lines::{Lines, answer_line, close_done, closes, hear_line, may_hear};
+use crate::tenant::{Tenant, Waiter};
+use ports_plain::Plain;
+use std::alloc::{AllocError, Global};
+use std::collections::BTreeMap;
+use std::marker::Model;
+
+/// The most connections.
+const MOST_CONNECTIONS: usize = 16;
+
+/// Why a service can't begin.
+#[derive(Clone, Copy, Debug, PartialEq, Eq)]
+pub enum NewFault {
+    /// A key or a size that is out of its limits, or a key given twice.
+    Config,
+    /// The store of the files failed.
+    Store,
+    /// There was no memory.
+    Memory,
+}
+
+impl From<AllocError> for NewFault {
+    ghost from_gives = { λ _ fault. fault ≡ Memory };
+
+    fn from(_error: AllocError) -> NewFault {
+        NewFault::Memory
+    }
+}
+
+/// The service. A contract sees the tenants' keys and slices (their files, and the requests that wait),
+/// the open connections by their numbers, and the next number.
+#[derive(Drop)]
+pub struct Service {
+    alloc: Global,
+    plain: Plain,
+    keys: Vec<String>,
+    tenants: Vec<Tenant>,
+    lines: Lines,
+    next: u64,
+}
+
+impl Model for Service {
+    ghost use Rattle.ports_core.specs.State.{State};
+
+    ghost Value = { State };
+
+    ghost use Rattle.std.specs.Coded.{codes};
+    ghost use Rattle.ports_core.specs.Slices.{files_code};
+
+    ghost coded = { Prim.hlevel (codes, files_code) };
+
+    ghost use Rattle.ports_core.specs.ServiceView.{service_view, IsService};
+
+    ghost view = { service_view };
+
+    ghost invariant = { IsService };
+}
+
+impl Service {
+    ghost use Rattle.ports_core.specs.Keys.{is_fit, key_texts};
+    ghost use Rattle.ports_core.specs.Opened.{OpenAnd};
+    ghost use Rattle.ports_core.specs.State.{new_state, keys_of, next_of, line_of, room_at, pending_at, waiting_at, IsAllowed};
+    ghost use Rattle.ports_core.specs.Lines.{Fits};
+    ghost use Rattle.ports_core.specs.Steps.{Does, Opens, Hears, Turns};
+
+    /// A service without files and without connections.
+    ///
+    /// Err: `Config` exactly where the keys and sizes aren't fit; `Memory`.
+    pub fn new(alloc: Global, config: Config) -> Result<Service, NewFault>
+        ensures ok { IfOk result (λ service. service ≡ new_state (key_texts config.keys.items)) }
+        ensures unfit { IsErrOf result NewFault.Config ↔ (is_fit config ≡ false) }
+        ensures store { ¬ IsErrOf result NewFault.Store }
+    {
+        if !config.is_fit() {
+            return Err(NewFault::Config);
+        }
+        let Config { keys, .. } = config;
+        let tenants = new_tenants(alloc, keys.len())?;
+        let plain = Plain::new(alloc)?;
+        Ok(Service {
+            alloc,
+            plain,
+            keys,
+            tenants,
+            lines: BTreeMap::new(alloc),
+            next: 0,
+        })
+    }
+
+    /// The number of the next connection that opens.
+    pub fn next_conn(&self) -> u64
+        ensures { result ≡ next_of self.now }
+    {
+        self.next
+    }
+
+    /// How many bytes a connection may send; 0 where it isn't open.
+    pub fn room(&self, conn: u64) -> usize
+        ensures { result ≡ room_at conn self.now }
+    {
+        match self.lines.get(&conn) {
+            Some(line) => line.room(),
+            None => 0,
+        }
+    }
+
+    /// The bytes that a connection has still to write; none where it isn't open.
+    pub fn pending(&self, conn: u64) -> &[u8]
+        ensures { result.now ≡ pending_at conn self.now }
+    {
+        match self.lines.get(&conn) {
+            Some(line) => line.pending.bytes(),
+            None => &[],
+        }
+    }
+
+    /// How many requests wait in a tenant's queue; 0 where there is no such tenant.
+    pub fn waiting(&self, tenant: usize) -> usize
+        ensures { result ≡ waiting_at tenant self.now }
+    {
+        match self.tenants.get(tenant) {
+            Some(tenant) => tenant.waiting(),
+            None => 0,
+        }
+    }
+
+    /// Whether an event may happen now.
+    pub fn allows(&self, event: &Event) -> bool
+        ensures { IsTrue result ↔ IsAllowed event.now self.now }
+    {
+        match event {
+            Event::Open(conn) => *conn == self.next,
+            Event::Turn(tenant) => *tenant < self.keys.len(),
+            Event::Piece(conn, _) => may_hear(&self.lines, *conn, event),
+            Event::End(conn) => may_hear(&self.lines, *conn, event),
+            Event::Fault(conn) => may_hear(&self.lines, *conn, event),
+            Event::Wrote(conn, _) => may_hear(&self.lines, *conn, event),
+        }
+    }
+
+    /// What happens at an event, and what is told of it.
+    pub fn step(&mut self, event: &Event) -> Told
+        requires { IsAllowed event.now self.old }
+        ensures { Does event.now result self.old self.new }
+    {
+        match event {
+            Event::Open(_) => self.open(),
+            Event::Turn(tenant) => self.turn(*tenant),
+            Event::Piece(conn, _) => self.hear(*conn, event),
+            Event::End(conn) => self.hear(*conn, event),
+            Event::Fault(conn) => self.hear(*conn, event),
+            Event::Wrote(conn, _) => self.hear(*conn, event),
+        }
+    }
+
+    fn open(&mut self) -> Told
+        ensures { Opens result self.old self.new }
+    {
+        if self.lines.len() >= MOST_CONNECTIONS || self.next == u64::MAX {
+            return Told::refusal(Refused::Connections);
+        }
+        let Ok(line) = Line::new(self.alloc) else {
+            return Told::refusal(Refused::Memory);
+        };
+        if self.lines.insert(self.next, line).is_err() {
+            return Told::refusal(Refused::Memory);
+        }
+        self.next += 1;
+        Told::nothing()
+    }
+
+    fn hear(&mut self, conn: u64, event: &Event) -> Told
+        requires { OpenAnd (line_of conn self.old) (Fits event.now) }
+        ensures { Hears event.now conn result self.old self.new }
+    {
+        let tenants = &mut self.tenants;
+        let reply = hear_line(
+            self.alloc,
+            &self.keys,
+            tenants,
+            &mut self.lines,
+            conn,
+            event,
+        );
+        let closed = close_done(&mut self.lines, conn);
+        Told::of(reply, closed)
+    }
+
+    fn turn(&mut self, tenant: usize) -> Told
+        requires { tenant < length (keys_of self.old) }
+        ensures { Turns tenant result self.old self.new }
+    {
+        let slice = &mut self.tenants[tenant];
+        let Some(Waiter { conn, request }) = slice.next() else {
+            return Told::nothing();
+        };
+        let close = closes(&self.lines, conn);
+        let (reply, bytes) = slice.answer(self.alloc, &self.plain, request, close);
+        answer_line(&mut self.lines, conn, &reply, bytes);
+        let closed = close_done(&mut self.lines, conn);
+        let tell = Tell {
+            tenant: Some(tenant),
+            conn,
+            reply,
+        };
+        Told::of(Some(tell), closed)
+    }
+}
+
+fn new_tenants(alloc: Global, count: usize) -> Result<Vec<Tenant>, AllocError>
+    ensures { IfOk result (λ tenants. tenants.items ≡ replicate count new_slice) }
+{
+    let mut tenants = Vec::with_capacity(alloc, count)?;
+    for _ in 0..count {
+        tenants.push(Tenant::new(alloc))?;
+    }
+    Ok(tenants)
+}

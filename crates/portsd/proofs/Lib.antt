@@ -1,0 +1,6 @@
+mod NumeralFacts
+mod EscapeFacts
+mod EntryFacts
+mod ScriptFacts
+mod PrintFacts
+mod RunFacts

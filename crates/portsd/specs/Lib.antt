@@ -1,0 +1,6 @@
+pub mod Numerals
+pub mod Escapes
+pub mod Entries
+pub mod Scripts
+pub mod Printing
+pub mod Running

@@ -1,0 +1,36 @@
+//! `portsd`: an index over OpenBSD ports trees for several tenants. `portsd replay KEY...` runs a
+//! script of events over the service and prints what was told and sent.
+#![tactic(auto)]
+
+mod command_line;
+mod entries;
+mod numerals;
+mod printing;
+#[cfg(test)]
+mod rows;
+mod running;
+mod script;
+#[cfg(test)]
+mod tests;
+
+use running::run_script;
+use std::process::ExitCode;
+use std::{env, io};
+
+fn main(rt: HostRuntime) -> ExitCode {
+    let alloc = rt.alloc();
+    let Ok(arguments) = env::args(&rt) else {
+        return ExitCode::from(1);
+    };
+    let Ok(words) = arguments.collect::<Vec<String>>(alloc) else {
+        return ExitCode::from(1);
+    };
+    let status = run_script(
+        alloc,
+        words.as_slice(),
+        &mut rt.reader(),
+        &mut io::writer(&rt),
+        &mut rt.stderr(),
+    );
+    ExitCode::from(status)
+}
