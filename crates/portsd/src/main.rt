@@ -15,14 +15,13 @@ mod tests;
 
 use running::run_script;
 use std::process::ExitCode;
+use std::rt::Env;
 use std::{env, io};
 
 fn main(rt: HostRuntime) -> ExitCode {
     let alloc = rt.alloc();
-    let Ok(arguments) = env::args(&rt) else {
-        return ExitCode::from(1);
-    };
-    let Ok(words) = arguments.collect::<Vec<String>>(alloc) else {
+    let Ok(words) = words_given(&rt) else {
+        let _ = eprintln!(rt; "portsd: out of memory");
         return ExitCode::from(1);
     };
     let status = run_script(
@@ -33,4 +32,9 @@ fn main(rt: HostRuntime) -> ExitCode {
         &mut rt.stderr(),
     );
     ExitCode::from(status)
+}
+
+/// The words of the command line, the program's name first. The error is want of memory.
+fn words_given(rt: &(impl Env + AllocGlobal)) -> io::Result<Vec<String>> {
+    Ok(env::args(rt)?.collect::<Vec<String>>(rt.alloc())?)
 }
