@@ -13,25 +13,25 @@ use Rattle.ports_core.specs.Plainly.{told_to, answers_of, own_of, plain_run, IsT
 use Rattle.ports_core.specs.Alike.{requests_of, replies_to, AreAlike, own_requests, AreToldAlike}
 
 -- the replies of the plain service to some requests
-replies_from : FileMap → List RequestMessage → List ReplyMessage
+unfoldable pub replies_from : FileMap → List RequestMessage → List ReplyMessage
 replies_from files [] = []
 replies_from files (request ∷ requests) = (plain_answer files request).0 ∷ replies_from (plain_answer files request).1 requests
 
-replies-plain_run : (waiters : List Waiter) (files : FileMap) → map (λ (answer : ℕ × ReplyMessage). answer.1) (plain_run files waiters) ≡ replies_from files (requests_of waiters)
+pub replies-plain_run : (waiters : List Waiter) (files : FileMap) → map (λ (answer : ℕ × ReplyMessage). answer.1) (plain_run files waiters) ≡ replies_from files (requests_of waiters)
 unfolding replies_from
 replies-plain_run [] files = refl
 replies-plain_run (waiter ∷ waiters) files = ap (λ rs. (plain_answer files waiter.request).0 ∷ rs) (replies-plain_run waiters (plain_answer files waiter.request).1)
 
-map-append : {X Y : Type 0} (f : X → Y) (xs ys : List X) → map f (xs ++ ys) ≡ map f xs ++ map f ys
+pub map-append : {X Y : Type 0} (f : X → Y) (xs ys : List X) → map f (xs ++ ys) ≡ map f xs ++ map f ys
 map-append f [] ys = refl
 map-append f (x ∷ xs) ys = ap (λ zs. f x ∷ zs) (map-append f xs ys)
 
-no_elements : {X : Type 0} (xs : List X) → length xs ≡ 0 → xs ≡ []
+pub no_elements : {X : Type 0} (xs : List X) → length xs ≡ 0 → xs ≡ []
 no_elements [] e = refl
 no_elements (x ∷ xs) e = absurd (omega arith)
 
 -- of two fronts of one list, one begins the other
-fronts : {X : Type 0} (xs ys ls bs : List X) → xs ++ ls ≡ ys ++ bs → AreAlike xs ys
+pub fronts : {X : Type 0} (xs ys ls bs : List X) → xs ++ ls ≡ ys ++ bs → AreAlike xs ys
 fronts [] ys ls bs e = inl (ys, refl)
 fronts (x ∷ xs) [] ls bs e = inr (x ∷ xs, refl)
 fronts (x ∷ xs) (y ∷ ys) ls bs e =

@@ -1,8 +1,8 @@
 -- What each event does to the slices.
-use Rattle.std.proofs.Common.{◌≡◌, ◌≢◌, ℕ, Bool, true, false, List, Option, Some, None, refl, sym, ap, subst, ◌∙◌, inl, inr, arith, eq-eqb, ⊎_elim}
-use Rattle.std.specs.Prelude.{◌⊎◌, ◌==◌, ◌&&◌, if◌then◌else◌, option_map, MatchBool, is_none}
+use Rattle.std.proofs.Common.{◌≡◌, ◌≢◌, ℕ, Bool, true, false, List, Option, Some, None, refl, sym, ap, subst, ◌∙◌, inl, inr, eq-eqb, ⊎_elim}
+use Rattle.std.specs.Prelude.{◌⊎◌, ◌&&◌, if◌then◌else◌, option_map, MatchBool, is_none}
 use Rattle.std.proofs.lemmas.Bool.{cases_eq}
-use Rattle.std.proofs.lemmas.Bool.Decides.{nat_tests}
+use Rattle.ports_core.proofs.Numbers.{other_number}
 use Rattle.ports_http.specs.Messages.{RequestMessage}
 use Rattle.ports_core.specs.declared.event.Event.{Event}
 use Rattle.ports_core.specs.declared.event.Event.TheVariants.{Open, Piece, End, Fault, Wrote, Turn}
@@ -21,9 +21,6 @@ use Rattle.ports_core.specs.Changes.{KeepsSlices, OneJoins, FirstLeaves, Changes
 keeps_option : (o : Option Slice) → option_map (λ (s : Slice). s) o ≡ o
 keeps_option None = refl
 keeps_option (Some s) = refl
-
-other_number : (a b : ℕ) → a ≢ b → (a == b) ≡ false
-other_number a b ne = grind (arith, nat_tests)
 
 -- a request of a tenant joins its queue, where there is one
 joins_at : (c tenant : ℕ) (request : RequestMessage) (old new : State) (o : Option Slice) → slice_of tenant old ≡ o

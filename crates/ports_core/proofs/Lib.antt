@@ -1,4 +1,5 @@
 mod Lists
+mod Numbers
 mod KeyLemmas
 mod TakingLemmas
 mod OpenedLemmas
@@ -10,3 +11,8 @@ mod StepsServe
 mod RunsServe
 mod AlikeLemmas
 mod ChangeLemmas
+mod IsolationLemmas
+mod TalkLemmas
+mod StandingLemmas
+mod ConversingLemmas
+mod OneListLemmas

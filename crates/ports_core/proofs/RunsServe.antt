@@ -10,8 +10,9 @@ use Rattle.ports_core.specs.State.{State, new_state, keys_of, slice_of}
 use Rattle.ports_core.specs.Runs.{Run}
 use Rattle.ports_core.specs.Books.{TakesIn, entering, conn_of}
 use Rattle.ports_core.specs.Plainly.{told_to, plain_run, IsToldPlainly}
-use Rattle.ports_core.proofs.Serving.{Serves, told_plainly}
-use Rattle.ports_core.proofs.StepsServe.{book_of, does_serve}
+use Rattle.ports_core.specs.Isolation.{book_of, EachRunServesPlainly}
+use Rattle.ports_core.proofs.Serving.{Serves, told_plainly, answered_plainly}
+use Rattle.ports_core.proofs.StepsServe.{does_serve}
 
 -- what a run is to a tenant that had that slice
 pub record IsServedIn (t : ℕ) (events : List Event) (steps : List Step) (old new : State) (slice : Slice) : Type 0 where
@@ -63,4 +64,20 @@ run_plainly keys events steps service t lt run =
       later = plain_run served.last.0 served.last.1;
       plainly = told_plainly new_slice.0 served.taken (told_to t steps) served.last.0 served.last.1 served.serves;
       waiting = length-plain_run served.last.1 served.last.0 ∙ sym (ap (λ o. unwrap_or (option_map (λ (s : Slice). length s.1) o) 0) served.last_is);
+    }
+
+-- in each run from any state a tenant is served plainly
+pub run_serves_plainly : EachRunServesPlainly
+run_serves_plainly t slice events steps old new was run =
+    let served = run_serves t events steps old new slice run was in
+    let plainly = answered_plainly slice.0 (slice.1 ++ served.taken) (told_to t steps) served.last.0 served.last.1 served.serves in
+    record {
+      taken = served.taken;
+      takes = served.takes;
+      last = served.last;
+      last_is = served.last_is;
+      answered = plainly.answered;
+      own = plainly.own;
+      replies = plainly.replies;
+      files = plainly.files_are;
     }

@@ -1,8 +1,8 @@
 -- One event, as a tenant and the book see it.
-use Rattle.std.proofs.Common.{◌≡◌, ◌≢◌, ℕ, Bool, true, false, List, [], ◌∷◌, ◌++◌, Option, Some, None, refl, sym, ap, subst, ◌∙◌, inl, inr, append_assoc, eq-eqb, ⊎_elim, arith}
+use Rattle.std.proofs.Common.{◌≡◌, ◌≢◌, ℕ, Bool, true, false, List, [], ◌∷◌, ◌++◌, Option, Some, None, refl, sym, ap, subst, ◌∙◌, inl, inr, append_assoc, eq-eqb, ⊎_elim}
 use Rattle.std.specs.Prelude.{◌==◌, if◌then◌else◌, option_map, option_and_then}
 use Rattle.std.proofs.lemmas.Bool.{cases_eq}
-use Rattle.std.proofs.lemmas.Bool.Decides.{nat_tests}
+use Rattle.ports_core.proofs.Numbers.{other_number}
 use Rattle.mk_paths.specs.World.{FileMap}
 use Rattle.ports_http.specs.Messages.{RequestMessage}
 use Rattle.ports_core.specs.declared.event.Event.{Event}
@@ -17,13 +17,10 @@ use Rattle.ports_core.specs.Telling.{in_turn}
 use Rattle.ports_core.specs.Taking.{Taken, Nothing, Whole, Refusal, Lost, told_of_tenant, told_at_once, slice_with, slice_behind}
 use Rattle.ports_core.specs.State.{State, IsAllowed, keys_of, slice_of, line_of}
 use Rattle.ports_core.specs.Steps.{Does, Hears, Opens, Turns, IsAnswered, Answers}
-use Rattle.ports_core.specs.Books.{Book, BookStep, BookHears, BookOpens, BookTurns, KeepsOthers, entering, entering_of, conn_of}
+use Rattle.ports_core.specs.Books.{BookStep, BookHears, BookOpens, BookTurns, KeepsOthers, entering, entering_of, conn_of}
 use Rattle.ports_core.specs.Plainly.{told_if}
+use Rattle.ports_core.specs.Isolation.{book_of}
 use Rattle.ports_core.proofs.Serving.{Serves}
-
--- the lines of a service
-abbrev pub book_of : State → Book
-book_of state c = line_of c state
 
 -- no tenant is told a reply to a request that entered no queue
 told_if-at_once : (t c : ℕ) (place : Option ℕ) → told_if t (told_of_tenant c place) ≡ []
@@ -123,9 +120,6 @@ hears_serve t c event told old new slice h was = record {
       (enters t c slice more tells last rest (keys_of old) h.taken s);
   keys = h.keeps.keys;
 }
-
-other_number : (a b : ℕ) → a ≢ b → (a == b) ≡ false
-other_number a b ne = grind (arith, nat_tests)
 
 -- a turn that tells a reply
 module _ (t u : ℕ) (told : Told) (old new : State) (slice : Slice) (h : IsAnswered u told old new) (was : slice_of t old ≡ Some slice) where

@@ -93,3 +93,8 @@ TakesIn keys t book (event ∷ events) (step ∷ steps) all =
     × TakesIn keys t next events steps rest
 TakesIn keys t book [] (step ∷ steps) all = ⊥
 TakesIn keys t book (event ∷ events) [] all = ⊥
+
+-- the requests of a tenant that events take are one list, read off the events and what was told
+abbrev pub OneListIsTaken : Type 0
+OneListIsTaken = (keys : List (List ℕ)) (t : ℕ) (events : List Event) (steps : List Step) (all others : List Waiter)
+    → TakesIn keys t no_lines events steps all → TakesIn keys t no_lines events steps others → all ≡ others

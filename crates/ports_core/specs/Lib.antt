@@ -11,6 +11,8 @@ pub mod Runs
 pub mod Books
 pub mod Plainly
 pub mod Alike
+pub mod Isolation
+pub mod Conversations
 pub mod Replays
 pub mod OutboxView
 pub mod TenantView

@@ -2,7 +2,7 @@
 ghost use Rattle.std.specs.Prelude.{◌≡◌, IfOk, IfErr};
 ghost use Rattle.ports_core.specs.State.{IsAllowed};
 ghost use Rattle.ports_core.specs.Runs.{sent_by};
-ghost use Rattle.ports_core.specs.Replays.{IsRun, TellsPlainly, EndsEarly};
+ghost use Rattle.ports_core.specs.Replays.{IsRun, TellsPlainly, ConversesOnEach, EndsEarly};
 ghost use Rattle.ports_core.specs.declared.history.ReplayFault.TheVariants as faults;
 
 use crate::event::{Event, Told};
@@ -63,13 +63,16 @@ impl<T: Drop> From<AllocFailed<T>> for ReplayFault {
 /// Runs the events over a service that begins with the config.
 ///
 /// The replies told to a tenant, other than 503, are, in order, those of a plain service that has only
-/// this tenant's requests, less those that still wait at the end.
+/// this tenant's requests, less those that still wait at the end. What is written to a connection that
+/// isn't lost, and what is pending, is the replies to what its stream asks, in order, however the
+/// stream came in pieces.
 ///
 /// Ok: the transcript. Err: `NotAllowed` at the first event that isn't allowed, `New` where the service
 /// can't begin, `Memory` where there is none for the transcript.
 pub fn replay(alloc: Global, config: Config, events: &[Event]) -> Result<Transcript, ReplayFault>
     ensures run { IfOk result (IsRun config events.now) }
     ensures plainly { IfOk result (TellsPlainly config events.now) }
+    ensures converses { IfOk result (ConversesOnEach config events.now) }
     ensures err { IfErr result (EndsEarly config events.now) }
 {
     let mut service = Service::new(alloc, config)?;

@@ -7,8 +7,10 @@ ghost use Rattle.ports_core.specs.State.{State, new_state};
 ghost use Rattle.ports_core.specs.Steps.{Does};
 ghost use Rattle.ports_core.specs.Changes.{ChangesSlices};
 ghost use Rattle.ports_core.specs.Runs.{Run};
+ghost use Rattle.ports_core.specs.Books.{OneListIsTaken};
 ghost use Rattle.ports_core.specs.Plainly.{IsToldPlainly};
 ghost use Rattle.ports_core.specs.Alike.{own_requests, AreToldAlike};
+ghost use Rattle.ports_core.specs.Isolation.{EachRunServesPlainly, EqualSlicesAreToldAlike};
 
 /// What an event does to the tenants' files and waiting requests: the opening or the loss of a
 /// connection changes nothing; bytes that come or are written, or an end, add at most one request at
@@ -26,6 +28,12 @@ pub fn each_tenant_is_told_plainly()
         → t < length keys → Run (new_state keys) events steps service → IsToldPlainly keys t events steps service }
 {}
 
+/// The requests of a tenant that a run takes off its connections are one list: it is read off the
+/// events and what was told, also where a head may be refused in two ways or waited for.
+pub fn one_list_is_taken()
+    ensures { OneListIsTaken }
+{}
+
 /// Where a tenant's own requests in one run are those of a tenant in another run, the two are told
 /// equal replies as far as both are told, and all of them once none of their requests waits. What
 /// others stored, asked or left unread in either run changes nothing.
@@ -33,4 +41,19 @@ pub fn equal_requests_are_told_alike()
     ensures { (keys other_keys : List (List ℕ)) (t u : ℕ) (events other_events : List Event) (steps others : List Step) (service other : State)
         → (told : IsToldPlainly keys t events steps service) (told_there : IsToldPlainly other_keys u other_events others other)
         → own_requests told ≡ own_requests told_there → AreToldAlike t steps service u others other }
+{}
+
+/// In a run from any state, of the requests of a tenant that waited and those that came, less those
+/// answered 503, the first are answered and the others wait still; the replies, and the tenant's files
+/// then, are those of the plain service over the files that it had.
+pub fn each_run_serves_plainly()
+    ensures { EachRunServesPlainly }
+{}
+
+/// Two services, in any states in which a tenant of the one and a tenant of the other have equal files
+/// and equal requests waiting: where the same requests come for both, and neither is told 503, the two
+/// are told equal replies as far as both are told. Where nothing of them waits at the end, all their
+/// replies are equal, and their files. What else the services hold changes nothing.
+pub fn equal_slices_are_told_alike()
+    ensures { EqualSlicesAreToldAlike }
 {}

@@ -81,8 +81,8 @@ impl Tenant {
     }
 
     /// The reply to a request over the tenant's files, and its bytes, which say whether the connection
-    /// closes and are made before a file is written. Where there is no memory the files are unchanged, and the reply is the fixed one that
-    /// says so, without bytes.
+    /// closes and are made before a file is written. Where there is no memory the files are unchanged,
+    /// and the reply is the fixed one that says so, without bytes.
     pub(crate) fn answer(
         &mut self,
         alloc: Global,

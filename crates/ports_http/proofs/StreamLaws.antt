@@ -153,7 +153,7 @@ head_not_large stream head rest at (inr lines) =
     absurd (omega (arith, over, at.lines))
 
 -- a request that stands first isn't refused
-request_not_refused : (stream : List ℕ) (request : RequestMessage) (rest : List ℕ) (fault : HeadFault)
+pub request_not_refused : (stream : List ℕ) (request : RequestMessage) (rest : List ℕ) (fault : HeadFault)
     → RequestAt stream request rest → Refuses stream fault → ⊥
 request_not_refused stream request rest fault at (inl never) = head_not_never stream at.head _ at.stands never.1
 request_not_refused stream request rest fault at (inr (inl large)) = head_not_large stream at.head _ at.stands large.1
@@ -162,7 +162,7 @@ request_not_refused stream request rest fault at (inr (inr told)) =
     ok_not_err (sym at.announced ∙ ap announces heads.0 ∙ told.announced)
 
 -- a request that stands first doesn't wait
-request_not_waits : (stream : List ℕ) (request : RequestMessage) (rest : List ℕ) → RequestAt stream request rest
+pub request_not_waits : (stream : List ℕ) (request : RequestMessage) (rest : List ℕ) → RequestAt stream request rest
     → Waits stream → ⊥
 request_not_waits stream request rest at (inl none) = none.1.0 at.head (request.body ++ rest) at.stands.reads
 request_not_waits stream request rest at (inr lacks) =

@@ -131,78 +131,81 @@ fn tells_faults(rt: HostRuntime) -> Result<(), Fail> {
     Ok(())
 }
 
+/// Requests over no files that are refused: method, target, status and body.
+const REFUSED: [(Method, &str, Status, &str); 11] = [
+    (
+        Method::Put,
+        "/v1/files?name=/ports/x",
+        Status::NotFound,
+        "{\"error\":\"Route\"}",
+    ),
+    (
+        Method::Get,
+        "http://h?x",
+        Status::NotFound,
+        "{\"error\":\"Route\"}",
+    ),
+    (
+        Method::Get,
+        "/v1/file?name=/ports/x",
+        Status::MethodNotAllowed,
+        "{\"error\":\"Method\"}",
+    ),
+    (
+        Method::Put,
+        "/v1/file",
+        Status::BadRequest,
+        "{\"error\":\"Parameter\"}",
+    ),
+    (
+        Method::Put,
+        "/v1/file?name=/ports/x&name=/ports/y",
+        Status::BadRequest,
+        "{\"error\":\"Parameter\"}",
+    ),
+    (
+        Method::Get,
+        "/v1/var?path=a/b&name=",
+        Status::BadRequest,
+        "{\"error\":\"Parameter\"}",
+    ),
+    (
+        Method::Put,
+        "/v1/file?name=/ports",
+        Status::BadRequest,
+        "{\"error\":\"Name\"}",
+    ),
+    (
+        Method::Put,
+        "/v1/file?name=/../x",
+        Status::BadRequest,
+        "{\"error\":\"Name\"}",
+    ),
+    (
+        Method::Get,
+        "/v1/var?path=a/b,y&name=X",
+        Status::BadRequest,
+        "{\"error\":\"Path\"}",
+    ),
+    (
+        Method::Get,
+        "/v1/var?path=a/../b&name=X",
+        Status::BadRequest,
+        "{\"error\":\"Path\"}",
+    ),
+    (
+        Method::Get,
+        "/v1/var?path=a/b&name=X",
+        Status::NotFound,
+        "{\"error\":\"NoPort\"}",
+    ),
+];
+
 #[test]
 fn refuses(rt: HostRuntime) -> Result<(), Fail> {
     let alloc = rt.alloc();
     let mut files = MemoryFiles::new(alloc);
-    for (method, target, status, text) in [
-        (
-            Method::Put,
-            "/v1/files?name=/ports/x",
-            Status::NotFound,
-            "{\"error\":\"Route\"}",
-        ),
-        (
-            Method::Get,
-            "http://h?x",
-            Status::NotFound,
-            "{\"error\":\"Route\"}",
-        ),
-        (
-            Method::Get,
-            "/v1/file?name=/ports/x",
-            Status::MethodNotAllowed,
-            "{\"error\":\"Method\"}",
-        ),
-        (
-            Method::Put,
-            "/v1/file",
-            Status::BadRequest,
-            "{\"error\":\"Parameter\"}",
-        ),
-        (
-            Method::Put,
-            "/v1/file?name=/ports/x&name=/ports/y",
-            Status::BadRequest,
-            "{\"error\":\"Parameter\"}",
-        ),
-        (
-            Method::Get,
-            "/v1/var?path=a/b&name=",
-            Status::BadRequest,
-            "{\"error\":\"Parameter\"}",
-        ),
-        (
-            Method::Put,
-            "/v1/file?name=/ports",
-            Status::BadRequest,
-            "{\"error\":\"Name\"}",
-        ),
-        (
-            Method::Put,
-            "/v1/file?name=/../x",
-            Status::BadRequest,
-            "{\"error\":\"Name\"}",
-        ),
-        (
-            Method::Get,
-            "/v1/var?path=a/b,y&name=X",
-            Status::BadRequest,
-            "{\"error\":\"Path\"}",
-        ),
-        (
-            Method::Get,
-            "/v1/var?path=a/../b&name=X",
-            Status::BadRequest,
-            "{\"error\":\"Path\"}",
-        ),
-        (
-            Method::Get,
-            "/v1/var?path=a/b&name=X",
-            Status::NotFound,
-            "{\"error\":\"NoPort\"}",
-        ),
-    ] {
+    for (method, target, status, text) in REFUSED {
         assert!(rt;
             answers(alloc, &mut files, method, target, b"", status, text),
             "{target}"

@@ -11,7 +11,7 @@ use Rattle.ports_core.specs.declared.service.NewFault.TheVariants as new
 use Rattle.ports_core.specs.declared.history.Step.{Step}
 use Rattle.ports_core.specs.declared.history.ReplayFault.{ReplayFault}
 use Rattle.ports_core.specs.declared.history.ReplayFault.TheVariants.{New, NotAllowed}
-use Rattle.ports_core.specs.Replays.{IsRun, TellsPlainly, EndsEarly}
+use Rattle.ports_core.specs.Replays.{IsRun, TellsPlainly, ConversesOnEach, EndsEarly}
 use Rattle.portsd.specs.declared.script.Script.{Script}
 use Rattle.portsd.specs.declared.script.ScriptFault.{ScriptFault}
 use Rattle.portsd.specs.declared.script.ScriptFault.TheVariants as fault
@@ -27,23 +27,24 @@ Keeps-same None = tt
 Keeps-same (Some bytes) = refl
 
 -- a script was read and run, and is printed
-pub completes : {A E : Type 0} (config : Config) (streams : Streams) (r : Result A E) (script : Script) (done : Transcript) (events : List Event) (steps : List Step) → events ≡ script.events.items → steps ≡ done.steps.items → ReadsScript streams.unread streams.left (numbered script) → IsRun config events done → TellsPlainly config events done → OnOk r (Appends streams.held streams.holds (transcript (numbered script) steps)) → OnOk r (Completes config streams)
-completes config streams (Ok x) script done events steps e f read run plainly printed = (
+pub completes : {A E : Type 0} (config : Config) (streams : Streams) (r : Result A E) (script : Script) (done : Transcript) (events : List Event) (steps : List Step) → events ≡ script.events.items → steps ≡ done.steps.items → ReadsScript streams.unread streams.left (numbered script) → IsRun config events done → TellsPlainly config events done → ConversesOnEach config events done → OnOk r (Appends streams.held streams.holds (transcript (numbered script) steps)) → OnOk r (Completes config streams)
+completes config streams (Ok x) script done events steps e f read run plainly converses printed = (
   script,
   done,
   read,
   subst (λ (ran : List Event). IsRun config ran done) e run,
   subst (λ (ran : List Event). TellsPlainly config ran done) e plainly,
+  subst (λ (ran : List Event). ConversesOnEach config ran done) e converses,
   subst (λ (told : List Step). Appends streams.held streams.holds (transcript (numbered script) told)) f printed,
 )
-completes config streams (Err why) script done events steps e f read run plainly printed = printed
+completes config streams (Err why) script done events steps e f read run plainly converses printed = printed
 
 -- a script was read and run as far as it may, and is printed
 pub stops_at : (config : Config) (streams : Streams) (script : Script) (index line : ℕ) (done : Transcript) (why : ReplayFault) (events : List Event) (steps : List Step) → events ≡ script.events.items → steps ≡ done.steps.items → why ≡ NotAllowed index done → length script.lines.items ≡ length script.events.items → line ≡ get_or script.lines.items index 0 → ReadsScript streams.unread streams.left (numbered script) → EndsEarly config events why → Appends streams.held streams.holds (transcript (numbered script) steps) → StopsAt config streams line
 stops_at config streams script index line done why events steps e f n paired l read early printed =
     let ends : EndsEarly config events (NotAllowed index done) = subst (λ (fault : ReplayFault). EndsEarly config events fault) n early in
     let stops : EndsEarly config script.events.items (NotAllowed index done) = subst (λ (ran : List Event). EndsEarly config ran (NotAllowed index done)) e ends in
-    let event = slice_get_within script.events.items index _ stops.2.1 in
+    let event = slice_get_within script.events.items index _ stops.3.1 in
     let within : index < length script.lines.items = omega arith in (
       script,
       index,

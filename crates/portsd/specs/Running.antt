@@ -7,7 +7,7 @@ use Rattle.ports_core.specs.declared.keys.Config.{Config}
 use Rattle.ports_core.specs.declared.service.NewFault.{NewFault}
 use Rattle.ports_core.specs.declared.service.NewFault.TheVariants as new
 use Rattle.ports_core.specs.Keys.{is_fit}
-use Rattle.ports_core.specs.Replays.{IsRun, TellsPlainly, EndsEarly}
+use Rattle.ports_core.specs.Replays.{IsRun, TellsPlainly, ConversesOnEach, EndsEarly}
 use Rattle.portsd.specs.declared.script.Script.{Script}
 use Rattle.portsd.specs.declared.script.ScriptFault.{ScriptFault}
 use Rattle.portsd.specs.declared.script.ScriptFault.TheVariants as fault
@@ -44,13 +44,14 @@ pub record Streams : Type 0 where
   pub holds : Option (List ℕ)
 
 -- a script is read, its events happen one after another, each tenant is told what a plain service of its own
--- would tell it, and what was told and sent is printed
+-- would tell it, each connection is written the replies to what it asks, and what was told and sent is printed
 abbrev pub Completes : Config → Streams → Type 0
 Completes config streams =
     (script : Script) × (done : Transcript)
     × ReadsScript streams.unread streams.left (numbered script)
     × IsRun config script.events.items done
     × TellsPlainly config script.events.items done
+    × ConversesOnEach config script.events.items done
     × Appends streams.held streams.holds (transcript (numbered script) done.steps.items)
 
 -- a script is read, and the event of a line isn't allowed; those before it happen as above, and what they

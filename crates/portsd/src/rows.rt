@@ -160,6 +160,51 @@ end 0
 "#,
 ];
 
+/// A script, and what it prints: two tenants over four connections, with pieces that interleave, a reply
+/// written in two parts, the end of one connection and the loss of another.
+const FOUR_CONNECTIONS: [&str; 2] = [
+    r#"open 0
+open 1
+open 2
+open 3
+piece 0 PUT /v1/file?name=/ports/a/b/Makefile HTTP/1.1\r\nHost: x\r\nX-Po
+piece 2 PUT /v1/file?name=/ports/a/b/Makefile HTTP/1.1\r\nHost: x\r\nX-Ports-Key: beta\r\nContent-Length: 6\r\n\r\nV =
+piece 0 rts-Key: alpha\r\nContent-Length: 6\r\n\r\nV = 1\nGET /v1/var?path=a/b&name=V HTTP/1.1\r\nHost: x\r\nX-Ports-Key: beta\r\n\r\n
+piece 1 GET /v1/var?path=a/b&name=V HTTP/1.1\r\nHost: x\r\nX-Ports-Key: alpha\r\n\r\n
+piece 2  2\n
+turn 0
+piece 3 GET /v1/var?path=a/b&name=V HTTP/1.1\r\nHost: x\r\nX-Ports-Key: alpha\r\n\r\n
+wrote 0 10
+end 1
+fault 3
+turn 1
+wrote 2 all
+turn 0
+wrote 0 all
+turn 0
+wrote 1 all
+turn 1
+wrote 0 all
+end 0
+end 2
+"#,
+    r#"10 told 0 0 200
+12 sent 0 HTTP/1.1 2
+15 told 1 2 200
+16 sent 2 HTTP/1.1 200 OK\r\nContent-Type: application/json\r\nContent-Length: 15\r\n\r\n{"stored":true}
+17 told 0 1 200
+18 sent 0 00 OK\r\nContent-Type: application/json\r\nContent-Length: 15\r\n\r\n{"stored":true}
+19 told 0 3 200
+19 closed 3
+20 sent 1 HTTP/1.1 200 OK\r\nContent-Type: application/json\r\nContent-Length: 28\r\n\r\n{"defined":true,"value":"1"}
+20 closed 1
+21 told 1 0 200
+22 sent 0 HTTP/1.1 200 OK\r\nContent-Type: application/json\r\nContent-Length: 28\r\n\r\n{"defined":true,"value":"2"}
+23 closed 0
+24 closed 2
+"#,
+];
+
 /// An upload, and a question for a value of what it stores.
 const UPLOAD: &[u8] =
     b"PUT /v1/file?name=/ports/editors/vim/Makefile HTTP/1.1\r\nHost: x\r\nX-Ports-Key: alpha\r\nContent-Length: 28\r\n\r\nV = 9.1\nDISTNAME = vim-${V}\n";
@@ -185,6 +230,7 @@ fn worked_runs(rt: HostRuntime) -> Result<(), Fail> {
         REFUSALS,
         NAMES,
         CUT_HEAD,
+        FOUR_CONNECTIONS,
     ] {
         let ran = run_on(rt.alloc(), &WORDS, script)?;
         assert_eq!(rt; ran.out.as_slice(), wanted.as_bytes());

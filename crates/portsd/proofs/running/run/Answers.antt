@@ -15,6 +15,7 @@ returns-in-Ok-clause-done g c =
     c.in_ok-script.ensures.ok
     c.in-Ok.ensures.run
     c.in-Ok.ensures.plainly
+    c.in-Ok.ensures.converses
     c.print.ensures.done
 
 pub returns-in-Err-NotAllowed-clause-failed : goal.returns-in-Err-NotAllowed-clause-failed

@@ -1,0 +1,466 @@
+-- Every event, as one connection sees it, and whole runs.
+use Rattle.std.proofs.Common.{◌≡◌, ◌≢◌, ◌<◌, ◌≤◌, ◌-◌, ℕ, zero, suc, Bool, true, false, List, [], ◌∷◌, ◌++◌, length, take, drop, refl, sym, ap, subst, ◌∙◌, inl, inr, append_assoc, append-nil, arith, eq-eqb, ⊎_elim, Option, Some, None, filter, take-append-drop}
+use Rattle.std.specs.Prelude.{◌==◌, ◌||◌, map, option_map, option_and_then, unwrap_or, slice_get, MatchOption, if◌then◌else◌}
+use Rattle.std.specs.Prelude.{Vec}
+use Rattle.std.specs.declared.alloc.Global.{Global}
+use Rattle.std.proofs.lemmas.Bool.{cases_eq}
+use Rattle.std.proofs.lemmas.List.{take_all}
+use Rattle.ports_http.specs.Messages.{RequestMessage}
+use Rattle.ports_http.specs.Limits.{unread_limit}
+use Rattle.ports_http.specs.Incoming.{opening, fed, room_of}
+use Rattle.ports_http.specs.Replies.{reply_text, fault_reply, unknown_key, store_failed}
+use Rattle.ports_core.specs.declared.line.Line.{Line}
+use Rattle.ports_core.specs.declared.event.Event.{Event}
+use Rattle.ports_core.specs.declared.event.Event.TheVariants.{Open, Piece, End, Fault, Wrote, Turn}
+use Rattle.ports_core.specs.declared.event.Told.{Told}
+use Rattle.ports_core.specs.declared.event.Tell.{Tell}
+use Rattle.ports_core.specs.declared.tenant.Waiter.{Waiter}
+use Rattle.ports_core.specs.declared.history.Step.{Step}
+use Rattle.ports_core.specs.Keys.{tenant_of}
+use Rattle.ports_core.specs.Slices.{Slice, new_slice}
+use Rattle.ports_core.specs.Lines.{new_line, hears, answered, kept, is_ready, room_on, count_off, Fits}
+use Rattle.ports_core.specs.Telling.{at_once, in_turn}
+use Rattle.ports_core.specs.Taking.{Taken, Nothing, Whole, Refusal, Lost, TakesOff, IsTaken, slice_behind, line_behind, told_of_tenant, told_at_once}
+use Rattle.ports_core.specs.State.{State, new_state, keys_of, slice_of, line_of, next_of}
+use Rattle.ports_core.specs.Steps.{Does, Hears, IsSame, IsOpened, IsAnswered, Turns, Opens}
+use Rattle.ports_core.specs.Runs.{Run, Happens, sent_by}
+use Rattle.ports_core.specs.Opened.{OpenAnd}
+use Rattle.ports_core.specs.Conversations.{came_in, came_on, sent_in, sent_on, told_in, told_on, loses, is_lost_in, IsLeft, IsServedOut, WaitsFor, AnswersAsked, ConversesPlainly}
+use Rattle.ports_core.proofs.Numbers.{other_number}
+use Rattle.ports_core.proofs.TalkLemmas.{Talk, none_came, talk_fed, talk_quiet, talk_sent, talk_answered}
+use Rattle.ports_core.proofs.StandingLemmas.{none_some, some_same, option_from, waiters_of, waiter, waiters_at, Queued, Holds, IsLine, Stands, settles, reply_waits, idle_behind, waiters_behind, told_here, told_there, takes}
+
+no_length : (bytes : List ℕ) → length bytes ≤ 0 → bytes ≡ []
+no_length [] e = refl
+no_length (b ∷ bytes) e = absurd (omega arith)
+
+drop_nil : (n : ℕ) → ◌≡◌ {A = List ℕ} (drop n []) []
+drop_nil zero = refl
+drop_nil (suc n) = refl
+
+-- the request waits on, while nothing is pending
+holds_on : (keys : List (List ℕ)) (waits : Option ℕ) (waiting : List RequestMessage) (old new : List ℕ) (over : Bool) → (old ≡ [] → new ≡ []) → Holds keys waits waiting old over → Holds keys waits waiting new over
+holds_on keys None waiting old new over stays holds = holds
+holds_on keys (Some t) waiting old new over stays (request, one, key_is, none, over_is) = (request, one, key_is, stays none, over_is)
+
+-- what an event does to a line before something is taken off it
+module _ (keys : List (List ℕ)) (c : ℕ) (came sent : List ℕ) (tells : List Tell) (line : Line) (state : State) (is : IsLine keys c came sent tells line state) where
+  fed_none : fed line.stream [] ≡ line.stream
+  fed_none = ap (λ u. record line.stream { unread = u }) (append-nil line.stream.unread)
+
+  -- bytes come
+  heard_bytes : (bytes : List ℕ) → line.ended ≡ false → length bytes ≤ room_on line → Talk keys c (came ++ bytes) sent tells line.pending is.waiting (fed line.stream bytes)
+  heard_bytes bytes goes_on room =
+      elim (line.stream.over) as (λ b. line.stream.over ≡ b → Talk keys c (came ++ bytes) sent tells line.pending is.waiting (fed line.stream bytes)) [
+        | true ↦ λ over.
+            let no_room : room_on line ≡ 0 =
+            ap (λ b. if b then 0 else room_of line.stream) goes_on ∙ ap (λ b. if b then 0 else unread_limit - length line.stream.unread) over in
+            let none : bytes ≡ [] = no_length bytes (subst (λ n. length bytes ≤ n) no_room room) in
+            subst (λ bs. Talk keys c (came ++ bs) sent tells line.pending is.waiting (fed line.stream bs)) (sym none)
+            (subst (λ s. Talk keys c (came ++ []) sent tells line.pending is.waiting s) (sym fed_none) (talk_quiet keys c came sent tells line.pending is.waiting line.stream is.talk))
+        | false ↦ λ goes. talk_fed keys c came sent tells line.pending is.waiting line.stream bytes goes is.talk
+      ] refl
+
+  -- bytes are written
+  heard_write : (front back : List ℕ) → front ++ back ≡ line.pending → (line.pending ≡ [] → back ≡ [])
+      → IsLine keys c came (sent ++ front) tells (record line { pending = back }) state
+  heard_write front back parts stays = record {
+    alive = is.alive;
+    waiting = is.waiting;
+    talk = talk_sent keys c came sent tells front back is.waiting line.stream (subst (λ p. Talk keys c came sent tells p is.waiting line.stream) (sym parts) is.talk);
+    holds = holds_on keys line.waits is.waiting line.pending back line.stream.over stays is.holds;
+    queued = is.queued;
+  }
+
+-- an event brings and takes so much, and the line is then so
+abbrev IsHeard : List (List ℕ) → ℕ → Event → Step → State → Type 0
+IsHeard keys c event step old = (came sent : List ℕ) (tells : List Tell) (line : Line) → Fits event line → line_of c old ≡ Some line → IsLine keys c came sent tells line old
+    → IsLine keys c (came ++ came_in c event) (sent ++ sent_in c event step) tells (hears event line) old
+
+here : {X : Type 0} (c : ℕ) (xs : List X) → (if c == c then xs else []) ≡ xs
+here c xs = ap (λ b. if b then xs else []) (eq-eqb c c refl)
+
+module _ (keys : List (List ℕ)) (c : ℕ) (step : Step) (old : State) where
+  nothing_came : (came sent : List ℕ) (tells : List Tell) (line : Line) → IsLine keys c came sent tells line old → IsLine keys c (came ++ []) sent tells line old
+  nothing_came came sent tells line is = subst (λ bs. IsLine keys c bs sent tells line old) (sym (append-nil came)) is
+
+  nothing_sent : (came sent : List ℕ) (tells : List Tell) (line : Line) → IsLine keys c came sent tells line old → IsLine keys c came (sent ++ []) tells line old
+  nothing_sent came sent tells line is = subst (λ bs. IsLine keys c came bs tells line old) (sym (append-nil sent)) is
+
+  heard_piece : (bytes : Vec ℕ Global) → IsHeard keys c (Piece c bytes) step old
+  heard_piece bytes came sent tells line fits at is =
+      let after : Line = record line { stream = fed line.stream bytes.items } in
+      let came_is : IsLine keys c (came ++ bytes.items) sent tells after old = record {
+        alive = is.alive;
+        waiting = is.waiting;
+        talk = heard_bytes keys c came sent tells line old is bytes.items fits.0 fits.1;
+        holds = is.holds;
+        queued = is.queued;
+      } in
+      nothing_sent (came ++ came_in c (Piece c bytes)) sent tells after (subst (λ bs. IsLine keys c (came ++ bs) sent tells after old) (sym (here c bytes.items)) came_is)
+
+  heard_end : IsHeard keys c (End c) step old
+  heard_end came sent tells line fits at is =
+      let after : Line = record line { ended = true } in
+      let same : IsLine keys c came sent tells after old = record { alive = is.alive; waiting = is.waiting; talk = is.talk; holds = is.holds; queued = is.queued } in
+      nothing_came came (sent ++ []) tells after (nothing_sent came sent tells after same)
+
+  -- the bytes that are written are those that were pending first
+  sent_first : (count : Option ℕ) (line : Line) → line_of c old ≡ Some line → step.sent.items ≡ sent_by (Wrote c count) old
+      → sent_in c (Wrote c count) step ≡ take (count_off count line.pending) line.pending
+  sent_first count line at sent_is =
+      here c step.sent.items ∙ sent_is
+      ∙ ap (λ (o : Option Line). let bytes = unwrap_or (option_map (λ (l : Line). l.pending) o) [] in take (count_off count bytes) bytes) at
+
+  heard_wrote : (count : Option ℕ) → step.sent.items ≡ sent_by (Wrote c count) old → IsHeard keys c (Wrote c count) step old
+  heard_wrote None sent_is came sent tells line fits at is =
+      let all : take (length line.pending) line.pending ≡ line.pending = take_all (length line.pending) line.pending (omega arith) in
+      let front : sent_in c (Wrote c None) step ≡ line.pending = sent_first None line at sent_is ∙ all in
+      let after : Line = record line { pending = [] } in
+      nothing_came came (sent ++ sent_in c (Wrote c None) step) tells after
+      (subst (λ bs. IsLine keys c came (sent ++ bs) tells after old) (sym front) (heard_write keys c came sent tells line old is line.pending [] (append-nil line.pending) (λ none. refl)))
+  heard_wrote (Some count) sent_is came sent tells line fits at is =
+      let front : sent_in c (Wrote c (Some count)) step ≡ take count line.pending = sent_first (Some count) line at sent_is in
+      let after : Line = record line { pending = drop count line.pending } in
+      nothing_came came (sent ++ sent_in c (Wrote c (Some count)) step) tells after
+      (subst (λ bs. IsLine keys c came (sent ++ bs) tells after old) (sym front)
+      (heard_write keys c came sent tells line old is (take count line.pending) (drop count line.pending) (take-append-drop count line.pending) (λ none. ap (drop count) none ∙ drop_nil count)))
+
+-- what an event does to what was asked and told on the connection
+abbrev pub Moves : List (List ℕ) → ℕ → Event → Step → State → State → Type 0
+Moves keys c event step old mid = (came sent : List ℕ) (tells : List Tell) → Stands keys c came sent tells old
+    → Stands keys c (came ++ came_in c event) (sent ++ sent_in c event step) (tells ++ told_in c step.told.reply) mid
+
+-- nothing happens to the connection
+pub record Untouched (c : ℕ) (event : Event) (step : Step) (old mid : State) : Type 0 where
+  pub came : came_in c event ≡ []
+  pub sent : sent_in c event step ≡ []
+  pub told : told_in c step.told.reply ≡ []
+  pub line : line_of c mid ≡ line_of c old
+  pub next : next_of old ≤ next_of mid
+  pub queues : (u : ℕ) (slice : Slice) → slice_of u mid ≡ Some slice → (before : Slice) × (slice_of u old ≡ Some before) × (waiters_of c slice ≡ waiters_of c before)
+
+module _ (keys : List (List ℕ)) (c : ℕ) (event : Event) (step : Step) (old mid : State) where
+  queued_on : (h : Untouched c event step old mid) (waits : Option ℕ) (waiting : List RequestMessage) → Queued c old waits waiting → Queued c mid waits waiting
+  queued_on h waits waiting queued u slice was = let before = h.queues u slice was in before.2 ∙ queued u before.0 before.1
+
+  stands_on : Untouched c event step old mid → (came sent : List ℕ) (tells : List Tell) → Stands keys c came sent tells old → Stands keys c came sent tells mid
+  stands_on h came sent tells (inl is) = inl (record {
+    line = is.line;
+    at = h.line ∙ is.at;
+    below = omega (arith, is.below, h.next);
+    idle = is.idle;
+    is_line = record {
+      alive = is.is_line.alive;
+      waiting = is.is_line.waiting;
+      talk = is.is_line.talk;
+      holds = is.is_line.holds;
+      queued = queued_on h is.line.waits is.is_line.waiting is.is_line.queued;
+    };
+  })
+  stands_on h came sent tells (inr is) = inr (record {
+    at = h.line ∙ is.at;
+    left = is.left;
+    talk = is.talk;
+    fresh = λ above. is.fresh (omega (arith, above, h.next));
+    queued = queued_on h None [] is.queued;
+  })
+
+  untouched : Untouched c event step old mid → Moves keys c event step old mid
+  untouched h came sent tells stands =
+      subst (λ bs. Stands keys c bs (sent ++ sent_in c event step) (tells ++ told_in c step.told.reply) mid) (sym (ap (λ bs. came ++ bs) h.came ∙ append-nil came))
+      (subst (λ bs. Stands keys c came bs (tells ++ told_in c step.told.reply) mid) (sym (ap (λ bs. sent ++ bs) h.sent ∙ append-nil sent))
+      (subst (λ ts. Stands keys c came sent ts mid) (sym (ap (λ ts. tells ++ ts) h.told ∙ append-nil tells)) (stands_on h came sent tells stands)))
+
+-- queues that stay as they were
+same_queues : (c : ℕ) (old mid : State) → ((u : ℕ) → slice_of u mid ≡ slice_of u old) → (u : ℕ) (slice : Slice) → slice_of u mid ≡ Some slice
+    → (before : Slice) × (slice_of u old ≡ Some before) × (waiters_of c slice ≡ waiters_of c before)
+same_queues c old mid slices u slice was = (slice, sym (slices u) ∙ was, refl)
+
+-- the connection itself hears something
+hears_moves : (keys : List (List ℕ)) (c : ℕ) (event : Event) (step : Step) (old mid : State) → keys_of old ≡ keys → OpenAnd (line_of c old) (Fits event) → IsHeard keys c event step old
+    → Hears event c step.told old mid → Moves keys c event step old mid
+hears_moves keys c event step old mid keys_are allowed heard h came sent tells (inr is) = absurd (none_some (sym is.at ∙ h.was_open))
+hears_moves keys c event step old mid keys_are allowed heard h came sent tells (inl is) =
+    let line_is : h.line ≡ is.line = some_same (sym h.was_open ∙ is.at) in
+    let fits : Fits event is.line = subst (λ (o : Option Line). OpenAnd o (Fits event)) is.at allowed in
+    let now = heard came sent tells is.line fits is.at is.is_line in
+    let taken = h.taken in
+    let stands = subst (λ l. IsTaken (hears event l) taken h.stream) line_is h.stands in
+    let slices = λ (u : ℕ). h.slices u ∙ ap (λ ks. option_map (slice_behind ks c taken u) (slice_of u old)) keys_are in
+    let took = takes keys c (came ++ came_in c event) (sent ++ sent_in c event step) tells (hears event is.line) old mid now h.stream taken stands slices in
+    let after_is : line_behind keys taken (record (hears event is.line) { stream = h.stream }) ≡ h.after =
+    sym (h.after_is ∙ ap (λ ks. line_behind ks taken (record (hears event h.line) { stream = h.stream })) keys_are ∙ ap (λ l. line_behind keys taken (record (hears event l) { stream = h.stream })) line_is) in
+    let told_is : told_in c (told_at_once keys c taken) ≡ told_in c step.told.reply =
+    ap (told_in c) (sym (ap (λ (t : Told). t.reply) h.told_is ∙ ap (λ ks. told_at_once ks c taken) keys_are)) in
+    settles keys c (came ++ came_in c event) (sent ++ sent_in c event step) (tells ++ told_in c step.told.reply) h.after mid h.line_is (subst (λ n. c < n) (sym h.keeps.next) is.below)
+    (λ came_some. subst (λ l. is_ready l ≡ true → TakesOff l.stream Nothing l.stream) after_is (idle_behind keys (hears event is.line) taken h.stream stands))
+    (subst (λ ts. IsLine keys c (came ++ came_in c event) (sent ++ sent_in c event step) (tells ++ ts) h.after mid) told_is
+    (subst (λ l. IsLine keys c (came ++ came_in c event) (sent ++ sent_in c event step) (tells ++ told_in c (told_at_once keys c taken)) l mid) after_is took))
+
+-- what is told at once goes to the connection that asked
+told_of : (c d : ℕ) (place : Option ℕ) → d ≢ c → told_in c (told_of_tenant d place) ≡ []
+told_of c d None apart = told_there c (at_once d unknown_key) apart
+told_of c d (Some tenant) apart = refl
+
+told_by : (keys : List (List ℕ)) (c d : ℕ) (taken : Taken) → d ≢ c → told_in c (told_at_once keys d taken) ≡ []
+told_by keys c d Nothing apart = refl
+told_by keys c d (Whole request) apart = told_of c d (tenant_of keys request.key) apart
+told_by keys c d (Refusal fault) apart = told_there c (at_once d (fault_reply fault)) apart
+told_by keys c d (Lost close) apart = told_there c (at_once d store_failed) apart
+
+-- another connection hears something
+hears_untouched : (keys : List (List ℕ)) (c d : ℕ) (event : Event) (step : Step) (old mid : State) → d ≢ c → came_in c event ≡ [] → sent_in c event step ≡ []
+    → Hears event d step.told old mid → Untouched c event step old mid
+hears_untouched keys c d event step old mid apart no_bytes none_sent h = record {
+  came = no_bytes;
+  sent = none_sent;
+  told = ap (λ (t : Told). told_in c t.reply) h.told_is ∙ told_by (keys_of old) c d h.taken apart;
+  line = h.lines c (λ e. apart (sym e));
+  next = omega (arith, h.keeps.next);
+  queues = λ u slice was.
+      let from = option_from (slice_behind (keys_of old) d h.taken u) (slice_of u old) slice (sym (h.slices u) ∙ was) in
+      (from.0, from.1, ap (waiters_of c) (sym from.2) ∙ waiters_behind (keys_of old) c d h.taken u from.0 apart);
+}
+
+-- nothing changes, and nothing is told
+same_untouched : (c : ℕ) (event : Event) (step : Step) (old mid : State) → came_in c event ≡ [] → sent_in c event step ≡ [] → told_in c step.told.reply ≡ []
+    → IsSame old mid → Untouched c event step old mid
+same_untouched c event step old mid no_bytes none_sent none_told same = record {
+  came = no_bytes;
+  sent = none_sent;
+  told = none_told;
+  line = same.lines c;
+  next = omega (arith, same.keeps.next);
+  queues = same_queues c old mid same.slices;
+}
+
+-- the connection itself opens
+opened : (keys : List (List ℕ)) (c d : ℕ) (step : Step) (old mid : State) → c ≡ next_of old → IsOpened step.told old mid → Moves keys c (Open d) step old mid
+opened keys c d step old mid is_next h came sent tells (inl is) = absurd (omega (arith, is.below, is_next))
+opened keys c d step old mid is_next h came sent tells (inr is) =
+    let talk : Talk keys c came sent tells [] [] opening = subst (λ s. Talk keys c came sent tells [] [] s) (is.fresh (omega (arith, is_next))).0 is.talk in
+    let told : told_in c step.told.reply ≡ [] = ap (λ (t : Told). told_in c t.reply) h.told_is in
+    let stands : Stands keys c came sent tells mid = inl (record {
+      line = new_line;
+      at = ap (λ n. line_of n mid) is_next ∙ h.line;
+      below = omega (arith, h.next, is_next);
+      idle = λ some. absurd (some (is.fresh (omega (arith, is_next))).1);
+      is_line = record {
+        alive = refl;
+        waiting = [];
+        talk = talk;
+        holds = refl;
+        queued = λ u slice was. is.queued u slice (sym (h.slices u) ∙ was);
+      };
+    }) in
+    subst (λ bs. Stands keys c bs (sent ++ []) (tells ++ told_in c step.told.reply) mid) (sym (append-nil came))
+    (subst (λ bs. Stands keys c came bs (tells ++ told_in c step.told.reply) mid) (sym (append-nil sent))
+    (subst (λ ts. Stands keys c came sent ts mid) (sym (ap (λ ts. tells ++ ts) told ∙ append-nil tells)) stands))
+
+-- a connection opens
+opens_move : (keys : List (List ℕ)) (c d : ℕ) (step : Step) (old mid : State) → d ≡ next_of old → Opens step.told old mid → Moves keys c (Open d) step old mid
+opens_move keys c d step old mid number (inr h) =
+    untouched keys c (Open d) step old mid (same_untouched c (Open d) step old mid refl refl (ap (λ (t : Told). told_in c t.reply) h.told_is) h.same)
+opens_move keys c d step old mid number (inl h) =
+    ⊎_elim (λ is_next. opened keys c d step old mid is_next h) (λ apart. untouched keys c (Open d) step old mid (record {
+      came = refl;
+      sent = refl;
+      told = ap (λ (t : Told). told_in c t.reply) h.told_is;
+      line = h.lines c apart;
+      next = omega (arith, h.next);
+      queues = same_queues c old mid h.slices;
+    })) (cases_eq c (next_of old))
+
+some_not_none : {X : Type 0} {x : X} {xs : List X} → x ∷ xs ≡ [] → ⊥
+some_not_none e = cc
+
+rest_none : {X : Type 0} (x y : X) (ys : List X) → x ∷ [] ≡ y ∷ ys → ys ≡ []
+rest_none x y ys e = cc
+
+-- the first of a queue stands first among the connection's, if it is one of them
+first_in_queue : (c t : ℕ) (slice : Slice) (first : Waiter) (rest : List Waiter) → slice.1 ≡ first ∷ rest → first.conn ≡ c
+    → first ∷ filter (λ (w : Waiter). w.conn == c) rest ≡ waiters_of c slice
+first_in_queue c t slice first rest waited here =
+    ap (λ b. if b then first ∷ filter (λ (w : Waiter). w.conn == c) rest else filter (λ (w : Waiter). w.conn == c) rest) (sym (eq-eqb first.conn c here))
+    ∙ ap (λ ws. filter (λ (w : Waiter). w.conn == c) ws) (sym waited)
+
+-- a turn that answers another connection
+answered_there : (c t : ℕ) (step : Step) (old mid : State) (h : IsAnswered t step.told old mid) → h.first.conn ≢ c → Untouched c (Turn t) step old mid
+answered_there c t step old mid h apart = record {
+  came = refl;
+  sent = refl;
+  told = ap (λ (r : Told). told_in c r.reply) h.told_is ∙ told_there c (in_turn t h.first.conn h.reply) apart;
+  line = h.lines c (λ e. apart (sym e));
+  next = omega (arith, h.keeps.next);
+  queues = λ u slice was.
+      ⊎_elim (λ same.
+      let here : slice ≡ (h.world, h.rest) = some_same (sym was ∙ ap (λ n. slice_of n mid) same ∙ h.slice_is) in (
+        h.slice,
+        ap (λ n. slice_of n old) same ∙ h.was,
+        ap (waiters_of c) here ∙ ap (λ b. if b then h.first ∷ waiters_of c (h.world, h.rest) else waiters_of c (h.world, h.rest)) (sym (other_number h.first.conn c apart))
+            ∙ ap (λ ws. filter (λ (w : Waiter). w.conn == c) ws) (sym h.waited),
+      ))
+      (λ other. (slice, sym (h.slices u other) ∙ was, refl)) (cases_eq u t);
+}
+
+-- the first waiter of a queue is the connection's, so its request waits there, alone
+first_waits : (c t : ℕ) (waits : Option ℕ) (waiting : List RequestMessage) (first : Waiter) (rest : List Waiter) → first ∷ rest ≡ waiters_at c t waits waiting
+    → (waits ≡ Some t) × (map (waiter c) waiting ≡ first ∷ rest)
+first_waits c t None waiting first rest e = absurd (some_not_none e)
+first_waits c t (Some u) waiting first rest e =
+    ⊎_elim (λ same. (ap Some same, sym (e ∙ ap (λ b. if b then map (waiter c) waiting else []) (eq-eqb u t same))))
+    (λ apart. absurd (some_not_none (e ∙ ap (λ b. if b then map (waiter c) waiting else []) (other_number u t apart)))) (cases_eq u t)
+
+-- a turn that answers the connection's request
+answered_here : (keys : List (List ℕ)) (c t : ℕ) (step : Step) (old mid : State) (h : IsAnswered t step.told old mid) → h.first.conn ≡ c → Moves keys c (Turn t) step old mid
+answered_here keys c t step old mid h here came sent tells (inr is) =
+    absurd (some_not_none (first_in_queue c t h.slice h.first h.rest h.waited here ∙ is.queued t h.slice h.was))
+answered_here keys c t step old mid h here came sent tells (inl is) =
+    let line = is.line in
+    let first = first_waits c t line.waits is.is_line.waiting h.first (waiters_of c (h.world, h.rest)) (first_in_queue c t h.slice h.first h.rest h.waited here ∙ is.is_line.queued t h.slice h.was) in
+    let holds : Holds keys (Some t) is.is_line.waiting line.pending line.stream.over = subst (λ w. Holds keys w is.is_line.waiting line.pending line.stream.over) first.0 is.is_line.holds in
+    let request = holds.0 in
+    let alone : waiters_of c (h.world, h.rest) ≡ [] = rest_none (waiter c request) h.first (waiters_of c (h.world, h.rest)) (ap (map (waiter c)) (sym holds.1) ∙ first.1) in
+    let tell : Tell = in_turn t c h.reply in
+    let answers : AnswersAsked keys c (Whole request) tell =
+    subst (λ (o : Option ℕ). MatchOption o (tell ≡ at_once c unknown_key) (λ tenant. tell ≡ in_turn tenant c tell.reply)) (sym holds.2) refl in
+    let talk : Talk keys c came sent tells [] (request ∷ []) line.stream =
+    subst (λ ws. Talk keys c came sent tells [] ws line.stream) holds.1 (subst (λ p. Talk keys c came sent tells p is.is_line.waiting line.stream) holds.3 is.is_line.talk) in
+    let after : Line = answered h.reply line in
+    let pending : after.pending ≡ reply_text h.reply request.close =
+    ap (λ b. if b then line.pending else reply_text h.reply line.stream.over) is.is_line.alive ∙ ap (reply_text h.reply) holds.4 in
+    let told : told_in c step.told.reply ≡ tell ∷ [] =
+    ap (λ (r : Told). told_in c r.reply) h.told_is ∙ ap (λ d. told_in c (Some (in_turn t d h.reply))) here ∙ told_here c tell refl in
+    let is_line : IsLine keys c came sent (tells ++ tell ∷ []) after mid = record {
+      alive = is.is_line.alive;
+      waiting = [];
+      talk = subst (λ p. Talk keys c came sent (tells ++ tell ∷ []) p [] line.stream) (sym pending) (talk_answered keys c came sent tells line.stream request tell answers talk);
+      holds = refl;
+      queued = λ u slice was.
+          ⊎_elim (λ same.
+          let slice_is : slice ≡ (h.world, h.rest) = some_same (sym was ∙ ap (λ n. slice_of n mid) same ∙ h.slice_is) in
+          ap (waiters_of c) slice_is ∙ alone)
+          (λ other. is.is_line.queued u slice (sym (h.slices u other) ∙ was) ∙ ap (λ w. waiters_at c u w is.is_line.waiting) first.0
+          ∙ ap (λ b. if b then map (waiter c) is.is_line.waiting else []) (other_number t u (λ e. other (sym e)))) (cases_eq u t);
+    } in
+    let after_is : h.after ≡ Some after = h.after_is ∙ ap (λ d. option_map (answered h.reply) (line_of d old)) here ∙ ap (option_map (answered h.reply)) is.at in
+    let at : line_of c mid ≡ kept after = ap (λ d. line_of d mid) (sym here) ∙ h.line_is ∙ ap (option_and_then kept) after_is in
+    let stands : Stands keys c came sent (tells ++ tell ∷ []) mid = settles keys c came sent (tells ++ tell ∷ []) after mid at (subst (λ n. c < n) (sym h.keeps.next) is.below)
+    (λ some ready. absurd (reply_waits after h.reply request.close pending ready)) is_line in
+    subst (λ bs. Stands keys c bs (sent ++ []) (tells ++ told_in c step.told.reply) mid) (sym (append-nil came))
+    (subst (λ bs. Stands keys c came bs (tells ++ told_in c step.told.reply) mid) (sym (append-nil sent))
+    (subst (λ ts. Stands keys c came sent (tells ++ ts) mid) (sym told) stands))
+
+-- a turn of a tenant
+turns_move : (keys : List (List ℕ)) (c t : ℕ) (step : Step) (old mid : State) → Turns t step.told old mid → Moves keys c (Turn t) step old mid
+turns_move keys c t step old mid (inl h) =
+    untouched keys c (Turn t) step old mid (same_untouched c (Turn t) step old mid refl refl (ap (λ (r : Told). told_in c r.reply) h.told_is) h.same)
+turns_move keys c t step old mid (inr h) =
+    ⊎_elim (λ here. answered_here keys c t step old mid h here) (λ apart. untouched keys c (Turn t) step old mid (answered_there c t step old mid h apart)) (cases_eq h.first.conn c)
+
+-- any event that is allowed
+pub moves : (keys : List (List ℕ)) (c : ℕ) (event : Event) (step : Step) (old mid : State) → keys_of old ≡ keys → loses c event ≡ false → Happens event step old mid → Moves keys c event step old mid
+moves keys c (Open d) step old mid keys_are alive h = opens_move keys c d step old mid h.allowed h.does
+moves keys c (Turn t) step old mid keys_are alive h = turns_move keys c t step old mid h.does
+moves keys c (Piece d bytes) step old mid keys_are alive h =
+    ⊎_elim (λ same. subst (λ n. Moves keys n (Piece d bytes) step old mid) same (hears_moves keys d (Piece d bytes) step old mid keys_are h.allowed (heard_piece keys d step old bytes) h.does))
+    (λ apart. untouched keys c (Piece d bytes) step old mid (hears_untouched keys c d (Piece d bytes) step old mid apart (ap (λ b. if b then bytes.items else []) (other_number d c apart)) refl h.does))
+    (cases_eq d c)
+moves keys c (End d) step old mid keys_are alive h =
+    ⊎_elim (λ same. subst (λ n. Moves keys n (End d) step old mid) same (hears_moves keys d (End d) step old mid keys_are h.allowed (heard_end keys d step old) h.does))
+    (λ apart. untouched keys c (End d) step old mid (hears_untouched keys c d (End d) step old mid apart refl refl h.does))
+    (cases_eq d c)
+moves keys c (Fault d) step old mid keys_are alive h =
+    untouched keys c (Fault d) step old mid (hears_untouched keys c d (Fault d) step old mid (λ same. let lost : (d == c) ≡ true = eq-eqb d c same in cc) refl refl h.does)
+moves keys c (Wrote d count) step old mid keys_are alive h =
+    ⊎_elim (λ same. subst (λ n. Moves keys n (Wrote d count) step old mid) same (hears_moves keys d (Wrote d count) step old mid keys_are h.allowed (heard_wrote keys d step old count h.sent) h.does))
+    (λ apart. untouched keys c (Wrote d count) step old mid (hears_untouched keys c d (Wrote d count) step old mid apart refl (ap (λ b. if b then step.sent.items else []) (other_number d c apart)) h.does))
+    (cases_eq d c)
+
+-- the keys stay
+keys_stay : (event : Event) (told : Told) (old mid : State) → Does event told old mid → keys_of mid ≡ keys_of old
+keys_stay (Open c) told old mid (inl h) = h.keys
+keys_stay (Open c) told old mid (inr h) = h.same.keeps.keys
+keys_stay (Piece c bytes) told old mid h = h.keeps.keys
+keys_stay (End c) told old mid h = h.keeps.keys
+keys_stay (Fault c) told old mid h = h.keeps.keys
+keys_stay (Wrote c count) told old mid h = h.keeps.keys
+keys_stay (Turn t) told old mid (inl h) = h.same.keeps.keys
+keys_stay (Turn t) told old mid (inr h) = h.keeps.keys
+
+or_false : (a b : Bool) → (a || b) ≡ false → (a ≡ false) × (b ≡ false)
+or_false false false e = (refl, refl)
+or_false false true e = absurd (cc)
+or_false true false e = absurd (cc)
+or_false true true e = absurd (cc)
+
+-- a whole run, from where the connection stood
+run_moves : (keys : List (List ℕ)) (c : ℕ) (came sent : List ℕ) (tells : List Tell) (events : List Event) (steps : List Step) (old new : State) → keys_of old ≡ keys → is_lost_in c events ≡ false
+    → Run old events steps new → Stands keys c came sent tells old → Stands keys c (came ++ came_on c events) (sent ++ sent_on c events steps) (tells ++ told_on c steps) new
+run_moves keys c came sent tells [] [] old new keys_are alive same stands =
+    subst (λ (s : State). Stands keys c (came ++ []) (sent ++ []) (tells ++ []) s) (sym same)
+    (subst (λ bs. Stands keys c bs (sent ++ []) (tells ++ []) old) (sym (append-nil came))
+    (subst (λ bs. Stands keys c came bs (tells ++ []) old) (sym (append-nil sent))
+    (subst (λ ts. Stands keys c came sent ts old) (sym (append-nil tells)) stands)))
+run_moves keys c came sent tells [] (step ∷ steps) old new keys_are alive run stands = absurd run
+run_moves keys c came sent tells (event ∷ events) [] old new keys_are alive run stands = absurd run
+run_moves keys c came sent tells (event ∷ events) (step ∷ steps) old new keys_are alive (mid, h, run) stands =
+    let lives = or_false (loses c event) (is_lost_in c events) alive in
+    let now = moves keys c event step old mid keys_are lives.0 h came sent tells stands in
+    let later = run_moves keys c (came ++ came_in c event) (sent ++ sent_in c event step) (tells ++ told_in c step.told.reply) events steps mid new
+    (keys_stay event step.told old mid h.does ∙ keys_are) lives.1 run now in
+    subst (λ bs. Stands keys c bs (sent ++ sent_on c (event ∷ events) (step ∷ steps)) (tells ++ told_on c (step ∷ steps)) new) (append_assoc came (came_in c event) (came_on c events))
+    (subst (λ bs. Stands keys c ((came ++ came_in c event) ++ came_on c events) bs (tells ++ told_on c (step ∷ steps)) new) (append_assoc sent (sent_in c event step) (sent_on c events steps))
+    (subst (λ ts. Stands keys c ((came ++ came_in c event) ++ came_on c events) ((sent ++ sent_in c event step) ++ sent_on c events steps) ts new) (append_assoc tells (told_in c step.told.reply) (told_on c steps)) later))
+
+-- each tenant begins with an empty queue
+new_queue : (keys : List (List ℕ)) (u : ℕ) (slice : Slice) → slice_get (map (λ (key : List ℕ). new_slice) keys) u ≡ Some slice → slice.1 ≡ []
+new_queue [] u slice was = absurd (none_some was)
+new_queue (key ∷ keys) zero slice was = ap (λ (s : Slice). s.1) (sym (some_same was))
+new_queue (key ∷ keys) (suc u) slice was = new_queue keys u slice was
+
+-- before the first event no connection stands open
+begins : (keys : List (List ℕ)) (c : ℕ) → Stands keys c [] [] [] (new_state keys)
+begins keys c = inr (record {
+  at = refl;
+  left = opening;
+  talk = none_came keys c [] [] [] opening refl refl refl refl;
+  fresh = λ above. (refl, refl);
+  queued = λ u slice was. ap (λ ws. filter (λ (w : Waiter). w.conn == c) ws) (new_queue keys u slice was);
+})
+
+-- what waits, as the contract says it
+waits_for : (keys : List (List ℕ)) (waits : Option ℕ) (waiting : List RequestMessage) (pending : List ℕ) (over : Bool) → Holds keys waits waiting pending over → WaitsFor keys waits waiting
+waits_for keys None waiting pending over holds = holds
+waits_for keys (Some t) waiting pending over (request, one, key_is, none, over_is) = (request, one, key_is)
+
+-- where the connection stands at the end, as the contract says it
+converses : (keys : List (List ℕ)) (c : ℕ) (events : List Event) (steps : List Step) (service : State) → Stands keys c (came_on c events) (sent_on c events steps) (told_on c steps) service
+    → ConversesPlainly keys c events steps service
+converses keys c events steps service (inl is) = record {
+  exchanges = is.is_line.talk.exchanges;
+  told = is.is_line.talk.told;
+  bytes = ap (λ (o : Option Line). sent_on c events steps ++ unwrap_or (option_map (λ (l : Line). l.pending) o) []) is.at ∙ is.is_line.talk.bytes;
+  waiting = is.is_line.waiting;
+  left = is.line.stream;
+  cut = is.is_line.talk.cut;
+  served = λ some. subst IsServedOut (sym is.at) (is.idle some);
+  stays = subst (λ (o : Option Line). IsLeft keys o is.is_line.waiting is.line.stream) (sym is.at) (refl, waits_for keys is.line.waits is.is_line.waiting is.line.pending is.line.stream.over is.is_line.holds);
+}
+converses keys c events steps service (inr is) = record {
+  exchanges = is.talk.exchanges;
+  told = is.talk.told;
+  bytes = ap (λ (o : Option Line). sent_on c events steps ++ unwrap_or (option_map (λ (l : Line). l.pending) o) []) is.at ∙ is.talk.bytes;
+  waiting = [];
+  left = is.left;
+  cut = is.talk.cut;
+  served = λ some. subst IsServedOut (sym is.at) tt;
+  stays = subst (λ (o : Option Line). IsLeft keys o [] is.left) (sym is.at) refl;
+}
+
+-- in a run from the beginning, each connection that isn't lost converses plainly
+pub run_converses : (keys : List (List ℕ)) (events : List Event) (steps : List Step) (service : State) (c : ℕ) → is_lost_in c events ≡ false → Run (new_state keys) events steps service
+    → ConversesPlainly keys c events steps service
+run_converses keys events steps service c alive run =
+    converses keys c events steps service (run_moves keys c [] [] [] events steps (new_state keys) service refl alive run (begins keys c))

@@ -1,0 +1,286 @@
+-- One connection in a run: what each event does to what it asked and was told.
+use Rattle.std.proofs.Common.{◌≡◌, ◌≢◌, ◌<◌, ◌≤◌, ℕ, Bool, true, false, List, [], ◌∷◌, ◌++◌, refl, sym, ap, subst, ◌∙◌, inl, inr, append-nil, arith, eq-eqb, ⊎_elim, Option, Some, None, filter}
+use Rattle.std.specs.Prelude.{◌⊎◌, ◌==◌, map, MatchBool, MatchOption, is_none, option_map, if◌then◌else◌}
+use Rattle.std.proofs.lemmas.Bool.{false≢true, cases_Bool, and_parts, MatchBool-at_true}
+use Rattle.std.proofs.lemmas.Bool.Decides.{nat_tests}
+use Rattle.std.proofs.lemmas.List.Elements.{filter-append}
+use Rattle.ports_core.proofs.Numbers.{other_number}
+use Rattle.ports_http.specs.Messages.{RequestMessage, ReplyMessage}
+use Rattle.ports_http.specs.Streams.{Waits}
+use Rattle.ports_http.specs.Incoming.{Incoming, opening, ended}
+use Rattle.ports_http.specs.Replies.{reply_text, fault_reply, unknown_key, store_failed}
+use Rattle.ports_core.specs.declared.line.Line.{Line}
+use Rattle.ports_core.specs.declared.event.Tell.{Tell}
+use Rattle.ports_core.specs.declared.tenant.Waiter.{Waiter}
+use Rattle.ports_core.specs.Keys.{tenant_of}
+use Rattle.ports_core.specs.Slices.{Slice, joined}
+use Rattle.ports_core.specs.Lines.{kept, is_done, is_ready, is_empty, with_pending}
+use Rattle.ports_core.specs.Telling.{at_once, in_turn}
+use Rattle.ports_core.specs.Taking.{Taken, Nothing, Whole, Refusal, Lost, TakesOff, IsTaken, told_of_tenant, told_at_once, line_with, line_behind, slice_with, slice_behind}
+use Rattle.ports_core.specs.State.{State, slice_of, line_of, next_of}
+use Rattle.ports_core.specs.Conversations.{told_in, TakesSome}
+use Rattle.ports_core.proofs.TalkLemmas.{Talk, talk_waits, talk_told}
+
+pub none_some : {A : Type 0} {y : A} → ◌≡◌ {A = Option A} None (Some y) → ⊥
+none_some e = cc
+
+pub some_same : {A : Type 0} {x y : A} → ◌≡◌ {A = Option A} (Some x) (Some y) → x ≡ y
+some_same e = cc
+
+-- what a mapped option comes from
+pub option_from : {A B : Type 0} (f : A → B) (o : Option A) (y : B) → option_map f o ≡ Some y → (x : A) × (o ≡ Some x) × (f x ≡ y)
+option_from f None y e = absurd (none_some e)
+option_from f (Some x) y e = (x, refl, some_same e)
+
+-- the requests of a connection among those that wait for a tenant
+abbrev pub waiters_of : ℕ → Slice → List Waiter
+waiters_of c slice = filter (λ (w : Waiter). w.conn == c) slice.1
+
+-- the request of a connection that waits for a turn of that tenant
+abbrev pub waiter : ℕ → RequestMessage → Waiter
+waiter c request = record { conn = c; request = request }
+
+-- those that wait for a tenant, where the connection's request waits for that one
+abbrev pub waiters_at : ℕ → ℕ → Option ℕ → List RequestMessage → List Waiter
+waiters_at c u None waiting = []
+waiters_at c u (Some t) waiting = if t == u then map (waiter c) waiting else []
+
+-- no queue has other requests of the connection
+abbrev pub Queued : ℕ → State → Option ℕ → List RequestMessage → Type 0
+Queued c state waits waiting = (u : ℕ) (slice : Slice) → slice_of u state ≡ Some slice → waiters_of c slice ≡ waiters_at c u waits waiting
+
+-- the request that waits, while nothing is pending
+abbrev pub Holds : List (List ℕ) → Option ℕ → List RequestMessage → List ℕ → Bool → Type 0
+Holds keys None waiting pending over = waiting ≡ []
+Holds keys (Some t) waiting pending over =
+    (request : RequestMessage) × (waiting ≡ request ∷ []) × (tenant_of keys request.key ≡ Some t) × (pending ≡ []) × (over ≡ request.close)
+
+-- a line that isn't lost, and what was asked and told on it
+pub record IsLine (keys : List (List ℕ)) (c : ℕ) (came sent : List ℕ) (tells : List Tell) (line : Line) (state : State) : Type 0 where
+  pub alive : line.lost ≡ false
+  pub waiting : List RequestMessage
+  pub talk : Talk keys c came sent tells line.pending waiting line.stream
+  pub holds : Holds keys line.waits waiting line.pending line.stream.over
+  pub queued : Queued c state line.waits waiting
+
+-- once bytes came, nothing more stands first on a line for which nothing waits and nothing is pending
+abbrev pub IsIdle : List ℕ → Line → Type 0
+IsIdle came line = came ≢ [] → is_ready line ≡ true → TakesOff line.stream Nothing line.stream
+
+-- the connection is open
+pub record StandsOpen (keys : List (List ℕ)) (c : ℕ) (came sent : List ℕ) (tells : List Tell) (state : State) : Type 0 where
+  pub line : Line
+  pub at : line_of c state ≡ Some line
+  pub below : c < next_of state
+  pub idle : IsIdle came line
+  pub is_line : IsLine keys c came sent tells line state
+
+-- the connection isn't open yet, or no more
+pub record StandsShut (keys : List (List ℕ)) (c : ℕ) (came sent : List ℕ) (tells : List Tell) (state : State) : Type 0 where
+  pub at : line_of c state ≡ None
+  pub left : Incoming
+  pub talk : Talk keys c came sent tells [] [] left
+  pub fresh : next_of state ≤ c → (left ≡ opening) × (came ≡ [])
+  pub queued : Queued c state None []
+
+-- a connection that isn't lost
+abbrev pub Stands : List (List ℕ) → ℕ → List ℕ → List ℕ → List Tell → State → Type 0
+Stands keys c came sent tells state = StandsOpen keys c came sent tells state ⊎ StandsShut keys c came sent tells state
+
+no_bytes : (bytes : List ℕ) → is_empty bytes ≡ true → bytes ≡ []
+no_bytes [] e = refl
+no_bytes (b ∷ bytes) e = absurd (grind (arith, nat_tests, e))
+
+none_waits : (waits : Option ℕ) → is_none waits ≡ true → waits ≡ None
+none_waits None e = refl
+none_waits (Some t) e = absurd (cc)
+
+-- a line that is done closes, and any other stays open
+pub settles : (keys : List (List ℕ)) (c : ℕ) (came sent : List ℕ) (tells : List Tell) (after : Line) (state : State)
+    → line_of c state ≡ kept after → c < next_of state → IsIdle came after → IsLine keys c came sent tells after state → Stands keys c came sent tells state
+settles keys c came sent tells after state at below idle is =
+    let P : Bool → Type 0 = λ b. is_done after ≡ b → line_of c state ≡ (if b then None else Some after) → Stands keys c came sent tells state in
+    elim (is_done after) as P [
+      | true ↦ λ done none.
+          let front = (and_parts _ _ done).0 in
+          let waits : after.waits ≡ None = none_waits after.waits (and_parts _ _ front).0 in
+          let pending : after.pending ≡ [] = no_bytes after.pending (and_parts _ _ front).1 in
+          let waiting : is.waiting ≡ [] = subst (λ w. Holds keys w is.waiting after.pending after.stream.over) waits is.holds in
+          inr (record {
+            at = none;
+            left = after.stream;
+            talk = subst (λ ws. Talk keys c came sent tells [] ws after.stream) waiting (subst (λ p. Talk keys c came sent tells p is.waiting after.stream) pending is.talk);
+            fresh = λ above. absurd (omega (arith, below, above));
+            queued = λ u slice was. is.queued u slice was ∙ ap (λ w. waiters_at c u w is.waiting) waits;
+          })
+      | false ↦ λ done some. inl (record { line = after; at = some; below = below; idle = idle; is_line = is })
+    ] refl at
+
+-- the first byte
+first_byte : List ℕ → ℕ
+first_byte [] = 0
+first_byte (b ∷ bytes) = b
+
+-- a reply has bytes: it begins with an H
+reply_bytes : (reply : ReplyMessage) (close : Bool) → reply_text reply close ≡ [] → ⊥
+unfolding reply_text first_byte
+reply_bytes reply close none = let first : 72 ≡ 0 = ap first_byte none in absurd (omega (arith, first))
+
+some_reply : (reply : ReplyMessage) (close : Bool) → is_empty (reply_text reply close) ≡ false
+some_reply reply close =
+    ⊎_elim (λ none. absurd (reply_bytes reply close (no_bytes (reply_text reply close) none))) (λ some. some) (cases_Bool (is_empty (reply_text reply close)))
+
+-- a line with something pending, or for which something waits, isn't ready
+pub pending_waits : (line : Line) → is_empty line.pending ≡ false → is_ready line ≡ true → ⊥
+pending_waits line some ready = let none : is_empty line.pending ≡ true = (and_parts _ _ (and_parts _ _ ready).0).1 in cc
+
+pub reply_waits : (line : Line) (reply : ReplyMessage) (close : Bool) → line.pending ≡ reply_text reply close → is_ready line ≡ true → ⊥
+reply_waits line reply close is ready = pending_waits line (ap is_empty is ∙ some_reply reply close) ready
+
+-- behind what was taken, nothing more stands first on a line that is ready
+idle_behind_whole : (place : Option ℕ) (close : Bool) (line : Line) → is_ready (line_with place close line) ≡ true → ⊥
+idle_behind_whole None close line ready = reply_waits (line_with None close line) unknown_key close refl ready
+idle_behind_whole (Some tenant) close line ready = absurd (false≢true ready)
+
+pub idle_behind : (keys : List (List ℕ)) (line : Line) (taken : Taken) (stream : Incoming) → IsTaken line taken stream
+    → is_ready (line_behind keys taken (record line { stream = stream })) ≡ true → TakesOff (line_behind keys taken (record line { stream = stream })).stream Nothing (line_behind keys taken (record line { stream = stream })).stream
+idle_behind keys line Nothing stream stands ready =
+    let takes : TakesOff line.stream Nothing stream = MatchBool-at_true (TakesOff line.stream Nothing stream) _ ready stands in
+    (refl, subst (λ (s : Incoming). MatchBool s.over (Unit {0}) (Waits s.unread)) (sym takes.0) takes.1)
+idle_behind keys line (Whole request) stream stands ready = absurd (idle_behind_whole (tenant_of keys request.key) request.close (record line { stream = stream }) ready)
+idle_behind keys line (Refusal fault) stream stands ready = absurd (reply_waits (with_pending (reply_text (fault_reply fault) true) (record line { stream = stream })) (fault_reply fault) true refl ready)
+idle_behind keys line (Lost close) stream stands ready = absurd (reply_waits (with_pending (reply_text store_failed close) (record line { stream = stream })) store_failed close refl ready)
+
+-- the requests of a connection behind what another took
+waiters_with : (c d : ℕ) (place : Option ℕ) (request : RequestMessage) (u : ℕ) (slice : Slice) → d ≢ c → waiters_of c (slice_with place d request u slice) ≡ waiters_of c slice
+waiters_with c d None request u slice apart = refl
+waiters_with c d (Some tenant) request u slice apart =
+    elim (tenant == u) as (λ b. waiters_of c (if b then joined (waiter d request) slice else slice) ≡ waiters_of c slice) [
+      | true ↦
+          filter-append (λ (w : Waiter). w.conn == c) slice.1 (waiter d request ∷ [])
+          ∙ ap (λ b. waiters_of c slice ++ (if b then waiter d request ∷ [] else [])) (other_number d c apart)
+          ∙ append-nil (waiters_of c slice)
+      | false ↦ refl
+    ]
+
+pub waiters_behind : (keys : List (List ℕ)) (c d : ℕ) (taken : Taken) (u : ℕ) (slice : Slice) → d ≢ c → waiters_of c (slice_behind keys d taken u slice) ≡ waiters_of c slice
+waiters_behind keys c d Nothing u slice apart = refl
+waiters_behind keys c d (Whole request) u slice apart = waiters_with c d (tenant_of keys request.key) request u slice apart
+waiters_behind keys c d (Refusal fault) u slice apart = refl
+waiters_behind keys c d (Lost close) u slice apart = refl
+
+-- its own request waits where it should
+waiters_join : (c tenant u : ℕ) (request : RequestMessage) (slice : Slice) → waiters_of c slice ≡ []
+    → waiters_of c (slice_with (Some tenant) c request u slice) ≡ waiters_at c u (Some tenant) (request ∷ [])
+waiters_join c tenant u request slice none =
+    elim (tenant == u) as (λ b. waiters_of c (if b then joined (waiter c request) slice else slice) ≡ (if b then waiter c request ∷ [] else [])) [
+      | true ↦
+          filter-append (λ (w : Waiter). w.conn == c) slice.1 (waiter c request ∷ [])
+          ∙ ap (λ ws. ws ++ (if c == c then waiter c request ∷ [] else [])) none
+          ∙ ap (λ b. if b then waiter c request ∷ [] else []) (eq-eqb c c refl)
+      | false ↦ none
+    ]
+
+-- no queue has a request of the connection, whatever was to wait
+none_at : (c u : ℕ) (waits : Option ℕ) (waiting : List RequestMessage) → waits ≡ None → waiters_at c u waits waiting ≡ []
+none_at c u waits waiting none = ap (λ w. waiters_at c u w waiting) none
+
+pub told_here : (c : ℕ) (tell : Tell) → tell.conn ≡ c → told_in c (Some tell) ≡ tell ∷ []
+told_here c tell here = ap (λ b. if b then tell ∷ [] else []) (eq-eqb tell.conn c here)
+
+pub told_there : (c : ℕ) (tell : Tell) → tell.conn ≢ c → told_in c (Some tell) ≡ []
+told_there c tell there = ap (λ b. if b then tell ∷ [] else []) (other_number tell.conn c there)
+
+-- a stream is over behind a request that closes
+over_behind : (request : RequestMessage) (old new : Incoming) → TakesSome old (Whole request) new → new.over ≡ request.close
+over_behind request old new takes =
+    ap (λ (s : Incoming). s.over) takes.after
+    ∙ elim (request.close) as (λ b. (if b then ended else record { unread = takes.rest; over = false }).over ≡ b) [ true ↦ refl | false ↦ refl ]
+
+-- what is taken off a line that isn't lost
+module _ (keys : List (List ℕ)) (c : ℕ) (came sent : List ℕ) (tells : List Tell) (line : Line) (old mid : State) (is : IsLine keys c came sent tells line old) (stream : Incoming) where
+  -- nothing is taken
+  takes_nothing : stream ≡ line.stream → ((u : ℕ) → slice_of u mid ≡ option_map (λ (s : Slice). s) (slice_of u old))
+      → IsLine keys c came sent (tells ++ []) (record line { stream = stream }) mid
+  takes_nothing same slices = record {
+    alive = is.alive;
+    waiting = is.waiting;
+    talk = subst (λ ts. Talk keys c came sent ts line.pending is.waiting stream) (sym (append-nil tells)) (subst (λ s. Talk keys c came sent tells line.pending is.waiting s) (sym same) is.talk);
+    holds = subst (λ (s : Incoming). Holds keys line.waits is.waiting line.pending s.over) (sym same) is.holds;
+    queued = λ u slice was. let from = option_from (λ (s : Slice). s) (slice_of u old) slice (sym (slices u) ∙ was) in
+        ap (waiters_of c) (sym from.2) ∙ is.queued u from.0 from.1;
+  }
+
+  module _ (ready : is_ready line ≡ true) where
+    ready_waits : line.waits ≡ None
+    ready_waits = none_waits line.waits (and_parts _ _ (and_parts _ _ ready).0).0
+
+    ready_pending : line.pending ≡ []
+    ready_pending = no_bytes line.pending (and_parts _ _ (and_parts _ _ ready).0).1
+
+    ready_waiting : is.waiting ≡ []
+    ready_waiting = subst (λ w. Holds keys w is.waiting line.pending line.stream.over) ready_waits is.holds
+
+    ready_talk : Talk keys c came sent tells [] [] line.stream
+    ready_talk = subst (λ ws. Talk keys c came sent tells [] ws line.stream) ready_waiting (subst (λ p. Talk keys c came sent tells p is.waiting line.stream) ready_pending is.talk)
+
+    ready_queues : (u : ℕ) (slice : Slice) → slice_of u old ≡ Some slice → waiters_of c slice ≡ []
+    ready_queues u slice was = is.queued u slice was ∙ none_at c u line.waits is.waiting ready_waits
+
+    -- something was taken and is answered at once
+    told_line : (tell : Tell) (pending : List ℕ) → tell.conn ≡ c → Talk keys c came sent (tells ++ tell ∷ []) pending [] stream
+        → ((u : ℕ) → slice_of u mid ≡ option_map (λ (s : Slice). s) (slice_of u old))
+        → IsLine keys c came sent (tells ++ told_in c (Some tell)) (record line { stream = stream; pending = pending }) mid
+    told_line tell pending here talk slices = record {
+      alive = is.alive;
+      waiting = [];
+      talk = subst (λ ts. Talk keys c came sent (tells ++ ts) pending [] stream) (sym (told_here c tell here)) talk;
+      holds = subst (λ w. Holds keys w [] pending stream.over) (sym ready_waits) refl;
+      queued = λ u slice was. let from = option_from (λ (s : Slice). s) (slice_of u old) slice (sym (slices u) ∙ was) in
+          ap (waiters_of c) (sym from.2) ∙ ready_queues u from.0 from.1 ∙ sym (none_at c u line.waits [] ready_waits);
+    }
+
+    -- a request of that tenant, or of none, is taken
+    takes_whole : (place : Option ℕ) (request : RequestMessage) → tenant_of keys request.key ≡ place → TakesSome line.stream (Whole request) stream
+        → ((u : ℕ) → slice_of u mid ≡ option_map (slice_with place c request u) (slice_of u old))
+        → IsLine keys c came sent (tells ++ told_in c (told_of_tenant c place)) (line_with place request.close (record line { stream = stream })) mid
+    takes_whole None request key_is takes slices =
+        told_line (at_once c unknown_key) (reply_text unknown_key request.close) refl
+        (talk_told keys c came sent tells line.stream stream (Whole request) (at_once c unknown_key) takes
+        (subst (λ (o : Option ℕ). MatchOption o (at_once c unknown_key ≡ at_once c unknown_key) (λ tenant. at_once c unknown_key ≡ in_turn tenant c unknown_key)) (sym key_is) refl) ready_talk)
+        slices
+    takes_whole (Some tenant) request key_is takes slices = record {
+      alive = is.alive;
+      waiting = request ∷ [];
+      talk = subst (λ p. Talk keys c came sent (tells ++ []) p (request ∷ []) stream) (sym ready_pending)
+          (subst (λ ts. Talk keys c came sent ts [] (request ∷ []) stream) (sym (append-nil tells)) (talk_waits keys c came sent tells line.stream stream request takes ready_talk));
+      holds = (request, refl, key_is, ready_pending, over_behind request line.stream stream takes);
+      queued = λ u slice was. let from = option_from (slice_with (Some tenant) c request u) (slice_of u old) slice (sym (slices u) ∙ was) in
+          ap (waiters_of c) (sym from.2) ∙ waiters_join c tenant u request from.0 (ready_queues u from.0 from.1);
+    }
+
+  -- whatever is taken
+  takes_ready : (taken : Taken) → is_ready line ≡ true → TakesOff line.stream taken stream
+      → ((u : ℕ) → slice_of u mid ≡ option_map (slice_behind keys c taken u) (slice_of u old))
+      → IsLine keys c came sent (tells ++ told_in c (told_at_once keys c taken)) (line_behind keys taken (record line { stream = stream })) mid
+  takes_ready Nothing ready takes slices = takes_nothing takes.0 slices
+  takes_ready (Whole request) ready takes slices = takes_whole ready (tenant_of keys request.key) request refl takes slices
+  takes_ready (Refusal fault) ready takes slices =
+      told_line ready (at_once c (fault_reply fault)) (reply_text (fault_reply fault) true) refl
+      (talk_told keys c came sent tells line.stream stream (Refusal fault) (at_once c (fault_reply fault)) takes refl (ready_talk ready))
+      slices
+  takes_ready (Lost close) ready takes slices =
+      told_line ready (at_once c store_failed) (reply_text store_failed close) refl
+      (talk_told keys c came sent tells line.stream stream (Lost close) (at_once c store_failed) takes refl (ready_talk ready))
+      slices
+
+  pub takes : (taken : Taken) → IsTaken line taken stream
+      → ((u : ℕ) → slice_of u mid ≡ option_map (slice_behind keys c taken u) (slice_of u old))
+      → IsLine keys c came sent (tells ++ told_in c (told_at_once keys c taken)) (line_behind keys taken (record line { stream = stream })) mid
+  takes taken stands slices =
+      let Q : Taken → Type 0 = λ k. IsLine keys c came sent (tells ++ told_in c (told_at_once keys c k)) (line_behind keys k (record line { stream = stream })) mid in
+      let P : Bool → Type 0 = λ b. is_ready line ≡ b → MatchBool b (TakesOff line.stream taken stream) ((taken ≡ Nothing) × (stream ≡ line.stream)) → Q taken in
+      elim (is_ready line) as P [
+        | true ↦ λ ready off. takes_ready taken ready off slices
+        | false ↦ λ busy off. subst Q (sym off.0) (takes_nothing off.1 (λ u. slices u ∙ ap (λ k. option_map (slice_behind keys c k u) (slice_of u old)) off.0))
+      ] refl stands

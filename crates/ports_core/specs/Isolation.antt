@@ -1,0 +1,66 @@
+-- What a run from any state does for a tenant, and when two such runs, of two services, must tell two tenants alike.
+use Rattle.std.specs.Prelude.{◌≡◌, ℕ, false, List, [], ◌∷◌, ◌++◌, All, Some}
+use Rattle.mk_paths.specs.World.{FileMap}
+use Rattle.ports_core.specs.declared.event.Event.{Event}
+use Rattle.ports_core.specs.declared.event.Tell.{Tell}
+use Rattle.ports_core.specs.declared.tenant.Waiter.{Waiter}
+use Rattle.ports_core.specs.declared.history.Step.{Step}
+use Rattle.ports_core.specs.Slices.{Slice, world_of, waiting_of, plain_answer}
+use Rattle.ports_core.specs.State.{State, keys_of, slice_of, line_of, waiting_at}
+use Rattle.ports_core.specs.Runs.{Run}
+use Rattle.ports_core.specs.Books.{Book, TakesIn}
+use Rattle.ports_core.specs.Plainly.{is_failure, told_to, answers_of, own_of, plain_run}
+use Rattle.ports_core.specs.Alike.{requests_of, replies_to, AreAlike}
+
+-- the connections of a service
+abbrev pub book_of : State → Book
+book_of state c = line_of c state
+
+-- the files of the plain service behind a list of requests
+abbrev pub plain_files : FileMap → List Waiter → FileMap
+plain_files files [] = files
+plain_files files (waiter ∷ waiters) = plain_files (plain_answer files waiter.request).1 waiters
+
+-- A run from any state, to a tenant with that slice: of the requests that waited and those that came, less
+-- those answered 503, the first are answered and the others wait. The replies, and the files, are those of
+-- the plain service over the files that the tenant had.
+pub record IsServedPlainly (t : ℕ) (slice : Slice) (events : List Event) (steps : List Step) (old new : State) : Type 0 where
+  pub taken : List Waiter
+  pub takes : TakesIn (keys_of old) t (book_of old) events steps taken
+  pub last : Slice
+  pub last_is : slice_of t new ≡ Some last
+  pub answered : List Waiter
+  pub own : own_of (waiting_of slice ++ taken) (told_to t steps) ≡ answered ++ waiting_of last
+  pub replies : answers_of (told_to t steps) ≡ plain_run (world_of slice) answered
+  pub files : world_of last ≡ plain_files (world_of slice) answered
+
+-- the same files, and the same requests wait, whichever connections asked
+pub record AreEqualSlices (slice other : Slice) : Type 0 where
+  pub worlds : world_of slice ≡ world_of other
+  pub waiting : requests_of (waiting_of slice) ≡ requests_of (waiting_of other)
+
+-- the tenant is told no 503
+abbrev pub NoneFails : ℕ → List Step → Type 0
+NoneFails t steps = All (λ (tell : Tell). is_failure tell.reply.status ≡ false) (told_to t steps)
+
+-- Two tenants are told equal replies as far as both are told; where nothing of them waits at the end, all of
+-- them, and their slices are equal.
+pub record EndAlike (t : ℕ) (steps : List Step) (service : State) (last : Slice)
+    (u : ℕ) (others : List Step) (other : State) (other_last : Slice) : Type 0 where
+  pub alike : AreAlike (replies_to t steps) (replies_to u others)
+  pub replies : waiting_at t service ≡ 0 → waiting_at u other ≡ 0 → replies_to t steps ≡ replies_to u others
+  pub slices : waiting_at t service ≡ 0 → waiting_at u other ≡ 0 → AreEqualSlices last other_last
+
+-- Isolation of services in any state: two tenants begin with equal slices, the same requests come for them, and
+-- neither is told 503. Then they are told alike, whatever else the two services hold and whatever else happens.
+abbrev pub EqualSlicesAreToldAlike : Type 0
+EqualSlicesAreToldAlike = (t u : ℕ) (slice other_slice : Slice) (events other_events : List Event) (steps others : List Step) (old new other_old other_new : State)
+    → (served : IsServedPlainly t slice events steps old new) (served_there : IsServedPlainly u other_slice other_events others other_old other_new)
+    → AreEqualSlices slice other_slice → requests_of served.taken ≡ requests_of served_there.taken
+    → NoneFails t steps → NoneFails u others
+    → EndAlike t steps new served.last u others other_new served_there.last
+
+-- in every run, from any state, each tenant is served plainly
+abbrev pub EachRunServesPlainly : Type 0
+EachRunServesPlainly = (t : ℕ) (slice : Slice) (events : List Event) (steps : List Step) (old new : State)
+    → slice_of t old ≡ Some slice → Run old events steps new → IsServedPlainly t slice events steps old new
