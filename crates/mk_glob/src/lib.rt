@@ -1,0 +1,12 @@
+//! The patterns of the make language's `:M` and `:N`, matched against words.
+#![tactic(auto)]
+
+mod brackets;
+mod laws;
+mod matching;
+mod signs;
+#[cfg(test)]
+mod tests;
+
+pub use laws::fits_where_cut;
+pub use matching::glob;

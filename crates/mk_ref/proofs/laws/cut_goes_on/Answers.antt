@@ -1,0 +1,5 @@
+use Rattle.mk_ref.proofs.UnitSteps.{cut-next}
+use Rattle.mk_ref.proofs.laws.cut_goes_on.Goals as goal
+
+pub returns : goal.returns
+returns c = cut-next

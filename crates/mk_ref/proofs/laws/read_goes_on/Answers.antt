@@ -1,0 +1,5 @@
+use Rattle.mk_ref.proofs.UnitSteps.{up_to-cons}
+use Rattle.mk_ref.proofs.laws.read_goes_on.Goals as goal
+
+pub returns : goal.returns
+returns c = up_to-cons

@@ -1,0 +1,42 @@
+-- The piece that a text has at a place.
+use Rattle.std.specs.Prelude.{◌≡◌, ◌<◌, ◌≤◌, ℕ, ◌+◌, nat_lt, List, [], ◌∷◌, length, drop, Option, Some, None, option_map, unwrap_or, if◌then◌else◌}
+use Rattle.mk_ref.specs.declared.ending.Inside.{Inside}
+use Rattle.mk_ref.specs.declared.cutting.Reference.{Reference}
+use Rattle.mk_ref.specs.declared.cutting.Piece.{Piece}
+use Rattle.mk_ref.specs.declared.cutting.Piece.TheVariants as v
+use Rattle.mk_ref.specs.Units.{TextUnit, Byte, Pair, Reference as ReferenceUnit, first_unit}
+use Rattle.mk_ref.specs.Pieces.{TextPiece, PairPiece, ReferencePiece}
+use Rattle.mk_ref.specs.Places.{shown, place_of, IsPieceIn}
+
+-- the literal from a place up to another, unless it is empty
+abbrev pub literal_at : ℕ → ℕ → List Piece
+literal_at start end = if nat_lt start end then v.Literal (record { start = start; end = end }) ∷ [] else []
+
+-- the reference with marks that begins at a place and has this inside
+abbrev pub reference_at : ℕ → Inside → Reference
+reference_at at inside = record {
+  whole = record { start = at; end = inside.close + 1 };
+  name = record { start = at + 2; end = unwrap_or inside.colon inside.close };
+  modifiers = option_map (λ colon. record { start = colon + 1; end = inside.close }) inside.colon;
+}
+
+-- a pair or a reference, which is a piece of its own
+abbrev pub IsAlone : TextUnit → TextPiece → Type 0
+IsAlone (Byte b) piece = ⊥
+IsAlone Pair piece = piece ≡ PairPiece
+IsAlone (ReferenceUnit written name modifiers) piece = piece ≡ ReferencePiece written name modifiers
+
+-- the piece, a pair or a reference, that a text has at a place
+pub record IsPieceAt (text : List ℕ) (at : ℕ) (piece : Piece) : Type 0 where
+  pub unit : TextUnit
+  pub first : first_unit (drop at text) ≡ Some (unit, drop (place_of piece).end text)
+  pub alone : IsAlone unit (shown text piece)
+  pub start : (place_of piece).start ≡ at
+  pub later : at < (place_of piece).end
+  pub within : (place_of piece).end ≤ length text
+  pub places : IsPieceIn text piece
+
+-- the same, or none where a reference begins there that doesn't end
+abbrev pub BeginsAt : List ℕ → ℕ → Option Piece → Type 0
+BeginsAt text at None = first_unit (drop at text) ≡ None
+BeginsAt text at (Some piece) = IsPieceAt text at piece

@@ -1,0 +1,67 @@
+-- What holds of the units of every text.
+use Rattle.std.specs.Prelude.{◌≡◌, ◌⊎◌, ℕ, true, ◌==◌, List, [], ◌∷◌, ◌++◌, Option, Some, None, IfSome, All, if◌then◌else◌}
+use Rattle.std.specs.Char.{is_ascii_alphabetic}
+use Rattle.std.specs.List.{flat_map}
+use Rattle.mk_ref.specs.Pieces.{units_in, pieces_of}
+use Rattle.mk_ref.specs.Units.{TextUnit, Byte, Pair, Reference, sources, with_more, cut_on, up_to_mark, first_unit, cut, units_of, left_of}
+
+-- the units of a text and what is left, put together, are the text
+abbrev pub UnitsAreText : Type 0
+UnitsAreText = (text : List ℕ) → sources (units_of text) ++ left_of text ≡ text
+
+-- modifiers with the colon in front of them
+abbrev pub with_colon : Option (List ℕ) → List ℕ
+with_colon None = []
+with_colon (Some modifiers) = 58 ∷ modifiers
+
+-- the two bytes in front of a reference and its closing mark: `${` and `}`, or `$(` and `)`
+abbrev pub AreMarks : List ℕ → ℕ → Type 0
+AreMarks front mark = ((front ≡ 36 ∷ 123 ∷ []) × (mark ≡ 125)) ⊎ ((front ≡ 36 ∷ 40 ∷ []) × (mark ≡ 41))
+
+-- a reference of one letter: a `$` and its name, without modifiers
+pub record IsLetterReference (written name : List ℕ) (modifiers : Option (List ℕ)) : Type 0 where
+  pub letter : ℕ
+  pub is_letter : is_ascii_alphabetic letter ≡ true
+  pub written_as : written ≡ 36 ∷ letter ∷ []
+  pub named : name ≡ letter ∷ []
+  pub bare : modifiers ≡ None
+
+-- a reference with marks: its name, and the colon and its modifiers where it has these, between its marks
+pub record IsMarkedReference (written name : List ℕ) (modifiers : Option (List ℕ)) : Type 0 where
+  pub front : List ℕ
+  pub mark : ℕ
+  pub marks : AreMarks front mark
+  pub written_as : written ≡ front ++ name ++ with_colon modifiers ++ mark ∷ []
+
+-- a reference is its name and its modifiers put together with their marks
+abbrev pub IsPutTogether : TextUnit → Type 0
+IsPutTogether (Byte b) = Unit {0}
+IsPutTogether Pair = Unit {0}
+IsPutTogether (Reference written name modifiers) = IsLetterReference written name modifiers ⊎ IsMarkedReference written name modifiers
+
+-- each reference of a text is put together of its name and its modifiers
+abbrev pub ReferencesArePutTogether : Type 0
+ReferencesArePutTogether = (text : List ℕ) → All IsPutTogether (units_of text)
+
+-- every reference in the name and in the modifiers of a reference ends there: cut alone, they leave nothing
+abbrev pub HasWholeParts : TextUnit → Type 0
+HasWholeParts (Byte b) = Unit {0}
+HasWholeParts Pair = Unit {0}
+HasWholeParts (Reference written name modifiers) = (left_of name ≡ []) × IfSome modifiers (λ text. left_of text ≡ [])
+
+-- the name and the modifiers of each reference of a text are cut alone with nothing left
+abbrev pub PartsAreWhole : Type 0
+PartsAreWhole = (text : List ℕ) → All HasWholeParts (units_of text)
+
+-- pieces are made of the units that they are the pieces of
+abbrev pub PiecesAreUnits : Type 0
+PiecesAreUnits = (units : List TextUnit) → flat_map units_in (pieces_of units) ≡ units
+
+-- a text is cut by cutting off its first unit and then what stands behind that
+abbrev pub CutGoesOn : Type 0
+CutGoesOn = (text : List ℕ) → cut text ≡ cut_on cut text (first_unit text)
+
+-- units up to a mark are read one after another, until the mark stands first
+abbrev pub ReadGoesOn : Type 0
+ReadGoesOn = (mark b : ℕ) (rest : List ℕ)
+    → up_to_mark mark (b ∷ rest) ≡ (if b == mark then Some ([], rest) else with_more (up_to_mark mark) (first_unit (b ∷ rest)))

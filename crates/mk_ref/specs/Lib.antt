@@ -1,0 +1,6 @@
+pub mod Units
+pub mod Ends
+pub mod Pieces
+pub mod Places
+pub mod Firsts
+pub mod Laws

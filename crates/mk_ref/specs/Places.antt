@@ -1,0 +1,73 @@
+-- Pieces as places in their text.
+use Rattle.std.specs.Prelude.{◌≡◌, ◌⊎◌, ◌<◌, ℕ, ◌+◌, List, [], ◌∷◌, length, drop, Option, Some, None, option_map, ⊤}
+use Rattle.std.specs.Option.{IfSome}
+use Rattle.mk_text.specs.declared.splitting.Span.{Span}
+use Rattle.mk_text.specs.Words.{span_text, IsSpanOf}
+use Rattle.mk_ref.specs.declared.cutting.Reference.{Reference}
+use Rattle.mk_ref.specs.declared.cutting.Piece.{Piece}
+use Rattle.mk_ref.specs.declared.cutting.Piece.TheVariants as v
+use Rattle.mk_ref.specs.declared.cutting.PiecesFault.{PiecesFault}
+use Rattle.mk_ref.specs.declared.cutting.PiecesFault.TheVariants as f
+use Rattle.mk_ref.specs.Units.{left_of}
+use Rattle.mk_ref.specs.Pieces.{TextPiece, LiteralPiece, PairPiece, ReferencePiece}
+
+-- the piece that stands at the places of one
+abbrev pub shown : List ℕ → Piece → TextPiece
+shown text (v.Literal span) = LiteralPiece (span_text text span)
+shown text (v.Pair span) = PairPiece
+shown text (v.Reference reference) =
+    ReferencePiece (span_text text reference.whole) (span_text text reference.name) (option_map (span_text text) reference.modifiers)
+
+-- the place of a whole piece
+abbrev pub place_of : Piece → Span
+place_of (v.Literal span) = span
+place_of (v.Pair span) = span
+place_of (v.Reference reference) = reference.whole
+
+-- pieces stand one directly behind another, from a place up to another, none of them empty
+abbrev pub StandFrom : ℕ → List Piece → ℕ → Type 0
+StandFrom start [] end = start ≡ end
+StandFrom start (piece ∷ pieces) end =
+    ((place_of piece).start ≡ start) × (start < (place_of piece).end) × StandFrom (place_of piece).end pieces end
+
+-- where the modifiers of a reference end, or its name where it has none
+abbrev pub inside_end : Span → Option Span → ℕ
+inside_end name None = name.end
+inside_end name (Some modifiers) = modifiers.end
+
+-- a reference of one letter: its name is its second byte
+pub record IsLetterPlaced (reference : Reference) : Type 0 where
+  pub name_start : reference.name.start ≡ reference.whole.start + 1
+  pub name_end : reference.name.end ≡ reference.whole.start + 2
+  pub whole_end : reference.whole.end ≡ reference.whole.start + 2
+  pub modifiers : reference.modifiers ≡ None
+
+-- a reference with marks: its name begins behind the two bytes in front, its modifiers directly behind the colon that directly follows
+-- the name, and its closing mark follows these
+pub record IsMarkedPlaced (reference : Reference) : Type 0 where
+  pub name_start : reference.name.start ≡ reference.whole.start + 2
+  pub modifiers : IfSome reference.modifiers (λ modifiers. modifiers.start ≡ reference.name.end + 1)
+  pub whole_end : reference.whole.end ≡ inside_end reference.name reference.modifiers + 1
+
+-- the places of a reference can be cut out of the text, and lie in one another as they are written
+pub record IsReferenceIn (text : List ℕ) (reference : Reference) : Type 0 where
+  pub whole : IsSpanOf text reference.whole
+  pub name : IsSpanOf text reference.name
+  pub modifiers : IfSome reference.modifiers (λ modifiers. IsSpanOf text modifiers)
+  pub placed : IsLetterPlaced reference ⊎ IsMarkedPlaced reference
+
+-- the places of a piece can be cut out of the text; a pair is two bytes
+abbrev pub IsPieceIn : List ℕ → Piece → Type 0
+IsPieceIn text (v.Literal span) = IsSpanOf text span
+IsPieceIn text (v.Pair span) = IsSpanOf text span × (span.end ≡ span.start + 2)
+IsPieceIn text (v.Reference reference) = IsReferenceIn text reference
+
+-- the text from a place on is what is left of it behind its units, and begins a reference that doesn't end
+pub record IsUnclosedAt (text : List ℕ) (at : ℕ) : Type 0 where
+  pub inside : at < length text
+  pub left : left_of text ≡ drop at text
+
+-- why a text has no pieces: a reference that doesn't end, and where it begins; want of memory says nothing
+abbrev pub IsFaultOf : List ℕ → PiecesFault → Type 0
+IsFaultOf text (f.Unclosed at) = IsUnclosedAt text at
+IsFaultOf text f.Memory = ⊤

@@ -1,0 +1,32 @@
+//! What holds of every text. Each function does nothing: its clause is the law.
+ghost use Rattle.mk_ref.specs.Laws.{UnitsAreText, ReferencesArePutTogether, CutGoesOn, ReadGoesOn, PartsAreWhole, PiecesAreUnits};
+
+/// The units of a text and what is left of it, put together, are the text.
+pub fn units_are_text()
+    ensures { UnitsAreText }
+{}
+
+/// Each reference is its name and its modifiers, put together with its marks and its colon.
+pub fn references_are_put_together()
+    ensures { ReferencesArePutTogether }
+{}
+
+/// A text is cut by cutting off its first unit, and then what stands behind that.
+pub fn cut_goes_on()
+    ensures { CutGoesOn }
+{}
+
+/// The units up to a closing mark are read one after another, until the mark stands first.
+pub fn read_goes_on()
+    ensures { ReadGoesOn }
+{}
+
+/// Inside a reference every reference ends: its name and its modifiers, cut alone, leave nothing.
+pub fn parts_are_whole()
+    ensures { PartsAreWhole }
+{}
+
+/// The pieces of units are made of just these units: nothing is lost where bytes are put together.
+pub fn pieces_are_units()
+    ensures { PiecesAreUnits }
+{}

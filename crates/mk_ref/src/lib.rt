@@ -1,0 +1,15 @@
+//! References in texts of the make language, as places in the text.
+#![tactic(auto)]
+
+mod cutting;
+mod ending;
+mod laws;
+mod opening;
+#[cfg(test)]
+mod tests;
+
+pub use cutting::{Piece, PiecesFault, Reference, pieces};
+pub use laws::{
+    cut_goes_on, parts_are_whole, pieces_are_units, read_goes_on, references_are_put_together,
+    units_are_text,
+};

@@ -1,0 +1,38 @@
+//! What begins at a `$`.
+ghost use Rattle.std.specs.Prelude.{◌≡◌, ◌+◌, ◌<◌, ◌≤◌, length, drop, OnSome};
+ghost use Rattle.mk_ref.specs.Units.{opening_of};
+
+/// What a `$` makes with the byte behind it.
+#[derive(Clone, Copy, Debug)]
+pub(crate) enum Opening {
+    /// `$$`.
+    Doubled,
+    /// `$` and an ASCII letter: a whole reference.
+    Letter,
+    /// `${` or `$(`, which begins a reference, with the mark that closes it.
+    Marked(u8),
+}
+
+/// What the `$` at this index makes with the byte behind it; `None` where another byte stands there,
+/// and where the `$` stands for itself.
+pub(crate) fn opening_at(bytes: &[u8], at: usize) -> Option<Opening>
+    requires { at < length bytes.now }
+    ensures opening { result ≡ opening_of (drop at bytes.now) }
+    ensures inside { OnSome result (at + 2 ≤ length bytes.now) }
+{
+    if bytes[at] != b'$' || at + 1 == bytes.len() {
+        return None;
+    }
+    match bytes[at + 1] {
+        b'$' => Some(Opening::Doubled),
+        b'{' => Some(Opening::Marked(b'}')),
+        b'(' => Some(Opening::Marked(b')')),
+        letter => {
+            if letter.is_ascii_alphabetic() {
+                Some(Opening::Letter)
+            } else {
+                None
+            }
+        }
+    }
+}

@@ -1,0 +1,6 @@
+mod VersionLaws
+pub mod ShortNumbers
+pub mod Endings
+pub mod PartCuts
+pub mod NameCuts
+pub mod NameTexts

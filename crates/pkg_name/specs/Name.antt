@@ -1,0 +1,71 @@
+-- Names of packages: a stem, a version and flavors, with dashes between (packages-specs(7)). A text is its bytes.
+use Rattle.std.specs.Prelude.{◌≡◌, ℕ, ◌+◌, ◌<◌, ◌==◌, ◌&&◌, ◌||◌, not, if◌then◌else◌, Bool, List, [], ◌∷◌, ◌++◌, map, length, take, drop, slice_index, Option, Some, None, option_map, option_and_then}
+use Rattle.std.specs.List.{list_all, slice_split, flat_map}
+use Rattle.std.specs.Char.{is_ascii_digit}
+use Rattle.std.specs.Str.{bytes_eq}
+use Rattle.std.specs.Borrow.{Bor}
+use Rattle.pkg_name.specs.Version.{is_version}
+
+-- the byte `-`
+abbrev pub dash : ℕ
+dash = 45
+
+-- a byte that stands in no stem and in no flavor: a blank, or one of `/ , | < > = * !`
+abbrev pub is_forbidden : ℕ → Bool
+is_forbidden byte =
+    byte == 32 || byte == 9 || byte == 47 || byte == 44 || byte == 124 || byte == 60 || byte == 62 || byte == 61
+    || byte == 42 || byte == 33
+
+-- a stem or a flavor: it isn't empty, and has no such byte
+abbrev pub is_word : List ℕ → Bool
+is_word text = not (bytes_eq text []) && list_all (λ byte. not (is_forbidden byte)) text
+
+-- the three parts of a package's name
+pub record NameParts : Type 0 where
+  pub stem : List ℕ
+  pub version : List ℕ
+  pub flavors : List (List ℕ)
+
+-- a text cut in two
+pub record Cut : Type 0 where
+  pub before : List ℕ
+  pub behind : List ℕ
+
+-- what stands before the first dash with a digit behind it, and what stands behind that dash
+unfoldable pub at_version : List ℕ → Option Cut
+at_version [] = None
+at_version (byte ∷ rest) =
+    if byte == dash && is_ascii_digit (slice_index rest 0)
+    then Some (record { before = []; behind = rest })
+    else option_map (λ cut. record { before = byte ∷ cut.before; behind = cut.behind }) (at_version rest)
+
+-- the name of these parts, where they are parts of a name
+abbrev pub name_if : Bool → List ℕ → List ℕ → List (List ℕ) → Option NameParts
+name_if are_parts stem version flavors = if are_parts then Some (record { stem = stem; version = version; flavors = flavors }) else None
+
+-- the name of a stem and the words behind it, of which the first is the version and the others are flavors
+abbrev pub name_of : List ℕ → List (List ℕ) → Option NameParts
+name_of stem [] = None
+name_of stem (version ∷ flavors) = name_if (is_word stem && is_version version && list_all is_word flavors) stem version flavors
+
+-- the parts of the name that a text is, if it is one: dashes separate them from where the version begins
+abbrev pub split_name : List ℕ → Option NameParts
+split_name text = option_and_then (λ cut. name_of cut.before (slice_split (λ byte. byte == dash) cut.behind)) (at_version text)
+
+-- the text of a name: the stem, and then the version and the flavors, each behind a dash
+abbrev pub name_text : NameParts → List ℕ
+name_text parts = parts.stem ++ flat_map (λ word. dash ∷ word) (parts.version ∷ parts.flavors)
+
+-- a name that its own text is split into
+pub record IsName (parts : NameParts) : Type 0 where
+  pub itself : split_name (name_text parts) ≡ Some parts
+
+-- the cut of a text at one of its dashes
+pub record IsCutAt (text : List ℕ) (at : ℕ) (cut : Option Cut) : Type 0 where
+  pub inside : at < length text
+  pub is_dash : slice_index text at ≡ dash
+  pub sides : cut ≡ Some (record { before = take at text; behind = drop (at + 1) text })
+
+-- what texts behind references are
+abbrev pub now_all : List (Bor (List ℕ)) → List (List ℕ)
+now_all texts = map (λ text. text.now) texts

@@ -1,0 +1,208 @@
+// Names of packages: cutting them into stem, version and flavors, and printing them.
+ghost use Rattle.std.specs.Prelude.{◌≡◌, ◌==◌, not, IfOk, IsErrOf, Some, None, map, slice_index, MatchOption};
+ghost use Rattle.std.specs.List.{list_all, slice_split};
+ghost use Rattle.std.specs.String.{string_bytes};
+ghost use Rattle.std.specs.Char.{is_ascii_digit};
+ghost use Rattle.pkg_name.specs.Version.{is_version};
+ghost use Rattle.pkg_name.specs.Name.{split_name, name_text, at_version, name_of, name_if, is_word, is_forbidden, now_all, dash, IsCutAt};
+ghost use Rattle.pkg_name.specs.declared.name.NameFault.TheVariants.{Memory};
+
+use crate::version::{Version, VersionFault};
+use std::alloc::{AllocError, Global};
+use std::fmt;
+use std::marker::Model;
+
+/// Why a text gives no name of a package.
+#[derive(Clone, Copy, Debug, PartialEq, Eq)]
+pub enum NameFault {
+    /// No dash has a digit behind it, no version stands between the first that has and the next dash, or the
+    /// stem or a flavor is empty or has a blank or one of `/ , | < > = * !`.
+    NoName,
+    /// No memory for the name.
+    Memory,
+}
+
+impl From<AllocError> for NameFault {
+    ghost from_gives = { λ _ fault. fault ≡ Memory };
+
+    fn from(_failed: AllocError) -> NameFault {
+        NameFault::Memory
+    }
+}
+
+/// The name of a package, `stem-version-flavors`, as `py3-foo-1.0p2-gtk` (packages-specs(7)). Clauses see the
+/// bytes of its parts.
+#[derive(Debug, Drop)]
+pub struct PkgName {
+    stem: String,
+    version: Version,
+    flavors: Vec<String>,
+}
+
+impl Model for PkgName {
+    ghost use Rattle.std.specs.Prelude.{map};
+    ghost use Rattle.std.specs.String.{string_bytes};
+    ghost use Rattle.pkg_name.specs.Name.{NameParts, IsName};
+
+    ghost Value = { NameParts };
+
+    ghost view = { λ name. record { stem = string_bytes name.stem; version = name.version; flavors = map string_bytes name.flavors.items } };
+
+    ghost invariant = { λ name. IsName (record { stem = string_bytes name.stem; version = name.version; flavors = map string_bytes name.flavors.items }) };
+}
+
+impl PkgName {
+    /// The parts of the name that a text is. The version begins at the first digit behind a dash and ends
+    /// before the next dash; a stem stands before it, and flavors behind it, each behind a dash.
+    ///
+    /// A text that is no name is `NoName`; `Memory` comes where none is left.
+    pub fn split(alloc: Global, text: &str) -> Result<PkgName, NameFault>
+        ensures ok { IfOk result (λ name. split_name text.now ≡ Some name) }
+        ensures no_name { IsErrOf result NameFault.NoName → split_name text.now ≡ None }
+    {
+        let Some((stem, behind)) = cut_at_version(text) else {
+            return Err(NameFault::NoName);
+        };
+        let words = split_at_dashes(alloc, behind)?;
+        let Some((version, flavors)) = version_and_flavors(stem, &words) else {
+            return Err(NameFault::NoName);
+        };
+        let version = match Version::read(alloc, version) {
+            Ok(version) => version,
+            Err(VersionFault::NoVersion) => return Err(NameFault::NoName),
+            Err(VersionFault::Memory) => return Err(NameFault::Memory),
+        };
+        Ok(PkgName {
+            stem: String::from_str(alloc, stem)?,
+            version,
+            flavors: copies_of(alloc, flavors)?,
+        })
+    }
+
+    /// What stands before the version.
+    pub fn stem(&self) -> &str
+        ensures { result.now ≡ self.now.stem }
+    {
+        self.stem.as_str()
+    }
+
+    /// The version.
+    pub fn version(&self) -> &Version
+        ensures { result.now ≡ self.now.version }
+    {
+        &self.version
+    }
+
+    /// The flavors, in the order of the name's text.
+    pub fn flavors(&self) -> &[String]
+        ensures { map string_bytes result.now ≡ self.now.flavors }
+    {
+        self.flavors.as_slice()
+    }
+}
+
+impl fmt::Display for PkgName {
+    ghost output = { λ name. Some (name_text name) };
+
+    fn fmt<W: fmt::Write>(&self, f: &mut fmt::Formatter<W>) -> fmt::Result {
+        f.write_str(self.stem())?;
+        f.write_str("-")?;
+        f.write_str(self.version.as_str())?;
+        for flavor in self.flavors() {
+            f.write_str("-")?;
+            f.write_str(flavor)?;
+        }
+        Ok(())
+    }
+}
+
+// What stands before the first dash with a digit behind it, and what stands behind that dash.
+fn cut_at_version(text: &str) -> Option<(&str, &str)>
+    ensures { MatchOption result (at_version text.now ≡ None) (λ cut. at_version text.now ≡ Some (record { before = cut.0.now; behind = cut.1.now })) }
+{
+    let at = dash_before_version(text.as_bytes())?;
+    Some((&text[..at], &text[at + 1..]))
+}
+
+// The first dash with a digit behind it.
+fn dash_before_version(text: &[u8]) -> Option<usize>
+    ensures { MatchOption result (at_version text.now ≡ None) (λ at. IsCutAt text.now at (at_version text.now)) }
+{
+    for at in 0..text.len() {
+        if text[at] == b'-' && is_digit_at(text, at + 1) {
+            return Some(at);
+        }
+    }
+    None
+}
+
+// Whether a digit stands at a place.
+fn is_digit_at(text: &[u8], at: usize) -> bool
+    ensures { result ≡ is_ascii_digit (slice_index text.now at) }
+{
+    match text.get(at) {
+        Some(byte) => byte.is_ascii_digit(),
+        None => false,
+    }
+}
+
+// The words between the dashes of a text.
+fn split_at_dashes(alloc: Global, text: &str) -> Result<Vec<&str>, AllocError>
+    ensures { IfOk result (λ words. now_all words.items ≡ slice_split (λ byte. byte == dash) text.now) }
+{
+    text.split('-').collect(alloc)
+}
+
+// The words behind a stem as a version, not read yet, and flavors; `None` where the stem or a flavor is none.
+fn version_and_flavors<'a, 'b>(stem: &str, words: &'b [&'a str]) -> Option<(&'a str, &'b [&'a str])>
+    ensures { MatchOption result (name_of stem.now (now_all words.now) ≡ None) (λ cut. name_of stem.now (now_all words.now) ≡ name_if (is_version cut.0.now) stem.now cut.0.now (now_all cut.1.now)) }
+{
+    let (version, flavors) = words.split_first()?;
+    if is_word_text(stem) && are_words(flavors) {
+        Some((version, flavors))
+    } else {
+        None
+    }
+}
+
+// Whether each text is a stem or a flavor.
+fn are_words(texts: &[&str]) -> bool
+    ensures { result ≡ list_all (λ text. is_word text.now) texts.now }
+{
+    texts.iter().all(|text| is_word_text(text))
+}
+
+// Whether a text is a stem or a flavor.
+fn is_word_text(text: &str) -> bool
+    ensures { result ≡ is_word text.now }
+{
+    !text.is_empty() && has_word_bytes(text)
+}
+
+// Whether each byte may stand in a stem or a flavor.
+fn has_word_bytes(text: &str) -> bool
+    ensures { result ≡ list_all (λ byte. not (is_forbidden byte)) text.now }
+{
+    text.bytes().all(|byte| !is_forbidden_byte(byte))
+}
+
+// Whether a byte stands in no stem and in no flavor.
+fn is_forbidden_byte(byte: u8) -> bool
+    ensures { result ≡ is_forbidden byte }
+{
+    matches!(
+        byte,
+        b' ' | b'\t' | b'/' | b',' | b'|' | b'<' | b'>' | b'=' | b'*' | b'!'
+    )
+}
+
+// The same texts, each of its own.
+fn copies_of(alloc: Global, texts: &[&str]) -> Result<Vec<String>, AllocError>
+    ensures { IfOk result (λ copies. map string_bytes copies.items ≡ now_all texts.now) }
+{
+    let mut copies = Vec::with_capacity(alloc, texts.len())?;
+    for text in texts {
+        copies.push(String::from_str(alloc, text)?)?;
+    }
+    Ok(copies)
+}

@@ -1,0 +1,178 @@
+// Versions of packages: reading, printing and comparing them.
+ghost use Rattle.std.specs.Prelude.{◌≡◌, IfOk, IsErrOf, Some, false, true, refl, IsTrue, slice_index};
+ghost use Rattle.std.specs.List.{list_all};
+ghost use Rattle.std.specs.Char.{is_ascii_digit};
+ghost use Rattle.std.specs.Str.{bytes_eq};
+ghost use Rattle.std.specs.Cmp.{partial_equiv_from_equiv};
+ghost use Rattle.std.specs.Cmp.Lexicographic.{nat_list_eq_equiv};
+ghost use Rattle.pkg_name.specs.Version.{is_version, is_version_byte, has_short_numbers, IsVersion};
+ghost use Rattle.pkg_name.specs.Order.{version_cmp};
+ghost use Rattle.pkg_name.specs.OrderLaws.{version_cmp_total, version_cmp_ties, version_po};
+ghost use Rattle.pkg_name.specs.declared.version.VersionFault.TheVariants.{Memory};
+
+use crate::order::compare_versions;
+use std::alloc::{AllocError, Global};
+use std::cmp::Ordering;
+use std::fmt;
+use std::marker::Model;
+
+/// The most digits of a number in a version.
+const MOST_DIGITS: usize = 18;
+
+/// Why a text gives no version.
+#[derive(Clone, Copy, Debug, PartialEq, Eq)]
+pub enum VersionFault {
+    /// It doesn't begin with a digit, has a byte that no version has, or a number of more than 18 digits.
+    NoVersion,
+    /// No memory for the version.
+    Memory,
+}
+
+impl From<AllocError> for VersionFault {
+    ghost from_gives = { λ _ fault. fault ≡ Memory };
+
+    fn from(_failed: AllocError) -> VersionFault {
+        VersionFault::Memory
+    }
+}
+
+/// The version of a package, as `1.0rc1p2v0`: ASCII letters, digits, `.`, `_` and `+`, the first of them a
+/// digit, with no number of more than 18 digits (packages-specs(7)). Clauses see its bytes.
+///
+/// Versions are ordered by a final `v` and its number; then by the parts between the dots of what stands
+/// before a final `p` and `v`, each by the number it begins with, the letters after that, the number after
+/// these, and the rest; then by a final `p` and its number; then by their texts. So two are equal where
+/// their texts are the same.
+#[derive(Debug, Drop)]
+pub struct Version {
+    text: String,
+}
+
+impl Model for Version {
+    ghost use Rattle.std.specs.Prelude.{List, ℕ};
+    ghost use Rattle.std.specs.String.{string_bytes};
+    ghost use Rattle.pkg_name.specs.Version.{IsVersion};
+
+    ghost Value = { List ℕ };
+
+    ghost view = { λ version. string_bytes version.text };
+
+    ghost invariant = { λ version. IsVersion (string_bytes version.text) };
+}
+
+impl Version {
+    /// The version that a text is.
+    ///
+    /// A text that is none is `NoVersion`; `Memory` comes where none is left.
+    pub fn read(alloc: Global, text: &str) -> Result<Version, VersionFault>
+        ensures text { IfOk result (λ version. version ≡ text.now) }
+        ensures ok { IfOk result (λ version. IsVersion version) }
+        ensures no_version { IsErrOf result VersionFault.NoVersion → is_version text.now ≡ false }
+    {
+        if !is_version_text(text.as_bytes()) {
+            return Err(VersionFault::NoVersion);
+        }
+        Ok(Version {
+            text: String::from_str(alloc, text)?,
+        })
+    }
+
+    /// The version's text.
+    pub fn as_str(&self) -> &str
+        ensures text { result.now ≡ self.now }
+        ensures version { IsVersion self.now }
+    {
+        self.text.as_str()
+    }
+}
+
+impl fmt::Display for Version {
+    ghost output = { λ version. Some version };
+
+    fn fmt<W: fmt::Write>(&self, f: &mut fmt::Formatter<W>) -> fmt::Result {
+        fmt::Display::fmt(&self.as_str(), f)
+    }
+}
+
+impl PartialEq for Version {
+    ghost eq = { bytes_eq };
+
+    ghost laws = { partial_equiv_from_equiv nat_list_eq_equiv };
+
+    fn eq(&self, other: &Version) -> bool {
+        self.as_str() == other.as_str()
+    }
+}
+
+impl Eq for Version {
+    ghost laws = { nat_list_eq_equiv };
+}
+
+impl PartialOrd for Version {
+    ghost partial_cmp = { λ a b. Some (version_cmp a b) };
+
+    ghost laws = { version_po };
+
+    fn partial_cmp(&self, other: &Version) -> Option<Ordering> {
+        Some(self.cmp(other))
+    }
+}
+
+impl Ord for Version {
+    ghost cmp = { version_cmp };
+
+    ghost total = { version_cmp_total };
+
+    ghost matches_partial_cmp = { λ a b. refl };
+
+    ghost matches_eq = { version_cmp_ties };
+
+    fn cmp(&self, other: &Version) -> Ordering {
+        compare_versions(self.text.as_bytes(), other.text.as_bytes())
+    }
+}
+
+// Whether a text is a version.
+fn is_version_text(text: &[u8]) -> bool
+    ensures { result ≡ is_version text.now }
+{
+    begins_with_digit(text) && has_version_bytes(text) && numbers_are_short(text)
+}
+
+// Whether a text begins with a digit.
+fn begins_with_digit(text: &[u8]) -> bool
+    ensures { result ≡ is_ascii_digit (slice_index text.now 0) }
+{
+    match text.first() {
+        Some(byte) => byte.is_ascii_digit(),
+        None => false,
+    }
+}
+
+// Whether each byte may stand in a version.
+fn has_version_bytes(text: &[u8]) -> bool
+    ensures { result ≡ list_all is_version_byte text.now }
+{
+    text.iter().all(|byte| may_be_in_version(*byte))
+}
+
+// Whether a byte may stand in a version.
+fn may_be_in_version(byte: u8) -> bool
+    ensures { result ≡ is_version_byte byte }
+{
+    byte.is_ascii_alphanumeric() || byte == b'.' || byte == b'_' || byte == b'+'
+}
+
+// Whether no number has more than 18 digits.
+fn numbers_are_short(text: &[u8]) -> bool
+    ensures { result ≡ has_short_numbers text.now }
+{
+    let mut digits = 0;
+    for byte in text {
+        digits = if byte.is_ascii_digit() { digits + 1 } else { 0 };
+        if digits > MOST_DIGITS {
+            return false;
+        }
+    }
+    true
+}
