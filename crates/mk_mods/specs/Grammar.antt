@@ -1,0 +1,114 @@
+-- The modifiers that a text reads as: one or more, with a colon between (make(1), "VARIABLES").
+use Rattle.std.specs.Prelude.{ℕ, zero, suc, Bool, true, false, not, ◌==◌, ◌&&◌, List, [], ◌∷◌, ◌++◌, length, Option, Some, None, option_map, if◌then◌else◌}
+use Rattle.std.specs.List.{flat_map}
+use Rattle.std.specs.Option.{option_and_then}
+use Rattle.mk_mods.specs.declared.modifiers.WordMap.{WordMap}
+use Rattle.mk_mods.specs.declared.modifiers.WordMap.TheVariants as maps
+use Rattle.mk_mods.specs.Actions.{Action, Match, Exclude, Substitute, Change, Replacement}
+use Rattle.mk_mods.specs.Marks.{TextMark, Char, Pair, Written, marks_of, is_char, mark_source}
+use Rattle.mk_mods.specs.Signs.{TextSign, signs_before, without_start, without_end, sign_symbols}
+
+-- a mark in front of a pattern that was read
+abbrev pub in_pattern : TextMark → List ℕ × List TextMark → List ℕ × List TextMark
+in_pattern mark read = (mark_source mark ++ read.0, read.1)
+
+-- A pattern, and what stands behind it: it ends before the first colon (58) outside references that no backslash (92) directly precedes.
+-- The first argument says whether one stands directly before the marks.
+abbrev pub pattern_from : Bool → List TextMark → List ℕ × List TextMark
+pattern_from escaped [] = ([], [])
+pattern_from escaped (mark ∷ marks) =
+    if is_char 58 mark && not escaped then ([], mark ∷ marks) else in_pattern mark (pattern_from (is_char 92 mark) marks)
+
+-- the flags of `:S`, and what stands behind them
+pub record Flags : Type 0 where
+  pub every : Bool
+  pub once : Bool
+  pub behind : List TextMark
+
+-- any run of `g` (103) and `1` (49)
+abbrev pub flags_of : List TextMark → Flags
+flags_of [] = record { every = false; once = false; behind = [] }
+flags_of (mark ∷ marks) =
+    if is_char 103 mark then record (flags_of marks) { every = true }
+    else if is_char 49 mark then record (flags_of marks) { once = true }
+    else record { every = false; once = false; behind = mark ∷ marks }
+
+-- the substitution of an old and a new text with flags
+abbrev pub replacement_by : List TextSign → List TextSign → Flags → Replacement
+replacement_by old new flags =
+    let front = without_start old in
+    let middle = without_end front.1 in
+    record {
+      old = flat_map (sign_symbols false) middle.1;
+      new = flat_map (sign_symbols true) new;
+      starts = front.0;
+      ends = middle.0;
+      every = flags.every;
+      once = flags.once;
+    }
+
+-- the new text and the flags behind an old text
+abbrev pub behind_new : List TextSign → Option (List TextSign × List TextMark) → Option (Replacement × List TextMark)
+behind_new old None = None
+behind_new old (Some new) = Some (replacement_by old new.0 (flags_of new.1), (flags_of new.1).behind)
+
+-- the old text, and what follows it
+abbrev pub behind_old : ℕ → Option (List TextSign × List TextMark) → Option (Replacement × List TextMark)
+behind_old delimiter None = None
+behind_old delimiter (Some old) = behind_new old.0 (signs_before delimiter old.1)
+
+-- what stands behind the letter of `:S`, and behind the flags; any character is a delimiter
+abbrev pub substitution_from : List TextMark → Option (Replacement × List TextMark)
+substitution_from [] = None
+substitution_from (Char delimiter ∷ marks) = behind_old delimiter (signs_before delimiter marks)
+substitution_from (Pair ∷ marks) = None
+substitution_from (Written source ∷ marks) = None
+
+-- the modifiers of one letter: R (82), E (69), H (72), T (84), L (76), U (85)
+abbrev pub word_map_of : ℕ → Option WordMap
+word_map_of c =
+    if c == 82 then Some maps.Root
+    else if c == 69 then Some maps.Extension
+    else if c == 72 then Some maps.Head
+    else if c == 84 then Some maps.Tail
+    else if c == 76 then Some maps.Lower
+    else if c == 85 then Some maps.Upper
+    else None
+
+-- the modifier that begins with this letter, and what stands behind it: M (77), N (78), S (83), or one of one letter
+abbrev pub modifier_at : ℕ → List TextMark → Option (Action × List TextMark)
+modifier_at letter marks =
+    if letter == 77 then (let read = pattern_from false marks in Some (Match read.0, read.1))
+    else if letter == 78 then (let read = pattern_from false marks in Some (Exclude read.0, read.1))
+    else if letter == 83 then option_map (λ read. (Substitute read.0, read.1)) (substitution_from marks)
+    else option_map (λ word_map. (Change word_map, marks)) (word_map_of letter)
+
+-- the first modifier, and what stands behind it
+abbrev pub first_modifier : List TextMark → Option (Action × List TextMark)
+first_modifier [] = None
+first_modifier (Char letter ∷ marks) = modifier_at letter marks
+first_modifier (Pair ∷ marks) = None
+first_modifier (Written source ∷ marks) = None
+
+-- the modifiers that `later` reads behind a colon, where anything follows
+abbrev pub after_colon : (List TextMark → Option (List Action)) → List TextMark → Option (List Action)
+after_colon later [] = Some []
+after_colon later (mark ∷ marks) = if is_char 58 mark then later marks else None
+
+-- a modifier, and those that follow it
+abbrev pub and_later : (List TextMark → Option (List Action)) → Option (Action × List TextMark) → Option (List Action)
+and_later later None = None
+and_later later (Some read) = option_map (λ actions. read.0 ∷ actions) (after_colon later read.1)
+
+-- the modifiers of marks, at most as many as the first argument says
+abbrev pub modifiers_by : ℕ → List TextMark → Option (List Action)
+modifiers_by zero marks = None
+modifiers_by (suc fuel) marks = and_later (modifiers_by fuel) (first_modifier marks)
+
+-- all of them: there are no more than marks
+abbrev pub modifiers_in : List TextMark → Option (List Action)
+modifiers_in marks = modifiers_by (length marks) marks
+
+-- the modifiers of a text; None where it isn't one or more modifiers
+unfoldable pub modifiers_of : List ℕ → Option (List Action)
+modifiers_of text = option_and_then modifiers_in (marks_of text)

@@ -1,0 +1,10 @@
+pub mod Actions
+pub mod Joined
+pub mod WordChanges
+pub mod Substituted
+pub mod Places
+pub mod Applied
+pub mod Marks
+pub mod Signs
+pub mod Grammar
+pub mod Views

@@ -1,0 +1,26 @@
+-- Where old texts stand in words, and that substitutions act there.
+use Rattle.std.specs.Prelude.{◌≡◌, ◌≢◌, ◌<◌, ℕ, zero, List, ◌++◌, length, Some, None}
+use Rattle.mk_mods.specs.Substituted.{first_replaced, all_replaced}
+
+-- an old text stands nowhere in a word
+abbrev pub StandsNowhere : List ℕ → List ℕ → Type 0
+StandsNowhere old word = (front behind : List ℕ) → word ≢ front ++ (old ++ behind)
+
+-- a word cut at the least place where an old text stands
+pub record FirstCut (old word front behind : List ℕ) : Type 0 where
+  pub whole : word ≡ front ++ (old ++ behind)
+  pub least : (f b : List ℕ) → length f < length front → word ≢ f ++ (old ++ b)
+
+-- once: the new text stands at the least place
+abbrev pub FirstActsAtLeast : Type 0
+FirstActsAtLeast = (old new word front behind : List ℕ) → 0 < length old → FirstCut old word front behind
+    → first_replaced old new word ≡ Some (front ++ (new ++ behind))
+
+-- at every place: it stands at the least one, and then again in what is behind the old text there
+abbrev pub EachActsAtLeast : Type 0
+EachActsAtLeast = (old new word front behind : List ℕ) → 0 < length old → FirstCut old word front behind
+    → all_replaced old new zero word ≡ front ++ (new ++ all_replaced old new zero behind)
+
+-- and nowhere where there is no place
+abbrev pub NoneWhereNowhere : Type 0
+NoneWhereNowhere = (old new word : List ℕ) → StandsNowhere old word → (first_replaced old new word ≡ None) × (all_replaced old new zero word ≡ word)

@@ -1,0 +1,74 @@
+//! Modifiers applied to values.
+ghost use Rattle.std.specs.Prelude.{◌≡◌, Bool, All, if◌then◌else◌, not, filter, map, string_bytes, IfOk, IfErr, Some};
+ghost use Rattle.mk_text.specs.Words.{words_of};
+ghost use Rattle.mk_glob.specs.Matching.{fits};
+ghost use Rattle.mk_mods.specs.Joined.{joined, IsUnmade, IsMade, IsTooLong};
+ghost use Rattle.mk_mods.specs.WordChanges.{word_change};
+ghost use Rattle.mk_mods.specs.Actions.{action_of, IsExpanded};
+ghost use Rattle.mk_mods.specs.Applied.{applied, kept};
+
+use crate::joining::{ApplyFault, add_word};
+use crate::modifiers::{Modifier, WordMap};
+use crate::substituting::join_substituted;
+use crate::word_maps::add_changed;
+use mk_glob::glob;
+use mk_text::words;
+use std::alloc::Global;
+
+/// What a modifier makes of a value.
+///
+/// The value is split into words at blanks (spaces and tabs). `Match` and `Exclude` keep those that
+/// match the pattern, or don't; the other modifiers make something of each. The words are then joined
+/// by single spaces; those that became empty are left out.
+///
+/// The time is at most in proportion to the length of the pattern, or of the old text, times that of
+/// the value, beside that of the result.
+///
+/// # Errors
+///
+/// `Length` where the result, or the old or the new text of a substitution, has more than 65,536
+/// bytes; no text is made that is longer than that. `Memory` where there is no memory.
+pub fn apply(alloc: Global, modifier: &Modifier, value: &str) -> Result<String, ApplyFault>
+    requires { IsExpanded (action_of modifier.now) }
+    ensures ok { IfOk result (λ made. applied (action_of modifier.now) value.now ≡ Some (string_bytes made)) }
+    ensures err { IfErr result (IsUnmade (applied (action_of modifier.now) value.now)) }
+{
+    match modifier {
+        Modifier::Match(pattern) => join_kept(alloc, pattern.as_str(), true, value),
+        Modifier::Exclude(pattern) => join_kept(alloc, pattern.as_str(), false, value),
+        Modifier::Substitute(substitution) => join_substituted(alloc, substitution, value),
+        Modifier::Change(map) => join_changed(alloc, *map, value),
+    }
+}
+
+/// The words that match a pattern, or those that don't, joined.
+fn join_kept(
+    alloc: Global,
+    pattern: &str,
+    matching: bool,
+    value: &str,
+) -> Result<String, ApplyFault>
+    ensures ok { IfOk result (IsMade (joined (filter (λ word. kept matching (fits pattern.now word)) (words_of value.now)))) }
+    ensures err { IfErr result (IsTooLong (joined (filter (λ word. kept matching (fits pattern.now word)) (words_of value.now)))) }
+{
+    let mut made = String::new(alloc);
+    for span in &words(alloc, value)? {
+        let word = span.of(value);
+        if glob(pattern, word) == matching {
+            add_word(&mut made, word)?;
+        }
+    }
+    Ok(made)
+}
+
+/// What is made of each word, joined.
+fn join_changed(alloc: Global, word_map: WordMap, value: &str) -> Result<String, ApplyFault>
+    ensures ok { IfOk result (IsMade (joined (map (word_change word_map) (words_of value.now)))) }
+    ensures err { IfErr result (IsTooLong (joined (map (word_change word_map) (words_of value.now)))) }
+{
+    let mut made = String::new(alloc);
+    for span in &words(alloc, value)? {
+        add_changed(alloc, &mut made, word_map, span.of(value))?;
+    }
+    Ok(made)
+}

@@ -1,0 +1,21 @@
+//! Modifiers of references in makefiles: read, and applied to values.
+#![tactic(auto)]
+
+mod applying;
+mod joining;
+mod laws;
+mod marks;
+mod modifiers;
+mod reading;
+mod signs;
+mod substituting;
+#[cfg(test)]
+mod tests;
+mod word_maps;
+
+pub use applying::apply;
+pub use joining::{ApplyFault, TEXT_LIMIT};
+pub use laws::acts_at_least_places;
+pub use modifiers::{Modifier, Part, Substitution, WordMap};
+pub use reading::{Mods, ModsFault};
+pub use substituting::substitute;

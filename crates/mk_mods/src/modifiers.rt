@@ -1,0 +1,90 @@
+//! What modifiers are.
+ghost use Rattle.std.specs.Prelude.{◌↔◌, IsTrue};
+ghost use Rattle.std.specs.List.{flat_map};
+ghost use Rattle.mk_mods.specs.Actions.{action_of, symbols_of, AllPlain, IsExpanded};
+
+/// A modifier of a reference: what it does to the words of a value.
+#[derive(Debug, Drop)]
+pub enum Modifier {
+    /// `:M`: the words that match this pattern.
+    Match(String),
+    /// `:N`: the words that don't match this pattern.
+    Exclude(String),
+    /// `:S`: each word with one text in place of another.
+    Substitute(Substitution),
+    /// `:R`, `:E`, `:H`, `:T`, `:L` and `:U`: something made of each word.
+    Change(WordMap),
+}
+
+impl Modifier {
+    /// Whether no part of it is a reference, so that it can be applied. A pattern is a text: as it
+    /// is read it may hold references, and whether these were expanded can't be seen in it.
+    pub fn is_expanded(&self) -> bool
+        ensures { IsTrue result ↔ IsExpanded (action_of self.now) }
+    {
+        match self {
+            Modifier::Match(_) | Modifier::Exclude(_) | Modifier::Change(_) => true,
+            Modifier::Substitute(substitution) => {
+                are_plain(&substitution.old) && are_plain(&substitution.new)
+            }
+        }
+    }
+}
+
+/// What a modifier of one letter makes of a word.
+#[derive(Debug, Clone, Copy, PartialEq, Eq)]
+pub enum WordMap {
+    /// `:R`: what stands before the last dot, and without a dot the word.
+    Root,
+    /// `:E`: what stands after the last dot, and without a dot nothing.
+    Extension,
+    /// `:H`: what stands before the last slash, a slash where that is nothing, and without a slash
+    /// a dot.
+    Head,
+    /// `:T`: what stands after the last slash, and without a slash the word.
+    Tail,
+    /// `:L`: the word with its ASCII letters lowered.
+    Lower,
+    /// `:U`: the word with its ASCII letters raised.
+    Upper,
+}
+
+/// What `:S` puts in place of what.
+#[derive(Debug, Drop)]
+pub struct Substitution {
+    /// The text that is sought, in parts from left to right.
+    pub old: Vec<Part>,
+    /// The text that is put in its place, in parts from left to right.
+    pub new: Vec<Part>,
+    /// Whether it acts only at the beginning of a word (`^`).
+    pub starts: bool,
+    /// Whether it acts only at the end of a word (`$`).
+    pub ends: bool,
+    /// Whether it acts wherever the old text stands in a word, and not only at the first place (`g`).
+    pub every: bool,
+    /// Whether it acts only in the first word that matches (`1`).
+    pub once: bool,
+}
+
+/// A part of a text of `:S`.
+#[derive(Debug, Drop)]
+pub enum Part {
+    /// Text that stands for itself.
+    Text(String),
+    /// The old text as a whole (`&` in the new one).
+    Whole,
+    /// A reference that isn't expanded yet: its source.
+    Reference(String),
+}
+
+/// Whether no part is a reference.
+fn are_plain(parts: &[Part]) -> bool
+    ensures { IsTrue result ↔ AllPlain (flat_map symbols_of parts.now) }
+{
+    for part in parts {
+        if let Part::Reference(_) = part {
+            return false;
+        }
+    }
+    true
+}

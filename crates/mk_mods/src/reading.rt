@@ -1,0 +1,220 @@
+//! Modifiers read from a text.
+ghost use Rattle.std.specs.Prelude.{◌≡◌, ◌<◌, ◌≤◌, false, length, map, string_bytes, Some, IfOk, IfErr};
+ghost use Rattle.std.specs.Option.{option_map};
+ghost use Rattle.mk_mods.specs.Actions.{action_of, replacement_of};
+ghost use Rattle.mk_mods.specs.Grammar.{pattern_from, flags_of, substitution_from, word_map_of, first_modifier, modifiers_in, modifiers_of};
+ghost use Rattle.mk_mods.specs.Views.{shown_mark, IsUnread, unread_by};
+ghost use Rattle.mk_mods.specs.declared.reading.ModsFault.TheVariants.{Memory};
+
+use crate::marks::{Mark, marks};
+use crate::modifiers::{Modifier, Substitution, WordMap};
+use crate::signs::{parts_of, signs_before, without_end, without_start};
+use mk_ref::PiecesFault;
+use std::alloc::{AllocError, AllocFailed, Global};
+
+/// Why a text wasn't read as modifiers.
+#[derive(Debug, Clone, Copy, PartialEq, Eq)]
+pub enum ModsFault {
+    /// It isn't one or more modifiers with a colon between.
+    BadMod,
+    /// No memory.
+    Memory,
+}
+
+impl From<AllocError> for ModsFault {
+    ghost from_gives = { λ _ fault. fault ≡ Memory };
+
+    fn from(_failed: AllocError) -> ModsFault {
+        ModsFault::Memory
+    }
+}
+
+impl<T: Drop> From<AllocFailed<T>> for ModsFault {
+    ghost from_gives = { λ _ fault. fault ≡ Memory };
+
+    fn from(_failed: AllocFailed<T>) -> ModsFault {
+        ModsFault::Memory
+    }
+}
+
+impl From<PiecesFault> for ModsFault {
+    ghost from_gives = { λ unclosed fault. fault ≡ unread_by unclosed };
+
+    fn from(fault: PiecesFault) -> ModsFault {
+        match fault {
+            PiecesFault::Unclosed { .. } => ModsFault::BadMod,
+            PiecesFault::Memory => ModsFault::Memory,
+        }
+    }
+}
+
+/// The modifiers of a reference, in the order in which they are applied.
+#[derive(Debug, Drop)]
+pub struct Mods {
+    /// Each of them; there is at least one.
+    pub modifiers: Vec<Modifier>,
+}
+
+impl Mods {
+    /// Reads what stands behind the colon of a reference: modifiers with a colon between each two.
+    ///
+    /// References in it are taken whole and stay as they are written; a backslash before one hides
+    /// nothing.
+    ///
+    /// - `M` or `N` and a pattern, which ends before the next colon that no backslash directly
+    ///   precedes. Backslashes stay in it.
+    /// - `S`, a delimiter, the old text, the delimiter, the new text, the delimiter, and any run of
+    ///   the flags `g` and `1`. Any character that begins no reference and no `$$` is a delimiter. In
+    ///   both texts a backslash makes the delimiter, `^`, `$`, `&` and itself plain and stays before
+    ///   anything else, and `$$` is a plain dollar. An old text may begin with the anchor `^` and end
+    ///   with the anchor `$`; in the new one `&` stands for the old text.
+    /// - One of `R`, `E`, `H`, `T`, `L` and `U`.
+    ///
+    /// The time is linear in the length of `text`.
+    ///
+    /// # Errors
+    ///
+    /// `BadMod` where the text is anything else, empty among them, or where a reference in it doesn't
+    /// end; `Memory` where there is no memory.
+    pub fn read(alloc: Global, text: &str) -> Result<Mods, ModsFault>
+        ensures ok { IfOk result (λ mods. modifiers_of text.now ≡ Some (map action_of mods.modifiers.items)) }
+        ensures err { IfErr result (IsUnread (modifiers_of text.now)) }
+    {
+        let marks = marks(alloc, text)?;
+        let modifiers = modifiers_in(alloc, &marks)?;
+        Ok(Mods { modifiers })
+    }
+}
+
+/// The modifiers that marks are, with colons between.
+fn modifiers_in(alloc: Global, marks: &[Mark<'_>]) -> Result<Vec<Modifier>, ModsFault>
+    ensures ok { IfOk result (λ modifiers. modifiers_in (map shown_mark marks.now) ≡ Some (map action_of modifiers.items)) }
+    ensures err { IfErr result (IsUnread (modifiers_in (map shown_mark marks.now))) }
+{
+    let mut modifiers = Vec::new(alloc);
+    let (first, mut behind) = first_modifier(alloc, marks)?;
+    modifiers.push(first)?;
+    while let Some((mark, later)) = behind.split_first() {
+        if !mark.is(':') {
+            return Err(ModsFault::BadMod);
+        }
+        let (modifier, rest) = first_modifier(alloc, later)?;
+        modifiers.push(modifier)?;
+        behind = rest;
+    }
+    Ok(modifiers)
+}
+
+/// The first modifier, and the marks behind it.
+fn first_modifier<'m, 't>(
+    alloc: Global,
+    marks: &'m [Mark<'t>],
+) -> Result<(Modifier, &'m [Mark<'t>]), ModsFault>
+    ensures ok { IfOk result (λ read. first_modifier (map shown_mark marks.now) ≡ Some (action_of read.0, map shown_mark read.1.now)) }
+    ensures err { IfErr result (IsUnread (first_modifier (map shown_mark marks.now))) }
+    ensures shorter { IfOk result (λ read. length read.1.now < length marks.now) }
+{
+    let Some((Mark::Char(letter), rest)) = marks.split_first() else {
+        return Err(ModsFault::BadMod);
+    };
+    match letter {
+        'M' => {
+            let (pattern, behind) = pattern_from(alloc, rest)?;
+            Ok((Modifier::Match(pattern), behind))
+        }
+        'N' => {
+            let (pattern, behind) = pattern_from(alloc, rest)?;
+            Ok((Modifier::Exclude(pattern), behind))
+        }
+        'S' => {
+            let (substitution, behind) = substitution_from(alloc, rest)?;
+            Ok((Modifier::Substitute(substitution), behind))
+        }
+        _ => match word_map_of(*letter) {
+            Some(map) => Ok((Modifier::Change(map), rest)),
+            None => Err(ModsFault::BadMod),
+        },
+    }
+}
+
+/// The modifier of one letter.
+fn word_map_of(letter: char) -> Option<WordMap>
+    ensures { result ≡ word_map_of letter }
+{
+    match letter {
+        'R' => Some(WordMap::Root),
+        'E' => Some(WordMap::Extension),
+        'H' => Some(WordMap::Head),
+        'T' => Some(WordMap::Tail),
+        'L' => Some(WordMap::Lower),
+        'U' => Some(WordMap::Upper),
+        _ => None,
+    }
+}
+
+/// A pattern, and the marks behind it.
+fn pattern_from<'m, 't>(
+    alloc: Global,
+    marks: &'m [Mark<'t>],
+) -> Result<(String, &'m [Mark<'t>]), AllocError>
+    ensures read { IfOk result (λ read. pattern_from false (map shown_mark marks.now) ≡ (string_bytes read.0, map shown_mark read.1.now)) }
+    ensures shorter { IfOk result (λ read. length read.1.now ≤ length marks.now) }
+{
+    let mut pattern = String::new(alloc);
+    let mut escaped = false;
+    for (at, mark) in marks.iter().enumerate() {
+        if mark.is(':') && !escaped {
+            return Ok((pattern, &marks[at..]));
+        }
+        mark.write_to(&mut pattern)?;
+        escaped = mark.is('\\');
+    }
+    Ok((pattern, &[]))
+}
+
+/// A substitution from its delimiter on, and the marks behind it.
+fn substitution_from<'m, 't>(
+    alloc: Global,
+    marks: &'m [Mark<'t>],
+) -> Result<(Substitution, &'m [Mark<'t>]), ModsFault>
+    ensures ok { IfOk result (λ read. substitution_from (map shown_mark marks.now) ≡ Some (replacement_of read.0, map shown_mark read.1.now)) }
+    ensures err { IfErr result (IsUnread (substitution_from (map shown_mark marks.now))) }
+    ensures shorter { IfOk result (λ read. length read.1.now ≤ length marks.now) }
+{
+    let Some((Mark::Char(delimiter), marks)) = marks.split_first() else {
+        return Err(ModsFault::BadMod);
+    };
+    let (old, behind_old) = signs_before(alloc, *delimiter, marks)?;
+    let (new, behind_new) = signs_before(alloc, *delimiter, behind_old)?;
+    let (every, once, behind) = flags_of(behind_new);
+    let (starts, others) = without_start(&old);
+    let (ends, middle) = without_end(others);
+    let substitution = Substitution {
+        old: parts_of(alloc, false, middle)?,
+        new: parts_of(alloc, true, &new)?,
+        starts,
+        ends,
+        every,
+        once,
+    };
+    Ok((substitution, behind))
+}
+
+/// The flags `g` and `1` of a substitution, and the marks behind them.
+fn flags_of<'m, 't>(marks: &'m [Mark<'t>]) -> (bool, bool, &'m [Mark<'t>])
+    ensures flags { flags_of (map shown_mark marks.now) ≡ record { every = result.0; once = result.1; behind = map shown_mark result.2.now } }
+    ensures shorter { length result.2.now ≤ length marks.now }
+{
+    let mut every = false;
+    let mut once = false;
+    for (at, mark) in marks.iter().enumerate() {
+        if mark.is('g') {
+            every = true;
+        } else if mark.is('1') {
+            once = true;
+        } else {
+            return (every, once, &marks[at..]);
+        }
+    }
+    (every, once, &[])
+}

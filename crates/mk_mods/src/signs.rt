@@ -1,0 +1,179 @@
+//! The old and the new text of `:S`, as they are written.
+ghost use Rattle.std.specs.Prelude.{◌≡◌, ◌<◌, ◌++◌, [], length, map, string_bytes, Some, IfOk, IfErr, OnOk};
+ghost use Rattle.std.specs.Option.{option_map};
+ghost use Rattle.std.specs.List.{flat_map};
+ghost use Rattle.mk_mods.specs.Actions.{symbols_of, Byte};
+ghost use Rattle.mk_mods.specs.Signs.{signs_before, sign_of, escaped, sign_at, is_escapable, is_bare, without_start, without_end, sign_symbols};
+ghost use Rattle.mk_mods.specs.Views.{shown_mark, shown_sign, IsUnread};
+
+use crate::marks::Mark;
+use crate::modifiers::Part;
+use crate::reading::ModsFault;
+use std::alloc::{AllocError, Global};
+
+/// A character or a reference of the old or the new text of `:S`.
+#[derive(Debug, Clone, Copy)]
+pub(crate) enum Sign<'t> {
+    /// A character that stands for itself: behind a backslash, or the dollar that a pair is.
+    Plain(char),
+    /// A character that may be an anchor, or stand for the old text.
+    Bare(char),
+    /// A reference, as it is written.
+    Reference(&'t str),
+}
+
+impl Sign<'_> {
+    /// Whether it is this character, and no plain one.
+    fn is_bare(&self, character: char) -> bool
+        ensures { result ≡ is_bare character (shown_sign self.now) }
+    {
+        match self {
+            Sign::Bare(own) => *own == character,
+            Sign::Plain(_) | Sign::Reference(_) => false,
+        }
+    }
+}
+
+/// A mark without a backslash that makes it plain.
+fn sign_of<'t>(mark: Mark<'t>) -> Sign<'t>
+    ensures { shown_sign result ≡ sign_of (shown_mark mark.entry) }
+{
+    match mark {
+        Mark::Char(character) => Sign::Bare(character),
+        Mark::Pair => Sign::Plain('$'),
+        Mark::Reference(source) => Sign::Reference(source),
+    }
+}
+
+/// Whether a backslash makes a character plain.
+fn is_escapable(delimiter: char, character: char) -> bool
+    ensures { result ≡ is_escapable delimiter character }
+{
+    character == delimiter || matches!(character, '^' | '$' | '&' | '\\')
+}
+
+/// The plain character that two marks are, if the first is a backslash that makes the second plain.
+fn escaped<'t>(delimiter: char, mark: Mark<'t>, next: Mark<'t>) -> Option<Sign<'t>>
+    ensures { option_map shown_sign result ≡ escaped delimiter (shown_mark mark.entry) (shown_mark next.entry) }
+{
+    match (mark, next) {
+        (Mark::Char('\\'), Mark::Char(character)) if is_escapable(delimiter, character) => {
+            Some(Sign::Plain(character))
+        }
+        _ => None,
+    }
+}
+
+/// The sign that a mark begins, and of how many marks it is made; some marks stand behind that mark.
+fn sign_at<'t>(delimiter: char, mark: Mark<'t>, behind: &[Mark<'t>]) -> (Sign<'t>, usize)
+    ensures { (shown_sign result.0, result.1) ≡ sign_at delimiter (shown_mark mark.entry) (map shown_mark behind.now) }
+{
+    if let Some(next) = behind.first() {
+        if let Some(plain) = escaped(delimiter, mark, *next) {
+            return (plain, 2);
+        }
+    }
+    (sign_of(mark), 1)
+}
+
+/// The signs up to the delimiter, and the marks behind it; `BadMod` where there is no delimiter.
+pub(crate) fn signs_before<'m, 't>(
+    alloc: Global,
+    delimiter: char,
+    marks: &'m [Mark<'t>],
+) -> Result<(Vec<Sign<'t>>, &'m [Mark<'t>]), ModsFault>
+    ensures ok { IfOk result (λ read. signs_before delimiter (map shown_mark marks.now) ≡ Some (map shown_sign read.0.items, map shown_mark read.1.now)) }
+    ensures err { IfErr result (IsUnread (signs_before delimiter (map shown_mark marks.now))) }
+    ensures shorter { IfOk result (λ read. length read.1.now < length marks.now) }
+{
+    let mut signs = Vec::new(alloc);
+    let mut at = 0;
+    while at < marks.len() {
+        let mark = marks[at];
+        if mark.is(delimiter) {
+            return Ok((signs, &marks[at + 1..]));
+        }
+        let (sign, width) = sign_at(delimiter, mark, &marks[at + 1..]);
+        signs.push(sign)?;
+        at += width;
+    }
+    Err(ModsFault::BadMod)
+}
+
+/// Whether signs begin with the anchor `^`, and the others.
+pub(crate) fn without_start<'s, 't>(signs: &'s [Sign<'t>]) -> (bool, &'s [Sign<'t>])
+    ensures { (result.0, map shown_sign result.1.now) ≡ without_start (map shown_sign signs.now) }
+{
+    match signs.split_first() {
+        Some((first, others)) if first.is_bare('^') => (true, others),
+        _ => (false, signs),
+    }
+}
+
+/// Whether signs end with the anchor `$`, and the others.
+pub(crate) fn without_end<'s, 't>(signs: &'s [Sign<'t>]) -> (bool, &'s [Sign<'t>])
+    ensures { (result.0, map shown_sign result.1.now) ≡ without_end (map shown_sign signs.now) }
+{
+    match signs.split_last() {
+        Some((last, others)) if last.is_bare('$') => (true, others),
+        _ => (false, signs),
+    }
+}
+
+/// The parts that signs stand for, in the old text or in the new one.
+pub(crate) fn parts_of(
+    alloc: Global,
+    in_new: bool,
+    signs: &[Sign<'_>],
+) -> Result<Vec<Part>, AllocError>
+    ensures { IfOk result (λ parts. flat_map symbols_of parts.items ≡ flat_map (sign_symbols in_new) (map shown_sign signs.now)) }
+{
+    let mut parts = Vec::new(alloc);
+    let mut text = String::new(alloc);
+    for sign in signs {
+        text = push_sign(alloc, in_new, *sign, &mut parts, text)?;
+    }
+    push_text(alloc, &mut parts, text)?;
+    Ok(parts)
+}
+
+/// Adds a sign to parts and a text that stands behind them, and gives the text that stands behind
+/// them then.
+fn push_sign(
+    alloc: Global,
+    in_new: bool,
+    sign: Sign<'_>,
+    parts: &mut Vec<Part>,
+    mut text: String,
+) -> Result<String, AllocError>
+    ensures { IfOk result (λ left. flat_map symbols_of parts.new.items ++ map Byte (string_bytes left)
+        ≡ (flat_map symbols_of parts.old.items ++ map Byte (string_bytes text)) ++ sign_symbols in_new (shown_sign sign.entry)) }
+{
+    if in_new && sign.is_bare('&') {
+        let left = push_text(alloc, parts, text)?;
+        parts.push(Part::Whole)?;
+        return Ok(left);
+    }
+    match sign {
+        Sign::Plain(character) | Sign::Bare(character) => {
+            text.push(character)?;
+            Ok(text)
+        }
+        Sign::Reference(source) => {
+            let left = push_text(alloc, parts, text)?;
+            parts.push(Part::Reference(String::from_str(alloc, source)?))?;
+            Ok(left)
+        }
+    }
+}
+
+/// Adds a text as a part, unless it is empty, and gives an empty text for what comes behind it.
+fn push_text(alloc: Global, parts: &mut Vec<Part>, text: String) -> Result<String, AllocError>
+    ensures empty { IfOk result (λ empty. string_bytes empty ≡ []) }
+    ensures parts { OnOk result (flat_map symbols_of parts.new.items ≡ flat_map symbols_of parts.old.items ++ map Byte (string_bytes text)) }
+{
+    if !text.is_empty() {
+        parts.push(Part::Text(text))?;
+    }
+    Ok(String::new(alloc))
+}

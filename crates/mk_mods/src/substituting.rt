@@ -1,0 +1,195 @@
+//! `:S`: one text in place of another.
+ghost use Rattle.std.specs.Prelude.{◌≡◌, ◌<◌, ◌++◌, ℕ, zero, length, [], string_bytes, option_map, IfOk, IfErr, Some};
+ghost use Rattle.std.specs.List.{flat_map};
+ghost use Rattle.std.specs.Option.{option_and_then};
+ghost use Rattle.mk_text.specs.Words.{words_of};
+ghost use Rattle.mk_mods.specs.Joined.{joined, within_limit, IsUnmade, IsMade, IsTooLong, IsOverlong};
+ghost use Rattle.mk_mods.specs.Actions.{symbols_of, replacement_of, AllPlain};
+ghost use Rattle.mk_mods.specs.Substituted.{text_of, somewhere_replaced, all_replaced, replaced, substituted};
+ghost use Rattle.mk_mods.specs.Applied.{words_substituted};
+
+use crate::joining::{ApplyFault, add_text, add_word};
+use crate::modifiers::{Part, Substitution};
+use mk_text::words;
+use std::alloc::Global;
+
+/// What a substitution makes of the words of a value, joined.
+pub(crate) fn join_substituted(
+    alloc: Global,
+    substitution: &Substitution,
+    value: &str,
+) -> Result<String, ApplyFault>
+    requires old { AllPlain (flat_map symbols_of substitution.now.old.items) }
+    requires new { AllPlain (flat_map symbols_of substitution.now.new.items) }
+    ensures ok { IfOk result (λ made. option_and_then (λ words. within_limit (joined words)) (words_substituted (replacement_of substitution.now) (words_of value.now)) ≡ Some (string_bytes made)) }
+    ensures err { IfErr result (IsUnmade (option_and_then (λ words. within_limit (joined words)) (words_substituted (replacement_of substitution.now) (words_of value.now)))) }
+{
+    let old = text_of(alloc, &substitution.old, "")?;
+    let new = text_of(alloc, &substitution.new, old.as_str())?;
+    join_replaced(alloc, substitution, old.as_str(), new.as_str(), value)
+}
+
+/// What a substitution makes of a value where its old and its new text are these, already expanded;
+/// what parts the substitution has doesn't matter, only where and how often it acts. An old text that
+/// is empty acts at an anchor alone. The words are split and joined as `apply` does it.
+///
+/// The time is at most in proportion to the length of the old text times that of the value, beside
+/// that of the result.
+///
+/// # Errors
+///
+/// `Length` where the result has more than 65,536 bytes; no text is made that is longer than that.
+/// `Memory` where there is no memory.
+pub fn substitute(
+    alloc: Global,
+    substitution: &Substitution,
+    old: &str,
+    new: &str,
+    value: &str,
+) -> Result<String, ApplyFault>
+    ensures ok { IfOk result (λ made. within_limit (joined (substituted (replacement_of substitution.now) old.now new.now (words_of value.now))) ≡ Some (string_bytes made)) }
+    ensures err { IfErr result (IsUnmade (within_limit (joined (substituted (replacement_of substitution.now) old.now new.now (words_of value.now))))) }
+{
+    join_replaced(alloc, substitution, old, new, value)
+}
+
+/// The text that parts stand for, beside an old text.
+fn text_of(alloc: Global, parts: &[Part], old: &str) -> Result<String, ApplyFault>
+    requires { AllPlain (flat_map symbols_of parts.now) }
+    ensures ok { IfOk result (IsMade (text_of old.now (flat_map symbols_of parts.now))) }
+    ensures err { IfErr result (IsTooLong (text_of old.now (flat_map symbols_of parts.now))) }
+{
+    let mut made = String::new(alloc);
+    for part in parts {
+        match part {
+            Part::Text(text) => add_text(&mut made, text.as_str())?,
+            Part::Whole => add_text(&mut made, old)?,
+            Part::Reference(_) => unreachable!(),
+        }
+    }
+    Ok(made)
+}
+
+/// The words of a value with the new text in place of the old one, joined.
+fn join_replaced(
+    alloc: Global,
+    substitution: &Substitution,
+    old: &str,
+    new: &str,
+    value: &str,
+) -> Result<String, ApplyFault>
+    ensures ok { IfOk result (IsMade (joined (substituted (replacement_of substitution.now) old.now new.now (words_of value.now)))) }
+    ensures err { IfErr result (IsTooLong (joined (substituted (replacement_of substitution.now) old.now new.now (words_of value.now)))) }
+{
+    let mut made = String::new(alloc);
+    let mut done = false;
+    for span in &words(alloc, value)? {
+        let word = span.of(value);
+        if done {
+            add_word(&mut made, word)?;
+            continue;
+        }
+        match replaced(alloc, substitution, old, new, word)? {
+            Some(changed) => {
+                add_word(&mut made, changed.as_str())?;
+                done = substitution.once;
+            }
+            None => add_word(&mut made, word)?,
+        }
+    }
+    Ok(made)
+}
+
+/// A word with the new text in place of the old one; `None` where it doesn't match.
+fn replaced(
+    alloc: Global,
+    substitution: &Substitution,
+    old: &str,
+    new: &str,
+    word: &str,
+) -> Result<Option<String>, ApplyFault>
+    ensures ok { IfOk result (λ made. replaced (replacement_of substitution.now) old.now new.now word.now ≡ option_map string_bytes made) }
+    ensures err { IfErr result (IsOverlong (replaced (replacement_of substitution.now) old.now new.now word.now)) }
+{
+    match (substitution.starts, substitution.ends) {
+        (true, true) => {
+            if word == old {
+                Ok(Some(joined(alloc, "", new, "")?))
+            } else {
+                Ok(None)
+            }
+        }
+        (true, false) => match word.strip_prefix(old) {
+            Some(behind) => Ok(Some(joined(alloc, "", new, behind)?)),
+            None => Ok(None),
+        },
+        (false, true) => match word.strip_suffix(old) {
+            Some(front) => Ok(Some(joined(alloc, front, new, "")?)),
+            None => Ok(None),
+        },
+        (false, false) => somewhere_replaced(alloc, substitution.every, old, new, word),
+    }
+}
+
+/// A word with the new text in place of the old one, at the first place or at every; `None` where it
+/// stands nowhere or is empty.
+fn somewhere_replaced(
+    alloc: Global,
+    every: bool,
+    old: &str,
+    new: &str,
+    word: &str,
+) -> Result<Option<String>, ApplyFault>
+    ensures ok { IfOk result (λ made. somewhere_replaced every old.now new.now word.now ≡ option_map string_bytes made) }
+    ensures err { IfErr result (IsOverlong (somewhere_replaced every old.now new.now word.now)) }
+{
+    if old.is_empty() {
+        return Ok(None);
+    }
+    match word.split_once(old) {
+        None => Ok(None),
+        Some((front, behind)) => {
+            if every {
+                Ok(Some(all_replaced(alloc, old, new, front, behind)?))
+            } else {
+                Ok(Some(joined(alloc, front, new, behind)?))
+            }
+        }
+    }
+}
+
+/// A word with the new text in place of each old one from the left: its front before the first old
+/// one, and what stands behind that.
+fn all_replaced(
+    alloc: Global,
+    old: &str,
+    new: &str,
+    front: &str,
+    behind: &str,
+) -> Result<String, ApplyFault>
+    requires { 0 < length old.now }
+    ensures ok { IfOk result (IsMade (front.now ++ (new.now ++ all_replaced old.now new.now zero behind.now))) }
+    ensures err { IfErr result (IsTooLong (front.now ++ (new.now ++ all_replaced old.now new.now zero behind.now))) }
+{
+    let mut made = joined(alloc, front, new, "")?;
+    let mut rest = behind;
+    while let Some((front, behind)) = rest.split_once(old) {
+        add_text(&mut made, front)?;
+        add_text(&mut made, new)?;
+        rest = behind;
+    }
+    add_text(&mut made, rest)?;
+    Ok(made)
+}
+
+/// Three texts joined.
+fn joined(alloc: Global, front: &str, new: &str, behind: &str) -> Result<String, ApplyFault>
+    ensures ok { IfOk result (IsMade (front.now ++ (new.now ++ behind.now))) }
+    ensures err { IfErr result (IsTooLong (front.now ++ (new.now ++ behind.now))) }
+{
+    let mut made = String::new(alloc);
+    add_text(&mut made, front)?;
+    add_text(&mut made, new)?;
+    add_text(&mut made, behind)?;
+    Ok(made)
+}

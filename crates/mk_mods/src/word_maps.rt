@@ -1,0 +1,71 @@
+//! What modifiers of one letter make of a word.
+ghost use Rattle.std.specs.Prelude.{◌≡◌, ◌≤◌, length, string_bytes, IfOk, IfErr};
+ghost use Rattle.mk_mods.specs.Joined.{with_word, IsTooLong};
+ghost use Rattle.mk_mods.specs.WordChanges.{word_change};
+ghost use Rattle.mk_mods.specs.declared.modifiers.WordMap.TheVariants as maps;
+
+use crate::joining::{ApplyFault, TEXT_LIMIT, add_word};
+use crate::modifiers::WordMap;
+use std::alloc::Global;
+
+/// What stands before the last dot of a word, and without a dot the word.
+fn root(word: &str) -> &str
+    ensures { result.now ≡ word_change maps.Root word.now }
+{
+    match word.rsplit_once('.') {
+        Some((root, _)) => root,
+        None => word,
+    }
+}
+
+/// What stands after the last dot of a word, and without a dot nothing.
+fn extension(word: &str) -> &str
+    ensures { result.now ≡ word_change maps.Extension word.now }
+{
+    match word.rsplit_once('.') {
+        Some((_, extension)) => extension,
+        None => "",
+    }
+}
+
+/// What stands before the last slash of a word, a slash where that is nothing, and without a slash a
+/// dot.
+fn head(word: &str) -> &str
+    ensures { result.now ≡ word_change maps.Head word.now }
+{
+    match word.rsplit_once('/') {
+        Some((head, _)) => { if head.is_empty() { "/" } else { head } }
+        None => ".",
+    }
+}
+
+/// What stands after the last slash of a word, and without a slash the word.
+fn tail(word: &str) -> &str
+    ensures { result.now ≡ word_change maps.Tail word.now }
+{
+    match word.rsplit_once('/') {
+        Some((_, tail)) => tail,
+        None => word,
+    }
+}
+
+/// Adds what is made of a word to words that are joined by single spaces.
+pub(crate) fn add_changed(
+    alloc: Global,
+    made: &mut String,
+    map: WordMap,
+    word: &str,
+) -> Result<(), ApplyFault>
+    requires { length (string_bytes made.old) ≤ TEXT_LIMIT }
+    ensures ok { IfOk result (λ _. (length (string_bytes made.new) ≤ TEXT_LIMIT) × (string_bytes made.new ≡ with_word (string_bytes made.old) (word_change map word.now))) }
+    ensures err { IfErr result (IsTooLong (with_word (string_bytes made.old) (word_change map word.now))) }
+{
+    match map {
+        WordMap::Root => add_word(made, root(word)),
+        WordMap::Extension => add_word(made, extension(word)),
+        WordMap::Head => add_word(made, head(word)),
+        WordMap::Tail => add_word(made, tail(word)),
+        WordMap::Lower => add_word(made, word.to_ascii_lowercase(alloc)?.as_str()),
+        WordMap::Upper => add_word(made, word.to_ascii_uppercase(alloc)?.as_str()),
+    }
+}

@@ -1,0 +1,141 @@
+// The elements of a path's text, and what they may be.
+ghost use Rattle.std.specs.Prelude.{◌≡◌, IfOk, map, filter, find, length, option_map};
+ghost use Rattle.std.specs.List.{list_all, list_any};
+ghost use Rattle.std.specs.String.{string_bytes};
+ghost use Rattle.pkg_path.specs.Paths.{elements_of, is_subpackage, is_flavor, in_order, flavors_of, may_stand, is_part, is_directory, is_bare_dash, is_well_cut};
+ghost use Rattle.pkg_path.specs.Seen.{flavors_seen, now_all};
+
+use crate::flavors::Flavors;
+use std::alloc::{AllocError, Global};
+
+// The elements between the commas of a text.
+pub(crate) fn split_at_commas(alloc: Global, text: &str) -> Result<Vec<&str>, AllocError>
+    ensures { IfOk result (λ elements. now_all elements.items ≡ elements_of text.now) }
+{
+    text.split(',').collect(alloc)
+}
+
+// Whether a choice names a subpackage.
+fn is_subpackage(choice: &str) -> bool
+    ensures { result ≡ is_subpackage choice.now }
+{
+    choice.starts_with('-')
+}
+
+// Whether a choice names a flavor.
+fn is_flavor(choice: &str) -> bool
+    ensures { result ≡ is_flavor choice.now }
+{
+    !choice.is_empty() && !is_subpackage(choice)
+}
+
+// Whether each choice names a subpackage.
+fn all_subpackages(choices: &[&str]) -> bool
+    ensures { result ≡ list_all (λ choice. is_subpackage choice.now) choices.now }
+{
+    choices.iter().all(|choice| is_subpackage(choice))
+}
+
+// How many choices name a subpackage.
+pub(crate) fn count_subpackages(choices: &[&str]) -> usize
+    ensures { result ≡ length (filter (λ choice. is_subpackage choice.now) choices.now) }
+{
+    choices
+        .iter()
+        .filter(|choice| is_subpackage(choice))
+        .count()
+}
+
+// Whether the bytes of a text may stand in a path, its directory is one, and none of its choices is a bare dash.
+pub(crate) fn is_well_written(text: &str, directory: &str, choices: &[&str]) -> bool
+    ensures { result ≡ is_well_cut text.now directory.now (now_all choices.now) }
+{
+    has_path_bytes(text) && is_directory(directory) && !has_bare_dash(choices)
+}
+
+// Whether each byte may stand in a path.
+fn has_path_bytes(text: &str) -> bool
+    ensures { result ≡ list_all may_stand text.now }
+{
+    text.bytes().all(|byte| is_path_byte(byte))
+}
+
+// Whether a byte may stand in a path.
+fn is_path_byte(byte: u8) -> bool
+    ensures { result ≡ may_stand byte }
+{
+    33 <= byte
+        && byte <= 126
+        && byte != b':'
+        && byte != b'|'
+        && byte != b'<'
+        && byte != b'>'
+        && byte != b'='
+        && byte != b'*'
+}
+
+// Whether the parts between the slashes of a text may stand in a directory.
+fn is_directory(text: &str) -> bool
+    ensures { result ≡ is_directory text.now }
+{
+    text.split('/').all(|part| is_part(part))
+}
+
+// Whether a part may stand in a directory.
+fn is_part(part: &str) -> bool
+    ensures { result ≡ is_part part.now }
+{
+    part != "" && part != "." && part != ".."
+}
+
+// Whether a choice is a dash without a name.
+fn has_bare_dash(choices: &[&str]) -> bool
+    ensures { result ≡ list_any (λ choice. is_bare_dash choice.now) choices.now }
+{
+    choices.iter().any(|choice| *choice == "-")
+}
+
+// The flavors of choices.
+pub(crate) fn flavors_of(alloc: Global, choices: &[&str]) -> Result<Flavors, AllocError>
+    ensures { IfOk result (λ flavors. flavors_seen flavors ≡ flavors_of (now_all choices.now)) }
+{
+    if all_subpackages(choices) {
+        return Ok(Flavors::Default);
+    }
+    let mut flavors = named_flavors(alloc, choices)?;
+    put_in_order(&mut flavors);
+    Ok(Flavors::Explicit(flavors))
+}
+
+// The flavors that choices name, as they stand.
+fn named_flavors(alloc: Global, choices: &[&str]) -> Result<Vec<String>, AllocError>
+    ensures { IfOk result (λ flavors. map string_bytes flavors.items ≡ filter is_flavor (now_all choices.now)) }
+{
+    let mut flavors = Vec::new(alloc);
+    for choice in choices {
+        if is_flavor(choice) {
+            flavors.push(String::from_str(alloc, choice)?)?;
+        }
+    }
+    Ok(flavors)
+}
+
+// Puts texts in the order of their bytes, and leaves one of each.
+fn put_in_order(texts: &mut Vec<String>)
+    ensures { map string_bytes texts.new.items ≡ in_order (map string_bytes texts.old.items) }
+{
+    texts.sort_unstable();
+    texts.dedup();
+}
+
+// The first subpackage that choices name.
+pub(crate) fn subpackage_of(alloc: Global, choices: &[&str]) -> Result<Option<String>, AllocError>
+    ensures { IfOk result (λ name. option_map string_bytes name ≡ find is_subpackage (now_all choices.now)) }
+{
+    for choice in choices {
+        if is_subpackage(choice) {
+            return Ok(Some(String::from_str(alloc, choice)?));
+        }
+    }
+    Ok(None)
+}

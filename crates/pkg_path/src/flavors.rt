@@ -1,0 +1,59 @@
+// The flavors of a path.
+ghost use Rattle.std.specs.Fmt.{DisplaysOnOk};
+ghost use Rattle.std.specs.Prelude.{◌≡◌, ◌↔◌, IsTrue, Some, map, string_bytes};
+ghost use Rattle.pkg_path.specs.Paths.{flavor_choices, choices_text};
+ghost use Rattle.pkg_path.specs.Seen.{flavors_seen};
+
+use std::fmt;
+
+/// The flavors that a path chooses.
+#[derive(Debug, Drop, PartialEq, Eq)]
+pub enum Flavors {
+    /// None are chosen: the port's default flavor.
+    Default,
+    /// Just these, in the order of their bytes, each once; with none of them, the empty flavor.
+    Explicit(Vec<String>),
+}
+
+// Whether these are the same flavors.
+pub(crate) fn same_flavors(one: &Flavors, other: &Flavors) -> bool
+    ensures { IsTrue result ↔ (flavors_seen one.now ≡ flavors_seen other.now) }
+{
+    match (one, other) {
+        (Flavors::Default, Flavors::Default) => true,
+        (Flavors::Explicit(names), Flavors::Explicit(others)) => same_names(names, others),
+        _ => false,
+    }
+}
+
+// Whether these are the same names, in the same order.
+fn same_names(names: &[String], others: &[String]) -> bool
+    ensures { IsTrue result ↔ (map string_bytes names.now ≡ map string_bytes others.now) }
+{
+    names == others
+}
+
+// Writes flavors as a path has them, each behind a comma.
+pub(crate) fn write_flavors<W: fmt::Write>(
+    flavors: &Flavors,
+    f: &mut fmt::Formatter<W>,
+) -> fmt::Result
+    ensures { DisplaysOnOk W.write_str_gives f.old result (Some (choices_text (flavor_choices (flavors_seen flavors.now)))) f.new }
+{
+    match flavors {
+        Flavors::Default => Ok(()),
+        Flavors::Explicit(names) if names.is_empty() => f.write_str(","),
+        Flavors::Explicit(names) => write_names(names, f),
+    }
+}
+
+// Writes names, each behind a comma.
+fn write_names<W: fmt::Write>(names: &[String], f: &mut fmt::Formatter<W>) -> fmt::Result
+    ensures { DisplaysOnOk W.write_str_gives f.old result (Some (choices_text (map string_bytes names.now))) f.new }
+{
+    for name in names {
+        f.write_str(",")?;
+        f.write_str(name.as_str())?;
+    }
+    Ok(())
+}

@@ -1,0 +1,15 @@
+//! Package paths, which name ports (pkgpath(7)).
+#![tactic(auto)]
+
+mod elements;
+mod faults;
+mod flavors;
+mod laws;
+mod path;
+#[cfg(test)]
+mod tests;
+
+pub use faults::PkgPathFault;
+pub use flavors::Flavors;
+pub use laws::{canonical_names_the_path, same_text_same_path, stays_a_path};
+pub use path::PkgPath;

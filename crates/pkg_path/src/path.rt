@@ -1,0 +1,176 @@
+// Package paths.
+ghost use Rattle.std.specs.Prelude.{◌≡◌, ◌↔◌, IsTrue, IfOk, IsErrOf, option_map, Some};
+ghost use Rattle.std.specs.String.{string_bytes};
+ghost use Rattle.std.specs.Option.{option_copied};
+ghost use Rattle.std.specs.Ordering.{nat_cmp};
+ghost use Rattle.std.specs.Str.{bytes_eq};
+ghost use Rattle.std.specs.Cmp.{partial_equiv_from_equiv};
+ghost use Rattle.std.proofs.lemmas.Cmp.{on_equiv, nat_list_eq_equiv};
+ghost use Rattle.pkg_path.specs.Paths.{path_of, canonical, IsPath, without_subpackage, flavor_choices, choices_text};
+
+use crate::elements::{
+    count_subpackages, flavors_of, is_well_written, split_at_commas, subpackage_of,
+};
+use crate::faults::PkgPathFault;
+use crate::flavors::{Flavors, same_flavors, write_flavors};
+use std::alloc::{AllocError, Global};
+use std::fmt;
+use std::marker::Model;
+
+/// A package path: the directory of a port below a ports tree, the flavors that are chosen, and maybe a
+/// subpackage, as in `editors/vim,gtk3,-lang` (pkgpath(7)).
+///
+/// It prints as its canonical text. Clauses see a `PathValue`.
+#[derive(Debug, Drop)]
+pub struct PkgPath {
+    directory: String,
+    flavors: Flavors,
+    subpackage: Option<String>,
+}
+
+impl Model for PkgPath {
+    ghost use Rattle.std.specs.Prelude.{option_map};
+    ghost use Rattle.std.specs.String.{string_bytes};
+    ghost use Rattle.pkg_path.specs.Paths.{PathValue, IsPath};
+    ghost use Rattle.pkg_path.specs.Seen.{flavors_seen};
+
+    ghost Value = { PathValue };
+
+    ghost view = { λ path. record {
+      directory = string_bytes path.directory;
+      flavors = flavors_seen path.flavors;
+      subpackage = option_map string_bytes path.subpackage;
+    } };
+
+    ghost invariant = { λ path. IsPath (record {
+      directory = string_bytes path.directory;
+      flavors = flavors_seen path.flavors;
+      subpackage = option_map string_bytes path.subpackage;
+    }) };
+}
+
+impl PkgPath {
+    ghost use Rattle.pkg_path.specs.Seen.{flavors_seen};
+
+    /// The path that a text names.
+    ///
+    /// Commas separate its elements. The first is the directory. Of the others, in any order, one that
+    /// begins with a dash is the subpackage, and one that doesn't is a flavor, or, where it is empty,
+    /// chooses none; without either the flavors are the port's default.
+    ///
+    /// Refused, the first that fits: `Empty`, an empty text; `TwoSubpackages`, more than one subpackage;
+    /// `BadCharacter`, a byte that isn't printable ASCII, a blank or one of `: | < > = *`, a part of the
+    /// directory that is empty, `.` or `..`, or a lone dash as an element behind the directory. `Memory`
+    /// comes where none is left.
+    pub fn read(alloc: Global, text: &str) -> Result<PkgPath, PkgPathFault>
+        ensures ok { IfOk result (λ path. path_of text.now ≡ Ok path) }
+        ensures empty { IsErrOf result PkgPathFault.Empty → path_of text.now ≡ Err PkgPathFault.Empty }
+        ensures two { IsErrOf result PkgPathFault.TwoSubpackages → path_of text.now ≡ Err PkgPathFault.TwoSubpackages }
+        ensures bad { IsErrOf result PkgPathFault.BadCharacter → path_of text.now ≡ Err PkgPathFault.BadCharacter }
+    {
+        if text.is_empty() {
+            return Err(PkgPathFault::Empty);
+        }
+        let elements = split_at_commas(alloc, text)?;
+        let Some((directory, choices)) = elements.as_slice().split_first() else {
+            return Err(PkgPathFault::Empty);
+        };
+        if count_subpackages(choices) > 1 {
+            return Err(PkgPathFault::TwoSubpackages);
+        }
+        if !is_well_written(text, directory, choices) {
+            return Err(PkgPathFault::BadCharacter);
+        }
+        Ok(PkgPath {
+            directory: String::from_str(alloc, directory)?,
+            flavors: flavors_of(alloc, choices)?,
+            subpackage: subpackage_of(alloc, choices)?,
+        })
+    }
+
+    /// The canonical text: the directory, the flavors in the order of their bytes without doubles (a lone
+    /// comma for the empty flavor), the subpackage.
+    pub fn canonical(&self, alloc: Global) -> Result<String, AllocError>
+        ensures { IfOk result (λ text. string_bytes text ≡ canonical self.now) }
+    {
+        format!(in alloc; "{self}")
+    }
+
+    /// The same path without its subpackage.
+    pub fn without_sub(self) -> PkgPath
+        ensures { result ≡ without_subpackage self }
+    {
+        PkgPath {
+            directory: self.directory,
+            flavors: self.flavors,
+            subpackage: None,
+        }
+    }
+
+    /// The directory of the port below a ports tree, as `editors/vim`.
+    pub fn directory(&self) -> &str
+        ensures directory { result.now ≡ self.now.directory }
+        ensures is_path { IsPath self.now }
+    {
+        self.directory.as_str()
+    }
+
+    /// The flavors that are chosen.
+    pub fn flavors(&self) -> &Flavors
+        ensures { flavors_seen result.now ≡ self.now.flavors }
+    {
+        &self.flavors
+    }
+
+    /// The subpackage with its dash, as `-main`, where one is named.
+    pub fn subpackage(&self) -> Option<&str>
+        ensures { option_copied result ≡ self.now.subpackage }
+    {
+        match &self.subpackage {
+            Some(name) => Some(name.as_str()),
+            None => None,
+        }
+    }
+}
+
+impl fmt::Display for PkgPath {
+    ghost output = { λ path. Some (canonical path) };
+
+    #[tactic(auto, unfolding(crate::specs::Paths::canonical))]
+    fn fmt<W: fmt::Write>(&self, f: &mut fmt::Formatter<W>) -> fmt::Result {
+        f.write_str(self.directory.as_str())?;
+        write_flavors(&self.flavors, f)?;
+        if let Some(name) = &self.subpackage {
+            f.write_str(",")?;
+            f.write_str(name.as_str())?;
+        }
+        Ok(())
+    }
+}
+
+impl PartialEq for PkgPath {
+    ghost eq = { λ a b. bytes_eq (canonical a) (canonical b) };
+
+    ghost laws = { partial_equiv_from_equiv (on_equiv canonical nat_list_eq_equiv) };
+
+    /// Whether the paths are the same, which is where their canonical texts are.
+    fn eq(&self, other: &PkgPath) -> bool
+        ensures same { IsTrue result ↔ (self.now ≡ other.now) }
+        ensures texts { result ≡ bytes_eq (canonical self.now) (canonical other.now) }
+    {
+        self.directory == other.directory
+            && same_flavors(&self.flavors, &other.flavors)
+            && same_subpackage(&self.subpackage, &other.subpackage)
+    }
+}
+
+impl Eq for PkgPath {
+    ghost laws = { on_equiv canonical nat_list_eq_equiv };
+}
+
+// Whether these are the same subpackage, or both none.
+fn same_subpackage(one: &Option<String>, other: &Option<String>) -> bool
+    ensures { IsTrue result ↔ (option_map string_bytes one.now ≡ option_map string_bytes other.now) }
+{
+    one == other
+}

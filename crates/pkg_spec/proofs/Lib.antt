@@ -1,0 +1,3 @@
+pub mod PartReadings
+pub mod Reading
+pub mod VersionCuts

@@ -1,0 +1,150 @@
+-- Specs of packages (packages-specs(7)): alternatives, each a stem, the versions that it takes and maybe flavors, as in
+-- `foo->=1.0,<2-gtk-!debug|bar-*`. What is refused, and the order of the refusals, is this project's choice.
+use Rattle.std.specs.Prelude.{◌≡◌, ℕ, ◌+◌, ◌<◌, ◌==◌, ◌&&◌, ◌||◌, if◌then◌else◌, Bool, true, false, not, List, [], ◌∷◌, length, take, drop, map, filter, slice_index, nat_eq, Option, Some, None, option_map, Result, Ok, Err, codes}
+use Rattle.std.specs.List.{slice_split, list_all, list_any, starts_with, filter_map}
+use Rattle.std.specs.Char.{is_ascii_digit}
+use Rattle.std.specs.Result.{result_ok}
+use Rattle.std.specs.Str.{bytes_eq}
+use Rattle.pkg_name.specs.Version.{is_version}
+use Rattle.pkg_spec.specs.declared.comparisons.Sign.{Sign}
+use Rattle.pkg_spec.specs.declared.comparisons.Sign.TheVariants.{Below, AtMost, Equals, AtLeast, Above}
+use Rattle.pkg_spec.specs.declared.faults.SpecFault.{SpecFault}
+use Rattle.pkg_spec.specs.declared.faults.SpecFault.TheVariants.{NoStem, BadVersion, EmptyAlternative, Memory}
+
+-- a comparison: a version is set against this one
+pub record ComparisonValue : Type 0 where
+  pub sign : Sign
+  pub version : List ℕ
+
+-- an alternative: a stem, comparisons that all hold, flavors that must be there, and flavors that must not
+pub record AlternativeValue : Type 0 where
+  pub stem : List ℕ
+  pub comparisons : List ComparisonValue
+  pub wanted : List (List ℕ)
+  pub forbidden : List (List ℕ)
+
+-- the bytes `!`, `,`, `-` and `|`
+abbrev pub bang : ℕ
+bang = 33
+
+abbrev pub comma : ℕ
+comma = 44
+
+abbrev pub dash : ℕ
+dash = 45
+
+abbrev pub bar : ℕ
+bar = 124
+
+-- the sign that a comparison begins with, the longer where two fit, and the version behind it; without a sign it is `=`
+abbrev pub signed : List ℕ → ComparisonValue
+signed text =
+    if starts_with nat_eq text (codes "<=") then record { sign = AtMost; version = drop 2 text }
+    else if starts_with nat_eq text (codes ">=") then record { sign = AtLeast; version = drop 2 text }
+    else if starts_with nat_eq text (codes "<") then record { sign = Below; version = drop 1 text }
+    else if starts_with nat_eq text (codes ">") then record { sign = Above; version = drop 1 text }
+    else if starts_with nat_eq text (codes "=") then record { sign = Equals; version = drop 1 text }
+    else record { sign = Equals; version = text }
+
+-- a comparison has a version behind its sign
+abbrev pub is_comparison : List ℕ → Bool
+is_comparison text = is_version (signed text).version
+
+-- the comparisons between the commas of a text
+abbrev pub pieces_of : List ℕ → List (List ℕ)
+pieces_of versions = slice_split (λ byte. byte == comma) versions
+
+-- the versions of an alternative: `*`, which is no comparison, or comparisons
+abbrev pub is_any : List ℕ → Bool
+is_any versions = bytes_eq versions (codes "*")
+
+abbrev pub are_versions : List ℕ → Bool
+are_versions versions = is_any versions || list_all is_comparison (pieces_of versions)
+
+abbrev pub comparisons_of : List ℕ → List ComparisonValue
+comparisons_of versions = if is_any versions then [] else map signed (pieces_of versions)
+
+-- a flavor behind `!` is forbidden, and any other wanted
+abbrev pub forbids : List ℕ → Bool
+forbids [] = false
+forbids (first ∷ name) = first == bang
+
+-- a flavor has a name
+abbrev pub has_name : List ℕ → Bool
+has_name flavor = not (bytes_eq flavor []) && not (bytes_eq flavor (codes "!"))
+
+-- a text cut in two
+pub record Cut : Type 0 where
+  pub before : List ℕ
+  pub behind : List ℕ
+
+-- the byte that versions begin with: a digit, `*`, or that of a sign
+abbrev pub begins_versions : ℕ → Bool
+begins_versions byte = is_ascii_digit byte || byte == 42 || byte == 60 || byte == 61 || byte == 62
+
+-- what stands before the first dash with such a byte behind it, and what stands behind that dash
+unfoldable pub at_versions : List ℕ → Option Cut
+at_versions [] = None
+at_versions (byte ∷ rest) =
+    if byte == dash && begins_versions (slice_index rest 0)
+    then Some (record { before = []; behind = rest })
+    else option_map (λ cut. record { before = byte ∷ cut.before; behind = cut.behind }) (at_versions rest)
+
+-- the cut of a text at one of its dashes
+pub record IsCutAt (text : List ℕ) (at : ℕ) (cut : Option Cut) : Type 0 where
+  pub inside : at < length text
+  pub is_dash : slice_index text at ≡ dash
+  pub sides : cut ≡ Some (record { before = take at text; behind = drop (at + 1) text })
+
+-- the alternative of a stem and the words behind it: the versions, and then the flavors
+abbrev pub alternative_of_words : List ℕ → List (List ℕ) → Result AlternativeValue SpecFault
+alternative_of_words stem [] = Err NoStem
+alternative_of_words stem (versions ∷ flavors) =
+    if are_versions versions && list_all has_name flavors
+    then Ok (record {
+      stem = stem;
+      comparisons = comparisons_of versions;
+      wanted = filter (λ flavor. not (forbids flavor)) flavors;
+      forbidden = map (drop 1) (filter forbids flavors);
+    })
+    else Err BadVersion
+
+-- the alternative of a text that is cut before its versions: there is a stem
+abbrev pub alternative_of_cut : Option Cut → Result AlternativeValue SpecFault
+alternative_of_cut None = Err NoStem
+alternative_of_cut (Some cut) =
+    if length cut.before == 0 then Err NoStem else alternative_of_words cut.before (slice_split (λ byte. byte == dash) cut.behind)
+
+-- the alternative that a text is, or its refusal
+unfoldable pub alternative_of : List ℕ → Result AlternativeValue SpecFault
+alternative_of text = if length text == 0 then Err EmptyAlternative else alternative_of_cut (at_versions text)
+
+-- the number of a refusal; want of memory has none
+abbrev pub refusal_number : SpecFault → Option ℕ
+refusal_number NoStem = Some 1
+refusal_number BadVersion = Some 2
+refusal_number EmptyAlternative = Some 3
+refusal_number Memory = None
+
+-- a reading was refused so
+abbrev pub is_refused : SpecFault → Result AlternativeValue SpecFault → Bool
+is_refused NoStem (Err NoStem) = true
+is_refused BadVersion (Err BadVersion) = true
+is_refused EmptyAlternative (Err EmptyAlternative) = true
+is_refused fault reading = false
+
+-- the alternatives that were read, or the first refusal that one of them has
+abbrev pub unless_refused : List (Result AlternativeValue SpecFault) → Result (List AlternativeValue) SpecFault
+unless_refused readings =
+    if list_any (is_refused NoStem) readings then Err NoStem
+    else if list_any (is_refused BadVersion) readings then Err BadVersion
+    else if list_any (is_refused EmptyAlternative) readings then Err EmptyAlternative
+    else Ok (filter_map result_ok readings)
+
+-- how the alternatives between the bars of a text are read
+abbrev pub readings_of : List ℕ → List (Result AlternativeValue SpecFault)
+readings_of text = map alternative_of (slice_split (λ byte. byte == bar) text)
+
+-- the alternatives of a spec, or its refusal
+unfoldable pub spec_of : List ℕ → Result (List AlternativeValue) SpecFault
+spec_of text = unless_refused (readings_of text)

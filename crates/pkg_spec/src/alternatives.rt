@@ -1,0 +1,228 @@
+// The alternatives of a spec.
+ghost use Rattle.std.specs.Prelude.{◌≡◌, ◌==◌, ◌&&◌, not, IfOk, IsErrOf, MatchOption, Some, None, true, false, map, filter, drop, slice_index};
+ghost use Rattle.std.specs.List.{list_all, list_any, slice_split};
+ghost use Rattle.std.specs.Str.{bytes_eq};
+ghost use Rattle.std.specs.String.{string_bytes};
+ghost use Rattle.pkg_spec.specs.Alternatives.{alternative_of, at_versions, begins_versions, dash, forbids, has_name, IsCutAt};
+ghost use Rattle.pkg_spec.specs.Admitting.{set_of_alternative, with_stem, meeting, having, lacking};
+ghost use Rattle.pkg_spec.specs.Seen.{now_all, comparison_seen};
+
+use crate::comparisons::{Comparison, read_versions};
+use crate::faults::SpecFault;
+use pkg_name::PkgName;
+use std::alloc::{AllocError, Global};
+
+/// An alternative of a spec.
+#[derive(Debug, Drop)]
+pub(crate) struct Alternative {
+    pub(crate) stem: String,
+    pub(crate) comparisons: Vec<Comparison>,
+    pub(crate) wanted: Vec<String>,
+    pub(crate) forbidden: Vec<String>,
+}
+
+impl Alternative {
+    ghost use Rattle.pkg_spec.specs.Seen.{alternative_seen, comparison_seen, admits_flavors};
+
+    /// The alternative that a text is, or the refusal that fits.
+    pub(crate) fn read(alloc: Global, text: &str) -> Result<Alternative, SpecFault>
+        ensures ok { IfOk result (λ alternative. alternative_of text.now ≡ Ok (alternative_seen alternative)) }
+        ensures no_stem { IsErrOf result SpecFault.NoStem → alternative_of text.now ≡ Err SpecFault.NoStem }
+        ensures bad_version { IsErrOf result SpecFault.BadVersion → alternative_of text.now ≡ Err SpecFault.BadVersion }
+        ensures empty { IsErrOf result SpecFault.EmptyAlternative → alternative_of text.now ≡ Err SpecFault.EmptyAlternative }
+    {
+        if text.is_empty() {
+            return Err(SpecFault::EmptyAlternative);
+        }
+        let Some((stem, behind)) = cut_at_versions(text) else {
+            return Err(SpecFault::NoStem);
+        };
+        if stem.is_empty() {
+            return Err(SpecFault::NoStem);
+        }
+        let words = split_at_dashes(alloc, behind)?;
+        let Some((versions, flavors)) = words.as_slice().split_first() else {
+            return Err(SpecFault::NoStem);
+        };
+        let Some(comparisons) = read_versions(alloc, versions)? else {
+            return Err(SpecFault::BadVersion);
+        };
+        if !all_have_names(flavors) {
+            return Err(SpecFault::BadVersion);
+        }
+        Ok(Alternative {
+            stem: String::from_str(alloc, stem)?,
+            comparisons,
+            wanted: wanted_of(alloc, flavors)?,
+            forbidden: forbidden_of(alloc, flavors)?,
+        })
+    }
+
+    /// Whether the alternative admits a name.
+    pub(crate) fn admits(&self, name: &PkgName) -> bool
+        ensures { result ≡ set_of_alternative (alternative_seen self.now) name.now }
+    {
+        fits_stem(self.stem.as_str(), name) && self.admits_behind_stem(name)
+    }
+
+    // Whether the version and the flavors of a name are those that are asked for.
+    fn admits_behind_stem(&self, name: &PkgName) -> bool
+        ensures { result ≡ (list_all (λ comparison. meeting (comparison_seen comparison) name.now) self.now.comparisons.items && admits_flavors self.now name.now) }
+    {
+        all_hold(&self.comparisons, name) && self.admits_flavors(name)
+    }
+
+    // Whether the flavors of a name are those that are asked for.
+    fn admits_flavors(&self, name: &PkgName) -> bool
+        ensures { result ≡ admits_flavors self.now name.now }
+    {
+        has_all(name, &self.wanted) && has_none(name, &self.forbidden)
+    }
+}
+
+// Whether a stem that is asked for fits that of a name.
+fn fits_stem(stem: &str, name: &PkgName) -> bool
+    ensures { result ≡ with_stem stem.now name.now }
+{
+    stem == "STEM" || stem == name.stem()
+}
+
+// Whether the version of a name meets each comparison.
+fn all_hold(comparisons: &[Comparison], name: &PkgName) -> bool
+    ensures { result ≡ list_all (λ comparison. meeting (comparison_seen comparison) name.now) comparisons.now }
+{
+    let version = name.version();
+    comparisons
+        .iter()
+        .all(|comparison| comparison.holds(version))
+}
+
+// Whether a name has each of these flavors.
+fn has_all(name: &PkgName, wanted: &[String]) -> bool
+    ensures { result ≡ list_all (λ flavor. having (string_bytes flavor) name.now) wanted.now }
+{
+    wanted
+        .iter()
+        .all(|flavor| has_flavor(name, flavor.as_str()))
+}
+
+// Whether a name has none of these flavors.
+fn has_none(name: &PkgName, forbidden: &[String]) -> bool
+    ensures { result ≡ list_all (λ flavor. lacking (string_bytes flavor) name.now) forbidden.now }
+{
+    forbidden
+        .iter()
+        .all(|flavor| !has_flavor(name, flavor.as_str()))
+}
+
+// Whether a name has a flavor.
+fn has_flavor(name: &PkgName, flavor: &str) -> bool
+    ensures { result ≡ having flavor.now name.now }
+{
+    is_among(name.flavors(), flavor)
+}
+
+// Whether a text is among others.
+fn is_among(others: &[String], text: &str) -> bool
+    ensures { result ≡ list_any (λ other. bytes_eq text.now (string_bytes other)) others.now }
+{
+    others.iter().any(|other| text == other.as_str())
+}
+
+// What stands before the first dash with a digit, `*` or a sign behind it, and what stands behind that dash.
+fn cut_at_versions(text: &str) -> Option<(&str, &str)>
+    ensures { MatchOption result (at_versions text.now ≡ None) (λ cut. at_versions text.now ≡ Some (record { before = cut.0.now; behind = cut.1.now })) }
+{
+    let at = dash_before_versions(text.as_bytes())?;
+    Some((&text[..at], &text[at + 1..]))
+}
+
+// The first dash with a byte behind it that begins versions.
+fn dash_before_versions(text: &[u8]) -> Option<usize>
+    ensures { MatchOption result (at_versions text.now ≡ None) (λ at. IsCutAt text.now at (at_versions text.now)) }
+{
+    for at in 0..text.len() {
+        if text[at] == b'-' && versions_begin_at(text, at + 1) {
+            return Some(at);
+        }
+    }
+    None
+}
+
+// Whether a byte that begins versions stands at a place.
+fn versions_begin_at(text: &[u8], at: usize) -> bool
+    ensures { result ≡ begins_versions (slice_index text.now at) }
+{
+    match text.get(at) {
+        Some(byte) => begins_versions(*byte),
+        None => false,
+    }
+}
+
+// Whether versions begin with a byte.
+fn begins_versions(byte: u8) -> bool
+    ensures { result ≡ begins_versions byte }
+{
+    byte.is_ascii_digit() || byte == b'*' || byte == b'<' || byte == b'=' || byte == b'>'
+}
+
+// The words between the dashes of a text.
+fn split_at_dashes(alloc: Global, text: &str) -> Result<Vec<&str>, AllocError>
+    ensures { IfOk result (λ words. now_all words.items ≡ slice_split (λ byte. byte == dash) text.now) }
+{
+    text.split('-').collect(alloc)
+}
+
+// Whether each flavor has a name.
+fn all_have_names(flavors: &[&str]) -> bool
+    ensures { result ≡ list_all (λ flavor. has_name flavor.now) flavors.now }
+{
+    flavors.iter().all(|flavor| has_name(flavor))
+}
+
+// Whether a flavor has a name.
+fn has_name(flavor: &str) -> bool
+    ensures { result ≡ has_name flavor.now }
+{
+    flavor != "" && flavor != "!"
+}
+
+// The name of a forbidden flavor.
+fn forbidden_name(flavor: &str) -> Option<&str>
+    ensures { MatchOption result (forbids flavor.now ≡ false) (λ name. (forbids flavor.now ≡ true) × (name.now ≡ drop 1 flavor.now)) }
+{
+    flavor.strip_prefix('!')
+}
+
+// Whether a flavor is forbidden.
+fn forbids(flavor: &str) -> bool
+    ensures { result ≡ forbids flavor.now }
+{
+    flavor.starts_with('!')
+}
+
+// The flavors that must be there.
+fn wanted_of(alloc: Global, flavors: &[&str]) -> Result<Vec<String>, AllocError>
+    ensures { IfOk result (λ wanted. map string_bytes wanted.items ≡ filter (λ flavor. not (forbids flavor)) (now_all flavors.now)) }
+{
+    let mut wanted = Vec::new(alloc);
+    for flavor in flavors {
+        if !forbids(flavor) {
+            wanted.push(String::from_str(alloc, flavor)?)?;
+        }
+    }
+    Ok(wanted)
+}
+
+// The flavors that must not be there.
+fn forbidden_of(alloc: Global, flavors: &[&str]) -> Result<Vec<String>, AllocError>
+    ensures { IfOk result (λ forbidden. map string_bytes forbidden.items ≡ map (drop 1) (filter forbids (now_all flavors.now))) }
+{
+    let mut forbidden = Vec::new(alloc);
+    for flavor in flavors {
+        if let Some(name) = forbidden_name(flavor) {
+            forbidden.push(String::from_str(alloc, name)?)?;
+        }
+    }
+    Ok(forbidden)
+}

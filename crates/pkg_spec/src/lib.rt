@@ -1,0 +1,12 @@
+//! Specs of packages, which say what packages will do (packages-specs(7)).
+#![tactic(auto)]
+
+mod alternatives;
+mod comparisons;
+mod faults;
+mod spec;
+#[cfg(test)]
+mod tests;
+
+pub use faults::SpecFault;
+pub use spec::Spec;

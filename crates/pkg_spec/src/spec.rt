@@ -1,0 +1,165 @@
+// Specs of packages.
+ghost use Rattle.std.specs.Prelude.{◌≡◌, ◌==◌, ◌++◌, ◌||◌, IfOk, IsErrOf, Some, IsOk, map, option_to_list};
+ghost use Rattle.std.specs.List.{slice_split, filter_map, list_any};
+ghost use Rattle.std.specs.Result.{result_ok};
+ghost use Rattle.pkg_spec.specs.Alternatives.{spec_of, alternative_of, is_refused, bar};
+ghost use Rattle.pkg_spec.specs.Seen.{now_all, alternative_seen};
+ghost use Rattle.pkg_spec.specs.Admitting.{admitted_by, set_of_alternative};
+ghost use Rattle.pkg_spec.specs.declared.faults.SpecFault.TheVariants.{NoStem, BadVersion, EmptyAlternative};
+
+use crate::alternatives::Alternative;
+use crate::faults::SpecFault;
+use pkg_name::PkgName;
+use std::alloc::{AllocError, Global};
+use std::fmt;
+use std::marker::Model;
+
+/// A spec of packages: alternatives, each a stem, the versions that it takes and maybe flavors, as
+/// `foo->=1.0,<2-gtk-!debug|bar-*` (packages-specs(7)).
+///
+/// It stands for a set of packages' names. It prints as the text that it was read from, and clauses see
+/// the bytes of that text.
+#[derive(Debug, Drop)]
+pub struct Spec {
+    text: String,
+    alternatives: Vec<Alternative>,
+}
+
+impl Model for Spec {
+    ghost use Rattle.std.specs.Prelude.{List, ℕ, map};
+    ghost use Rattle.std.specs.String.{string_bytes};
+    ghost use Rattle.pkg_spec.specs.Admitting.{IsSpec};
+    ghost use Rattle.pkg_spec.specs.Seen.{alternative_seen};
+
+    ghost Value = { List ℕ };
+
+    ghost view = { λ spec. string_bytes spec.text };
+
+    ghost invariant = { λ spec. IsSpec (string_bytes spec.text) (map alternative_seen spec.alternatives.items) };
+}
+
+impl Spec {
+    /// The spec that a text is.
+    ///
+    /// Bars separate its alternatives. The stem of an alternative ends before the first dash that a digit,
+    /// `*` or a sign follows; then come the versions, which are `*` or comparisons with commas between, and
+    /// behind further dashes the flavors. A comparison is a version behind one of `< <= = >= >`, and
+    /// without a sign is `=`.
+    ///
+    /// Refused, the first that fits any alternative: `NoStem`, one without a stem or versions;
+    /// `BadVersion`, one with a comparison whose version is none or a flavor without a name;
+    /// `EmptyAlternative`, one that is empty. `Memory` comes where none is left.
+    pub fn read(alloc: Global, text: &str) -> Result<Spec, SpecFault>
+        ensures text { IfOk result (λ spec. spec ≡ text.now) }
+        ensures ok { IfOk result (λ spec. IsOk (spec_of spec)) }
+        ensures no_stem { IsErrOf result SpecFault.NoStem → spec_of text.now ≡ Err SpecFault.NoStem }
+        ensures bad_version { IsErrOf result SpecFault.BadVersion → spec_of text.now ≡ Err SpecFault.BadVersion }
+        ensures empty { IsErrOf result SpecFault.EmptyAlternative → spec_of text.now ≡ Err SpecFault.EmptyAlternative }
+    {
+        let parts = split_at_bars(alloc, text)?;
+        let reading = read_parts(alloc, &parts)?;
+        if reading.no_stem {
+            return Err(SpecFault::NoStem);
+        }
+        if reading.bad_version {
+            return Err(SpecFault::BadVersion);
+        }
+        if reading.empty {
+            return Err(SpecFault::EmptyAlternative);
+        }
+        Ok(Spec {
+            text: String::from_str(alloc, text)?,
+            alternatives: reading.alternatives,
+        })
+    }
+
+    /// Whether the spec admits a name: whether one of its alternatives has the name's stem, or the stem
+    /// `STEM`, which stands for every stem; comparisons that the version meets, all of them; flavors that
+    /// the name has; and behind `!` flavors that it hasn't. It takes no memory.
+    pub fn matches(&self, name: &PkgName) -> bool
+        ensures { result ≡ admitted_by self.now name.now }
+    {
+        one_admits(&self.alternatives, name)
+    }
+
+    /// The text of the spec.
+    pub fn as_str(&self) -> &str
+        ensures text { result.now ≡ self.now }
+        ensures is_spec { IsOk (spec_of self.now) }
+    {
+        self.text.as_str()
+    }
+}
+
+impl fmt::Display for Spec {
+    ghost output = { λ spec. Some spec };
+
+    fn fmt<W: fmt::Write>(&self, f: &mut fmt::Formatter<W>) -> fmt::Result {
+        f.write_str(self.as_str())
+    }
+}
+
+// Whether one of the alternatives admits a name.
+fn one_admits(alternatives: &[Alternative], name: &PkgName) -> bool
+    ensures { result ≡ list_any (λ alternative. set_of_alternative (alternative_seen alternative) name.now) alternatives.now }
+{
+    alternatives
+        .iter()
+        .any(|alternative| alternative.admits(name))
+}
+
+// The alternatives that are read so far, and whether one of them had each refusal.
+#[derive(Drop)]
+struct Reading {
+    alternatives: Vec<Alternative>,
+    no_stem: bool,
+    bad_version: bool,
+    empty: bool,
+}
+
+impl Reading {
+    ghost use Rattle.pkg_spec.specs.Seen.{alternative_seen};
+
+    // With one more alternative.
+    fn with(mut self, alloc: Global, text: &str) -> Result<Reading, AllocError>
+        ensures alternatives { IfOk result (λ reading. map alternative_seen reading.alternatives.items ≡ map alternative_seen self.alternatives.items ++ option_to_list (result_ok (alternative_of text.now))) }
+        ensures no_stem { IfOk result (λ reading. reading.no_stem ≡ (self.no_stem || is_refused NoStem (alternative_of text.now))) }
+        ensures bad_version { IfOk result (λ reading. reading.bad_version ≡ (self.bad_version || is_refused BadVersion (alternative_of text.now))) }
+        ensures empty { IfOk result (λ reading. reading.empty ≡ (self.empty || is_refused EmptyAlternative (alternative_of text.now))) }
+    {
+        match Alternative::read(alloc, text) {
+            Ok(alternative) => self.alternatives.push(alternative)?,
+            Err(SpecFault::NoStem) => self.no_stem = true,
+            Err(SpecFault::BadVersion) => self.bad_version = true,
+            Err(SpecFault::EmptyAlternative) => self.empty = true,
+            Err(SpecFault::Memory) => return Err(AllocError),
+        }
+        Ok(self)
+    }
+}
+
+// What the parts of a spec say.
+fn read_parts(alloc: Global, parts: &[&str]) -> Result<Reading, AllocError>
+    ensures alternatives { IfOk result (λ reading. map alternative_seen reading.alternatives.items ≡ filter_map result_ok (map alternative_of (now_all parts.now))) }
+    ensures no_stem { IfOk result (λ reading. reading.no_stem ≡ list_any (is_refused NoStem) (map alternative_of (now_all parts.now))) }
+    ensures bad_version { IfOk result (λ reading. reading.bad_version ≡ list_any (is_refused BadVersion) (map alternative_of (now_all parts.now))) }
+    ensures empty { IfOk result (λ reading. reading.empty ≡ list_any (is_refused EmptyAlternative) (map alternative_of (now_all parts.now))) }
+{
+    let mut reading = Reading {
+        alternatives: Vec::new(alloc),
+        no_stem: false,
+        bad_version: false,
+        empty: false,
+    };
+    for part in parts {
+        reading = reading.with(alloc, part)?;
+    }
+    Ok(reading)
+}
+
+// The alternatives between the bars of a text.
+fn split_at_bars(alloc: Global, text: &str) -> Result<Vec<&str>, AllocError>
+    ensures { IfOk result (λ parts. now_all parts.items ≡ slice_split (λ byte. byte == bar) text.now) }
+{
+    text.split('|').collect(alloc)
+}

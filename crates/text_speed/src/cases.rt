@@ -1,0 +1,104 @@
+//! The inputs, and what the text layers make of them.
+use mk_glob::glob;
+use mk_mods::{ApplyFault, Modifier, Mods, ModsFault, apply};
+use mk_ref::{PiecesFault, pieces};
+use std::alloc::{AllocError, Global};
+
+/// The cases, in the order in which they are run.
+pub const CASES: [&str; 7] = [
+    "references",
+    "dollars",
+    "runs",
+    "restarts",
+    "brackets",
+    "substitute",
+    "words",
+];
+
+/// What came of a case: a count or a length. The error is want of memory.
+pub fn outcome(alloc: Global, case: &str, size: usize) -> Result<usize, AllocError> {
+    match case {
+        "references" => nested_references(alloc, size),
+        "dollars" => piece_count(alloc, repeated(alloc, "$", size)?.as_str()),
+        "runs" => fitting(alloc, "", "*a", repeated(alloc, "a", size)?.as_str()),
+        "restarts" => fitting(alloc, "*", "a", repeated(alloc, "a", size)?.as_str()),
+        "brackets" => unclosed_brackets(alloc, size),
+        "substitute" => modified(alloc, "S/aaab/c/g", repeated(alloc, "a", size)?.as_str()),
+        _ => modified(alloc, "U", repeated(alloc, "a ", size)?.as_str()),
+    }
+}
+
+/// A text so many times.
+fn repeated(alloc: Global, text: &str, count: usize) -> Result<String, AllocError> {
+    let mut whole = String::new(alloc);
+    for _ in 0..count {
+        whole.push_str(text)?;
+    }
+    Ok(whole)
+}
+
+/// References, each in the name of the one round it: they are one piece.
+fn nested_references(alloc: Global, size: usize) -> Result<usize, AllocError> {
+    let mut text = repeated(alloc, "${", size)?;
+    text.push_str(repeated(alloc, "}", size)?.as_str())?;
+    piece_count(alloc, text.as_str())
+}
+
+/// How many pieces a text has, or the place of a reference in it that doesn't end.
+fn piece_count(alloc: Global, text: &str) -> Result<usize, AllocError> {
+    match pieces(alloc, text) {
+        Ok(found) => Ok(found.len()),
+        Err(fault) => match fault {
+            PiecesFault::Unclosed { at } => Ok(at),
+            PiecesFault::Memory => Err(AllocError),
+        },
+    }
+}
+
+/// Whether a word fits a pattern: a beginning, an item 300 times, and a `b`.
+fn fitting(alloc: Global, beginning: &str, item: &str, word: &str) -> Result<usize, AllocError> {
+    let mut pattern = String::from_str(alloc, beginning)?;
+    pattern.push_str(repeated(alloc, item, 300)?.as_str())?;
+    pattern.push('b')?;
+    Ok(if glob(pattern.as_str(), word) { 1 } else { 0 })
+}
+
+/// Whether brackets that are never closed fit themselves.
+fn unclosed_brackets(alloc: Global, size: usize) -> Result<usize, AllocError> {
+    let brackets = repeated(alloc, "[", size)?;
+    let fits = glob(brackets.as_str(), brackets.as_str());
+    Ok(if fits { 1 } else { 0 })
+}
+
+/// The length of what the first of some modifiers makes of a value, in bytes, made a hundred times; 0
+/// where they aren't modifiers, or a text would be too long.
+fn modified(alloc: Global, modifiers: &str, value: &str) -> Result<usize, AllocError> {
+    let mods = match Mods::read(alloc, modifiers) {
+        Ok(mods) => mods,
+        Err(ModsFault::BadMod) => return Ok(0),
+        Err(ModsFault::Memory) => return Err(AllocError),
+    };
+    let Some(modifier) = mods.modifiers.first() else {
+        return Ok(0);
+    };
+    let mut length = 0;
+    for _ in 0..100 {
+        length = made_length(alloc, modifier, value)?;
+    }
+    Ok(length)
+}
+
+/// The length of what a modifier makes of a value, in bytes; 0 where a reference in it isn't expanded,
+/// or a text would be too long.
+fn made_length(alloc: Global, modifier: &Modifier, value: &str) -> Result<usize, AllocError> {
+    if !modifier.is_expanded() {
+        return Ok(0);
+    }
+    match apply(alloc, modifier, value) {
+        Ok(made) => Ok(made.len()),
+        Err(fault) => match fault {
+            ApplyFault::Length => Ok(0),
+            ApplyFault::Memory => Err(AllocError),
+        },
+    }
+}
