@@ -1,4 +1,6 @@
 //! The inputs, and what the text layers make of them.
+ghost use Rattle.std.specs.Prelude.{◌≡◌, if◌then◌else◌};
+
 use mk_glob::glob;
 use mk_mods::{ApplyFault, Modifier, Mods, ModsFault, apply};
 use mk_ref::{PiecesFault, pieces};
@@ -60,14 +62,20 @@ fn fitting(alloc: Global, beginning: &str, item: &str, word: &str) -> Result<usi
     let mut pattern = String::from_str(alloc, beginning)?;
     pattern.push_str(repeated(alloc, item, 300)?.as_str())?;
     pattern.push('b')?;
-    Ok(if glob(pattern.as_str(), word) { 1 } else { 0 })
+    Ok(as_number(glob(pattern.as_str(), word)))
+}
+
+/// 1 where it fits, and else 0.
+fn as_number(fits: bool) -> usize
+    ensures { result ≡ (if fits then 1 else 0) }
+{
+    if fits { 1 } else { 0 }
 }
 
 /// Whether brackets that are never closed fit themselves.
 fn unclosed_brackets(alloc: Global, size: usize) -> Result<usize, AllocError> {
     let brackets = repeated(alloc, "[", size)?;
-    let fits = glob(brackets.as_str(), brackets.as_str());
-    Ok(if fits { 1 } else { 0 })
+    Ok(as_number(glob(brackets.as_str(), brackets.as_str())))
 }
 
 /// The length of what the first of some modifiers makes of a value, in bytes, made a hundred times; 0
