@@ -1,3 +1,4 @@
 pub mod TextMap
-pub mod PartLemmas
-pub mod ExpansionLemmas
+pub mod Leftovers
+pub mod Walks
+pub mod ExpansionSteps

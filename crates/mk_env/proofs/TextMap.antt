@@ -1,6 +1,8 @@
 -- What a map with texts as its keys holds, and the map of bytes that stands for it.
-use Rattle.std.proofs.Common.{◌≡◌, ℕ, List, [], ◌∷◌, refl, sym, ◌∙◌, ap, cond, Option, None, Some, option_map, string_bytes, String, Bool, true, false, is_some}
+use Rattle.std.proofs.Common.{◌≡◌, ℕ, List, [], ◌∷◌, ◌++◌, if◌then◌else◌, Result, Ok, Err, is_ok, OnOk, OnErr, refl, sym, ◌∙◌, ap, cond, Option, None, Some, option_map, map, string_bytes, String, Bool, true, false, is_some}
+use Rattle.std.specs.List.{AllZip}
 use Rattle.std.specs.Ordering.{nat_cmp, is_eq}
+use Rattle.std.specs.declared.cmp.Ordering.TheVariants.{Less, Equal, Greater}
 use Rattle.std.specs.Cmp.Lexicographic.{slice_cmp, nat_list_cmp_total}
 use Rattle.std.specs.declared.alloc.Global.{Global}
 use Rattle.std.specs.FinMap as finite
@@ -11,7 +13,7 @@ use Rattle.std.specs.Str.{bytes_eq}
 use Rattle.std.proofs.lemmas.Map.Text.{btree_map_updates_text, is_eq-slice_cmp}
 use Rattle.std.proofs.lemmas.Slice.Eq.{bytes_eq-Decides}
 use Rattle.std.specs.Bool.{one_answer}
-use Rattle.mk_env.specs.Texts.{Variables, texts_of}
+use Rattle.mk_env.specs.Texts.{Variables, bytes_of, texts_of, appended}
 
 -- the text that a key in the order of bytes has among these entries
 abbrev pub text_at : List (String Global × String Global) → List ℕ → Option (List ℕ)
@@ -32,20 +34,58 @@ bytes_eq_sym xs ys =
     one_answer (bytes_eq xs ys) (bytes_eq ys xs) (bytes_eq-Decides xs ys)
     (λ e. sym ((bytes_eq-Decides ys xs).0 e), λ e. (bytes_eq-Decides ys xs).1 (sym e))
 
-option_map-cond : (b : Bool) (x : String Global) (o : Option (String Global)) → option_map string_bytes (cond b (Some x) o) ≡ cond b (Some (string_bytes x)) (option_map string_bytes o)
+option_map-cond : (b : Bool) (x o : Option (String Global)) → option_map string_bytes (cond b x o) ≡ cond b (option_map string_bytes x) (option_map string_bytes o)
 option_map-cond true x o = refl
 option_map-cond false x o = refl
 
--- a map of texts in which one key was given another text stands for the map of bytes with that change
-pub texts_of-insert : (old new : tree.BTreeMap (String Global) (String Global)) (name text : String Global) → tree.Updates string_cmp old new name (Some text) → texts_of new.entries ≡ finite.insert (texts_of old.entries) (string_bytes name) (string_bytes text)
-texts_of-insert old new name text updates =
-    finite.same_map nat_list_cmp_total (finite.slice_cmp-IsAntisymmetric finite.nat_cmp-IsAntisymmetric) _ _ (λ q.
+-- two maps that answer alike are one
+alike : (m n : Variables) → ((q : List ℕ) → finite.get m q ≡ finite.get n q) → m ≡ n
+alike m n same = finite.same_map nat_list_cmp_total (finite.slice_cmp-IsAntisymmetric finite.nat_cmp-IsAntisymmetric) m n same
+
+-- what stands for a map of texts, after one name was given a text or lost it
+get-changed : (old new : tree.BTreeMap (String Global) (String Global)) (name : List ℕ) (text : Option (String Global)) → tree.UpdatesBy string_cmp (λ key. slice_cmp nat_cmp name (string_bytes key)) old new text
+    → (q : List ℕ) → finite.get (texts_of new.entries) q ≡ cond (is_eq (slice_cmp nat_cmp q name)) (option_map string_bytes text) (finite.get (texts_of old.entries) q)
+get-changed old new name text updates q =
     get-texts_of new.entries q ∙
-    ap (option_map string_bytes) (btree_map_updates_text (string_bytes name) old new (Some text) updates q) ∙
-    option_map-cond (bytes_eq (string_bytes name) q) text (tree.get_by_text old q) ∙
-    ap (λ b. cond b (Some (string_bytes text)) (text_at old.entries q)) (bytes_eq_sym (string_bytes name) q ∙ sym (is_eq-slice_cmp q (string_bytes name))) ∙
-    ap (cond (is_eq (slice_cmp nat_cmp q (string_bytes name))) (Some (string_bytes text))) (sym (get-texts_of old.entries q)) ∙
-    sym (finite.get-insert nat_list_cmp_total (texts_of old.entries) (string_bytes name) (string_bytes text) q))
+    ap (option_map string_bytes) (btree_map_updates_text name old new text updates q) ∙
+    option_map-cond (bytes_eq name q) text (tree.get_by_text old q) ∙
+    ap (λ b. cond b (option_map string_bytes text) (text_at old.entries q)) (bytes_eq_sym name q ∙ sym (is_eq-slice_cmp q name)) ∙
+    ap (cond (is_eq (slice_cmp nat_cmp q name)) (option_map string_bytes text)) (sym (get-texts_of old.entries q))
+
+-- a map of texts in which one name was given another text stands for the map of bytes with that change
+pub texts_of-put : (old new : tree.BTreeMap (String Global) (String Global)) (name : List ℕ) (text : String Global) → tree.UpdatesBy string_cmp (λ key. slice_cmp nat_cmp name (string_bytes key)) old new (Some text) → texts_of new.entries ≡ finite.insert (texts_of old.entries) name (string_bytes text)
+texts_of-put old new name text updates =
+    alike _ _ (λ q. get-changed old new name (Some text) updates q ∙ sym (finite.get-insert nat_list_cmp_total (texts_of old.entries) name (string_bytes text) q))
+
+-- the same where the name is a text
+pub texts_of-insert : (old new : tree.BTreeMap (String Global) (String Global)) (name text : String Global) → tree.Updates string_cmp old new name (Some text) → texts_of new.entries ≡ finite.insert (texts_of old.entries) (string_bytes name) (string_bytes text)
+texts_of-insert old new name text updates = texts_of-put old new (string_bytes name) text updates
+
+-- the same where one name was taken away
+pub texts_of_removed : (old new : tree.BTreeMap (String Global) (String Global)) (view : Variables) (name : List ℕ) → texts_of old.entries ≡ view → tree.UpdatesBy string_cmp (λ key. slice_cmp nat_cmp name (string_bytes key)) old new None → texts_of new.entries ≡ finite.remove view name
+texts_of_removed old new view name is updates =
+    alike _ _ (λ q. get-changed old new name None updates q ∙ sym (finite.get-remove nat_list_cmp_total (texts_of old.entries) name q)) ∙ ap (λ held. finite.remove held name) is
+
+-- to give a name the text that it has changes nothing
+pub insert-held : (m : Variables) (name text : List ℕ) → finite.get m name ≡ Some text → finite.insert m name text ≡ m
+insert-held m name text held =
+    alike _ _ (λ q.
+    finite.get-insert nat_list_cmp_total m name text q ∙
+    elim (slice_cmp nat_cmp q name) as (λ order. slice_cmp nat_cmp q name ≡ order → cond (is_eq order) (Some text) (finite.get m q) ≡ finite.get m q) [
+      | Less ↦ λ is. refl
+      | Equal ↦ λ is. sym held ∙ finite.get_tied nat_list_cmp_total m q name is
+      | Greater ↦ λ is. refl
+    ] refl)
+
+bytes_of-clones : (entries clones : List (String Global × String Global)) → AllZip (λ e f. (string_bytes f.0 ≡ string_bytes e.0) × (string_bytes f.1 ≡ string_bytes e.1)) entries clones → map bytes_of clones ≡ map bytes_of entries
+bytes_of-clones [] [] same = refl
+bytes_of-clones [] (f ∷ fs) same = absurd same
+bytes_of-clones (e ∷ es) [] same = absurd same
+bytes_of-clones (e ∷ es) (f ∷ fs) same = λ i. (same.0.0 i, same.0.1 i) ∷ bytes_of-clones es fs same.1 i
+
+-- a clone of a map of texts stands for the same map of bytes
+pub texts_of-clones : (entries clones : List (String Global × String Global)) → AllZip (λ e f. (string_bytes f.0 ≡ string_bytes e.0) × (string_bytes f.1 ≡ string_bytes e.1)) entries clones → texts_of clones ≡ texts_of entries
+texts_of-clones entries clones same = ap (λ pairs. finite.from_entries pairs) (bytes_of-clones entries clones same)
 
 -- what stands for a map of texts answers as it does
 pub get-view : (m : tree.BTreeMap (String Global) (String Global)) (view : Variables) (q : List ℕ) → texts_of m.entries ≡ view → option_map string_bytes (tree.get_by_text m q) ≡ finite.get view q
@@ -57,3 +97,28 @@ is_some-option_map (Some x) = refl
 
 pub is_some-view : (m : tree.BTreeMap (String Global) (String Global)) (view : Variables) (q : List ℕ) → texts_of m.entries ≡ view → is_some (tree.get_by_text m q) ≡ is_some (finite.get view q)
 is_some-view m view q is = is_some-option_map (tree.get_by_text m q) ∙ ap is_some (get-view m view q is)
+
+-- a variable whose text was written through what the map lent
+module _ (old new : tree.BTreeMap (String Global) (String Global)) (view : Variables) (name : List ℕ) (before after : String Global) (is : texts_of old.entries ≡ view) (held : Some before ≡ tree.get_by_text old name) (updates : tree.UpdatesBy string_cmp (λ key. slice_cmp nat_cmp name (string_bytes key)) old new (Some after)) where
+  held_text : finite.get view name ≡ Some (string_bytes before)
+  held_text = sym (ap (option_map string_bytes) held ∙ get-view old view name is)
+
+  written : texts_of new.entries ≡ finite.insert view name (string_bytes after)
+  written = texts_of-put old new name after updates ∙ ap (λ v. finite.insert v name (string_bytes after)) is
+
+  -- a space and a text stand behind the text that it had
+  pub texts_of-appended : (text : List ℕ) → string_bytes after ≡ string_bytes before ++ 32 ∷ text → texts_of new.entries ≡ finite.insert view name (appended (finite.get view name) text)
+  texts_of-appended text longer = written ∙ ap (finite.insert view name) longer ∙ ap (λ had. finite.insert view name (appended had text)) (sym held_text)
+
+  -- it has the text that it had
+  pub texts_of-kept : string_bytes after ≡ string_bytes before → texts_of new.entries ≡ view
+  texts_of-kept same = written ∙ ap (finite.insert view name) same ∙ insert-held view name (string_bytes before) held_text
+
+-- an equation by cases on a result, where the result is known
+pub OnOk-by_cases : {T E P : Type 0} (r : Result T E) (bytes more less : List ℕ) → bytes ≡ (if is_ok r then more else less) → (bytes ≡ more → P) → OnOk r P
+OnOk-by_cases (Ok _) bytes more less is then_so = then_so is
+OnOk-by_cases (Err _) bytes more less is then_so = tt
+
+pub OnErr-by_cases : {T E P : Type 0} (r : Result T E) (bytes more less : List ℕ) → bytes ≡ (if is_ok r then more else less) → (bytes ≡ less → P) → OnErr r P
+OnErr-by_cases (Ok _) bytes more less is then_so = tt
+OnErr-by_cases (Err _) bytes more less is then_so = then_so is

@@ -1,4 +1,6 @@
-use Rattle.std.specs.Prelude.{ℕ, suc, zero, Bool, if◌then◌else◌, nat_lt, List, [], ◌∷◌, ◌++◌, length, Option, Some, None}
+-- What texts with references in them mean among variables (make(1), "VARIABLES"). The order in which faults are looked for, the limits
+-- and the cost are this project's choice.
+use Rattle.std.specs.Prelude.{ℕ, suc, zero, Bool, false, true, if◌then◌else◌, nat_lt, List, [], ◌∷◌, ◌++◌, length, Option, Some, None}
 use Rattle.std.specs.List.{list_any}
 use Rattle.std.specs.Str.{bytes_eq}
 use Rattle.std.specs.FinMap as finite
@@ -6,58 +8,138 @@ use Rattle.mk_base.specs.declared.faults.FaultKind.{FaultKind}
 use Rattle.mk_base.specs.declared.faults.FaultKind.TheVariants as kinds
 use Rattle.mk_base.specs.Meter.{Meter, pay}
 use Rattle.mk_base.specs.Outcome.{Work, give, fail, each, ◌>>=◌}
-use Rattle.mk_env.specs.declared.expansion.TheConstants.{TEXT_LIMIT}
+use Rattle.mk_text.specs.Words.{words_of}
+use Rattle.mk_ref.specs.Units.{units_of, left_of}
+use Rattle.mk_ref.specs.Pieces.{TextPiece, LiteralPiece, PairPiece, ReferencePiece, pieces_of}
+use Rattle.mk_mods.specs.declared.joining.TheConstants.{TEXT_LIMIT}
+use Rattle.mk_mods.specs.Actions.{Symbol, Byte, Whole, Reference, Action, Match, Exclude, Substitute, Change}
+use Rattle.mk_mods.specs.Grammar.{modifiers_of}
+use Rattle.mk_mods.specs.Joined.{joined, within_limit}
+use Rattle.mk_mods.specs.Applied.{applied}
+use Rattle.mk_mods.specs.Substituted.{substituted}
+use Rattle.mk_env.specs.declared.scope.Undefined.{Undefined}
+use Rattle.mk_env.specs.declared.scope.Undefined.TheVariants as kept
 use Rattle.mk_env.specs.Texts.{Variables}
-use Rattle.mk_env.specs.Pieces.{Part, Literal, Dollar, Reference, parts}
 
--- what the text inside a reference means
+-- what a text means
 abbrev pub Meaning : Type 0
 Meaning = List ℕ → Work Meter FaultKind (List ℕ)
+
+-- what references mean: each by all that it is written as, its name and its modifiers
+abbrev pub References : Type 0
+References = List ℕ → List ℕ → Option (List ℕ) → Work Meter FaultKind (List ℕ)
 
 -- a text that isn't too long
 abbrev pub bounded : Meaning
 bounded text m = if nat_lt TEXT_LIMIT (length text) then fail kinds.Length m else give text m
 
--- what a part of a text means
-abbrev pub part_meaning : Meaning → Part → Work Meter FaultKind (List ℕ)
-part_meaning meaning (Literal bytes) = give bytes
-part_meaning meaning Dollar = give (36 ∷ [])
-part_meaning meaning (Reference name) = meaning name
+-- a text with what follows it joined on
+abbrev pub join : List ℕ → Work Meter FaultKind (List ℕ) → Work Meter FaultKind (List ℕ)
+join text more = more >>= λ found. bounded (text ++ found)
 
--- a text with the meaning of its next part joined on
-abbrev pub join : Meaning → List ℕ → Part → Work Meter FaultKind (List ℕ)
-join meaning text part = part_meaning meaning part >>= λ more. bounded (text ++ more)
+-- what a piece of a text means: a pair is a dollar (36)
+abbrev pub piece_meaning : References → TextPiece → Work Meter FaultKind (List ℕ)
+piece_meaning references (LiteralPiece bytes) = give bytes
+piece_meaning references PairPiece = give (36 ∷ [])
+piece_meaning references (ReferencePiece written name modifiers) = references written name modifiers
 
--- The meanings of parts, joined from the left. A text without parts is a fault before any of it is looked at.
-unfoldable pub joined : Meaning → Option (List Part) → Work Meter FaultKind (List ℕ)
-joined meaning None m = fail kinds.Reference m
-joined meaning (Some found) m = each (join meaning) [] found m
+-- a text with the meaning of its next piece joined on
+abbrev pub join_piece : References → List ℕ → TextPiece → Work Meter FaultKind (List ℕ)
+join_piece references text piece = join text (piece_meaning references piece)
+
+-- The meanings of pieces, joined from the left. Where something is left of the text, which begins a reference that doesn't end, it is a
+-- fault before any piece is looked at.
+abbrev pub where_whole : References → List ℕ → List TextPiece → Work Meter FaultKind (List ℕ)
+where_whole references [] pieces = each (join_piece references) [] pieces
+where_whole references (b ∷ left) pieces = fail kinds.Reference
 
 -- what a text means, given what its references do
-abbrev pub text_meaning : Meaning → Meaning
-text_meaning meaning text = joined meaning (parts text)
+unfoldable pub text_meaning : References → Meaning
+text_meaning references text m = where_whole references (left_of text) (pieces_of (units_of text)) m
+
+-- what a symbol of `:S` means beside an old text: a reference is expanded as a text of its own
+abbrev pub symbol_meaning : References → List ℕ → Symbol → Work Meter FaultKind (List ℕ)
+symbol_meaning references old (Byte b) = give (b ∷ [])
+symbol_meaning references old Whole = give old
+symbol_meaning references old (Reference source) = text_meaning references source
+
+-- a text with the meaning of its next symbol joined on
+abbrev pub join_symbol : References → List ℕ → List ℕ → Symbol → Work Meter FaultKind (List ℕ)
+join_symbol references old text symbol = join text (symbol_meaning references old symbol)
+
+-- the meanings of symbols, joined from the left
+abbrev pub symbols_meaning : References → List ℕ → List Symbol → Work Meter FaultKind (List ℕ)
+symbols_meaning references old symbols = each (join_symbol references old) [] symbols
+
+-- a text that was made; none was where it would be too long
+abbrev pub made : Option (List ℕ) → Work Meter FaultKind (List ℕ)
+made None = fail kinds.Length
+made (Some text) = give text
+
+-- What a modifier makes of a value: the references in it are expanded, and then it is applied. A pattern is expanded before it is read as
+-- one; the old text of `:S` is expanded before the new one.
+abbrev pub modified : References → List ℕ → Action → Work Meter FaultKind (List ℕ)
+modified references value (Match pattern) = text_meaning references pattern >>= λ found. made (applied (Match found) value)
+modified references value (Exclude pattern) = text_meaning references pattern >>= λ found. made (applied (Exclude found) value)
+modified references value (Substitute s) =
+    symbols_meaning references [] s.old >>= λ old. symbols_meaning references old s.new
+    >>= λ new. made (within_limit (joined (substituted s old new (words_of value))))
+modified references value (Change word_map) = made (applied (Change word_map) value)
+
+-- the modifiers of a reference; None where they can't be read
+abbrev pub actions_of : Option (List ℕ) → Option (List Action)
+actions_of None = Some []
+actions_of (Some text) = modifiers_of text
+
+-- the modifiers that were read
+abbrev pub readable : Option (List Action) → Work Meter FaultKind (List Action)
+readable None = fail kinds.Modifier
+readable (Some actions) = give actions
+
+-- what a variable's value means: nothing where it has none
+abbrev pub value_meaning : References → Option (List ℕ) → Work Meter FaultKind (List ℕ)
+value_meaning references None = give []
+value_meaning references (Some value) = text_meaning references value
 
 -- the name is one of these
 abbrev pub is_among : List ℕ → List (List ℕ) → Bool
 is_among name names = list_any (bytes_eq name) names
 
--- what a variable's value means: nothing where it has none
-abbrev pub value_meaning : Meaning → Option (List ℕ) → Work Meter FaultKind (List ℕ)
-value_meaning meaning None = give []
-value_meaning meaning (Some value) = text_meaning meaning value
+-- What a reference means once its name is known, where `references` says what others mean while the values of some names are being
+-- expanded: its modifiers are read, its value is expanded, and the modifiers are applied from left to right.
+abbrev pub named : (List (List ℕ) → References) → Variables → List (List ℕ) → List ℕ → Option (List ℕ) → Work Meter FaultKind (List ℕ)
+named references variables active name modifiers =
+    if is_among name active then fail kinds.Recursive
+    else (readable (actions_of modifiers) >>= λ actions. value_meaning (references (name ∷ active)) (finite.get variables name)
+    >>= λ value. each (modified (references active)) value actions)
 
--- What a reference means, where so many may stand one inside another, and while the values of these
--- names are being expanded (make(1), "VARIABLES"). It costs a unit, before anything else is looked at.
-unfoldable pub reference : ℕ → Variables → List (List ℕ) → Meaning
-reference zero variables active name m = (pay >>= λ _. fail kinds.Depth) m
-reference (suc levels) variables active name m =
-    (pay >>= λ _. if is_among name active then fail kinds.Recursive
-    else value_meaning (reference levels variables (name ∷ active)) (finite.get variables name)) m
+-- whether a reference to a variable with this text, or with none, is kept as it is written
+abbrev pub is_kept : Undefined → Option (List ℕ) → Bool
+is_kept kept.Empty text = false
+is_kept kept.Kept None = true
+is_kept kept.Kept (Some text) = false
+
+-- what a reference means that is written so, once its name is known
+abbrev pub by_name : Undefined → (List (List ℕ) → References) → Variables → List (List ℕ) → List ℕ → Option (List ℕ) → List ℕ → Work Meter FaultKind (List ℕ)
+by_name undefined_gives references variables active written modifiers name =
+    if is_kept undefined_gives (finite.get variables name) then give written else named references variables active name modifiers
+
+-- What a reference means, where so many may stand one inside another, and while the values of these names are being expanded. It costs a
+-- unit, before anything else is looked at; then its name is expanded. The first argument says what becomes of it where that is undefined.
+unfoldable pub reference : Undefined → ℕ → Variables → List (List ℕ) → References
+reference undefined_gives zero variables active written name modifiers m = (pay >>= λ _. fail kinds.Depth) m
+reference undefined_gives (suc levels) variables active written name modifiers m =
+    (pay >>= λ _. text_meaning (reference kept.Empty levels variables active) name
+    >>= by_name undefined_gives (reference kept.Empty levels variables) variables active written modifiers) m
 
 -- what a text means among these variables
 abbrev pub expand : Variables → Meaning
-expand variables = text_meaning (reference 32 variables [])
+expand variables = text_meaning (reference kept.Empty 32 variables [])
 
--- what a reference to a variable means, which nothing stands round
+-- the same for `:=`: a reference of the text's own to a variable that isn't defined is kept as it is written
+abbrev pub expand_now : Variables → Meaning
+expand_now variables = text_meaning (reference kept.Kept 32 variables [])
+
+-- what a reference to the variable of this very name means, which nothing stands round
 abbrev pub variable : Variables → Meaning
-variable variables = reference 32 variables []
+variable variables name = pay >>= λ _. named (reference kept.Empty 31 variables) variables [] name None

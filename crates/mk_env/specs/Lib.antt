@@ -1,6 +1,4 @@
 pub mod Texts
-pub mod Pieces
 pub mod Expansion
-pub mod Shown
-pub mod Cutting
 pub mod ActiveNames
+pub mod Refusals

@@ -1,45 +1,32 @@
-ghost use Rattle.std.specs.Prelude.{◌≡◌, ◌≤◌, ◌++◌, string_bytes, length, IfOk, IfErr};
+//! Texts with their references expanded.
+ghost use Rattle.std.specs.Prelude.{◌≡◌, string_bytes};
 ghost use Rattle.mk_base.specs.Stopping.{Gives, NeverStore};
 ghost use Rattle.mk_env.specs.Expansion as meaning;
-ghost use Rattle.mk_env.specs.Shown.{shown};
-ghost use Rattle.mk_env.specs.Cutting.{IsTooLong};
-ghost use Rattle.mk_env.specs.ActiveNames.{names_of};
 
-use super::Env;
-use super::pieces::{Piece, pieces};
+use crate::Env;
+use crate::references::{expand_named, expand_text};
+use crate::scope::{Active, Scope, Undefined};
 use mk_base::{Budget, FaultKind, Stop};
 use std::alloc::Global;
-
-/// The most bytes that a text may have, stored, expanded or made on the way.
-pub const TEXT_LIMIT: usize = 65_536;
 
 /// How many references may stand one inside another.
 const REFERENCE_LEVELS: u32 = 32;
 
-/// The names whose values are being expanded, the innermost first.
-#[derive(Clone, Copy)]
-enum Active<'a> {
-    Nothing,
-    Name(&'a str, &'a Active<'a>),
-}
-
-impl Active<'_> {
-    fn contains(&self, name: &str) -> bool
-        ensures { result ≡ meaning.is_among name.now (names_of self.now) }
-    {
-        match self {
-            Active::Nothing => false,
-            Active::Name(first, outer) => *first == name || outer.contains(name),
-        }
-    }
-}
-
-/// The text with each reference replaced by what its variable means, from the left. Each reference
-/// costs one unit of the budget, which says afterwards what was spent, after a fault too.
+/// The text with each reference replaced by what it stands for, from the left, and `$$` by one dollar
+/// (make(1), "VARIABLES"). Each reference costs one unit of the budget, which says afterwards what was
+/// spent, after a fault too. A variable that isn't defined stands for nothing.
 ///
-/// The faults: `Reference` where a `$` begins nothing, before anything is expanded; then for each
-/// reference, in this order, `Budget`, `Depth` past 32 references one inside another, `Recursive`;
-/// and `Length` where what is joined passes 65,536 bytes. Want of memory is the other error.
+/// # Errors
+///
+/// The faults: `Reference` where a reference doesn't end, before anything of that text is expanded.
+/// For each reference, in this order: `Budget` where no unit is left; `Depth` where more than 32
+/// references stand one inside another, over values, names and modifiers; those of its name, which is
+/// expanded first; `Recursive` where the value of that name is being expanded; `Modifier` where its
+/// modifiers can't be read; those of its value; and those of its modifiers, which are applied from
+/// left to right, the references in each expanded as it is applied. `Length` where a text, as it is
+/// joined from the left, or the result of a modifier passes 65,536 bytes; no longer text is made.
+///
+/// Want of memory is the other error.
 pub fn expand(
     alloc: Global,
     variables: &Env,
@@ -49,14 +36,34 @@ pub fn expand(
     ensures store { NeverStore result }
     ensures gives { Gives string_bytes result budget.new (meaning.expand variables.now text.now budget.old) }
 {
-    expand_within(
-        alloc,
+    let scope = Scope {
         variables,
-        Active::Nothing,
-        REFERENCE_LEVELS,
-        text,
-        budget,
-    )
+        active: Active::Nothing,
+        levels: REFERENCE_LEVELS,
+        undefined: Undefined::Empty,
+    };
+    expand_text(alloc, scope, text, budget)
+}
+
+/// What `:=` stores: as `expand`, but a reference of the text's own whose name, once expanded, isn't
+/// defined is kept as it is written, its modifiers unread, at the cost of its unit and of its name.
+/// The errors are those of `expand`.
+pub fn expand_now(
+    alloc: Global,
+    variables: &Env,
+    text: &str,
+    budget: &mut Budget,
+) -> Result<String, Stop<FaultKind>>
+    ensures store { NeverStore result }
+    ensures gives { Gives string_bytes result budget.new (meaning.expand_now variables.now text.now budget.old) }
+{
+    let scope = Scope {
+        variables,
+        active: Active::Nothing,
+        levels: REFERENCE_LEVELS,
+        undefined: Undefined::Kept,
+    };
+    expand_text(alloc, scope, text, budget)
 }
 
 /// What a reference to this variable means, with the costs and faults of `expand`; a name that isn't
@@ -70,107 +77,12 @@ pub fn expand_variable(
     ensures store { NeverStore result }
     ensures gives { Gives string_bytes result budget.new (meaning.variable variables.now name.now budget.old) }
 {
-    reference(
-        alloc,
-        variables,
-        Active::Nothing,
-        REFERENCE_LEVELS,
-        name,
-        budget,
-    )
-}
-
-#[cycle(expansion)]
-#[tactic(auto, unfolding(crate::specs::Expansion::joined))]
-fn expand_within(
-    alloc: Global,
-    variables: &Env,
-    active: Active<'_>,
-    levels: u32,
-    text: &str,
-    budget: &mut Budget,
-) -> Result<String, Stop<FaultKind>>
-    ensures store { NeverStore result }
-    ensures gives { Gives string_bytes result budget.new
-        (meaning.text_meaning (meaning.reference levels variables.now (names_of active.entry)) text.now budget.old) }
-{
-    let mut joined = String::new(alloc);
-    for piece in &pieces(alloc, text)? {
-        join(
-            alloc,
-            variables,
-            active,
-            levels,
-            &mut joined,
-            *piece,
-            budget,
-        )?;
-    }
-    Ok(joined)
-}
-
-#[cycle(expansion)]
-fn join(
-    alloc: Global,
-    variables: &Env,
-    active: Active<'_>,
-    levels: u32,
-    joined: &mut String,
-    piece: Piece<'_>,
-    budget: &mut Budget,
-) -> Result<(), Stop<FaultKind>>
-    ensures store { NeverStore result }
-    ensures gives { Gives (λ _. string_bytes joined.new) result budget.new
-        (meaning.join (meaning.reference levels variables.now (names_of active.entry)) (string_bytes joined.old) (shown piece.entry) budget.old) }
-{
-    match piece {
-        Piece::Literal(text) => push_bounded(joined, text),
-        Piece::Dollar => push_bounded(joined, "$"),
-        Piece::Reference(name) => {
-            let text = reference(alloc, variables, active, levels, name, budget)?;
-            push_bounded(joined, text.as_str())
-        }
-    }
-}
-
-#[cycle(expansion)]
-#[tactic(auto, unfolding(crate::specs::Expansion::reference))]
-fn reference(
-    alloc: Global,
-    variables: &Env,
-    active: Active<'_>,
-    levels: u32,
-    name: &str,
-    budget: &mut Budget,
-) -> Result<String, Stop<FaultKind>>
-    ensures store { NeverStore result }
-    ensures gives { Gives string_bytes result budget.new
-        (meaning.reference levels variables.now (names_of active.entry) name.now budget.old) }
-{
     budget.pay()?;
-    if levels == 0 {
-        return Err(Stop::Fault(FaultKind::Depth));
-    }
-    if active.contains(name) {
-        return Err(Stop::Fault(FaultKind::Recursive));
-    }
-    match variables.get(name) {
-        None => Ok(String::new(alloc)),
-        Some(value) => {
-            let inner = Active::Name(name, &active);
-            expand_within(alloc, variables, inner, levels - 1, value, budget)
-        }
-    }
-}
-
-/// Adds the text, unless the whole is then too long: so nothing longer is ever made.
-fn push_bounded(joined: &mut String, text: &str) -> Result<(), Stop<FaultKind>>
-    ensures ok { IfOk result (λ _. (length (string_bytes joined.old ++ text.now) ≤ TEXT_LIMIT) × (string_bytes joined.new ≡ string_bytes joined.old ++ text.now)) }
-    ensures err { IfErr result (IsTooLong (string_bytes joined.old ++ text.now)) }
-{
-    if joined.len() + text.len() > TEXT_LIMIT {
-        return Err(Stop::Fault(FaultKind::Length));
-    }
-    joined.push_str(text)?;
-    Ok(())
+    let scope = Scope {
+        variables,
+        active: Active::Nothing,
+        levels: REFERENCE_LEVELS - 1,
+        undefined: Undefined::Empty,
+    };
+    expand_named(alloc, scope, name, None, budget)
 }

@@ -2,11 +2,14 @@
 #![tactic(auto)]
 
 mod expansion;
-mod pieces;
+mod joining;
+mod reading;
+mod references;
+mod scope;
 mod variables;
 
-pub use expansion::{TEXT_LIMIT, expand, expand_variable};
-pub use pieces::is_plain_name;
+pub use expansion::{expand, expand_now, expand_variable};
+pub use mk_mods::TEXT_LIMIT;
 pub use variables::Env;
 
 #[cfg(test)]

@@ -1,6 +1,7 @@
-ghost use Rattle.std.specs.Prelude.{◌≡◌, ◌∷◌, OnOk, OnErr, ◌↔◌, IsTrue, option_map, is_some};
+ghost use Rattle.std.specs.Prelude.{◌≡◌, ◌∷◌, OnOk, OnErr, ◌↔◌, IsTrue, option_map, is_some, IfOk};
 ghost use Rattle.std.specs.Option.{option_copied};
 ghost use Rattle.std.specs.FinMap as finite;
+ghost use Rattle.mk_env.specs.Texts.{appended, defaulted};
 
 use std::alloc::{AllocError, Global};
 use std::collections::BTreeMap;
@@ -47,6 +48,54 @@ impl Env {
         let text = String::from_str(self.alloc, text)?;
         self.variables.insert(name, text)?;
         Ok(())
+    }
+
+    /// Puts a space and this text behind the variable's text, or gives it this text where it isn't
+    /// defined (`+=` of make(1)). It takes time in proportion to the added text (amortised), however
+    /// long the variable's text is. Without memory nothing changes.
+    pub fn append(&mut self, name: &str, text: &str) -> Result<(), AllocError>
+        ensures ok { OnOk result (self.new ≡ finite.insert self.old name.now (appended (finite.get self.old name.now) text.now)) }
+        ensures err { OnErr result (self.new ≡ self.old) }
+    {
+        match self.variables.get_mut(name) {
+            Some(before) => {
+                // One text, so that want of memory can't leave the space alone.
+                let added = format!(in self.alloc; " {text}")?;
+                before.push_str(added.as_str())
+            }
+            None => self.set(name, text),
+        }
+    }
+
+    /// Gives the variable this text where it isn't defined, and else changes nothing (`?=` of
+    /// make(1)). Without memory nothing changes.
+    pub fn default(&mut self, name: &str, text: &str) -> Result<(), AllocError>
+        ensures ok { OnOk result (self.new ≡ defaulted self.old name.now text.now) }
+        ensures err { OnErr result (self.new ≡ self.old) }
+    {
+        if self.defined(name) {
+            return Ok(());
+        }
+        self.set(name, text)
+    }
+
+    /// Takes the variable away, if it is defined (`.undef` of make(1)). It takes no memory.
+    #[tactic(auto, using(crate::proofs::TextMap::texts_of_removed))]
+    pub fn undef(&mut self, name: &str)
+        ensures { self.new ≡ finite.remove self.old name.now }
+    {
+        self.variables.remove(name);
+    }
+
+    /// Another map with the same variables. Without memory there is none, and this one stays.
+    pub fn copy(&self) -> Result<Env, AllocError>
+        ensures { IfOk result (λ env. env ≡ self.now) }
+    {
+        let variables = self.variables.clone()?;
+        Ok(Env {
+            alloc: self.alloc,
+            variables,
+        })
     }
 
     /// The variable's text as it was assigned; none where it isn't defined.

@@ -2,4 +2,3 @@ pub mod Expanded
 pub mod Lines
 pub mod Meaning
 pub mod Telling
-pub mod Deeds

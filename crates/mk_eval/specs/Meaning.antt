@@ -7,22 +7,17 @@ use Rattle.mk_base.specs.declared.faults.FaultKind.{FaultKind}
 use Rattle.mk_base.specs.declared.faults.FaultKind.TheVariants as kinds
 use Rattle.mk_base.specs.declared.metering.TheConstants.{UNITS}
 use Rattle.mk_base.specs.FaultAt.{FaultAt, fault_at}
-use Rattle.mk_base.specs.Meter.{Meter, full, pay}
-use Rattle.mk_base.specs.Outcome.{Work, give, fail, each, tell, ◌>>=◌}
+use Rattle.mk_base.specs.Meter.{Meter, full}
+use Rattle.mk_base.specs.Outcome.{Work, fail, each, tell}
 use Rattle.mk_text.specs.Lines.{LogicalLine, logical_lines}
+use Rattle.mk_ast.specs.Kinds.{line_kind}
 use Rattle.mk_env.specs.Texts.{Variables}
-use Rattle.mk_env.specs.Expansion.{bounded, variable}
+use Rattle.mk_env.specs.Expansion.{variable}
 use Rattle.mk_paths.specs.World.{FileMap}
 use Rattle.mk_eval.specs.Expanded.{Expanded}
-use Rattle.mk_eval.specs.Lines.{Deed, Nothing, Sets, Unreadable, deed}
+use Rattle.mk_eval.specs.Lines.{perform}
 use Rattle.mk_eval.specs.declared.outcome.Evaluated.{Evaluated}
 use Rattle.mk_eval.specs.declared.outcome.Failed.{Failed}
-
--- What a line does to the variables. One that isn't blank costs a unit, before anything else.
-abbrev pub perform : Variables → Deed → Work Meter FaultKind Variables
-perform variables Nothing = give variables
-perform variables (Sets name text) = pay >>= λ _. bounded text >>= λ stored. give (finite.insert variables name stored)
-perform variables Unreadable = pay >>= λ _. fail kinds.Line
 
 -- a fault at a line of a file
 abbrev pub at : List ℕ → ℕ → FaultKind → FaultAt
@@ -30,7 +25,7 @@ at name line kind = fault_at kind name line
 
 -- what a line of the named file does
 abbrev pub execute : List ℕ → Variables → LogicalLine → Work Meter FaultAt Variables
-execute name variables line m = tell (at name line.line) (perform variables (deed line) m)
+execute name variables line m = tell (at name line.line) (perform variables (line_kind line.text) m)
 
 -- the line of the first byte that is no UTF-8
 abbrev pub bad_line : List ℕ → ℕ

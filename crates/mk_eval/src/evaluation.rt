@@ -18,8 +18,10 @@ use std::alloc::Global;
 ///
 /// The faults: `Include` at line 0 where the file isn't there; `Utf8` at the line of the first bad
 /// byte, before any line is executed; then, at the line that is executed, `Budget` where no unit is
-/// left, `Line` where it can't be read, `Length` where its text has more than 65,536 bytes. The other
-/// errors are a refusal of the files, and want of memory.
+/// left, `Line` where it can't be read or the name that it assigns to isn't one word once expanded,
+/// `Shell` where it assigns a command's output, those of `mk_env::expand` for what it expands, and
+/// `Length` where the text to be stored has more than 65,536 bytes. The other errors are a refusal of
+/// the files, and want of memory.
 pub fn evaluate<F: Files>(
     alloc: Global,
     files: &mut F,

@@ -2,6 +2,7 @@
 #![tactic(auto)]
 
 mod evaluation;
+mod executing;
 mod outcome;
 mod reading;
 

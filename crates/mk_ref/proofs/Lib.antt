@@ -5,3 +5,4 @@ pub mod PieceSteps
 pub mod PiecesSoFar
 pub mod PartSteps
 pub mod PieceUnits
+pub mod PlainTexts

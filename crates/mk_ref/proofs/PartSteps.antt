@@ -152,7 +152,7 @@ up_to_local : IsLocal up_to_mark
 up_to_local mark text = local_by mark text (up_to_mark mark text) refl
 
 -- a unit is read the same in front of another rest
-first_same : (text : List ℕ) (unit : TextUnit) (rest other : List ℕ) → first_unit text ≡ Some (unit, rest) → StartsLike rest other
+pub first_same : (text : List ℕ) (unit : TextUnit) (rest other : List ℕ) → first_unit text ≡ Some (unit, rest) → StartsLike rest other
     → first_unit (source unit ++ other) ≡ Some (unit, other)
 unfolding first_unit
 first_same text unit rest other is like =

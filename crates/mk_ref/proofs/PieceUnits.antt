@@ -1,5 +1,5 @@
 -- The units of pieces.
-use Rattle.std.proofs.Common.{◌≡◌, ℕ, List, [], ◌∷◌, ◌++◌, Option, refl, ap, ◌∙◌}
+use Rattle.std.proofs.Common.{◌≡◌, ℕ, List, [], ◌∷◌, refl, ap, ◌∙◌}
 use Rattle.std.specs.List.{flat_map}
 use Rattle.mk_ref.specs.Units.{TextUnit, Byte, Pair, Reference}
 use Rattle.mk_ref.specs.Pieces.{TextPiece, LiteralPiece, PairPiece, ReferencePiece, with_byte, pieces_of, units_in}

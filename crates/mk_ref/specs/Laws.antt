@@ -1,7 +1,7 @@
 -- What holds of the units of every text.
-use Rattle.std.specs.Prelude.{◌≡◌, ◌⊎◌, ℕ, true, ◌==◌, List, [], ◌∷◌, ◌++◌, Option, Some, None, IfSome, All, if◌then◌else◌}
+use Rattle.std.specs.Prelude.{◌≡◌, ◌⊎◌, ℕ, true, false, ◌==◌, List, [], ◌∷◌, ◌++◌, Option, Some, None, IfSome, All, map, if◌then◌else◌}
 use Rattle.std.specs.Char.{is_ascii_alphabetic}
-use Rattle.std.specs.List.{flat_map}
+use Rattle.std.specs.List.{flat_map, list_any}
 use Rattle.mk_ref.specs.Pieces.{units_in, pieces_of}
 use Rattle.mk_ref.specs.Units.{TextUnit, Byte, Pair, Reference, sources, with_more, cut_on, up_to_mark, first_unit, cut, units_of, left_of}
 
@@ -65,3 +65,7 @@ CutGoesOn = (text : List ℕ) → cut text ≡ cut_on cut text (first_unit text)
 abbrev pub ReadGoesOn : Type 0
 ReadGoesOn = (mark b : ℕ) (rest : List ℕ)
     → up_to_mark mark (b ∷ rest) ≡ (if b == mark then Some ([], rest) else with_more (up_to_mark mark) (first_unit (b ∷ rest)))
+
+-- a text without a dollar (36) is cut into its bytes, and nothing is left
+abbrev pub DollarsAlonePartTexts : Type 0
+DollarsAlonePartTexts = (text : List ℕ) → list_any (λ b. b == 36) text ≡ false → cut text ≡ (map Byte text, [])

@@ -1,5 +1,5 @@
 //! What holds of every text. Each function does nothing: its clause is the law.
-ghost use Rattle.mk_ref.specs.Laws.{UnitsAreText, ReferencesArePutTogether, CutGoesOn, ReadGoesOn, PartsAreWhole, PiecesAreUnits};
+ghost use Rattle.mk_ref.specs.Laws.{UnitsAreText, ReferencesArePutTogether, CutGoesOn, ReadGoesOn, PartsAreWhole, PiecesAreUnits, DollarsAlonePartTexts};
 
 /// The units of a text and what is left of it, put together, are the text.
 pub fn units_are_text()
@@ -29,4 +29,9 @@ pub fn parts_are_whole()
 /// The pieces of units are made of just these units: nothing is lost where bytes are put together.
 pub fn pieces_are_units()
     ensures { PiecesAreUnits }
+{}
+
+/// A text without a dollar is its bytes: it has no reference and no pair, and nothing is left of it.
+pub fn dollars_alone_part_texts()
+    ensures { DollarsAlonePartTexts }
 {}

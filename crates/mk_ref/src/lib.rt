@@ -10,6 +10,6 @@ mod tests;
 
 pub use cutting::{Piece, PiecesFault, Reference, pieces};
 pub use laws::{
-    cut_goes_on, parts_are_whole, pieces_are_units, read_goes_on, references_are_put_together,
-    units_are_text,
+    cut_goes_on, dollars_alone_part_texts, parts_are_whole, pieces_are_units, read_goes_on,
+    references_are_put_together, units_are_text,
 };

@@ -4,15 +4,16 @@ ghost use Rattle.mk_text.specs.Blanks.{is_blank, skip_blanks, trim_blanks};
 
 const BLANKS: [char; 2] = [' ', '\t'];
 
-/// Whether a byte is a blank.
-pub(crate) fn is_blank(byte: u8) -> bool
+/// Whether a byte is a blank: a space or a tab.
+pub fn is_blank(byte: u8) -> bool
     ensures { result ≡ is_blank byte }
 {
     byte == b' ' || byte == b'\t'
 }
 
-/// `text` without the blanks that it begins with, as a slice of it.
-pub(crate) fn skip_blanks(text: &str) -> &str
+/// `text` without the blanks (spaces and tabs) that it begins with, as a slice of it. Those further
+/// on stay.
+pub fn skip_blanks(text: &str) -> &str
     ensures { result.now ≡ skip_blanks text.now }
 {
     text.trim_start_matches(BLANKS)

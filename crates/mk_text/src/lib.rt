@@ -8,6 +8,6 @@ mod splitting;
 #[cfg(test)]
 mod tests;
 
-pub use blanks::trim_blanks;
+pub use blanks::{is_blank, skip_blanks, trim_blanks};
 pub use joining::{Logical, logical_lines};
 pub use splitting::{Span, words};

@@ -54,3 +54,34 @@ fn finds_words(rt: HostRuntime) -> Result<(), Fail> {
     assert_eq!(rt; whole.as_slice(), [Span { start: 0, end: 3 }].as_slice());
     Ok(())
 }
+
+#[test]
+fn spaces_and_tabs_are_blanks(rt: HostRuntime) -> Result<(), Fail> {
+    let mut found = Vec::new(rt.alloc());
+    for byte in 0..=255u8 {
+        if is_blank(byte) {
+            found.push(byte)?;
+        }
+    }
+    assert_eq!(rt; found.as_slice(), [9, 32].as_slice());
+    Ok(())
+}
+
+#[test]
+fn skips_blanks_in_front(rt: HostRuntime) -> Result<(), Fail> {
+    let cases = [
+        ("", ""),
+        (" ", ""),
+        ("\t \t", ""),
+        ("a ", "a "),
+        (" a", "a"),
+        ("\t \u{e9} b\t", "\u{e9} b\t"),
+        (" \n a", "\n a"),
+        ("\r a", "\r a"),
+        ("\u{a0} a", "\u{a0} a"),
+    ];
+    for (text, wanted) in &cases {
+        assert_eq!(rt; skip_blanks(text), *wanted);
+    }
+    Ok(())
+}

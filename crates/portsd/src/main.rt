@@ -4,6 +4,8 @@
 
 mod command_line;
 mod entries;
+#[cfg(test)]
+mod language;
 mod numerals;
 mod printing;
 #[cfg(test)]

@@ -1,5 +1,4 @@
-use Rattle.std.proofs.Common.{◌≡◌, ◌<◌, ◌≤◌, length, drop, List, [], ◌∷◌, ◌++◌, ℕ, sym, ap, ◌∙◌, subst}
-use Rattle.mk_ref.specs.declared.cutting.Piece.{Piece}
+use Rattle.std.proofs.Common.{◌<◌, ◌≤◌, length, drop, [], ◌∷◌, ◌++◌, sym, ap, ◌∙◌, subst}
 use Rattle.mk_ref.specs.Units.{opening_of}
 use Rattle.mk_ref.specs.Firsts.{BeginsAt, literal_at}
 use Rattle.mk_ref.proofs.PiecesSoFar.{CutSoFar, so_far-none, so_far-byte, so_far-piece, AllCut, all-cut, unclosed}

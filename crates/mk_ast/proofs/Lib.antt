@@ -1,0 +1,4 @@
+pub mod Runs
+pub mod Alone
+pub mod Covering
+pub mod Equals

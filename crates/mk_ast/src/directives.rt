@@ -1,0 +1,70 @@
+//! Directives.
+ghost use Rattle.std.specs.Prelude.{◌≡◌, option_map};
+ghost use Rattle.std.specs.List.{prefix_len};
+ghost use Rattle.std.specs.Char.{is_ascii_alphabetic};
+ghost use Rattle.mk_ast.specs.Kinds.{shown_kind, directive_in, directive_behind, directive_named};
+
+use crate::kinds::{Directive, LineKind};
+use mk_text::skip_blanks;
+
+/// The directive that a line is: a dot, blanks, and a directive's word as the longest run of letters.
+pub(crate) fn directive_in(text: &str) -> Option<LineKind<'_>>
+    ensures { option_map shown_kind result ≡ directive_in text.now }
+{
+    match text.strip_prefix('.') {
+        Some(behind) => directive_behind(skip_blanks(behind)),
+        None => None,
+    }
+}
+
+/// The directive whose word begins this text.
+fn directive_behind(text: &str) -> Option<LineKind<'_>>
+    ensures { option_map shown_kind result ≡ directive_behind text.now }
+{
+    let end = letters(text.as_bytes());
+    match directive_named(&text[..end]) {
+        Some(word) => Some(LineKind::Directive {
+            word,
+            rest: &text[end..],
+        }),
+        None => None,
+    }
+}
+
+/// How many ASCII letters a text begins with.
+fn letters(bytes: &[u8]) -> usize
+    ensures { result ≡ prefix_len is_ascii_alphabetic bytes.now }
+{
+    for (at, byte) in bytes.iter().enumerate() {
+        if !byte.is_ascii_alphabetic() {
+            return at;
+        }
+    }
+    bytes.len()
+}
+
+/// The directive with this word.
+fn directive_named(word: &str) -> Option<Directive>
+    ensures { result ≡ directive_named word.now }
+{
+    match word {
+        "if" => Some(Directive::If),
+        "ifdef" => Some(Directive::Ifdef),
+        "ifndef" => Some(Directive::Ifndef),
+        "ifmake" => Some(Directive::Ifmake),
+        "ifnmake" => Some(Directive::Ifnmake),
+        "elif" => Some(Directive::Elif),
+        "elifdef" => Some(Directive::Elifdef),
+        "elifndef" => Some(Directive::Elifndef),
+        "elifmake" => Some(Directive::Elifmake),
+        "elifnmake" => Some(Directive::Elifnmake),
+        "else" => Some(Directive::Else),
+        "endif" => Some(Directive::Endif),
+        "for" => Some(Directive::For),
+        "endfor" => Some(Directive::Endfor),
+        "include" => Some(Directive::Include),
+        "sinclude" => Some(Directive::Sinclude),
+        "undef" => Some(Directive::Undef),
+        _ => None,
+    }
+}

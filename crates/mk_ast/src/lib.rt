@@ -1,0 +1,14 @@
+//! The kinds of the lines of a makefile.
+#![tactic(auto)]
+
+mod assigning;
+mod directives;
+mod kinds;
+mod outside;
+mod reading;
+#[cfg(test)]
+mod tests;
+
+pub use assigning::is_word;
+pub use kinds::{Directive, LineKind, Operator};
+pub use reading::line_kind;

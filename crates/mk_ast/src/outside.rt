@@ -1,0 +1,72 @@
+//! What of a text stands outside references.
+ghost use Rattle.std.specs.Prelude.{◌≡◌, ◌++◌, map, All, IfOk, OnOk};
+ghost use Rattle.std.specs.List.{flat_map};
+ghost use Rattle.mk_ref.specs.Places.{shown, IsPieceIn, IsUnclosedAt};
+ghost use Rattle.mk_ast.specs.Outside.{outside, dollars, covered_piece};
+
+use mk_ref::{Piece, PiecesFault, pieces};
+use std::alloc::{AllocError, Global};
+
+/// The bytes of `text`, with a dollar in place of each byte of references and pairs, and of a
+/// reference that doesn't end, which reaches to the end of the text.
+pub(crate) fn outside(alloc: Global, text: &str) -> Result<Vec<u8>, AllocError>
+    ensures { IfOk result (λ bytes. bytes.items ≡ outside text.now) }
+{
+    match pieces(alloc, text) {
+        Ok(found) => covered(alloc, text, found.as_slice()),
+        Err(PiecesFault::Unclosed { at }) => outside_up_to(alloc, text, at),
+        Err(PiecesFault::Memory) => Err(AllocError),
+    }
+}
+
+/// The same, of a text in which the reference that begins at `at` is the first that doesn't end.
+fn outside_up_to(alloc: Global, text: &str, at: usize) -> Result<Vec<u8>, AllocError>
+    requires { IsUnclosedAt text.now at }
+    ensures { IfOk result (λ bytes. bytes.items ≡ outside text.now) }
+{
+    let front = &text[..at];
+    match pieces(alloc, front) {
+        Ok(found) => {
+            let mut bytes = covered(alloc, front, found.as_slice())?;
+            push_dollars(&mut bytes, &text[at..])?;
+            Ok(bytes)
+        }
+        // In front of the first reference that doesn't end, each one ends.
+        Err(PiecesFault::Unclosed { at: _ }) => unreachable!(),
+        Err(PiecesFault::Memory) => Err(AllocError),
+    }
+}
+
+/// The bytes of pieces of a text, with dollars in place of references and pairs.
+fn covered(alloc: Global, text: &str, found: &[Piece]) -> Result<Vec<u8>, AllocError>
+    requires { All (IsPieceIn text.now) found.now }
+    ensures { IfOk result (λ bytes. bytes.items ≡ flat_map covered_piece (map (shown text.now) found.now)) }
+{
+    let mut bytes = Vec::new(alloc);
+    for piece in found {
+        push_piece(&mut bytes, piece, text)?;
+    }
+    Ok(bytes)
+}
+
+/// Adds the bytes of a piece of a text, or dollars.
+fn push_piece(bytes: &mut Vec<u8>, piece: &Piece, text: &str) -> Result<(), AllocError>
+    requires { IsPieceIn text.now piece.now }
+    ensures { OnOk result (bytes.new.items ≡ bytes.old.items ++ covered_piece (shown text.now piece.now)) }
+{
+    match piece {
+        Piece::Literal(span) => bytes.extend_from_slice(span.of(text).as_bytes()),
+        Piece::Pair(_) => bytes.extend_from_slice(b"$$"),
+        Piece::Reference(reference) => push_dollars(bytes, reference.whole.of(text)),
+    }
+}
+
+/// Adds a dollar for each byte of a text.
+fn push_dollars(bytes: &mut Vec<u8>, text: &str) -> Result<(), AllocError>
+    ensures { OnOk result (bytes.new.items ≡ bytes.old.items ++ dollars text.now) }
+{
+    for _ in text.as_bytes() {
+        bytes.push(b'$')?;
+    }
+    Ok(())
+}

@@ -1,0 +1,41 @@
+//! Texts joined within the limit of a text.
+ghost use Rattle.std.specs.Prelude.{◌≡◌, ◌==◌, ◌≤◌, ◌++◌, string_bytes, length, IfOk, IfErr};
+ghost use Rattle.std.specs.List.{list_any};
+ghost use Rattle.mk_base.specs.Meter.{Meter};
+ghost use Rattle.mk_base.specs.Stopping.{Gives, NeverStore};
+ghost use Rattle.mk_env.specs.Expansion.{bounded};
+ghost use Rattle.mk_env.specs.Refusals.{IsTooLong};
+
+use mk_base::{FaultKind, Stop};
+use mk_mods::TEXT_LIMIT;
+use std::alloc::Global;
+
+/// Adds the text, unless the whole is then too long: so nothing longer is ever made.
+pub(crate) fn push_bounded(joined: &mut String, text: &str) -> Result<(), Stop<FaultKind>>
+    ensures ok { IfOk result (λ _. (length (string_bytes joined.old ++ text.now) ≤ TEXT_LIMIT) × (string_bytes joined.new ≡ string_bytes joined.old ++ text.now)) }
+    ensures err { IfErr result (IsTooLong (string_bytes joined.old ++ text.now)) }
+{
+    if joined.len() + text.len() > TEXT_LIMIT {
+        return Err(Stop::Fault(FaultKind::Length));
+    }
+    joined.push_str(text)?;
+    Ok(())
+}
+
+/// A copy of the text, unless it is too long.
+pub(crate) fn copy_bounded(alloc: Global, text: &str) -> Result<String, Stop<FaultKind>>
+    ensures store { NeverStore result }
+    ensures gives { (m : Meter) → Gives string_bytes result m (bounded text.now m) }
+{
+    if text.len() > TEXT_LIMIT {
+        return Err(Stop::Fault(FaultKind::Length));
+    }
+    Ok(String::from_str(alloc, text)?)
+}
+
+/// Whether a dollar is in the text: without one it has no reference and stands for itself.
+pub(crate) fn has_dollar(text: &str) -> bool
+    ensures { result ≡ list_any (λ b. b == 36) text.now }
+{
+    text.as_bytes().iter().any(|byte| *byte == b'$')
+}

@@ -1,0 +1,113 @@
+//! Texts cut at their references, and modifiers read and applied, with the faults of an expansion.
+ghost use Rattle.std.specs.Prelude.{◌≡◌, [], map, All, Some, string_bytes, option_map, IfOk, IfErr};
+ghost use Rattle.mk_text.specs.Words.{words_of, span_text};
+ghost use Rattle.mk_ref.specs.Units.{units_of, left_of};
+ghost use Rattle.mk_ref.specs.Pieces.{pieces_of};
+ghost use Rattle.mk_ref.specs.Places.{shown, IsPieceIn, IsReferenceIn};
+ghost use Rattle.mk_mods.specs.Actions.{action_of, replacement_of, IsExpanded};
+ghost use Rattle.mk_mods.specs.Applied.{applied};
+ghost use Rattle.mk_mods.specs.Joined.{joined, within_limit};
+ghost use Rattle.mk_mods.specs.Substituted.{substituted};
+ghost use Rattle.mk_env.specs.Expansion.{actions_of};
+ghost use Rattle.mk_env.specs.Refusals.{IsUncut, IsUnread, IsUnmade};
+
+use mk_base::{FaultKind, Stop};
+use mk_mods::{ApplyFault, Modifier, Mods, ModsFault, Substitution, apply, substitute};
+use mk_ref::{Piece, PiecesFault, Reference, pieces};
+use std::alloc::Global;
+
+/// A reference by its texts.
+#[derive(Clone, Copy, Debug)]
+pub(crate) struct Mention<'a> {
+    /// All that it is written as.
+    pub(crate) written: &'a str,
+    /// Its name, in which references may stand.
+    pub(crate) name: &'a str,
+    /// Its modifiers, where it has a colon.
+    pub(crate) modifiers: Option<&'a str>,
+}
+
+/// The texts of a reference that stands in this text.
+pub(crate) fn mentioned<'a>(text: &'a str, reference: &Reference) -> Mention<'a>
+    requires { IsReferenceIn text.now reference.now }
+    ensures written { result.written.now ≡ span_text text.now reference.now.whole }
+    ensures name { result.name.now ≡ span_text text.now reference.now.name }
+    ensures modifiers { option_map (λ found. found.now) result.modifiers ≡ option_map (span_text text.now) reference.now.modifiers }
+{
+    let modifiers = match &reference.modifiers {
+        Some(span) => Some(span.of(text)),
+        None => None,
+    };
+    Mention {
+        written: reference.whole.of(text),
+        name: reference.name.of(text),
+        modifiers,
+    }
+}
+
+/// The pieces of a text. A reference that doesn't end is a fault.
+pub(crate) fn cut(alloc: Global, text: &str) -> Result<Vec<Piece>, Stop<FaultKind>>
+    ensures pieces { IfOk result (λ found. map (shown text.now) found.items ≡ pieces_of (units_of text.now)) }
+    ensures whole { IfOk result (λ found. left_of text.now ≡ []) }
+    ensures places { IfOk result (λ found. All (IsPieceIn text.now) found.items) }
+    ensures err { IfErr result (IsUncut text.now) }
+{
+    match pieces(alloc, text) {
+        Ok(found) => Ok(found),
+        Err(PiecesFault::Unclosed { at: _ }) => Err(Stop::Fault(FaultKind::Reference)),
+        Err(PiecesFault::Memory) => Err(Stop::Memory),
+    }
+}
+
+/// The modifiers that stand behind the colon of a reference; none where it has no colon.
+pub(crate) fn read_modifiers(
+    alloc: Global,
+    text: Option<&str>,
+) -> Result<Vec<Modifier>, Stop<FaultKind>>
+    ensures ok { IfOk result (λ found. actions_of (option_map (λ t. t.now) text.entry) ≡ Some (map action_of found.items)) }
+    ensures err { IfErr result (IsUnread (actions_of (option_map (λ t. t.now) text.entry))) }
+{
+    let Some(text) = text else {
+        return Ok(Vec::new(alloc));
+    };
+    match Mods::read(alloc, text) {
+        Ok(mods) => Ok(mods.modifiers),
+        Err(ModsFault::BadMod) => Err(Stop::Fault(FaultKind::Modifier)),
+        Err(ModsFault::Memory) => Err(Stop::Memory),
+    }
+}
+
+/// What a modifier whose references are expanded makes of a value.
+pub(crate) fn apply_expanded(
+    alloc: Global,
+    modifier: &Modifier,
+    value: &str,
+) -> Result<String, Stop<FaultKind>>
+    requires { IsExpanded (action_of modifier.now) }
+    ensures ok { IfOk result (λ made. applied (action_of modifier.now) value.now ≡ Some (string_bytes made)) }
+    ensures err { IfErr result (IsUnmade (applied (action_of modifier.now) value.now)) }
+{
+    match apply(alloc, modifier, value) {
+        Ok(made) => Ok(made),
+        Err(ApplyFault::Length) => Err(Stop::Fault(FaultKind::Length)),
+        Err(ApplyFault::Memory) => Err(Stop::Memory),
+    }
+}
+
+/// What a substitution with these texts makes of a value.
+pub(crate) fn apply_substitution(
+    alloc: Global,
+    substitution: &Substitution,
+    old: &str,
+    new: &str,
+    value: &str,
+) -> Result<String, Stop<FaultKind>>
+    ensures ok { IfOk result (λ made. within_limit (joined (substituted (replacement_of substitution.now) old.now new.now (words_of value.now))) ≡ Some (string_bytes made)) }
+    ensures err { IfErr result (IsUnmade (within_limit (joined (substituted (replacement_of substitution.now) old.now new.now (words_of value.now))))) }
+{
+    match substitute(alloc, substitution, old, new, value) {
+        Ok(made) => Ok(made),
+        Err(ApplyFault::Length) => Err(Stop::Fault(FaultKind::Length)),
+        Err(ApplyFault::Memory) => Err(Stop::Memory),
+    }
+}

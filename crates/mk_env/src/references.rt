@@ -1,0 +1,255 @@
+//! What references mean, and the texts and modifiers in which they stand.
+ghost use Rattle.std.specs.Prelude.{◌≡◌, ◌≢◌, ◌≤◌, ◌-◌, ◌∷◌, map, string_bytes, length, option_map, IfOk};
+ghost use Rattle.std.specs.List.{flat_map};
+ghost use Rattle.std.specs.FinMap as finite;
+ghost use Rattle.mk_base.specs.Outcome.{each};
+ghost use Rattle.mk_base.specs.Stopping.{Gives, NeverStore};
+ghost use Rattle.mk_ref.specs.Places.{shown, IsPieceIn};
+ghost use Rattle.mk_mods.specs.Actions.{action_of, symbols_of};
+ghost use Rattle.mk_env.specs.declared.scope.Undefined.TheVariants as kept;
+ghost use Rattle.mk_env.specs.Expansion as meaning;
+ghost use Rattle.mk_env.specs.ActiveNames.{references_in, names_of};
+
+use crate::joining::{copy_bounded, has_dollar, push_bounded};
+use crate::reading::{Mention, apply_expanded, apply_substitution, cut, mentioned, read_modifiers};
+use crate::scope::{Active, Scope};
+use mk_base::{Budget, FaultKind, Stop};
+use mk_mods::{Modifier, Part, TEXT_LIMIT};
+use mk_ref::Piece;
+use std::alloc::Global;
+
+/// What a text means.
+#[cycle(expansion)]
+pub(crate) fn expand_text(
+    alloc: Global,
+    scope: Scope<'_>,
+    text: &str,
+    budget: &mut Budget,
+) -> Result<String, Stop<FaultKind>>
+    ensures store { NeverStore result }
+    ensures gives { Gives string_bytes result budget.new (meaning.text_meaning (references_in scope.entry) text.now budget.old) }
+{
+    // Without a dollar the text is its one literal.
+    if !has_dollar(text) {
+        return copy_bounded(alloc, text);
+    }
+    let mut joined = String::new(alloc);
+    for piece in &cut(alloc, text)? {
+        join_piece(alloc, scope, &mut joined, text, piece, budget)?;
+    }
+    Ok(joined)
+}
+
+/// Adds what a piece of a text means.
+#[cycle(expansion)]
+fn join_piece(
+    alloc: Global,
+    scope: Scope<'_>,
+    joined: &mut String,
+    text: &str,
+    piece: &Piece,
+    budget: &mut Budget,
+) -> Result<(), Stop<FaultKind>>
+    requires { IsPieceIn text.now piece.now }
+    ensures store { NeverStore result }
+    ensures gives { Gives (λ _. string_bytes joined.new) result budget.new
+        (meaning.join_piece (references_in scope.entry) (string_bytes joined.old) (shown text.now piece.now) budget.old) }
+{
+    match piece {
+        Piece::Literal(span) => push_bounded(joined, span.of(text)),
+        Piece::Pair(_) => push_bounded(joined, "$"),
+        Piece::Reference(reference) => {
+            let found = expand_reference(alloc, scope, mentioned(text, reference), budget)?;
+            push_bounded(joined, found.as_str())
+        }
+    }
+}
+
+/// What a reference means: it is paid for, and its name is expanded.
+#[cycle(expansion)]
+#[tactic(auto, unfolding(crate::specs::Expansion::reference))]
+fn expand_reference(
+    alloc: Global,
+    scope: Scope<'_>,
+    mention: Mention<'_>,
+    budget: &mut Budget,
+) -> Result<String, Stop<FaultKind>>
+    ensures store { NeverStore result }
+    ensures gives { Gives string_bytes result budget.new
+        (references_in scope.entry mention.entry.written.now mention.entry.name.now (option_map (λ t. t.now) mention.entry.modifiers) budget.old) }
+{
+    budget.pay()?;
+    if scope.levels == 0 {
+        return Err(Stop::Fault(FaultKind::Depth));
+    }
+    // Most names have no reference in them: no copy is made of such a name.
+    if !has_dollar(mention.name) && mention.name.len() <= TEXT_LIMIT {
+        return expand_by_name(alloc, scope, mention, mention.name, budget);
+    }
+    let name = expand_text(alloc, scope.inside(), mention.name, budget)?;
+    expand_by_name(alloc, scope, mention, name.as_str(), budget)
+}
+
+/// What a reference that is paid for means, once its name is known.
+#[cycle(expansion)]
+fn expand_by_name(
+    alloc: Global,
+    scope: Scope<'_>,
+    mention: Mention<'_>,
+    name: &str,
+    budget: &mut Budget,
+) -> Result<String, Stop<FaultKind>>
+    requires { scope.levels ≢ 0 }
+    ensures store { NeverStore result }
+    ensures gives { Gives string_bytes result budget.new
+        (meaning.by_name scope.entry.undefined (meaning.reference kept.Empty (scope.entry.levels - 1) scope.entry.variables.now) scope.entry.variables.now (names_of scope.entry.active) mention.entry.written.now (option_map (λ t. t.now) mention.entry.modifiers) name.now budget.old) }
+{
+    if scope.keeps(name) {
+        return Ok(String::from_str(alloc, mention.written)?);
+    }
+    expand_named(alloc, scope.inside(), name, mention.modifiers, budget)
+}
+
+/// What a reference means whose name is known, in the scope of what stands inside it.
+#[cycle(expansion)]
+pub(crate) fn expand_named(
+    alloc: Global,
+    scope: Scope<'_>,
+    name: &str,
+    modifiers: Option<&str>,
+    budget: &mut Budget,
+) -> Result<String, Stop<FaultKind>>
+    requires { scope.undefined ≡ kept.Empty }
+    ensures store { NeverStore result }
+    ensures gives { Gives string_bytes result budget.new
+        (meaning.named (meaning.reference kept.Empty scope.entry.levels scope.entry.variables.now) scope.entry.variables.now (names_of scope.entry.active) name.now (option_map (λ t. t.now) modifiers.entry) budget.old) }
+{
+    if scope.active.contains(name) {
+        return Err(Stop::Fault(FaultKind::Recursive));
+    }
+    let modifiers = read_modifiers(alloc, modifiers)?;
+    let value = expand_value(alloc, scope, name, budget)?;
+    apply_modifiers(alloc, scope, value, modifiers.as_slice(), budget)
+}
+
+/// What the value of a variable means.
+#[cycle(expansion)]
+fn expand_value(
+    alloc: Global,
+    scope: Scope<'_>,
+    name: &str,
+    budget: &mut Budget,
+) -> Result<String, Stop<FaultKind>>
+    requires { scope.undefined ≡ kept.Empty }
+    ensures store { NeverStore result }
+    ensures gives { Gives string_bytes result budget.new
+        (meaning.value_meaning (meaning.reference kept.Empty scope.entry.levels scope.entry.variables.now (name.now ∷ names_of scope.entry.active)) (finite.get scope.entry.variables.now name.now) budget.old) }
+{
+    match scope.variables.get(name) {
+        None => Ok(String::new(alloc)),
+        Some(value) => {
+            let within = Scope {
+                active: Active::Name(name, &scope.active),
+                ..scope
+            };
+            expand_text(alloc, within, value, budget)
+        }
+    }
+}
+
+/// What modifiers make of a value, from left to right.
+#[cycle(expansion)]
+fn apply_modifiers(
+    alloc: Global,
+    scope: Scope<'_>,
+    value: String,
+    modifiers: &[Modifier],
+    budget: &mut Budget,
+) -> Result<String, Stop<FaultKind>>
+    ensures store { NeverStore result }
+    ensures gives { Gives string_bytes result budget.new
+        (each (meaning.modified (references_in scope.entry)) (string_bytes value) (map action_of modifiers.now) budget.old) }
+{
+    let mut value = value;
+    for modifier in modifiers {
+        value = apply_modifier(alloc, scope, value.as_str(), modifier, budget)?;
+    }
+    Ok(value)
+}
+
+/// What a modifier makes of a value; the references in it are expanded first.
+#[cycle(expansion)]
+fn apply_modifier(
+    alloc: Global,
+    scope: Scope<'_>,
+    value: &str,
+    modifier: &Modifier,
+    budget: &mut Budget,
+) -> Result<String, Stop<FaultKind>>
+    ensures store { NeverStore result }
+    ensures gives { Gives string_bytes result budget.new
+        (meaning.modified (references_in scope.entry) value.now (action_of modifier.now) budget.old) }
+{
+    match modifier {
+        Modifier::Match(pattern) => {
+            let pattern = expand_text(alloc, scope, pattern.as_str(), budget)?;
+            apply_expanded(alloc, &Modifier::Match(pattern), value)
+        }
+        Modifier::Exclude(pattern) => {
+            let pattern = expand_text(alloc, scope, pattern.as_str(), budget)?;
+            apply_expanded(alloc, &Modifier::Exclude(pattern), value)
+        }
+        Modifier::Substitute(substitution) => {
+            let old = expand_parts(alloc, scope, &substitution.old, "", budget)?;
+            let new = expand_parts(alloc, scope, &substitution.new, old.as_str(), budget)?;
+            apply_substitution(alloc, substitution, old.as_str(), new.as_str(), value)
+        }
+        Modifier::Change(_) => apply_expanded(alloc, modifier, value),
+    }
+}
+
+/// What parts of a text of `:S` mean, joined from the left, beside an old text.
+#[cycle(expansion)]
+fn expand_parts(
+    alloc: Global,
+    scope: Scope<'_>,
+    parts: &[Part],
+    old: &str,
+    budget: &mut Budget,
+) -> Result<String, Stop<FaultKind>>
+    ensures store { NeverStore result }
+    ensures gives { Gives string_bytes result budget.new
+        (meaning.symbols_meaning (references_in scope.entry) old.now (flat_map symbols_of parts.now) budget.old) }
+{
+    let mut joined = String::new(alloc);
+    for part in parts {
+        join_part(alloc, scope, &mut joined, part, old, budget)?;
+    }
+    Ok(joined)
+}
+
+/// Adds what a part of a text of `:S` means.
+#[cycle(expansion)]
+fn join_part(
+    alloc: Global,
+    scope: Scope<'_>,
+    joined: &mut String,
+    part: &Part,
+    old: &str,
+    budget: &mut Budget,
+) -> Result<(), Stop<FaultKind>>
+    requires small { length (string_bytes joined.old) ≤ TEXT_LIMIT }
+    ensures small { IfOk result (λ _. length (string_bytes joined.new) ≤ TEXT_LIMIT) }
+    ensures store { NeverStore result }
+    ensures gives { Gives (λ _. string_bytes joined.new) result budget.new
+        (each (meaning.join_symbol (references_in scope.entry) old.now) (string_bytes joined.old) (symbols_of part.now) budget.old) }
+{
+    match part {
+        Part::Text(text) => push_bounded(joined, text.as_str()),
+        Part::Whole => push_bounded(joined, old),
+        Part::Reference(source) => {
+            let found = expand_text(alloc, scope, source.as_str(), budget)?;
+            push_bounded(joined, found.as_str())
+        }
+    }
+}

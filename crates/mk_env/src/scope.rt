@@ -1,0 +1,72 @@
+//! Where a reference stands.
+ghost use Rattle.std.specs.Prelude.{◌≡◌, ◌-◌, ◌≢◌};
+ghost use Rattle.std.specs.FinMap as finite;
+ghost use Rattle.mk_env.specs.declared.scope.Undefined.TheVariants as kept;
+ghost use Rattle.mk_env.specs.Expansion as meaning;
+ghost use Rattle.mk_env.specs.ActiveNames.{names_of};
+
+use crate::Env;
+
+/// What becomes of a reference to a variable that isn't defined.
+#[derive(Clone, Copy, Debug, PartialEq, Eq)]
+pub(crate) enum Undefined {
+    /// It gives nothing.
+    Empty,
+    /// It stays as it is written.
+    Kept,
+}
+
+/// The names whose values are being expanded, the innermost first.
+#[derive(Clone, Copy)]
+pub(crate) enum Active<'a> {
+    Nothing,
+    Name(&'a str, &'a Active<'a>),
+}
+
+impl Active<'_> {
+    pub(crate) fn contains(&self, name: &str) -> bool
+        ensures { result ≡ meaning.is_among name.now (names_of self.now) }
+    {
+        match self {
+            Active::Nothing => false,
+            Active::Name(first, outer) => *first == name || outer.contains(name),
+        }
+    }
+}
+
+/// Where a text stands whose references are expanded.
+#[derive(Clone, Copy)]
+pub(crate) struct Scope<'a> {
+    /// What the names stand for.
+    pub(crate) variables: &'a Env,
+    /// The names whose values are being expanded.
+    pub(crate) active: Active<'a>,
+    /// How many references may stand one inside another in it.
+    pub(crate) levels: u32,
+    /// What becomes of its references to variables that aren't defined.
+    pub(crate) undefined: Undefined,
+}
+
+impl<'a> Scope<'a> {
+    /// The scope of what stands inside a reference: its name and its modifiers.
+    pub(crate) fn inside(self) -> Scope<'a>
+        requires { self.levels ≢ 0 }
+        ensures { result ≡ record self.entry { levels = self.entry.levels - 1; undefined = kept.Empty } }
+    {
+        Scope {
+            levels: self.levels - 1,
+            undefined: Undefined::Empty,
+            ..self
+        }
+    }
+
+    /// Whether a reference to the variable of this name is kept as it is written.
+    pub(crate) fn keeps(&self, name: &str) -> bool
+        ensures { result ≡ meaning.is_kept self.now.undefined (finite.get self.now.variables.now name.now) }
+    {
+        match self.undefined {
+            Undefined::Empty => false,
+            Undefined::Kept => !self.variables.defined(name),
+        }
+    }
+}
