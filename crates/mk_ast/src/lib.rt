@@ -6,8 +6,6 @@ mod directives;
 mod kinds;
 mod outside;
 mod reading;
-#[cfg(test)]
-mod tests;
 
 pub use assigning::is_word;
 pub use kinds::{Directive, LineKind, Operator};

@@ -9,6 +9,3 @@ mod stopping;
 pub use faults::{Fault, FaultKind};
 pub use metering::{Budget, QUESTIONS, UNITS};
 pub use stopping::Stop;
-
-#[cfg(test)]
-mod tests;

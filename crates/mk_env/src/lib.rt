@@ -11,6 +11,3 @@ mod variables;
 pub use expansion::{expand, expand_now, expand_variable};
 pub use mk_mods::TEXT_LIMIT;
 pub use variables::Env;
-
-#[cfg(test)]
-mod tests;

@@ -8,6 +8,3 @@ mod reading;
 
 pub use evaluation::{evaluate, value};
 pub use outcome::{Evaluated, Failed, Valued};
-
-#[cfg(test)]
-mod tests;

@@ -8,6 +8,3 @@ mod worlds;
 pub use memory_files::MemoryFiles;
 pub use shared::Content;
 pub use worlds::{Files, look};
-
-#[cfg(test)]
-mod tests;

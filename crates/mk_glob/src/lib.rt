@@ -5,8 +5,6 @@ mod brackets;
 mod laws;
 mod matching;
 mod signs;
-#[cfg(test)]
-mod tests;
 
 pub use laws::fits_where_cut;
 pub use matching::glob;

@@ -9,8 +9,6 @@ mod modifiers;
 mod reading;
 mod signs;
 mod substituting;
-#[cfg(test)]
-mod tests;
 mod word_maps;
 
 pub use applying::apply;

@@ -10,6 +10,3 @@ pub use asking::{FilesFault, Names};
 pub use file_name::{Name, NameFault};
 pub use places::find;
 pub use search_path::{PathFault, SearchPath, Settings};
-
-#[cfg(test)]
-mod tests;

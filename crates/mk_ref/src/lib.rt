@@ -5,8 +5,6 @@ mod cutting;
 mod ending;
 mod laws;
 mod opening;
-#[cfg(test)]
-mod tests;
 
 pub use cutting::{Piece, PiecesFault, Reference, pieces};
 pub use laws::{

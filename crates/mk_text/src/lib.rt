@@ -5,8 +5,6 @@ mod blanks;
 mod comments;
 mod joining;
 mod splitting;
-#[cfg(test)]
-mod tests;
 
 pub use blanks::{is_blank, skip_blanks, trim_blanks};
 pub use joining::{Logical, logical_lines};

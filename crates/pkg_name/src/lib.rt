@@ -12,6 +12,3 @@ pub use laws::{
 };
 pub use name::{NameFault, PkgName};
 pub use version::{Version, VersionFault};
-
-#[cfg(test)]
-mod tests;

@@ -6,8 +6,6 @@ mod faults;
 mod flavors;
 mod laws;
 mod path;
-#[cfg(test)]
-mod tests;
 
 pub use faults::PkgPathFault;
 pub use flavors::Flavors;

@@ -5,8 +5,6 @@ mod alternatives;
 mod comparisons;
 mod faults;
 mod spec;
-#[cfg(test)]
-mod tests;
 
 pub use faults::SpecFault;
 pub use spec::Spec;

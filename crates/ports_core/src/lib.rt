@@ -25,6 +25,3 @@ pub use laws::{
     equal_requests_are_told_alike, equal_slices_are_told_alike, one_list_is_taken,
 };
 pub use service::{NewFault, Service};
-
-#[cfg(test)]
-mod tests;

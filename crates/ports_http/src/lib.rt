@@ -14,8 +14,6 @@ mod method;
 mod reply;
 mod request;
 mod stream;
-#[cfg(test)]
-mod tests;
 mod write;
 
 pub use conn::Conn;

@@ -17,6 +17,3 @@ mod writing;
 pub use answering::Plain;
 pub use refused::Refused;
 pub use writing::{Prepared, Write};
-
-#[cfg(test)]
-mod tests;

@@ -2,20 +2,7 @@
 //! script of events over the service and prints what was told and sent.
 #![tactic(auto)]
 
-mod command_line;
-mod entries;
-#[cfg(test)]
-mod language;
-mod numerals;
-mod printing;
-#[cfg(test)]
-mod rows;
-mod running;
-mod script;
-#[cfg(test)]
-mod tests;
-
-use running::run_script;
+use ports_script::run_script;
 use std::process::ExitCode;
 use std::rt::Env;
 use std::{env, io};

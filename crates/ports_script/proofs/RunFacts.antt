@@ -1,0 +1,80 @@
+-- How runs end.
+use Rattle.std.proofs.Common.{◌≡◌, ◌<◌, ◌∙◌, ℕ, List, length, get_or, refl, sym, ap, subst, arith, Option, Some, None, Result, Ok, Err}
+use Rattle.std.proofs.lemmas.Option.{slice_get_within, slice_get-get_or}
+use Rattle.std.specs.Result.{OnOk, IfErr}
+use Rattle.std.specs.Io.KnownBytes.{Appends, Keeps}
+use Rattle.ports_core.specs.declared.event.Event.{Event}
+use Rattle.ports_core.specs.declared.history.Transcript.{Transcript}
+use Rattle.ports_core.specs.declared.keys.Config.{Config}
+use Rattle.ports_core.specs.declared.service.NewFault.{NewFault}
+use Rattle.ports_core.specs.declared.service.NewFault.TheVariants as new
+use Rattle.ports_core.specs.declared.history.Step.{Step}
+use Rattle.ports_core.specs.declared.history.ReplayFault.{ReplayFault}
+use Rattle.ports_core.specs.declared.history.ReplayFault.TheVariants.{New, NotAllowed}
+use Rattle.ports_core.specs.Replays.{IsRun, TellsPlainly, ConversesOnEach, EndsEarly}
+use Rattle.ports_script.specs.declared.script.Script.{Script}
+use Rattle.ports_script.specs.declared.script.ScriptFault.{ScriptFault}
+use Rattle.ports_script.specs.declared.script.ScriptFault.TheVariants as fault
+use Rattle.ports_script.specs.declared.running.Failure.{Failure}
+use Rattle.ports_script.specs.declared.running.Failure.TheVariants as failure
+use Rattle.ports_script.specs.declared.running.Failure.TheVariants.{BadKey, BadEvent, CannotWrite, StoreFailed, OutOfMemory}
+use Rattle.ports_script.specs.Scripts.{numbered, ReadsScript, FailsToRead}
+use Rattle.ports_script.specs.Printing.{transcript}
+use Rattle.ports_script.specs.Running.{Streams, Completes, StopsAt, Ends, FailsToPrint, script_failure, new_failure}
+
+pub Keeps-same : (known : Option (List ℕ)) → Keeps known known
+Keeps-same None = tt
+Keeps-same (Some bytes) = refl
+
+-- a script was read and run, and is printed
+pub completes : {A E : Type 0} (config : Config) (streams : Streams) (r : Result A E) (script : Script) (done : Transcript) (events : List Event) (steps : List Step) → events ≡ script.events.items → steps ≡ done.steps.items → ReadsScript streams.unread streams.left (numbered script) → IsRun config events done → TellsPlainly config events done → ConversesOnEach config events done → OnOk r (Appends streams.held streams.holds (transcript (numbered script) steps)) → OnOk r (Completes config streams)
+completes config streams (Ok x) script done events steps e f read run plainly converses printed = (
+  script,
+  done,
+  read,
+  subst (λ (ran : List Event). IsRun config ran done) e run,
+  subst (λ (ran : List Event). TellsPlainly config ran done) e plainly,
+  subst (λ (ran : List Event). ConversesOnEach config ran done) e converses,
+  subst (λ (told : List Step). Appends streams.held streams.holds (transcript (numbered script) told)) f printed,
+)
+completes config streams (Err why) script done events steps e f read run plainly converses printed = printed
+
+-- a script was read and run as far as it may, and is printed
+pub stops_at : (config : Config) (streams : Streams) (script : Script) (index line : ℕ) (done : Transcript) (why : ReplayFault) (events : List Event) (steps : List Step) → events ≡ script.events.items → steps ≡ done.steps.items → why ≡ NotAllowed index done → length script.lines.items ≡ length script.events.items → line ≡ get_or script.lines.items index 0 → ReadsScript streams.unread streams.left (numbered script) → EndsEarly config events why → Appends streams.held streams.holds (transcript (numbered script) steps) → StopsAt config streams line
+stops_at config streams script index line done why events steps e f n paired l read early printed =
+    let ends : EndsEarly config events (NotAllowed index done) = subst (λ (fault : ReplayFault). EndsEarly config events fault) n early in
+    let stops : EndsEarly config script.events.items (NotAllowed index done) = subst (λ (ran : List Event). EndsEarly config ran (NotAllowed index done)) e ends in
+    let event = slice_get_within script.events.items index _ stops.3.1 in
+    let within : index < length script.lines.items = omega arith in (
+      script,
+      index,
+      done,
+      read,
+      stops,
+      slice_get-get_or script.lines.items index 0 within ∙ ap Some (sym l),
+      subst (λ (told : List Step). Appends streams.held streams.holds (transcript (numbered script) told)) f printed,
+    )
+
+ends_unprinted : (config : Config) (streams : Streams) (failure : Failure) → FailsToPrint streams.held streams.holds failure → Ends config streams failure
+ends_unprinted config streams BadKey h = absurd h
+ends_unprinted config streams (BadEvent line) h = absurd h
+ends_unprinted config streams (failure.NotAllowed line) h = absurd h
+ends_unprinted config streams CannotWrite h = tt
+ends_unprinted config streams StoreFailed h = absurd h
+ends_unprinted config streams OutOfMemory h = h
+
+-- it was run, and isn't printed
+pub unprinted : {A : Type 0} (config : Config) (streams : Streams) (r : Result A Failure) → IfErr r (FailsToPrint streams.held streams.holds) → IfErr r (Ends config streams)
+unprinted config streams (Ok x) h = h
+unprinted config streams (Err failure) h = ends_unprinted config streams failure h
+
+-- no script was read
+pub unread : (config : Config) (streams : Streams) (why : ScriptFault) → FailsToRead streams.unread streams.left why → Keeps streams.held streams.holds → Ends config streams (script_failure why)
+unread config streams (fault.BadEvent line) h k = (h, k)
+unread config streams fault.Memory h k = k
+
+-- no service began
+pub unbegun : (config : Config) (streams : Streams) (events : List Event) (why : NewFault) → EndsEarly config events (New why) → Keeps streams.held streams.holds → Ends config streams (new_failure why)
+unbegun config streams events new.Config h k = (h, k)
+unbegun config streams events new.Store h k = k
+unbegun config streams events new.Memory h k = k

@@ -1,0 +1,143 @@
+-- What scripts hold.
+use Rattle.std.proofs.Common.{◌≡◌, ℕ, zero, suc, ◌+◌, ◌<◌, ◌≤◌, Bool, true, false, ◌==◌, cond, List, [], ◌∷◌, ◌++◌, length, take, drop, map, refl, sym, ap, ◌∙◌, arith, nat_lt, Option, Some, None, Result, Ok, Err, append_assoc}
+use Rattle.std.specs.List.{zip, slice_split, onto_first, position, position_or_len, slice_get, HoldsAt}
+use Rattle.std.specs.Result.{OnOk, IfOk}
+use Rattle.std.proofs.lemmas.List.Sums.{fails_before_first}
+use Rattle.std.proofs.lemmas.List.Splits.{slice_split_first, slice_split_none}
+use Rattle.std.proofs.lemmas.Bool.Decides.{nat_tests}
+use Rattle.ports_core.specs.declared.event.Event.{Event}
+use Rattle.ports_script.specs.declared.script.Script.{Script}
+use Rattle.ports_script.specs.declared.script.ScriptFault.{ScriptFault}
+use Rattle.ports_script.specs.declared.script.ScriptFault.TheVariants.{BadEvent, Memory}
+use Rattle.ports_script.specs.Entries.{Entry, shown, event_of}
+use Rattle.ports_script.specs.Scripts.{Reading, is_passed_over, put_before, with_event, with_line, events_from, script_of, numbered, IsFaultOf, HasGiven, ReadsScript}
+
+pub zip-push : (lines : List ℕ) (events : List Event) (line : ℕ) (event : Event) → length lines ≡ length events → zip (lines ++ line ∷ []) (map shown (events ++ event ∷ [])) ≡ zip lines (map shown events) ++ (line, shown event) ∷ []
+zip-push [] [] line event same = refl
+zip-push [] (e ∷ events) line event same = absurd (omega arith)
+zip-push (l ∷ lines) [] line event same = absurd (omega arith)
+zip-push (l ∷ lines) (e ∷ events) line event same = ap (λ x. (l, shown e) ∷ x) (zip-push lines events line event (omega arith))
+
+pub put_before-twice : (xs ys : List (ℕ × Entry)) (later : Reading) → put_before xs (put_before ys later) ≡ put_before (xs ++ ys) later
+put_before-twice xs ys (Ok zs) = ap Ok (sym (append_assoc xs ys zs))
+put_before-twice xs ys (Err line) = refl
+
+pub IsFaultOf-before : (xs : List (ℕ × Entry)) (reading : Reading) (fault : ScriptFault) → IsFaultOf reading fault → IsFaultOf (put_before xs reading) fault
+IsFaultOf-before xs reading (BadEvent line) h = rw h
+IsFaultOf-before xs reading Memory h = tt
+
+-- a line with an event
+pub with_line-event : (line : ℕ) (text : List ℕ) (event : Entry) (later : Reading) → is_passed_over text ≡ false → event_of text ≡ Some event → with_line line text later ≡ put_before ((line, event) ∷ []) later
+with_line-event line text event later other e = rw (other, e)
+
+split_cons : (p : ℕ → Bool) (xs : List ℕ) → (first : List ℕ) × (others : List (List ℕ)) × (slice_split p xs ≡ first ∷ others)
+split_cons p [] = ([], [], refl)
+split_cons p (x ∷ xs) = cases (p x) (split_cons p xs)
+  where
+    cases : (b : Bool) → (first : List ℕ) × (others : List (List ℕ)) × (slice_split p xs ≡ first ∷ others) → (first : List ℕ) × (others : List (List ℕ)) × (cond b ([] ∷ slice_split p xs) (onto_first x (slice_split p xs)) ≡ first ∷ others)
+    cases true h = ([], slice_split p xs, refl)
+    cases false h = (x ∷ h.0, h.1, rw h.2)
+
+events_from-cons : (whole : Bool) (line : ℕ) (text : List ℕ) (texts : List (List ℕ)) (first : List ℕ) (others : List (List ℕ)) → texts ≡ first ∷ others → events_from whole line (text ∷ texts) ≡ with_line line text (events_from whole (line + 1) texts)
+unfolding events_from
+events_from-cons whole line text texts first others e = rw e
+
+-- a line in front of others
+pub events_from-line : (whole : Bool) (line : ℕ) (text front later : List ℕ) → slice_split (λ byte. byte == 10) text ≡ front ∷ slice_split (λ byte. byte == 10) later → events_from whole line (slice_split (λ byte. byte == 10) text) ≡ with_line line front (events_from whole (line + 1) (slice_split (λ byte. byte == 10) later))
+events_from-line whole line text front later parts =
+    let more = split_cons (λ byte. byte == 10) later in
+    rw parts (events_from-cons whole line front _ more.0 more.1 more.2)
+
+-- a last line of a whole text
+pub events_from-end : (whole : Bool) (line : ℕ) (text : List ℕ) → whole ≡ true → slice_split (λ byte. byte == 10) text ≡ text ∷ [] → events_from whole line (slice_split (λ byte. byte == 10) text) ≡ with_line line text (Ok [])
+unfolding events_from
+events_from-end whole line text w alone = rw (alone, w)
+
+-- the last line of a text that isn't whole
+pub events_from-cut : (whole : Bool) (line : ℕ) (text : List ℕ) → whole ≡ false → slice_split (λ byte. byte == 10) text ≡ text ∷ [] → events_from whole line (slice_split (λ byte. byte == 10) text) ≡ Err line
+unfolding events_from
+events_from-cut whole line text w alone = rw (alone, w)
+
+put_before-nil : (reading : Reading) → put_before [] reading ≡ reading
+put_before-nil (Ok later) = refl
+put_before-nil (Err line) = refl
+
+-- before the first line nothing is read
+pub script_of-begins : (lines : List ℕ) (events : List Event) (whole : Bool) (text : List ℕ) → lines ≡ [] → put_before (zip lines (map shown events)) (events_from whole 1 (slice_split (λ byte. byte == 10) text)) ≡ script_of whole text
+unfolding script_of
+script_of-begins lines events whole text none = rw none (put_before-nil (events_from whole 1 (slice_split (λ byte. byte == 10) text)))
+
+-- where no element passes before the end
+split_none : (text : List ℕ) → length text ≤ position_or_len (λ byte. byte == 10) text → slice_split (λ byte. byte == 10) text ≡ text ∷ []
+split_none text h = slice_split_none (λ byte. byte == 10) text (λ k d l. fails_before_first (λ byte. byte == 10) text k d (omega arith))
+
+pub first_line-none : (text : List ℕ) (r : Option ℕ) → r ≡ position (λ byte. byte == 10) text → r ≡ None → slice_split (λ byte. byte == 10) text ≡ text ∷ []
+first_line-none text r at none = by (nat_lt (position_or_len (λ byte. byte == 10) text) (length text)) refl (sym at ∙ none)
+  where
+    by : (b : Bool) → nat_lt (position_or_len (λ byte. byte == 10) text) (length text) ≡ b → cond b (Some (position_or_len (λ byte. byte == 10) text)) None ≡ None → slice_split (λ byte. byte == 10) text ≡ text ∷ []
+    by true t e = absurd (cc)
+    by false t e = split_none text (grind (arith, nat_tests))
+
+pub first_line-some : (text : List ℕ) (r : Option ℕ) (end : ℕ) → r ≡ position (λ byte. byte == 10) text → r ≡ Some end → (end < length text) × (slice_split (λ byte. byte == 10) text ≡ take end text ∷ slice_split (λ byte. byte == 10) (drop (end + 1) text))
+first_line-some text r end at found = by (nat_lt (position_or_len (λ byte. byte == 10) text) (length text)) refl (sym at ∙ found)
+  where
+    by : (b : Bool) → nat_lt (position_or_len (λ byte. byte == 10) text) (length text) ≡ b → cond b (Some (position_or_len (λ byte. byte == 10) text)) None ≡ Some end → (end < length text) × (slice_split (λ byte. byte == 10) text ≡ take end text ∷ slice_split (λ byte. byte == 10) (drop (end + 1) text))
+    by true t e =
+        let place : position_or_len (λ byte. byte == 10) text ≡ end = cc in
+        let within : position_or_len (λ byte. byte == 10) text < length text = grind (arith, nat_tests) in
+        (omega arith, rw place at (slice_split_first (λ byte. byte == 10) text 0 within))
+    by false t e = absurd (cc)
+
+pub OnOk-then : {T E : Type 0} (P Q : Type 0) (r : Result T E) → (P → Q) → OnOk r P → OnOk r Q
+OnOk-then P Q (Ok x) f h = f h
+OnOk-then P Q (Err e) f h = h
+
+-- the events of a script by their places
+pub entry-none_left : (lines : List ℕ) (events : List Event) (i : ℕ) → length lines ≤ i → slice_get (zip lines (map shown events)) i ≡ None
+entry-none_left [] events i h = refl
+entry-none_left (l ∷ lines) [] i h = refl
+entry-none_left (l ∷ lines) (e ∷ events) zero h = absurd (omega arith)
+entry-none_left (l ∷ lines) (e ∷ events) (suc i) h = entry-none_left lines events i (omega arith)
+
+pub entry-none_right : (lines : List ℕ) (events : List Event) (i : ℕ) → length events ≤ i → slice_get (zip lines (map shown events)) i ≡ None
+entry-none_right [] events i h = refl
+entry-none_right (l ∷ lines) [] i h = refl
+entry-none_right (l ∷ lines) (e ∷ events) zero h = absurd (omega arith)
+entry-none_right (l ∷ lines) (e ∷ events) (suc i) h = entry-none_right lines events i (omega arith)
+
+pub entry-some : (lines : List ℕ) (events : List Event) (i line : ℕ) (event : Event) → i < length lines → i < length events → HoldsAt (λ l. line ≡ l) lines i → HoldsAt (λ e. event ≡ e) events i → slice_get (zip lines (map shown events)) i ≡ Some (line, shown event)
+entry-some [] events i line event h k a b = absurd (omega arith)
+entry-some (l ∷ lines) [] i line event h k a b = absurd (omega arith)
+entry-some (l ∷ lines) (e ∷ events) zero line event h k a b = rw (a l, b e)
+entry-some (l ∷ lines) (e ∷ events) (suc i) line event h k a b = entry-some lines events i line event (omega arith) (omega arith) a b
+
+put_before-ok : (xs zs : List (ℕ × Entry)) (reading : Reading) → put_before xs reading ≡ Ok zs → (ys : List (ℕ × Entry)) × (reading ≡ Ok ys)
+put_before-ok xs zs (Ok ys) e = (ys, refl)
+put_before-ok xs zs (Err line) e = absurd (cc)
+
+with_event-ok : (line : ℕ) (event : Option Entry) (later : Reading) (zs : List (ℕ × Entry)) → with_event line event later ≡ Ok zs → (ys : List (ℕ × Entry)) × (later ≡ Ok ys)
+with_event-ok line None later zs e = absurd (cc)
+with_event-ok line (Some event) later zs e = put_before-ok ((line, event) ∷ []) zs later e
+
+cond_event-ok : (b : Bool) (line : ℕ) (event : Option Entry) (later : Reading) (zs : List (ℕ × Entry)) → cond b later (with_event line event later) ≡ Ok zs → (ys : List (ℕ × Entry)) × (later ≡ Ok ys)
+cond_event-ok true line event later zs e = (zs, e)
+cond_event-ok false line event later zs e = with_event-ok line event later zs e
+
+-- the last line of a text that isn't whole is never read
+never_read : (line : ℕ) (first : List ℕ) (others : List (List ℕ)) (zs : List (ℕ × Entry)) → events_from false line (first ∷ others) ≡ Ok zs → ⊥
+unfolding events_from
+never_read line first [] zs e = cc
+never_read line first (next ∷ later) zs e =
+    let read = cond_event-ok (is_passed_over first) line (event_of first) (events_from false (line + 1) (next ∷ later)) zs e in
+    never_read (line + 1) next later read.0 read.1
+
+cut_unread : (text : List ℕ) (zs : List (ℕ × Entry)) → script_of false text ≡ Ok zs → ⊥
+unfolding script_of
+cut_unread text zs e =
+    let lines = split_cons (λ byte. byte == 10) text in
+    never_read 1 lines.0 lines.1 zs (rw lines.2 at e)
+
+pub reads : (old new : Option (List ℕ)) (whole : Bool) (text : List ℕ) (r : Result Script ScriptFault) → HasGiven old new whole text → IfOk r (λ script. script_of whole text ≡ Ok (numbered script)) → IfOk r (λ script. ReadsScript old new (numbered script))
+reads old new true text (Ok script) given read = (text, given, read)
+reads old new false text (Ok script) given read = absurd (cut_unread text (numbered script) read)
+reads old new whole text (Err fault) given read = tt

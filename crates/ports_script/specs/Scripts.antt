@@ -1,0 +1,63 @@
+-- Scripts: events, one a line. Empty lines and lines that begin with `#` are passed over, but counted.
+use Rattle.std.specs.Prelude.{◌≡◌, ℕ, ◌+◌, Bool, true, IsTrue, ◌||◌, ◌==◌, List, [], ◌∷◌, ◌++◌, length, map, zip, slice_index, Option, Some, None, Result, Ok, Err, if◌then◌else◌}
+use Rattle.std.specs.List.{slice_split}
+use Rattle.std.specs.Io.KnownBytes.{Consumes, IsAtEnd}
+use Rattle.ports_script.specs.declared.script.Script.{Script}
+use Rattle.ports_script.specs.declared.script.ScriptFault.{ScriptFault}
+use Rattle.ports_script.specs.declared.script.ScriptFault.TheVariants.{BadEvent, Memory}
+use Rattle.ports_script.specs.Entries.{Entry, event_of, shown}
+
+-- events, each with its line; or a line that is in no form of a script
+abbrev pub Reading : Type 0
+Reading = Result (List (ℕ × Entry)) ℕ
+
+-- the line is empty or a comment
+abbrev pub is_passed_over : List ℕ → Bool
+is_passed_over text = (length text == 0) || (slice_index text 0 == 35)
+
+-- events in front of those of the later lines
+abbrev pub put_before : List (ℕ × Entry) → Reading → Reading
+put_before events (Ok later) = Ok (events ++ later)
+put_before events (Err line) = Err line
+
+-- a line's event in front of those of the later lines
+abbrev pub with_event : ℕ → Option Entry → Reading → Reading
+with_event line None later = Err line
+with_event line (Some event) later = put_before ((line, event) ∷ []) later
+
+-- what a line gives, in front of the later lines
+abbrev pub with_line : ℕ → List ℕ → Reading → Reading
+with_line line text later = if is_passed_over text then later else with_event line (event_of text) later
+
+-- the events of lines that are counted from a number on, or the first bad line; where the text isn't whole its
+-- last line is a bad one
+unfoldable pub events_from : Bool → ℕ → List (List ℕ) → Reading
+events_from whole line [] = Ok []
+events_from whole line (text ∷ []) = if whole then with_line line text (Ok []) else Err line
+events_from whole line (text ∷ next ∷ later) = with_line line text (events_from whole (line + 1) (next ∷ later))
+
+-- the events of a text, whose lines are cut at line feeds and counted from 1
+unfoldable pub script_of : Bool → List ℕ → Reading
+script_of whole text = events_from whole 1 (slice_split (λ byte. byte == 10) text)
+
+-- the events of a script that was read, each with its line
+abbrev pub numbered : Script → List (ℕ × Entry)
+numbered script = zip script.lines.items (map shown script.events.items)
+
+-- the fault that a reading gives
+abbrev pub IsFaultOf : Reading → ScriptFault → Type 0
+IsFaultOf reading (BadEvent line) = reading ≡ Err line
+IsFaultOf reading Memory = Unit {0}
+
+-- an input has given these bytes, and all that it had where they are whole
+abbrev pub HasGiven : Option (List ℕ) → Option (List ℕ) → Bool → List ℕ → Type 0
+HasGiven old new whole text = Consumes old new text × (IsTrue whole → IsAtEnd new)
+
+-- an input is read to its end, and these are the events of its bytes, each with its line
+abbrev pub ReadsScript : Option (List ℕ) → Option (List ℕ) → List (ℕ × Entry) → Type 0
+ReadsScript old new entries = (text : List ℕ) × HasGiven old new true text × (script_of true text ≡ Ok entries)
+
+-- an input isn't read: its bytes, which aren't whole where a read failed, have a bad line, or there is no memory
+abbrev pub FailsToRead : Option (List ℕ) → Option (List ℕ) → ScriptFault → Type 0
+FailsToRead old new fault =
+    (whole : Bool) × (text : List ℕ) × HasGiven old new whole text × IsFaultOf (script_of whole text) fault

@@ -1,0 +1,145 @@
+//! One line of a script.
+ghost use Rattle.std.specs.Prelude.{◌≡◌, ◌<◌, IfOk, IfSome, MatchOption, option_map};
+ghost use Rattle.ports_script.specs.Escapes.{unescaped, first_meant, escape_of, hex_escape, hex_value};
+ghost use Rattle.ports_script.specs.Numerals.{number_of};
+ghost use Rattle.ports_script.specs.Entries.{Turn, shown, event_of, at_blank, piece_of, wrote_of, worded};
+
+use crate::numerals::read_number;
+use ports_core::Event;
+use std::alloc::{AllocError, Global};
+
+/// The event that a line of a script writes; none for a line in no form of a script. The error: there
+/// was no memory for the bytes of a piece.
+pub fn read_event(alloc: Global, line: &[u8]) -> Result<Option<Event>, AllocError>
+    ensures { IfOk result (λ event. option_map shown event ≡ event_of line.now) }
+{
+    if !line.iter().all(|byte| matches!(byte, b' '..=b'~')) {
+        return Ok(None);
+    }
+    let Ok(text) = str::from_utf8(line) else {
+        return Ok(None);
+    };
+    let Some((word, rest)) = text.split_once(' ') else {
+        return Ok(None);
+    };
+    read_worded(alloc, word, rest)
+}
+
+/// The event that a word and what stands behind it write.
+fn read_worded(alloc: Global, word: &str, rest: &str) -> Result<Option<Event>, AllocError>
+    ensures { IfOk result (λ event. option_map shown event ≡ worded word.now rest.now) }
+{
+    match word {
+        "open" => Ok(read_number(rest).map(Event::Open)),
+        "piece" => read_piece(alloc, rest),
+        "end" => Ok(read_number(rest).map(Event::End)),
+        "fault" => Ok(read_number(rest).map(Event::Fault)),
+        "wrote" => Ok(read_wrote(rest)),
+        "turn" => Ok(read_turn(rest)),
+        _ => Ok(None),
+    }
+}
+
+/// `C TEXT`: bytes that came on a connection.
+fn read_piece(alloc: Global, text: &str) -> Result<Option<Event>, AllocError>
+    ensures { IfOk result (λ event. option_map shown event ≡ at_blank piece_of text.now) }
+{
+    let Some((conn, bytes)) = text.split_once(' ') else {
+        return Ok(None);
+    };
+    let Some(conn) = read_number(conn) else {
+        return Ok(None);
+    };
+    match unescape(alloc, bytes.as_bytes())? {
+        Some(bytes) => Ok(Some(Event::Piece(conn, bytes))),
+        None => Ok(None),
+    }
+}
+
+/// `C N` or `C all`: bytes of a connection that were written.
+fn read_wrote(text: &str) -> Option<Event>
+    ensures { option_map shown result ≡ at_blank wrote_of text.now }
+{
+    let (conn, count) = text.split_once(' ')?;
+    let conn = read_number(conn)?;
+    if count == "all" {
+        return Some(Event::Wrote(conn, None));
+    }
+    let count = read_number(count)?;
+    Some(Event::Wrote(conn, Some(count as usize)))
+}
+
+/// `T`: a turn of a tenant.
+fn read_turn(text: &str) -> Option<Event>
+    ensures { option_map shown result ≡ option_map Turn (number_of text.now) }
+{
+    let tenant = read_number(text)?;
+    Some(Event::Turn(tenant as usize))
+}
+
+/// The bytes that an escaped text stands for: `\r`, `\n`, `\t`, `\\`, and `\xhh` with two hexadecimal
+/// digits of either case; none where a backslash begins nothing of these.
+fn unescape(alloc: Global, text: &[u8]) -> Result<Option<Vec<u8>>, AllocError>
+    ensures { IfOk result (λ bytes. option_map (λ b. b.items) bytes ≡ unescaped text.now) }
+{
+    let mut bytes = Vec::with_capacity(alloc, text.len())?;
+    let mut rest = text;
+    while let [first, behind @ ..] = rest {
+        let Some((byte, left)) = read_first(*first, behind) else {
+            return Ok(None);
+        };
+        bytes.push(byte)?;
+        rest = left;
+    }
+    Ok(Some(bytes))
+}
+
+/// The first byte that a text stands for, and what is left of the text behind it.
+fn read_first(first: u8, behind: &[u8]) -> Option<(u8, &[u8])>
+    ensures { MatchOption result (first_meant first behind.now ≡ None) (λ r. first_meant first behind.now ≡ Some (r.0, r.1.now)) }
+{
+    if first == b'\\' {
+        read_escape(behind)
+    } else {
+        Some((first, behind))
+    }
+}
+
+/// The byte that what stands behind a backslash means, and what is left of the text.
+fn read_escape(text: &[u8]) -> Option<(u8, &[u8])>
+    ensures { MatchOption result (escape_of text.now ≡ None) (λ r. escape_of text.now ≡ Some (r.0, r.1.now)) }
+{
+    match text {
+        [b'r', rest @ ..] => Some((b'\r', rest)),
+        [b'n', rest @ ..] => Some((b'\n', rest)),
+        [b't', rest @ ..] => Some((b'\t', rest)),
+        [b'\\', rest @ ..] => Some((b'\\', rest)),
+        [b'x', rest @ ..] => read_hex(rest),
+        _ => None,
+    }
+}
+
+/// The byte that two hexadecimal digits write, and what is left of the text.
+fn read_hex(text: &[u8]) -> Option<(u8, &[u8])>
+    ensures { MatchOption result (hex_escape text.now ≡ None) (λ r. hex_escape text.now ≡ Some (r.0, r.1.now)) }
+{
+    let [high, low, rest @ ..] = text else {
+        return None;
+    };
+    let high = hex_value(*high)?;
+    let low = hex_value(*low)?;
+    Some((high * 16 + low, rest))
+}
+
+/// What a hexadecimal digit of either case is worth.
+fn hex_value(digit: u8) -> Option<u8>
+    ensures value { result ≡ hex_value digit }
+    ensures small { IfSome result (λ value. value < 16) }
+{
+    match digit {
+        b'0'..=b'9' => Some(digit - b'0'),
+        b'a'..=b'f' => Some(digit - b'a' + 10),
+        b'A'..=b'F' => Some(digit - b'A' + 10),
+        _ => None,
+    }
+}

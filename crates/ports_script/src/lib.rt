@@ -1,0 +1,15 @@
+//! Scripts of events: read, run over the service, and what is told and sent printed. The program's
+//! command line says for which tenants.
+#![tactic(auto)]
+
+mod command_line;
+mod entries;
+mod numerals;
+mod printing;
+mod running;
+mod script;
+#[cfg(test)]
+mod tests;
+
+pub use running::run_script;
+pub use script::{Script, ScriptFault, read_script};

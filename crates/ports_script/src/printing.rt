@@ -1,0 +1,141 @@
+//! What a run prints.
+ghost use Rattle.std.specs.Prelude.{◌≡◌, ◌++◌, IfOk, OnOk, string_bytes};
+ghost use Rattle.ports_script.specs.Escapes.{escape, escaped, hex_text};
+ghost use Rattle.ports_script.specs.Entries.{shown};
+ghost use Rattle.ports_script.specs.Scripts.{numbered};
+ghost use Rattle.ports_script.specs.Printing.{sent_line, sent_bytes, told_line, refused_line, closed_line, refused_word, status_number, printed, transcript};
+
+use crate::script::Script;
+use ports_core::{Event, Refused, Step, Tell};
+use ports_http::Status;
+use std::alloc::{AllocError, Global};
+use std::fmt::Write;
+
+/// The lines that a run prints: for each event, in this order, what it sent, told, refused and closed,
+/// each behind the number of the event's line. There is nothing for events that have no step. The
+/// error: there was no memory for the text.
+pub fn transcript_text(alloc: Global, script: &Script, steps: &[Step]) -> Result<String, AllocError>
+    ensures { IfOk result (λ text. string_bytes text ≡ transcript (numbered script.now) steps.now) }
+{
+    let mut text = String::new(alloc);
+    for (index, step) in steps.iter().enumerate() {
+        if let Some((line, event)) = script.entry(index) {
+            push_step(&mut text, line, event, step)?;
+        }
+    }
+    Ok(text)
+}
+
+/// Everything that is printed of one event.
+fn push_step(text: &mut String, line: u64, event: &Event, step: &Step) -> Result<(), AllocError>
+    ensures { OnOk result (string_bytes text.new ≡ string_bytes text.old ++ printed line (shown event.now) step.now) }
+{
+    let told = &step.told;
+    push_sent(text, line, event, step.sent.as_slice())?;
+    push_told(text, line, &told.reply)?;
+    push_refused(text, line, told.refused)?;
+    push_closed(text, line, told.closed)
+}
+
+/// The bytes that a Wrote took off its connection, where there are some.
+fn push_sent(text: &mut String, line: u64, event: &Event, bytes: &[u8]) -> Result<(), AllocError>
+    ensures { OnOk result (string_bytes text.new ≡ string_bytes text.old ++ sent_line line (shown event.now) bytes.now) }
+{
+    let Event::Wrote(conn, _) = event else {
+        return Ok(());
+    };
+    if bytes.is_empty() {
+        return Ok(());
+    }
+    write!(text, "{line} sent {conn} ")?;
+    push_escaped(text, bytes)?;
+    text.push_str("\n")
+}
+
+/// A reply, where there is one: its tenant, its connection and the number of its status.
+fn push_told(text: &mut String, line: u64, reply: &Option<Tell>) -> Result<(), AllocError>
+    ensures { OnOk result (string_bytes text.new ≡ string_bytes text.old ++ told_line line reply.now) }
+{
+    let Some(tell) = reply else {
+        return Ok(());
+    };
+    let conn = tell.conn;
+    let reply = &tell.reply;
+    let status = status_number(reply.status);
+    match tell.tenant {
+        Some(tenant) => writeln!(text, "{line} told {tenant} {conn} {status}"),
+        None => writeln!(text, "{line} told - {conn} {status}"),
+    }
+}
+
+/// The number of a status, as `200` of `200 OK`.
+fn status_number(status: Status) -> &'static str
+    ensures { result.now ≡ status_number status }
+{
+    let text = status.as_str();
+    match text.split_once(' ') {
+        Some((number, _)) => number,
+        None => text,
+    }
+}
+
+/// A connection that wasn't opened, where there is one.
+fn push_refused(text: &mut String, line: u64, refused: Option<Refused>) -> Result<(), AllocError>
+    ensures { OnOk result (string_bytes text.new ≡ string_bytes text.old ++ refused_line line refused) }
+{
+    let Some(refused) = refused else {
+        return Ok(());
+    };
+    let why = refused_word(refused);
+    writeln!(text, "{line} refused {why}")
+}
+
+fn refused_word(refused: Refused) -> &'static str
+    ensures { result.now ≡ refused_word refused }
+{
+    match refused {
+        Refused::Connections => "connections",
+        Refused::Memory => "memory",
+    }
+}
+
+/// The connection that closed, where there is one.
+fn push_closed(text: &mut String, line: u64, closed: Option<u64>) -> Result<(), AllocError>
+    ensures { OnOk result (string_bytes text.new ≡ string_bytes text.old ++ closed_line line closed) }
+{
+    let Some(conn) = closed else {
+        return Ok(());
+    };
+    writeln!(text, "{line} closed {conn}")
+}
+
+/// Bytes as a script writes them.
+fn push_escaped(text: &mut String, bytes: &[u8]) -> Result<(), AllocError>
+    ensures { OnOk result (string_bytes text.new ≡ string_bytes text.old ++ escaped bytes.now) }
+{
+    for byte in bytes {
+        push_escape(text, *byte)?;
+    }
+    Ok(())
+}
+
+/// A byte from 32 to 126 as it is but for the backslash, another one as an escape.
+fn push_escape(text: &mut String, byte: u8) -> Result<(), AllocError>
+    ensures { OnOk result (string_bytes text.new ≡ string_bytes text.old ++ escape byte) }
+{
+    match byte {
+        b'\\' => text.push_str("\\\\"),
+        b'\r' => text.push_str("\\r"),
+        b'\n' => text.push_str("\\n"),
+        b'\t' => text.push_str("\\t"),
+        b' '..=b'~' => text.push(byte as char),
+        other => push_hex(text, other),
+    }
+}
+
+/// A byte by its two hexadecimal digits.
+fn push_hex(text: &mut String, byte: u8) -> Result<(), AllocError>
+    ensures { OnOk result (string_bytes text.new ≡ string_bytes text.old ++ hex_text byte) }
+{
+    write!(text, "\\x{byte:02x}")
+}

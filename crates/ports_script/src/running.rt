@@ -1,0 +1,169 @@
+//! One run of the program.
+ghost use Rattle.std.specs.Prelude.{◌≡◌, ◌≤◌, OnOk, IfErr};
+ghost use Rattle.std.specs.Io.KnownBytes.{Appends};
+ghost use Rattle.ports_script.specs.declared.running.Failure.TheVariants as failures;
+ghost use Rattle.ports_script.specs.Scripts.{numbered};
+ghost use Rattle.ports_script.specs.Printing.{transcript};
+ghost use Rattle.ports_script.specs.Running.{failure_status, script_failure, new_failure, Completes, Ends, FailsToPrint};
+
+use crate::command_line::read_config;
+use crate::printing::transcript_text;
+use crate::script::{Script, ScriptFault, read_script};
+use clap::error::ErrorKind;
+use ports_core::{Config, NewFault, ReplayFault, Step, replay};
+use std::alloc::{AllocError, Global};
+use std::io::{Read, Write};
+
+/// The exit status of a run that went well.
+const DONE: u8 = 0;
+
+/// The exit status where something outside failed.
+const FAILED: u8 = 1;
+
+/// The exit status where what was asked can't be done.
+const REFUSED: u8 = 2;
+
+/// Why a run ended early.
+#[derive(Clone, Copy, Debug)]
+enum Failure {
+    BadKey,
+    BadEvent(u64),
+    NotAllowed(u64),
+    CannotWrite,
+    StoreFailed,
+    OutOfMemory,
+}
+
+impl Failure {
+    fn status(self) -> u8
+        ensures { result ≡ failure_status self }
+    {
+        match self {
+            Failure::BadKey | Failure::BadEvent(_) | Failure::NotAllowed(_) => REFUSED,
+            Failure::CannotWrite | Failure::StoreFailed | Failure::OutOfMemory => FAILED,
+        }
+    }
+}
+
+impl From<AllocError> for Failure {
+    ghost from_gives = { λ _ failure. failure ≡ failures.OutOfMemory };
+
+    fn from(_error: AllocError) -> Failure {
+        Failure::OutOfMemory
+    }
+}
+
+impl From<ScriptFault> for Failure {
+    ghost from_gives = { λ fault failure. failure ≡ script_failure fault };
+
+    fn from(fault: ScriptFault) -> Failure {
+        match fault {
+            ScriptFault::BadEvent(line) => Failure::BadEvent(line),
+            ScriptFault::Memory => Failure::OutOfMemory,
+        }
+    }
+}
+
+impl From<NewFault> for Failure {
+    ghost from_gives = { λ fault failure. failure ≡ new_failure fault };
+
+    fn from(fault: NewFault) -> Failure {
+        match fault {
+            NewFault::Config => Failure::BadKey,
+            NewFault::Store => Failure::StoreFailed,
+            NewFault::Memory => Failure::OutOfMemory,
+        }
+    }
+}
+
+/// Runs the program: the words of its command line, the first being its name, and a reader for the
+/// script. What the run prints goes to `out`, and the texts of faults to `err`. Gives the exit
+/// status: 0; 1 where memory, the store or the output failed; 2 for a fault of usage, of a key, or of
+/// the script.
+///
+/// Faults are found in this order: usage, keys, the script, the start of the service, the run. An
+/// event that isn't allowed stops the run, after what the earlier ones printed.
+pub fn run_script<R: Read, O: Write, E: Write>(
+    alloc: Global,
+    words: &[String],
+    reader: &mut R,
+    out: &mut O,
+    err: &mut E,
+) -> u8
+    ensures { result ≤ 2 }
+{
+    match read_config(alloc, words) {
+        Ok(config) => match run(alloc, config, reader, out) {
+            Ok(()) => DONE,
+            Err(failure) => report(failure, err),
+        },
+        Err(error) if error.kind() == ErrorKind::OutOfMemory => report(Failure::OutOfMemory, err),
+        Err(error) if error.use_stderr() => {
+            let _ = write!(err, "{error}");
+            REFUSED
+        }
+        Err(error) => match write!(out, "{error}") {
+            Ok(()) => DONE,
+            Err(_) => report(Failure::CannotWrite, err),
+        },
+    }
+}
+
+/// Reads a script, runs it over a service that begins with the config, and prints what was told and
+/// sent; the failure that ends it early.
+fn run<R: Read, O: Write>(
+    alloc: Global,
+    config: Config,
+    reader: &mut R,
+    out: &mut O,
+) -> Result<(), Failure>
+    ensures done { OnOk result (Completes config (record { unread = R.remaining reader.old; left = R.remaining reader.new; held = O.contents out.old; holds = O.contents out.new })) }
+    ensures failed { IfErr result (Ends config (record { unread = R.remaining reader.old; left = R.remaining reader.new; held = O.contents out.old; holds = O.contents out.new })) }
+{
+    if !config.is_fit() {
+        return Err(Failure::BadKey);
+    }
+    let script = read_script(alloc, reader)?;
+    match replay(alloc, config, script.events.as_slice()) {
+        Ok(done) => print(alloc, &script, done.steps.as_slice(), out),
+        Err(ReplayFault::NotAllowed { index, done }) => {
+            print(alloc, &script, done.steps.as_slice(), out)?;
+            let line = script.lines.get(index).copied().unwrap_or(0);
+            Err(Failure::NotAllowed(line))
+        }
+        Err(ReplayFault::New(fault)) => Err(Failure::from(fault)),
+        Err(ReplayFault::Memory) => Err(Failure::OutOfMemory),
+    }
+}
+
+/// Prints what the steps told and sent.
+fn print<O: Write>(
+    alloc: Global,
+    script: &Script,
+    steps: &[Step],
+    out: &mut O,
+) -> Result<(), Failure>
+    ensures done { OnOk result (Appends (O.contents out.old) (O.contents out.new) (transcript (numbered script.now) steps.now)) }
+    ensures failed { IfErr result (FailsToPrint (O.contents out.old) (O.contents out.new)) }
+{
+    let text = transcript_text(alloc, script, steps)?;
+    match out.write_all(text.as_bytes()) {
+        Ok(()) => Ok(()),
+        Err(_) => Err(Failure::CannotWrite),
+    }
+}
+
+/// Tells the failure, and gives its status. Where that can't be written the status tells.
+fn report<E: Write>(failure: Failure, err: &mut E) -> u8
+    ensures { result ≡ failure_status failure }
+{
+    let _ = match failure {
+        Failure::BadKey => writeln!(err, "portsd: bad key"),
+        Failure::BadEvent(line) => writeln!(err, "portsd: line {line}: bad event"),
+        Failure::NotAllowed(line) => writeln!(err, "portsd: line {line}: event not allowed"),
+        Failure::CannotWrite => writeln!(err, "portsd: cannot write"),
+        Failure::StoreFailed => writeln!(err, "portsd: store failed"),
+        Failure::OutOfMemory => writeln!(err, "portsd: out of memory"),
+    };
+    failure.status()
+}

@@ -1,0 +1,136 @@
+//! Scripts of events.
+ghost use Rattle.std.specs.Prelude.{◌≡◌, ◌==◌, ◌<◌, [], ◌∷◌, ◌++◌, length, slice_get, option_map, MatchOption, IfSome, IfOk, IfErr, OnOk, vec_len};
+ghost use Rattle.std.specs.List.{slice_split};
+ghost use Rattle.ports_script.specs.declared.script.ScriptFault.TheVariants as faults;
+ghost use Rattle.ports_script.specs.Entries.{shown};
+ghost use Rattle.ports_script.specs.Scripts.{Reading, script_of, with_line, put_before, numbered, IsFaultOf, ReadsScript, FailsToRead};
+
+use crate::entries::read_event;
+use ports_core::Event;
+use std::alloc::{AllocError, AllocFailed, Global};
+use std::io::{ErrorKind, Read};
+
+/// Why a script wasn't read.
+#[derive(Clone, Copy, Debug, PartialEq, Eq)]
+pub enum ScriptFault {
+    /// This line, counted from 1, is in no form of a script, or couldn't be read.
+    BadEvent(u64),
+    /// There was no memory for the script.
+    Memory,
+}
+
+impl From<AllocError> for ScriptFault {
+    ghost from_gives = { λ _ fault. fault ≡ faults.Memory };
+
+    fn from(_error: AllocError) -> ScriptFault {
+        ScriptFault::Memory
+    }
+}
+
+impl<T: Drop> From<AllocFailed<T>> for ScriptFault {
+    ghost from_gives = { λ _ fault. fault ≡ faults.Memory };
+
+    fn from(_error: AllocFailed<T>) -> ScriptFault {
+        ScriptFault::Memory
+    }
+}
+
+/// The events of a script, and the line of each, counted from 1, at the same place of `lines`.
+#[derive(Drop)]
+pub struct Script {
+    pub lines: Vec<u64>,
+    pub events: Vec<Event>,
+}
+
+impl Script {
+    /// The event at that place of the script, behind its line; none where the script ends before it.
+    pub fn entry(&self, index: usize) -> Option<(u64, &Event)>
+        ensures { option_map (λ entry. (entry.0, shown entry.1.now)) result ≡ slice_get (numbered self.now) index }
+    {
+        let line = self.lines.get(index)?;
+        let event = self.events.get(index)?;
+        Some((*line, event))
+    }
+
+    /// Adds an event with its line. `Memory` is the only error.
+    fn push(&mut self, line: u64, event: Event) -> Result<(), ScriptFault>
+        requires { vec_len self.old.lines ≡ vec_len self.old.events }
+        ensures added { OnOk result (numbered self.new ≡ numbered self.old ++ (line, shown event) ∷ []) }
+        ensures paired { OnOk result (vec_len self.new.lines ≡ vec_len self.new.events) }
+        ensures err { IfErr result (λ fault. fault ≡ faults.Memory) }
+    {
+        self.lines.push(line)?;
+        self.events.push(event)?;
+        Ok(())
+    }
+}
+
+/// Reads a whole script: its events with their lines. Empty lines and lines that begin with `#` are
+/// passed over, but counted.
+///
+/// `BadEvent` is told of the first line that is in no form of a script. A read that fails makes the
+/// line that stood there a bad one. `Memory`: there was none for the bytes or for the events.
+pub fn read_script<R: Read>(alloc: Global, reader: &mut R) -> Result<Script, ScriptFault>
+    ensures ok { IfOk result (λ script. ReadsScript (R.remaining reader.old) (R.remaining reader.new) (numbered script)) }
+    ensures err { IfErr result (FailsToRead (R.remaining reader.old) (R.remaining reader.new)) }
+    ensures paired { IfOk result (λ script. vec_len script.lines ≡ vec_len script.events) }
+{
+    let mut text = Vec::new(alloc);
+    let whole = match reader.read_to_end(&mut text) {
+        Ok(_) => true,
+        Err(error) if error.kind() == ErrorKind::OutOfMemory => return Err(ScriptFault::Memory),
+        Err(_) => false,
+    };
+    read_lines(alloc, text.as_slice(), whole)
+}
+
+/// The events of a script's text. Where the text isn't whole its last line is a bad one.
+fn read_lines(alloc: Global, text: &[u8], whole: bool) -> Result<Script, ScriptFault>
+    ensures ok { IfOk result (λ script. script_of whole text.now ≡ Ok (numbered script)) }
+    ensures paired { IfOk result (λ script. vec_len script.lines ≡ vec_len script.events) }
+    ensures err { IfErr result (IsFaultOf (script_of whole text.now)) }
+{
+    let mut script = Script {
+        lines: Vec::new(alloc),
+        events: Vec::new(alloc),
+    };
+    let mut rest = text;
+    let mut line = 1;
+    while let Some((front, later)) = first_line(rest) {
+        push_line(alloc, &mut script, line, front)?;
+        rest = later;
+        line += 1;
+    }
+    if !whole {
+        return Err(ScriptFault::BadEvent(line));
+    }
+    push_line(alloc, &mut script, line, rest)?;
+    Ok(script)
+}
+
+/// The first line of a text, and the text behind the line feed that ends it; none where no line feed
+/// stands in the text.
+fn first_line(text: &[u8]) -> Option<(&[u8], &[u8])>
+    ensures lines { MatchOption result (slice_split (λ byte. byte == 10) text.now ≡ text.now ∷ [])
+        (λ parts. slice_split (λ byte. byte == 10) text.now ≡ parts.0.now ∷ slice_split (λ byte. byte == 10) parts.1.now) }
+    ensures shorter { IfSome result (λ parts. length parts.1.now < length text.now) }
+{
+    let end = text.iter().position(|byte| *byte == b'\n')?;
+    Some((&text[..end], &text[end + 1..]))
+}
+
+/// Adds the event of a line, unless the line is passed over.
+fn push_line(alloc: Global, script: &mut Script, line: u64, text: &[u8]) -> Result<(), ScriptFault>
+    requires { vec_len script.old.lines ≡ vec_len script.old.events }
+    ensures ok { OnOk result ((later : Reading) → put_before (numbered script.old) (with_line line text.now later) ≡ put_before (numbered script.new) later) }
+    ensures paired { OnOk result (vec_len script.new.lines ≡ vec_len script.new.events) }
+    ensures err { IfErr result (λ fault. (later : Reading) → IsFaultOf (with_line line text.now later) fault) }
+{
+    if text.is_empty() || text.starts_with(b"#") {
+        return Ok(());
+    }
+    match read_event(alloc, text)? {
+        Some(event) => script.push(line, event),
+        None => Err(ScriptFault::BadEvent(line)),
+    }
+}

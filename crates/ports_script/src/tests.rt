@@ -1,0 +1,80 @@
+//! What no script can say: inputs that fail, and steps that no run can be made to take.
+use crate::printing::transcript_text;
+use crate::script::{ScriptFault, read_script};
+use ports_core::{Event, Refused, Step, Tell, Told};
+use ports_http::Reply;
+use std::io::{self, ErrorKind, Read};
+use std::test::Fail;
+
+/// An input that gives at most five bytes at a read, and fails after so many reads.
+#[derive(Drop)]
+struct Failing<'a> {
+    rest: &'a [u8],
+    reads: u32,
+}
+
+impl Read for Failing<'_> {
+    fn read(&mut self, buf: &mut [u8]) -> io::Result<usize> {
+        if self.reads == 0 {
+            return Err(io::Error::from(ErrorKind::ConnectionReset));
+        }
+        self.reads -= 1;
+        let count = self.rest.len().min(buf.len()).min(5);
+        let (given, rest) = self.rest.split_at(count);
+        buf[..count].copy_from_slice(given);
+        self.rest = rest;
+        Ok(count)
+    }
+}
+
+#[test]
+fn tells_a_failed_read(rt: HostRuntime) -> Result<(), Fail> {
+    let alloc = rt.alloc();
+    for (reads, line) in [(0, 1), (1, 1), (2, 2), (3, 3), (4, 3)] {
+        let mut reader = Failing {
+            rest: b"end 1\nend 2\nend 3",
+            reads,
+        };
+        let fault = read_script(alloc, &mut reader).err();
+        assert!(rt; fault == Some(ScriptFault::BadEvent(line)), "at {reads}");
+    }
+    Ok(())
+}
+
+#[test]
+fn prints_every_byte_and_every_refusal(rt: HostRuntime) -> Result<(), Fail> {
+    let alloc = rt.alloc();
+    let script = read_script(
+        alloc,
+        &mut b"piece 0 a\\r\\n\\t\\\\\\x00\\xfF~\nwrote 0 all".as_slice(),
+    )?;
+    let mut steps = Vec::new(alloc);
+    if let Some((_, Event::Piece(_, bytes))) = script.entry(0) {
+        assert_eq!(rt; bytes.as_slice(), b"a\r\n\t\\\0\xff~".as_slice());
+        steps.push(step(Vec::new(alloc), Some(7)))?;
+        steps.push(step(Vec::from_slice(alloc, bytes.as_slice())?, None))?;
+    }
+    let text = transcript_text(alloc, &script, steps.as_slice())?;
+    let told = "told - 7 403";
+    let want = format!(in alloc;
+        "1 {told}\n1 refused memory\n1 closed 7\n2 sent 0 a\\r\\n\\t\\\\\\x00\\xff~\n2 {told}\n2 refused memory\n"
+    )?;
+    assert_eq!(rt; text.as_str(), want.as_str());
+    Ok(())
+}
+
+fn step(sent: Vec<u8>, closed: Option<u64>) -> Step {
+    let reply = Tell {
+        tenant: None,
+        conn: 7,
+        reply: Reply::unknown_key(),
+    };
+    let told = Told {
+        reply: Some(reply),
+        refused: Some(Refused::Memory),
+        closed,
+        units: 0,
+        checks: 0,
+    };
+    Step { told, sent }
+}

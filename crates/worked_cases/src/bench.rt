@@ -1,0 +1,145 @@
+//! The things that lines of a case set up and ask, and which call each line means.
+use crate::answer::{Answer, Trouble};
+use crate::evaluation::{self, MAKEFILE};
+use crate::line::as_text;
+use crate::{packages, service, texts};
+use mk_env::Env;
+use mk_files::{Content, MemoryFiles};
+use mk_paths::Name;
+use ports_http::Method;
+use std::alloc::Global;
+
+/// What lines without `=>` set up for those behind them.
+#[derive(Drop)]
+pub struct Bench {
+    alloc: Global,
+    variables: Env,
+    /// A copy of the variables, as they were when it was made.
+    copy: Env,
+    world: MemoryFiles,
+}
+
+impl Bench {
+    pub fn new(alloc: Global) -> Bench {
+        Bench {
+            alloc,
+            variables: Env::new(alloc),
+            copy: Env::new(alloc),
+            world: MemoryFiles::new(alloc),
+        }
+    }
+
+    /// Sets up what a line without `=>` says.
+    pub fn set_up(&mut self, call: &str, given: &[Vec<u8>]) -> Result<(), Trouble> {
+        match call {
+            "no variables" => self.variables = Env::new(self.alloc),
+            "copy" => self.copy = self.variables.copy()?,
+            "no files" => self.world = MemoryFiles::new(self.alloc),
+            "put" => evaluation::put(self.alloc, &mut self.world, given)?,
+            "makefile" => self.put_makefile(given)?,
+            _ => self.change_variables(call, given)?,
+        }
+        Ok(())
+    }
+
+    /// `makefile BYTES`
+    fn put_makefile(&mut self, given: &[Vec<u8>]) -> Result<(), Trouble> {
+        let [bytes] = given else {
+            return Err(Trouble::NoCase);
+        };
+        let Ok(name) = Name::read(self.alloc, MAKEFILE) else {
+            return Err(Trouble::Memory);
+        };
+        self.world
+            .put(name, Content::new(self.alloc, bytes.clone()?)?)?;
+        Ok(())
+    }
+
+    /// `set NAME TEXT`, `append NAME TEXT`, `default NAME TEXT`, `undef NAME`
+    fn change_variables(&mut self, call: &str, given: &[Vec<u8>]) -> Result<(), Trouble> {
+        match (call, given) {
+            ("set", [name, text]) => self.variables.set(as_text(name)?, as_text(text)?)?,
+            ("append", [name, text]) => self.variables.append(as_text(name)?, as_text(text)?)?,
+            ("default", [name, text]) => self.variables.default(as_text(name)?, as_text(text)?)?,
+            ("undef", [name]) => self.variables.undef(as_text(name)?),
+            _ => return Err(Trouble::NoCase),
+        }
+        Ok(())
+    }
+
+    /// What the call of a line gives.
+    pub fn answer(&mut self, call: &str, given: &[Vec<u8>]) -> Result<Answer, Trouble> {
+        let alloc = self.alloc;
+        match call {
+            "GET" => service::request(alloc, &mut self.world, Method::Get, given),
+            "PUT" => service::request(alloc, &mut self.world, Method::Put, given),
+            "DELETE" => service::request(alloc, &mut self.world, Method::Delete, given),
+            "stream" => service::stream(alloc, given),
+            "stream by bytes" => service::stream_by_bytes(alloc, given),
+            "reply file" => service::file_reply(alloc, given),
+            "reply method" => service::method_reply(alloc),
+            "reply head" => service::head_reply(alloc),
+            "reply key" => service::key_reply(alloc),
+            "reply store" => service::store_reply(alloc),
+            "run on" => service::run(alloc, given),
+            "after at" => service::after(alloc, given),
+            _ => self.answer_of_evaluation(call, given),
+        }
+    }
+
+    fn answer_of_evaluation(&mut self, call: &str, given: &[Vec<u8>]) -> Result<Answer, Trouble> {
+        let alloc = self.alloc;
+        match call {
+            "numbers of kinds" => evaluation::numbers_of_kinds(alloc),
+            "budget pays asks" => evaluation::budget(alloc, given),
+            "blame" => evaluation::blamed(alloc, given),
+            "expand" | "expand within" | "expand now" | "variable" => {
+                evaluation::expansion(alloc, &self.variables, call, given)
+            }
+            "get" => evaluation::text_of_variable(alloc, &self.variables, given),
+            "get from copy" => evaluation::text_of_variable(alloc, &self.copy, given),
+            "name" | "name under" => evaluation::name_of(alloc, given),
+            "search path" => evaluation::trees_of(alloc, given),
+            "standard search path" => evaluation::standard_trees(alloc),
+            "remove" => evaluation::remove(alloc, &mut self.world, given),
+            "read" => evaluation::read(alloc, &mut self.world, given),
+            "place of on" => evaluation::place(alloc, &mut self.world, given),
+            "cost" => evaluation::cost(alloc, &mut self.world),
+            "stored" => evaluation::stored(alloc, &mut self.world, given),
+            "value" => evaluation::value_of(alloc, &mut self.world, given),
+            _ => answer_of_text(alloc, call, given),
+        }
+    }
+}
+
+fn answer_of_text(alloc: Global, call: &str, given: &[Vec<u8>]) -> Result<Answer, Trouble> {
+    match call {
+        "lines" => texts::lines_of(alloc, given),
+        "words" => texts::words_of(alloc, given),
+        "trim" => texts::without_blanks(alloc, given, true),
+        "skip" => texts::without_blanks(alloc, given, false),
+        "blanks" => texts::blanks(alloc),
+        "pieces" => texts::pieces_of(alloc, given),
+        "number of pieces" => texts::number_of_pieces(alloc, given),
+        "glob" => texts::fits(alloc, given),
+        "modifiers of" => texts::modified(alloc, given),
+        "modifiers as read" => texts::modifiers_as_read(alloc, given),
+        "substitute in" => texts::substituted(alloc, given),
+        "line" => texts::kind_of_line(alloc, given),
+        "word" => texts::one_word(alloc, given),
+        _ => answer_of_packages(alloc, call, given),
+    }
+}
+
+fn answer_of_packages(alloc: Global, call: &str, given: &[Vec<u8>]) -> Result<Answer, Trouble> {
+    match call {
+        "path" => packages::canonical_path(alloc, given),
+        "parts of path" => packages::parts_of_path(alloc, given),
+        "same path" => packages::same_path(alloc, given),
+        "package name" => packages::package_name(alloc, given),
+        "version" => packages::version(alloc, given),
+        "version order" => packages::version_order(alloc, given),
+        "spec" => packages::spec(alloc, given),
+        _ => Err(Trouble::NoCase),
+    }
+}

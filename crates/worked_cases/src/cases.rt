@@ -1,0 +1,148 @@
+//! Cases, taken line by line.
+use crate::answer::{Answer, Trouble};
+use crate::bench::Bench;
+use crate::line::Line;
+use crate::service::run_program;
+use std::alloc::{AllocError, Global};
+
+/// The cases of an input, as far as they were taken.
+#[derive(Drop)]
+pub struct Cases {
+    alloc: Global,
+    bench: Bench,
+    script: Option<Script>,
+    /// The number of the line.
+    line: u64,
+    count: u64,
+    wrong: u64,
+}
+
+/// A case that is a whole script, as far as its lines were taken.
+#[derive(Drop)]
+struct Script {
+    words: String,
+    input: String,
+    /// What must be printed, once that begins.
+    printed: Option<String>,
+}
+
+impl Cases {
+    pub fn new(alloc: Global) -> Cases {
+        Cases {
+            alloc,
+            bench: Bench::new(alloc),
+            script: None,
+            line: 0,
+            count: 0,
+            wrong: 0,
+        }
+    }
+
+    /// How many cases there were.
+    pub fn count(&self) -> u64 {
+        self.count
+    }
+
+    /// How many of them differed.
+    pub fn wrong(&self) -> u64 {
+        self.wrong
+    }
+
+    /// Whether a script was begun and not ended.
+    pub fn is_open(&self) -> bool {
+        self.script.is_some()
+    }
+
+    /// Takes the next line; gives what is to be told of it, where its case differs or it is none. The
+    /// error: there was no memory.
+    pub fn take(&mut self, text: &str) -> Result<Option<String>, AllocError> {
+        self.line = self.line.saturating_add(1);
+        let told = match self.script.take() {
+            Some(script) => self.take_script(script, text),
+            None => self.take_line(text),
+        };
+        match told {
+            Ok(told) => Ok(told),
+            Err(Trouble::Memory) => Err(AllocError),
+            Err(Trouble::NoCase) => {
+                self.wrong = self.wrong.saturating_add(1);
+                let line = self.line;
+                Ok(Some(format!(in self.alloc; "line {line}: no case")?))
+            }
+        }
+    }
+
+    fn take_line(&mut self, text: &str) -> Result<Option<String>, Trouble> {
+        if text.is_empty() || text.starts_with('#') {
+            return Ok(None);
+        }
+        if let Some(words) = text.strip_prefix("script ") {
+            self.script = Some(Script {
+                words: String::from_str(self.alloc, words)?,
+                input: String::new(self.alloc),
+                printed: None,
+            });
+            return Ok(None);
+        }
+        let line = Line::read(self.alloc, text)?;
+        let given = line.given.as_slice();
+        let Some(wanted) = &line.wanted else {
+            self.bench.set_up(line.call.as_str(), given)?;
+            return Ok(None);
+        };
+        let answer = self.bench.answer(line.call.as_str(), given)?;
+        self.judge(answer.as_str(), wanted.as_str())
+    }
+
+    /// Takes a line of a script: of its input, or of what must be printed, or its end.
+    fn take_script(&mut self, mut script: Script, text: &str) -> Result<Option<String>, Trouble> {
+        match (&mut script.printed, text.starts_with("status ")) {
+            (Some(_), true) => return self.run(&script, text),
+            (Some(printed), false) => {
+                printed.push_str(text)?;
+                printed.push('\n')?;
+            }
+            (None, _) if text == "prints" => script.printed = Some(String::new(self.alloc)),
+            (None, _) => {
+                script.input.push_str(text)?;
+                script.input.push('\n')?;
+            }
+        }
+        self.script = Some(script);
+        Ok(None)
+    }
+
+    /// Runs a script whose last line is this one: `status N`, and `says TEXT` where the program says
+    /// something on standard error.
+    fn run(&mut self, script: &Script, last: &str) -> Result<Option<String>, Trouble> {
+        let ran = run_program(self.alloc, script.words.as_str(), script.input.as_bytes())?;
+        let mut told = Answer::new(self.alloc);
+        told.text(ran.printed.as_slice())?;
+        told.word("status")?;
+        told.number(u64::from(ran.status))?;
+        if !ran.said.is_empty() {
+            told.word("says")?;
+            told.text(ran.said.as_slice())?;
+        }
+        let mut wanted = Answer::new(self.alloc);
+        wanted.text(
+            script
+                .printed
+                .as_ref()
+                .map_or(b"", |printed| printed.as_bytes()),
+        )?;
+        wanted.word(last)?;
+        self.judge(told.as_str(), wanted.as_str())
+    }
+
+    /// Counts a case, and tells where it differs.
+    fn judge(&mut self, told: &str, wanted: &str) -> Result<Option<String>, Trouble> {
+        self.count = self.count.saturating_add(1);
+        if told == wanted {
+            return Ok(None);
+        }
+        self.wrong = self.wrong.saturating_add(1);
+        let line = self.line;
+        Ok(Some(format!(in self.alloc; "line {line}: {told}, not {wanted}")?))
+    }
+}

@@ -1,0 +1,342 @@
+//! The layers of evaluation: budgets, variables and expansion, names and worlds of files, makefiles.
+use crate::answer::{Answer, Trouble};
+use crate::line::{as_number, as_text};
+use mk_base::{Budget, Fault, FaultKind, Stop, UNITS};
+use mk_env::{Env, expand, expand_now, expand_variable};
+use mk_eval::{Evaluated, Failed, evaluate, value};
+use mk_files::{Content, Files, MemoryFiles, look};
+use mk_paths::{FilesFault, Name, NameFault, Names, PathFault, SearchPath, Settings, find};
+use std::alloc::Global;
+
+/// The file that `makefile`, `cost`, `value` and `stored` are about.
+pub const MAKEFILE: &str = "/a/b";
+
+/// `number of KIND`: the number by which replies name a kind of fault, with the kind's place.
+pub fn numbers_of_kinds(alloc: Global) -> Result<Answer, Trouble> {
+    let mut answer = Answer::new(alloc);
+    for kind in [
+        FaultKind::Line,
+        FaultKind::Block,
+        FaultKind::Condition,
+        FaultKind::For,
+        FaultKind::Include,
+        FaultKind::IncludeDepth,
+        FaultKind::Reference,
+        FaultKind::Modifier,
+        FaultKind::Recursive,
+        FaultKind::Depth,
+        FaultKind::Budget,
+        FaultKind::Length,
+        FaultKind::Shell,
+        FaultKind::Utf8,
+        FaultKind::Flavor,
+        FaultKind::NoName,
+        FaultKind::BadName,
+        FaultKind::Questions,
+    ] {
+        answer.word(format!(in alloc; "{kind:?}")?.as_str())?;
+        answer.number(u64::from(kind.number()))?;
+    }
+    Ok(answer)
+}
+
+/// `budget LIMIT pays N asks M`: pays so many units and asks so many questions, then tells the first
+/// fault of each, if any, and what was spent and asked.
+pub fn budget(alloc: Global, given: &[Vec<u8>]) -> Result<Answer, Trouble> {
+    let [limit, units, questions] = given else {
+        return Err(Trouble::NoCase);
+    };
+    let mut budget = Budget::new(as_number(limit)?);
+    let mut answer = Answer::new(alloc);
+    let mut fault = None;
+    for _ in 0..as_number(units)? {
+        fault = fault.or(budget.pay().err());
+    }
+    add_fault_kind(alloc, &mut answer, fault)?;
+    fault = None;
+    for _ in 0..as_number(questions)? {
+        fault = fault.or(budget.ask().err());
+    }
+    add_fault_kind(alloc, &mut answer, fault)?;
+    answer.number(budget.spent())?;
+    answer.number(budget.questions())?;
+    Ok(answer)
+}
+
+fn add_fault_kind(
+    alloc: Global,
+    answer: &mut Answer,
+    kind: Option<FaultKind>,
+) -> Result<(), Trouble> {
+    match kind {
+        Some(kind) => answer.word(format!(in alloc; "{kind:?}")?.as_str()),
+        None => answer.word("ok"),
+    }
+}
+
+/// `blame NAME LINE`: a fault that arose there, as it tells its kind, name and line.
+pub fn blamed(alloc: Global, given: &[Vec<u8>]) -> Result<Answer, Trouble> {
+    let [name, line] = given else {
+        return Err(Trouble::NoCase);
+    };
+    let stop = Stop::Fault(FaultKind::Reference);
+    match stop.blame(alloc, as_text(name)?, as_number(line)?) {
+        Stop::Fault(fault) => told_fault(alloc, &fault),
+        Stop::Store => Answer::of_word(alloc, "Store"),
+        Stop::Memory => Err(Trouble::Memory),
+    }
+}
+
+/// A fault as `KIND at NAME:LINE`.
+fn told_fault(alloc: Global, fault: &Fault) -> Result<Answer, Trouble> {
+    let kind = fault.kind();
+    let name = fault.name();
+    let line = fault.line();
+    Answer::of_word(
+        alloc,
+        format!(in alloc; "{kind:?} at {name}:{line}")?.as_str(),
+    )
+}
+
+/// `expand TEXT`, `expand now TEXT`, `variable NAME`: what one of these calls expands a text to, with
+/// the units spent; of a fault its kind. A number in front is the limit of the budget.
+pub fn expansion(
+    alloc: Global,
+    variables: &Env,
+    call: &str,
+    given: &[Vec<u8>],
+) -> Result<Answer, Trouble> {
+    let (limit, text) = match given {
+        [text] => (UNITS, text),
+        [limit, text] => (as_number(limit)?, text),
+        _ => return Err(Trouble::NoCase),
+    };
+    let text = as_text(text)?;
+    let mut budget = Budget::new(limit);
+    let outcome = match call {
+        "expand now" => expand_now(alloc, variables, text, &mut budget),
+        "variable" => expand_variable(alloc, variables, text, &mut budget),
+        _ => expand(alloc, variables, text, &mut budget),
+    };
+    let mut answer = match outcome {
+        Ok(text) => Answer::of_text(alloc, text.as_str())?,
+        Err(Stop::Fault(kind)) => Answer::of_word(alloc, format!(in alloc; "{kind:?}")?.as_str())?,
+        Err(Stop::Store) => Answer::of_word(alloc, "Store")?,
+        Err(Stop::Memory) => return Err(Trouble::Memory),
+    };
+    answer.number(budget.spent())?;
+    Ok(answer)
+}
+
+/// `get NAME`, `get from copy NAME`: the text of a variable, or `undefined`.
+pub fn text_of_variable(
+    alloc: Global,
+    variables: &Env,
+    given: &[Vec<u8>],
+) -> Result<Answer, Trouble> {
+    let [name] = given else {
+        return Err(Trouble::NoCase);
+    };
+    let name = as_text(name)?;
+    match variables.get(name) {
+        Some(text) if variables.defined(name) => Answer::of_text(alloc, text),
+        None if !variables.defined(name) => Answer::of_word(alloc, "undefined"),
+        _ => Answer::of_word(alloc, "both"),
+    }
+}
+
+/// `name TEXT`, `name under DIRECTORY TEXT`: the resolved name of a file, or why there is none.
+pub fn name_of(alloc: Global, given: &[Vec<u8>]) -> Result<Answer, Trouble> {
+    let read = match given {
+        [text] => Name::read(alloc, as_text(text)?),
+        [directory, text] => Name::under(alloc, as_text(directory)?, as_text(text)?),
+        _ => return Err(Trouble::NoCase),
+    };
+    match read {
+        Ok(name) => {
+            let mut answer = Answer::of_text(alloc, name.as_str())?;
+            if name.into_text().as_bytes().is_empty() {
+                answer.word("lost")?;
+            }
+            Ok(answer)
+        }
+        Err(NameFault::BadName) => Answer::of_word(alloc, "BadName"),
+        Err(NameFault::Above) => Answer::of_word(alloc, "Above"),
+        Err(NameFault::Memory) => Err(Trouble::Memory),
+    }
+}
+
+/// `search path TEXT`: its trees, or `BadPath`.
+pub fn trees_of(alloc: Global, given: &[Vec<u8>]) -> Result<Answer, Trouble> {
+    let [text] = given else {
+        return Err(Trouble::NoCase);
+    };
+    match SearchPath::read(alloc, as_text(text)?) {
+        Ok(path) => trees_told(alloc, &path),
+        Err(PathFault::BadPath) => Answer::of_word(alloc, "BadPath"),
+        Err(PathFault::Memory) => Err(Trouble::Memory),
+    }
+}
+
+/// `standard search path`
+pub fn standard_trees(alloc: Global) -> Result<Answer, Trouble> {
+    let settings = Settings {
+        path: SearchPath::standard(alloc)?,
+    };
+    trees_told(alloc, &settings.path)
+}
+
+fn trees_told(alloc: Global, path: &SearchPath) -> Result<Answer, Trouble> {
+    let mut answer = Answer::new(alloc);
+    for tree in path.trees() {
+        answer.text(tree.as_bytes())?;
+    }
+    Ok(answer)
+}
+
+/// A name that a case gives.
+fn given_name(alloc: Global, text: &[u8]) -> Result<Name, Trouble> {
+    Name::read(alloc, as_text(text)?).map_err(|fault| match fault {
+        NameFault::Memory => Trouble::Memory,
+        _ => Trouble::NoCase,
+    })
+}
+
+fn of_files(fault: FilesFault) -> Trouble {
+    match fault {
+        FilesFault::Store => Trouble::NoCase,
+        FilesFault::Memory => Trouble::Memory,
+    }
+}
+
+/// `put NAME BYTES`: stores a file.
+pub fn put(alloc: Global, world: &mut MemoryFiles, given: &[Vec<u8>]) -> Result<(), Trouble> {
+    let [name, bytes] = given else {
+        return Err(Trouble::NoCase);
+    };
+    let content = Content::new(alloc, bytes.clone()?)?;
+    world.put(given_name(alloc, name)?, content.share()?)?;
+    Ok(())
+}
+
+/// `remove NAME`: `removed` or `absent`.
+pub fn remove(
+    alloc: Global,
+    world: &mut MemoryFiles,
+    given: &[Vec<u8>],
+) -> Result<Answer, Trouble> {
+    let [name] = given else {
+        return Err(Trouble::NoCase);
+    };
+    let removed = world.remove(&given_name(alloc, name)?);
+    Answer::of_choice(alloc, removed, "removed", "absent")
+}
+
+/// `read NAME`: the bytes of a file, or `absent`; every way of asking tells the same.
+pub fn read(alloc: Global, world: &mut MemoryFiles, given: &[Vec<u8>]) -> Result<Answer, Trouble> {
+    let [name] = given else {
+        return Err(Trouble::NoCase);
+    };
+    let name = given_name(alloc, name)?;
+    let is_there = world.has(&name).map_err(of_files)?;
+    let is_held = world.get(&name).is_some();
+    let read = world.read(&name).map_err(of_files)?;
+    let seen = match look::<MemoryFiles, FaultKind>(world, &name) {
+        Ok(seen) => seen,
+        Err(_) => return Err(Trouble::Memory),
+    };
+    match (read, seen) {
+        (Some(read), Some(seen)) if is_there && is_held => {
+            let mut answer = Answer::new(alloc);
+            answer.text(read.as_slice())?;
+            if seen.as_slice() != read.as_slice() {
+                answer.text(seen.as_slice())?;
+            }
+            Ok(answer)
+        }
+        (None, None) if !is_there && !is_held => Answer::of_word(alloc, "absent"),
+        _ => Answer::of_word(alloc, "both"),
+    }
+}
+
+/// `place of DIRECTORY on PATH`: the makefile of a directory, or `none`.
+pub fn place(alloc: Global, world: &mut MemoryFiles, given: &[Vec<u8>]) -> Result<Answer, Trouble> {
+    let [directory, path] = given else {
+        return Err(Trouble::NoCase);
+    };
+    let Ok(path) = SearchPath::read(alloc, as_text(path)?) else {
+        return Err(Trouble::NoCase);
+    };
+    match find(alloc, world, &path, as_text(directory)?).map_err(of_files)? {
+        Some(name) => Answer::of_text(alloc, name.as_str()),
+        None => Answer::of_word(alloc, "none"),
+    }
+}
+
+/// `cost`: what the makefile costs, or its fault with what it cost until there.
+pub fn cost(alloc: Global, world: &mut MemoryFiles) -> Result<Answer, Trouble> {
+    match evaluated(alloc, world)? {
+        Ok(evaluated) => {
+            let mut answer = Answer::new(alloc);
+            answer.number(evaluated.cost)?;
+            Ok(answer)
+        }
+        Err(failed) => failure(alloc, &failed),
+    }
+}
+
+/// `stored NAME`: the text of a variable that the makefile leaves, unexpanded.
+pub fn stored(
+    alloc: Global,
+    world: &mut MemoryFiles,
+    given: &[Vec<u8>],
+) -> Result<Answer, Trouble> {
+    match evaluated(alloc, world)? {
+        Ok(evaluated) => text_of_variable(alloc, &evaluated.env, given),
+        Err(failed) => failure(alloc, &failed),
+    }
+}
+
+/// `value NAME`: the value of a variable behind the makefile, with its cost; `undefined`; or its
+/// fault, or the makefile's.
+pub fn value_of(
+    alloc: Global,
+    world: &mut MemoryFiles,
+    given: &[Vec<u8>],
+) -> Result<Answer, Trouble> {
+    let [variable] = given else {
+        return Err(Trouble::NoCase);
+    };
+    let evaluated = match evaluated(alloc, world)? {
+        Ok(evaluated) => evaluated,
+        Err(failed) => return failure(alloc, &failed),
+    };
+    let name = given_name(alloc, MAKEFILE.as_bytes())?;
+    match value(alloc, &evaluated, &name, as_text(variable)?) {
+        Ok(Some(valued)) => {
+            let mut answer = Answer::of_text(alloc, valued.text())?;
+            answer.word("cost")?;
+            answer.number(valued.cost())?;
+            Ok(answer)
+        }
+        Ok(None) => Answer::of_word(alloc, "undefined"),
+        Err(Stop::Fault(failed)) => failure(alloc, &failed),
+        Err(_) => Err(Trouble::Memory),
+    }
+}
+
+fn evaluated(alloc: Global, world: &mut MemoryFiles) -> Result<Result<Evaluated, Failed>, Trouble> {
+    let name = given_name(alloc, MAKEFILE.as_bytes())?;
+    match evaluate(alloc, world, &name) {
+        Ok(evaluated) => Ok(Ok(evaluated)),
+        Err(Stop::Fault(failed)) => Ok(Err(failed)),
+        Err(_) => Err(Trouble::Memory),
+    }
+}
+
+fn failure(alloc: Global, failed: &Failed) -> Result<Answer, Trouble> {
+    let mut answer = told_fault(alloc, &failed.fault)?;
+    answer.word("cost")?;
+    answer.number(failed.cost)?;
+    Ok(answer)
+}

@@ -1,0 +1,207 @@
+//! The layers of the service: streams, replies, requests over a tenant's files, whole runs.
+use crate::answer::{Answer, Trouble};
+use crate::line::{as_number, as_text};
+use mk_files::MemoryFiles;
+use ports_core::{Config, Transcript, replay};
+use ports_http::{
+    Content, HeadFault, Method, Reply, Status, StreamEnd, decode, write_fixed, write_reply,
+};
+use ports_plain::{Plain, Prepared, Refused};
+use ports_script::{read_script, run_script};
+use std::alloc::Global;
+
+/// `stream PIECE..`: the requests of a stream that comes in these pieces, each as its method, target
+/// and body, with `key` and its key, and `closes` where it does; then how the stream ends.
+pub fn stream(alloc: Global, given: &[Vec<u8>]) -> Result<Answer, Trouble> {
+    let decoded = decode(alloc, given)?;
+    let mut answer = Answer::new(alloc);
+    for request in &decoded.requests {
+        answer.word(request.method.as_str())?;
+        answer.text(request.target.as_bytes())?;
+        answer.text(request.body.as_slice())?;
+        if let Some(key) = &request.key {
+            answer.word("key")?;
+            answer.text(key.as_slice())?;
+        }
+        if request.close {
+            answer.word("closes")?;
+        }
+    }
+    match decoded.end {
+        StreamEnd::Waiting => answer.word("waiting")?,
+        StreamEnd::Closed => answer.word("closed")?,
+        StreamEnd::Refused(fault) => answer.word(format!(in alloc; "{fault:?}")?.as_str())?,
+    }
+    Ok(answer)
+}
+
+/// `stream by bytes TEXT`: the same, each byte being a piece.
+pub fn stream_by_bytes(alloc: Global, given: &[Vec<u8>]) -> Result<Answer, Trouble> {
+    let [text] = given else {
+        return Err(Trouble::NoCase);
+    };
+    let mut pieces = Vec::new(alloc);
+    for byte in text {
+        pieces.push(Vec::from_slice(alloc, &[*byte])?)?;
+    }
+    stream(alloc, pieces.as_slice())
+}
+
+/// `reply file BYTES`: the reply that gives a file.
+pub fn file_reply(alloc: Global, given: &[Vec<u8>]) -> Result<Answer, Trouble> {
+    let [bytes] = given else {
+        return Err(Trouble::NoCase);
+    };
+    let reply = Reply::of_bytes(Status::Success, Some(Content::Octets), bytes.clone()?);
+    bytes_told(alloc, write_reply(alloc, &reply, false)?.as_slice())
+}
+
+/// `reply method`: a 405 of a route that has every method, behind which the connection closes.
+pub fn method_reply(alloc: Global) -> Result<Answer, Trouble> {
+    let text = "{\"error\":\"Method\"}";
+    let reply = Reply::of_text(Status::MethodNotAllowed, Some(Content::Json), text).with_allow(&[
+        Method::Get,
+        Method::Put,
+        Method::Delete,
+    ]);
+    bytes_told(alloc, write_reply(alloc, &reply, true)?.as_slice())
+}
+
+/// `reply head`: a head that is too large.
+#[tactic(auto, unfolding(ports_http::specs::Limits::fixed_limit))]
+pub fn head_reply(alloc: Global) -> Result<Answer, Trouble> {
+    let mut out = Vec::with_capacity(alloc, 256)?;
+    write_fixed(&HeadFault::HeadTooLarge.reply(), true, &mut out);
+    bytes_told(alloc, out.as_slice())
+}
+
+/// `reply key`: a request without a known key.
+#[tactic(auto, unfolding(ports_http::specs::Limits::fixed_limit))]
+pub fn key_reply(alloc: Global) -> Result<Answer, Trouble> {
+    let mut out = Vec::with_capacity(alloc, 256)?;
+    write_fixed(&Reply::unknown_key(), false, &mut out);
+    bytes_told(alloc, out.as_slice())
+}
+
+/// `reply store`: a request for which there was no memory.
+#[tactic(auto, unfolding(ports_http::specs::Limits::fixed_limit))]
+pub fn store_reply(alloc: Global) -> Result<Answer, Trouble> {
+    let mut out = Vec::with_capacity(alloc, 256)?;
+    write_fixed(&Reply::store_failed(), false, &mut out);
+    bytes_told(alloc, out.as_slice())
+}
+
+fn bytes_told(alloc: Global, bytes: &[u8]) -> Result<Answer, Trouble> {
+    let mut answer = Answer::new(alloc);
+    answer.text(bytes)?;
+    Ok(answer)
+}
+
+/// `GET TARGET`, `PUT TARGET BODY`, `DELETE TARGET`: the status and the body of the plain reply over
+/// the files of the world, which a PUT changes.
+pub fn request(
+    alloc: Global,
+    world: &mut MemoryFiles,
+    method: Method,
+    given: &[Vec<u8>],
+) -> Result<Answer, Trouble> {
+    let (target, body) = match given {
+        [target] => (target, Vec::new(alloc)),
+        [target, body] => (target, body.clone()?),
+        _ => return Err(Trouble::NoCase),
+    };
+    let plain = Plain::new(alloc)?;
+    let Prepared { reply, write } = plain
+        .prepare(alloc, world, method, as_text(target)?, body)
+        .map_err(of_plain)?;
+    let mut answer = Answer::of_word(alloc, reply.status.as_str())?;
+    answer.text(reply.body())?;
+    if let Some(write) = write {
+        write.carry_out(world).map_err(of_plain)?;
+    }
+    Ok(answer)
+}
+
+fn of_plain(refused: Refused) -> Trouble {
+    match refused {
+        Refused::Store => Trouble::NoCase,
+        Refused::Memory => Trouble::Memory,
+    }
+}
+
+/// What a run of the program gave.
+#[derive(Drop)]
+pub struct Ran {
+    pub status: u8,
+    pub printed: Vec<u8>,
+    pub said: Vec<u8>,
+}
+
+/// Runs the program on an input, with the words of its command line behind its own name.
+pub fn run_program(alloc: Global, words: &str, input: &[u8]) -> Result<Ran, Trouble> {
+    let mut arguments = Vec::new(alloc);
+    arguments.push(String::from_str(alloc, "portsd")?)?;
+    for word in words.split(' ') {
+        if !word.is_empty() {
+            arguments.push(String::from_str(alloc, word)?)?;
+        }
+    }
+    let mut printed = Vec::new(alloc);
+    let mut said = Vec::new(alloc);
+    let mut reader = input;
+    let status = run_script(
+        alloc,
+        arguments.as_slice(),
+        &mut reader,
+        &mut printed,
+        &mut said,
+    );
+    Ok(Ran {
+        status,
+        printed,
+        said,
+    })
+}
+
+/// `run WORDS INPUT`: the status of the program, what it prints, and what it says on standard error.
+pub fn run(alloc: Global, given: &[Vec<u8>]) -> Result<Answer, Trouble> {
+    let [words, input] = given else {
+        return Err(Trouble::NoCase);
+    };
+    let ran = run_program(alloc, as_text(words)?, input)?;
+    let mut answer = Answer::of_word(alloc, "status")?;
+    answer.number(u64::from(ran.status))?;
+    answer.text(ran.printed.as_slice())?;
+    answer.text(ran.said.as_slice())?;
+    Ok(answer)
+}
+
+/// `after SCRIPT at CONN TENANT`: the service of one tenant with the key `alpha` behind a script: the
+/// number of the next connection, and of that connection the room and the pending bytes, and how many
+/// requests of the tenant wait.
+pub fn after(alloc: Global, given: &[Vec<u8>]) -> Result<Answer, Trouble> {
+    let [script, conn, tenant] = given else {
+        return Err(Trouble::NoCase);
+    };
+    let (conn, tenant) = (as_number(conn)?, as_number(tenant)?);
+    let mut input = script.as_slice();
+    let Ok(script) = read_script(alloc, &mut input) else {
+        return Err(Trouble::NoCase);
+    };
+    let mut keys = Vec::new(alloc);
+    keys.push(String::from_str(alloc, "alpha")?)?;
+    let config = Config {
+        keys,
+        parses: 1,
+        evals: 1,
+    };
+    let Ok(Transcript { service, .. }) = replay(alloc, config, script.events.as_slice()) else {
+        return Err(Trouble::NoCase);
+    };
+    let mut answer = Answer::new(alloc);
+    answer.number(service.next_conn())?;
+    answer.number(service.room(conn) as u64)?;
+    answer.text(service.pending(conn))?;
+    answer.number(service.waiting(tenant as usize) as u64)?;
+    Ok(answer)
+}
