@@ -4,3 +4,4 @@ mod EntryFacts
 mod ScriptFacts
 mod PrintFacts
 mod RunFacts
+mod WriteFacts

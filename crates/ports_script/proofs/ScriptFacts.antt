@@ -1,16 +1,19 @@
 -- What scripts hold.
-use Rattle.std.proofs.Common.{◌≡◌, ℕ, zero, suc, ◌+◌, ◌<◌, ◌≤◌, Bool, true, false, ◌==◌, cond, List, [], ◌∷◌, ◌++◌, length, take, drop, map, refl, sym, ap, ◌∙◌, arith, nat_lt, Option, Some, None, Result, Ok, Err, append_assoc}
+use Rattle.std.proofs.Common.{◌≡◌, ℕ, zero, suc, ◌+◌, ◌<◌, ◌≤◌, Bool, true, false, ◌==◌, cond, List, [], ◌∷◌, ◌++◌, length, take, drop, map, refl, sym, subst, ap, ◌∙◌, arith, nat_lt, Option, Some, None, Result, Ok, Err, append_assoc}
 use Rattle.std.specs.List.{zip, slice_split, onto_first, position, position_or_len, slice_get, HoldsAt}
-use Rattle.std.specs.Result.{OnOk, IfOk}
+use Rattle.std.specs.Result.{OnOk, OnErr, IfOk, IfErr}
+use Rattle.std.specs.Io.KnownBytes.{Consumes}
+use Rattle.std.proofs.KnownBytes.{Consumes-trans}
 use Rattle.std.proofs.lemmas.List.Sums.{fails_before_first}
 use Rattle.std.proofs.lemmas.List.Splits.{slice_split_first, slice_split_none}
+use Rattle.std.proofs.lemmas.Bool.{true≢false}
 use Rattle.std.proofs.lemmas.Bool.Decides.{nat_tests}
 use Rattle.ports_core.specs.declared.event.Event.{Event}
 use Rattle.ports_script.specs.declared.script.Script.{Script}
 use Rattle.ports_script.specs.declared.script.ScriptFault.{ScriptFault}
 use Rattle.ports_script.specs.declared.script.ScriptFault.TheVariants.{BadEvent, Memory}
 use Rattle.ports_script.specs.Entries.{Entry, shown, event_of}
-use Rattle.ports_script.specs.Scripts.{Reading, is_passed_over, put_before, with_event, with_line, events_from, script_of, numbered, IsFaultOf, HasGiven, ReadsScript}
+use Rattle.ports_script.specs.Scripts.{Reading, is_passed_over, put_before, with_event, with_line, events_from, script_of, numbered, IsFaultOf, HasGiven, HasGivenSome, ReadsScript, FailsToRead}
 
 pub zip-push : (lines : List ℕ) (events : List Event) (line : ℕ) (event : Event) → length lines ≡ length events → zip (lines ++ line ∷ []) (map shown (events ++ event ∷ [])) ≡ zip lines (map shown events) ++ (line, shown event) ∷ []
 zip-push [] [] line event same = refl
@@ -141,3 +144,13 @@ pub reads : (old new : Option (List ℕ)) (whole : Bool) (text : List ℕ) (r : 
 reads old new true text (Ok script) given read = (text, given, read)
 reads old new false text (Ok script) given read = absurd (cut_unread text (numbered script) read)
 reads old new whole text (Err fault) given read = tt
+
+-- an input gave some bytes, and there was no memory for more
+pub unread_for_memory : {A : Type 0} (old new : Option (List ℕ)) (r : Result A ScriptFault) → IfErr r (λ why. why ≡ Memory) → HasGivenSome old new → IfErr r (FailsToRead old new)
+unread_for_memory old new (Ok x) why given = tt
+unread_for_memory old new (Err fault) why given = subst (λ (met : ScriptFault). FailsToRead old new met) (sym why) (false, given.0, given.1, tt)
+
+-- an input gave some bytes, and then some more
+pub given_some : {A E : Type 0} (r : Result A E) (a b c : Option (List ℕ)) (front more : List ℕ) → Consumes a b front → Consumes b c more → OnErr r (HasGivenSome a c)
+given_some (Ok x) a b c front more given read = tt
+given_some (Err why) a b c front more given read = (front ++ more, (Consumes-trans a b c front more given read, λ whole. absurd (true≢false (sym whole))))

@@ -1,5 +1,5 @@
 -- Scripts: events, one a line. Empty lines and lines that begin with `#` are passed over, but counted.
-use Rattle.std.specs.Prelude.{◌≡◌, ℕ, ◌+◌, Bool, true, IsTrue, ◌||◌, ◌==◌, List, [], ◌∷◌, ◌++◌, length, map, zip, slice_index, Option, Some, None, Result, Ok, Err, if◌then◌else◌}
+use Rattle.std.specs.Prelude.{◌≡◌, ℕ, ◌+◌, Bool, true, false, IsTrue, ◌||◌, ◌==◌, List, [], ◌∷◌, ◌++◌, length, map, zip, slice_index, Option, Some, None, Result, Ok, Err, if◌then◌else◌}
 use Rattle.std.specs.List.{slice_split}
 use Rattle.std.specs.Io.KnownBytes.{Consumes, IsAtEnd}
 use Rattle.ports_script.specs.declared.script.Script.{Script}
@@ -52,6 +52,10 @@ IsFaultOf reading Memory = Unit {0}
 -- an input has given these bytes, and all that it had where they are whole
 abbrev pub HasGiven : Option (List ℕ) → Option (List ℕ) → Bool → List ℕ → Type 0
 HasGiven old new whole text = Consumes old new text × (IsTrue whole → IsAtEnd new)
+
+-- an input has given some bytes
+abbrev pub HasGivenSome : Option (List ℕ) → Option (List ℕ) → Type 0
+HasGivenSome old new = (text : List ℕ) × HasGiven old new false text
 
 -- an input is read to its end, and these are the events of its bytes, each with its line
 abbrev pub ReadsScript : Option (List ℕ) → Option (List ℕ) → List (ℕ × Entry) → Type 0

@@ -4,12 +4,14 @@
 
 mod command_line;
 mod entries;
+mod input;
 mod numerals;
 mod printing;
 mod running;
 mod script;
 #[cfg(test)]
 mod tests;
+mod writing;
 
-pub use running::run_script;
+pub use running::{run_config, run_script};
 pub use script::{Script, ScriptFault, read_script};

@@ -1,18 +1,20 @@
 //! One run of the program.
-ghost use Rattle.std.specs.Prelude.{◌≡◌, ◌≤◌, OnOk, IfErr};
+ghost use Rattle.std.specs.Prelude.{◌≡◌, ◌≤◌, ◌++◌, OnOk, IfErr, OnErr, codes, decimal};
 ghost use Rattle.std.specs.Io.KnownBytes.{Appends};
 ghost use Rattle.ports_script.specs.declared.running.Failure.TheVariants as failures;
 ghost use Rattle.ports_script.specs.Scripts.{numbered};
 ghost use Rattle.ports_script.specs.Printing.{transcript};
-ghost use Rattle.ports_script.specs.Running.{failure_status, script_failure, new_failure, Completes, Ends, FailsToPrint};
+ghost use Rattle.ports_script.specs.Running.{failure_status, failure_text, script_failure, new_failure, Completes, Ends, Finishes, FailsToPrint, AppendsFront, AppendsUpTo};
 
 use crate::command_line::read_config;
 use crate::printing::transcript_text;
 use crate::script::{Script, ScriptFault, read_script};
+use crate::writing::write_whole;
 use clap::error::ErrorKind;
+use itoa::Buffer;
 use ports_core::{Config, NewFault, ReplayFault, Step, replay};
 use std::alloc::{AllocError, Global};
-use std::io::{Read, Write};
+use std::io::{self, Read, Write};
 
 /// The exit status of a run that went well.
 const DONE: u8 = 0;
@@ -93,10 +95,7 @@ pub fn run_script<R: Read, O: Write, E: Write>(
     ensures { result ≤ 2 }
 {
     match read_config(alloc, words) {
-        Ok(config) => match run(alloc, config, reader, out) {
-            Ok(()) => DONE,
-            Err(failure) => report(failure, err),
-        },
+        Ok(config) => run_config(alloc, config, reader, out, err),
         Err(error) if error.kind() == ErrorKind::OutOfMemory => report(Failure::OutOfMemory, err),
         Err(error) if error.use_stderr() => {
             let _ = write!(err, "{error}");
@@ -106,6 +105,28 @@ pub fn run_script<R: Read, O: Write, E: Write>(
             Ok(()) => DONE,
             Err(_) => report(Failure::CannotWrite, err),
         },
+    }
+}
+
+/// Runs a script that it reads to its end over a service that begins with the config. What was told
+/// and sent goes to `out`, the text of a failure to `err`. Gives the exit status: 0; 1 where memory or
+/// the output failed; 2 for a fault of a key or of the script.
+///
+/// Failures are found in this order: keys, the script, the start of the service, the run, the output.
+/// An event that isn't allowed stops the run, after what the earlier ones printed. Each byte is written
+/// once, from the first on, up to where the output failed.
+pub fn run_config<R: Read, O: Write, E: Write>(
+    alloc: Global,
+    config: Config,
+    reader: &mut R,
+    out: &mut O,
+    err: &mut E,
+) -> u8
+    ensures { Finishes config (record { unread = R.remaining reader.old; left = R.remaining reader.new; held = O.contents out.old; holds = O.contents out.new }) (E.contents err.old) (E.contents err.new) result }
+{
+    match run(alloc, config, reader, out) {
+        Ok(()) => DONE,
+        Err(failure) => report(failure, err),
     }
 }
 
@@ -144,26 +165,46 @@ fn print<O: Write>(
     out: &mut O,
 ) -> Result<(), Failure>
     ensures done { OnOk result (Appends (O.contents out.old) (O.contents out.new) (transcript (numbered script.now) steps.now)) }
-    ensures failed { IfErr result (FailsToPrint (O.contents out.old) (O.contents out.new)) }
+    ensures failed { IfErr result (FailsToPrint (O.contents out.old) (O.contents out.new) (transcript (numbered script.now) steps.now)) }
 {
     let text = transcript_text(alloc, script, steps)?;
-    match out.write_all(text.as_bytes()) {
+    match write_whole(out, text.as_bytes()) {
         Ok(()) => Ok(()),
         Err(_) => Err(Failure::CannotWrite),
     }
 }
 
-/// Tells the failure, and gives its status. Where that can't be written the status tells.
+/// Says the failure, and gives its status. Where that can't be written the status tells.
 fn report<E: Write>(failure: Failure, err: &mut E) -> u8
-    ensures { result ≡ failure_status failure }
+    ensures status { result ≡ failure_status failure }
+    ensures said { AppendsUpTo (E.contents err.old) (E.contents err.new) (failure_text failure) }
 {
-    let _ = match failure {
-        Failure::BadKey => writeln!(err, "portsd: bad key"),
-        Failure::BadEvent(line) => writeln!(err, "portsd: line {line}: bad event"),
-        Failure::NotAllowed(line) => writeln!(err, "portsd: line {line}: event not allowed"),
-        Failure::CannotWrite => writeln!(err, "portsd: cannot write"),
-        Failure::StoreFailed => writeln!(err, "portsd: store failed"),
-        Failure::OutOfMemory => writeln!(err, "portsd: out of memory"),
-    };
+    let _ = say(failure, err);
     failure.status()
+}
+
+/// Writes the text of a failure.
+fn say<E: Write>(failure: Failure, err: &mut E) -> io::Result<()>
+    ensures written { OnOk result (Appends (E.contents err.old) (E.contents err.new) (failure_text failure)) }
+    ensures front { OnErr result (AppendsFront (E.contents err.old) (E.contents err.new) (failure_text failure)) }
+{
+    match failure {
+        Failure::BadKey => write_whole(err, "portsd: bad key\n".as_bytes()),
+        Failure::BadEvent(line) => say_line(line, ": bad event\n", err),
+        Failure::NotAllowed(line) => say_line(line, ": event not allowed\n", err),
+        Failure::CannotWrite => write_whole(err, "portsd: cannot write\n".as_bytes()),
+        Failure::StoreFailed => write_whole(err, "portsd: store failed\n".as_bytes()),
+        Failure::OutOfMemory => write_whole(err, "portsd: out of memory\n".as_bytes()),
+    }
+}
+
+/// Writes a text that names a line of the script.
+fn say_line<E: Write>(line: u64, what: &str, err: &mut E) -> io::Result<()>
+    ensures written { OnOk result (Appends (E.contents err.old) (E.contents err.new) (codes "portsd: line " ++ (decimal line ++ what.now))) }
+    ensures front { OnErr result (AppendsFront (E.contents err.old) (E.contents err.new) (codes "portsd: line " ++ (decimal line ++ what.now))) }
+{
+    let mut number = Buffer::new();
+    write_whole(err, "portsd: line ".as_bytes())?;
+    write_whole(err, number.format(line).as_bytes())?;
+    write_whole(err, what.as_bytes())
 }

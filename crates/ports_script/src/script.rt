@@ -6,9 +6,10 @@ ghost use Rattle.ports_script.specs.Entries.{shown};
 ghost use Rattle.ports_script.specs.Scripts.{Reading, script_of, with_line, put_before, numbered, IsFaultOf, ReadsScript, FailsToRead};
 
 use crate::entries::read_event;
+use crate::input::read_input;
 use ports_core::Event;
 use std::alloc::{AllocError, AllocFailed, Global};
-use std::io::{ErrorKind, Read};
+use std::io::Read;
 
 /// Why a script wasn't read.
 #[derive(Clone, Copy, Debug, PartialEq, Eq)]
@@ -69,19 +70,14 @@ impl Script {
 /// passed over, but counted.
 ///
 /// `BadEvent` is told of the first line that is in no form of a script. A read that fails makes the
-/// line that stood there a bad one. `Memory`: there was none for the bytes or for the events.
+/// line that stood there a bad one, as does an input that hasn't ended after 4,294,967,296 reads. `Memory`: there was none for the bytes or for the events.
 pub fn read_script<R: Read>(alloc: Global, reader: &mut R) -> Result<Script, ScriptFault>
     ensures ok { IfOk result (λ script. ReadsScript (R.remaining reader.old) (R.remaining reader.new) (numbered script)) }
     ensures err { IfErr result (FailsToRead (R.remaining reader.old) (R.remaining reader.new)) }
     ensures paired { IfOk result (λ script. vec_len script.lines ≡ vec_len script.events) }
 {
-    let mut text = Vec::new(alloc);
-    let whole = match reader.read_to_end(&mut text) {
-        Ok(_) => true,
-        Err(error) if error.kind() == ErrorKind::OutOfMemory => return Err(ScriptFault::Memory),
-        Err(_) => false,
-    };
-    read_lines(alloc, text.as_slice(), whole)
+    let given = read_input(alloc, reader)?;
+    read_lines(alloc, given.text.as_slice(), given.whole)
 }
 
 /// The events of a script's text. Where the text isn't whole its last line is a bad one.

@@ -1,9 +1,11 @@
 //! What no script can say: inputs that fail, and steps that no run can be made to take.
 use crate::printing::transcript_text;
+use crate::running::run_config;
 use crate::script::{ScriptFault, read_script};
-use ports_core::{Event, Refused, Step, Tell, Told};
+use ports_core::{Config, Event, Refused, Step, Tell, Told};
 use ports_http::Reply;
-use std::io::{self, ErrorKind, Read};
+use std::alloc::Global;
+use std::io::{self, ErrorKind, Read, Write};
 use std::test::Fail;
 
 /// An input that gives at most five bytes at a read, and fails after so many reads.
@@ -38,6 +40,74 @@ fn tells_a_failed_read(rt: HostRuntime) -> Result<(), Fail> {
         let fault = read_script(alloc, &mut reader).err();
         assert!(rt; fault == Some(ScriptFault::BadEvent(line)), "at {reads}");
     }
+    Ok(())
+}
+
+/// An output that takes one byte at a write, and fails after so many writes.
+#[derive(Drop)]
+struct Narrow {
+    taken: Vec<u8>,
+    writes: usize,
+}
+
+impl Write for Narrow {
+    fn write(&mut self, buf: &[u8]) -> io::Result<usize> {
+        if self.writes == 0 {
+            return Err(io::Error::from(ErrorKind::BrokenPipe));
+        }
+        self.writes -= 1;
+        let Some(first) = buf.first() else {
+            return Ok(0);
+        };
+        self.taken.push(*first)?;
+        Ok(1)
+    }
+
+    fn flush(&mut self) -> io::Result<()> {
+        Ok(())
+    }
+}
+
+/// A run for one tenant whose output takes so many bytes: its status, what was written, and what was
+/// said.
+fn run_narrow(alloc: Global, script: &str, writes: usize) -> Result<(u8, Vec<u8>, Vec<u8>), Fail> {
+    let mut keys = Vec::new(alloc);
+    keys.push(String::from_str(alloc, "alpha")?)?;
+    let config = Config {
+        keys,
+        parses: 1,
+        evals: 1,
+    };
+    let mut out = Narrow {
+        taken: Vec::new(alloc),
+        writes,
+    };
+    let mut said = Vec::new(alloc);
+    let status = run_config(alloc, config, &mut script.as_bytes(), &mut out, &mut said);
+    Ok((status, out.taken, said))
+}
+
+const UPLOAD: &str =
+    "open 0\npiece 0 PUT /v1/file?name=/ports/a/Makefile HTTP/1.1\\r\\nHost: x\\r\\nX-Ports-Key: alpha\\r\\nContent-Length: 2\\r\\n\\r\\nA=\nturn 0\nwrote 0 all\n";
+
+const PRINTED: &[u8] =
+    b"3 told 0 0 200\n4 sent 0 HTTP/1.1 200 OK\\r\\nContent-Type: application/json\\r\\nContent-Length: 15\\r\\n\\r\\n{\"stored\":true}\n";
+
+#[test]
+fn an_output_takes_each_byte_once_up_to_where_it_fails(rt: HostRuntime) -> Result<(), Fail> {
+    let alloc = rt.alloc();
+    for writes in 0..PRINTED.len() {
+        let (status, written, said) = run_narrow(alloc, UPLOAD, writes)?;
+        assert_eq!(rt; status, 1, "at {writes}");
+        assert_eq!(rt; written.as_slice(), &PRINTED[..writes]);
+        assert_eq!(rt; said.as_slice(), b"portsd: cannot write\n".as_slice());
+    }
+    let (status, written, said) = run_narrow(alloc, UPLOAD, PRINTED.len())?;
+    assert_eq!(rt; status, 0);
+    assert_eq!(rt; written.as_slice(), PRINTED);
+    assert_eq!(rt; said.len(), 0);
+    let (status, ..) = run_narrow(alloc, "open 0\n", 0)?;
+    assert_eq!(rt; status, 0, "nothing is to be written");
     Ok(())
 }
 

@@ -1,0 +1,7 @@
+use Rattle.ports_script.specs.Running.{failure_text}
+use Rattle.ports_script.proofs.WriteFacts.{up_to}
+use Rattle.ports_script.proofs.running.report.Goals as goal
+
+pub returns-clause-said : goal.returns-clause-said
+returns-clause-said g c =
+    up_to (g.E.Write.contents c.args.err.now) (g.E.Write.contents c.say.new.err) (failure_text c.args.failure) c.say.result c.say.ensures.written c.say.ensures.front

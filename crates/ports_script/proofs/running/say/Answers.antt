@@ -1,0 +1,25 @@
+use Rattle.ports_script.specs.declared.running.Failure.TheVariants as failures
+use Rattle.ports_script.specs.Running.{failure_text}
+use Rattle.ports_script.proofs.WriteFacts.{front_along}
+use Rattle.ports_script.proofs.running.say.Goals as goal
+
+pub returns-in-BadEvent-clause-front : goal.returns-in-BadEvent-clause-front
+returns-in-BadEvent-clause-front g c = rw c.in-BadEvent.is c.say_line.ensures.front
+
+pub returns-in-NotAllowed-clause-written : goal.returns-in-NotAllowed-clause-written
+returns-in-NotAllowed-clause-written g c = rw c.in-NotAllowed.is c.say_line-in-NotAllowed.ensures.written
+
+pub returns-in-NotAllowed-clause-front : goal.returns-in-NotAllowed-clause-front
+returns-in-NotAllowed-clause-front g c = rw c.in-NotAllowed.is c.say_line-in-NotAllowed.ensures.front
+
+pub returns-in-CannotWrite-clause-written : goal.returns-in-CannotWrite-clause-written
+returns-in-CannotWrite-clause-written g c = rw (c.in-CannotWrite.is, ← c.as_bytes-in-CannotWrite.ensures.value) c.write_whole-in-CannotWrite.ensures.written
+
+pub returns-in-CannotWrite-clause-front : goal.returns-in-CannotWrite-clause-front
+returns-in-CannotWrite-clause-front g c = rw c.in-CannotWrite.is (front_along (g.E.Write.contents c.args.err.now) (g.E.Write.contents c.write_whole-in-CannotWrite.new.out) c.as_bytes-in-CannotWrite.result.now (failure_text failures.CannotWrite) c.write_whole-in-CannotWrite.result c.as_bytes-in-CannotWrite.ensures.value c.write_whole-in-CannotWrite.ensures.front)
+
+pub returns-in-OutOfMemory-clause-written : goal.returns-in-OutOfMemory-clause-written
+returns-in-OutOfMemory-clause-written g c = rw (c.in-OutOfMemory.is, ← c.as_bytes-in-OutOfMemory.ensures.value) c.write_whole-in-OutOfMemory.ensures.written
+
+pub returns-in-OutOfMemory-clause-front : goal.returns-in-OutOfMemory-clause-front
+returns-in-OutOfMemory-clause-front g c = rw c.in-OutOfMemory.is (front_along (g.E.Write.contents c.args.err.now) (g.E.Write.contents c.write_whole-in-OutOfMemory.new.out) c.as_bytes-in-OutOfMemory.result.now (failure_text failures.OutOfMemory) c.write_whole-in-OutOfMemory.result c.as_bytes-in-OutOfMemory.ensures.value c.write_whole-in-OutOfMemory.ensures.front)

@@ -1,0 +1,33 @@
+//! Bytes written to their end.
+ghost use Rattle.std.specs.Prelude.{OnOk, OnErr};
+ghost use Rattle.std.specs.Io.KnownBytes.{Appends};
+ghost use Rattle.ports_script.specs.Running.{AppendsFront};
+
+use std::io::{self, ErrorKind, Write};
+
+/// Writes all of the bytes, each once, in as many writes as that takes. A write that was interrupted
+/// is tried again.
+///
+/// The error is that of the write that failed, or took nothing; up to there a front of the bytes was
+/// written. Nothing fails where there are no bytes.
+pub fn write_whole<W: Write>(out: &mut W, bytes: &[u8]) -> io::Result<()>
+    ensures written { OnOk result (Appends (W.contents out.old) (W.contents out.new) bytes.now) }
+    ensures front { OnErr result (AppendsFront (W.contents out.old) (W.contents out.new) bytes.now) }
+{
+    let mut done = 0;
+    for _ in 0..u64::MAX {
+        if done == bytes.len() {
+            return Ok(());
+        }
+        match out.write(&bytes[done..]) {
+            Ok(0) => return Err(io::Error::from(ErrorKind::WriteZero)),
+            Ok(count) => done += count,
+            Err(error) if error.kind() == ErrorKind::Interrupted => {}
+            Err(error) => return Err(error),
+        }
+    }
+    if done == bytes.len() {
+        return Ok(());
+    }
+    Err(io::Error::from(ErrorKind::TimedOut))
+}
