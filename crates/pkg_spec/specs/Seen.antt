@@ -1,6 +1,5 @@
 -- What the types of the code are seen as.
-use Rattle.std.specs.Prelude.{ℕ, Bool, ◌&&◌, List, map, string_bytes}
-use Rattle.std.specs.Borrow.{Bor}
+use Rattle.std.specs.Prelude.{Bool, ◌&&◌, map, string_bytes}
 use Rattle.std.specs.List.{list_all}
 use Rattle.pkg_name.specs.Name.{NameParts}
 use Rattle.pkg_spec.specs.Admitting.{having, lacking}
@@ -25,7 +24,3 @@ alternative_seen alternative = record {
 abbrev pub admits_flavors : Alternative → NameParts → Bool
 admits_flavors alternative name =
     list_all (λ flavor. having (string_bytes flavor) name) alternative.wanted.items && list_all (λ flavor. lacking (string_bytes flavor) name) alternative.forbidden.items
-
--- what texts behind references are
-abbrev pub now_all : List (Bor (List ℕ)) → List (List ℕ)
-now_all texts = map (λ text. text.now) texts

@@ -3,7 +3,8 @@ use Rattle.std.proofs.Common.{◌≡◌, map, take}
 use Rattle.std.specs.List.{list_any, filter_map}
 use Rattle.std.specs.Result.{result_ok}
 use Rattle.pkg_spec.specs.Alternatives.{alternative_of, is_refused}
-use Rattle.pkg_spec.specs.Seen.{alternative_seen, now_all}
+use Rattle.text_cuts.specs.Cuts.{now_all}
+use Rattle.pkg_spec.specs.Seen.{alternative_seen}
 use Rattle.pkg_spec.specs.declared.faults.SpecFault.TheVariants.{NoStem, BadVersion, EmptyAlternative}
 use Rattle.pkg_spec.proofs.spec.read_parts.Given as goal
 
