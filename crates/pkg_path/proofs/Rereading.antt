@@ -1,20 +1,20 @@
 -- What a text names is named by its canonical text, too.
-use Rattle.std.proofs.Common.{◌≡◌, ◌∙◌, sym, ap, subst, refl, ℕ, Bool, true, false, not, cond, ◌&&◌, ◌||◌, eqb, ltb, List, [], ◌∷◌, ◌++◌, length, Option, Some, None, Ok, Err, append_assoc, append-nil, arith}
+use Rattle.std.proofs.Common.{◌≡◌, ◌∙◌, sym, ap, subst, refl, ℕ, Bool, true, false, not, cond, ◌&&◌, ◌||◌, eqb, ltb, List, [], ◌∷◌, ◌++◌, length, Option, Some, None, Ok, Err, append_assoc, arith}
 use Rattle.std.proofs.lemmas.Bool.{false≢true}
 use Rattle.std.proofs.lemmas.Grind.{common_steps, flat_map-append}
 use Rattle.std.proofs.lemmas.List.Folds.{list_all-append}
-use Rattle.std.proofs.lemmas.List.Splits.{slice_split-cons_yes, slice_split-cons_no, slice_split_none, slice_split_at}
-use Rattle.std.proofs.lemmas.List.Elements.{All-cons, All-nil}
-use Rattle.std.specs.List.{list_all, list_any, filter, find, onto_first, All}
+use Rattle.text_cuts.specs.Laws.{is_between}
+use Rattle.text_cuts.proofs.PartTexts.{parts_are_between, written_is_cut_again, written_stands}
+use Rattle.std.specs.List.{list_all, list_any, filter, find}
 use Rattle.std.specs.Option.{option_to_list}
 use Rattle.std.specs.Str.{bytes_eq}
 use Rattle.pkg_path.proofs.Ordered.{among-in_order, in_order-again}
-use Rattle.pkg_path.specs.Paths.{PathValue, elements_of, directory_of, choices_of, is_subpackage, is_flavor, in_order, flavors_of, value_of, has_two_subpackages, may_stand, is_directory, is_bare_dash, is_well_written, path_of, flavor_choices, choices_text, canonical, IsPath, without_subpackage}
+use Rattle.pkg_path.specs.Paths.{comma, PathValue, elements_of, directory_of, choices_of, is_subpackage, is_flavor, in_order, flavors_of, value_of, has_two_subpackages, may_stand, is_directory, is_bare_dash, is_well_written, path_of, flavor_choices, choices_text, canonical, IsPath, without_subpackage}
 use Rattle.pkg_path.specs.declared.faults.PkgPathFault.TheVariants.{Empty, TwoSubpackages, BadCharacter}
 
 -- a byte of an element: it may stand in a path and is no comma
 abbrev is_plain : ℕ → Bool
-is_plain byte = may_stand byte && not (eqb byte 44)
+is_plain = is_between comma may_stand
 
 -- a flavor as a path has it
 abbrev is_word : List ℕ → Bool
@@ -72,24 +72,6 @@ all_in_order : (p : List ℕ → Bool) (xs : List (List ℕ)) → list_all p xs 
 all_in_order p xs a =
     of_not (list_all p (in_order xs)) (sym (fails_none p (in_order xs)) ∙ among-in_order (λ x. not (p x)) xs ∙ fails_none p xs ∙ ap not a)
 
--- the elements of a text whose bytes may stand
-
-onto_elements : (x : ℕ) (elements : List (List ℕ)) → is_plain x ≡ true → list_all (list_all is_plain) elements ≡ true → list_all (list_all is_plain) (onto_first x elements) ≡ true
-onto_elements x [] a b = join (list_all is_plain (x ∷ [])) true (join (is_plain x) true a refl) refl
-onto_elements x (element ∷ elements) a b =
-    let e = both (list_all is_plain element) (list_all (list_all is_plain) elements) b in
-    join (list_all is_plain (x ∷ element)) (list_all (list_all is_plain) elements) (join (is_plain x) (list_all is_plain element) a e.0) e.1
-
-plain_elements : (text : List ℕ) → list_all may_stand text ≡ true → list_all (list_all is_plain) (elements_of text) ≡ true
-plain_elements [] a = refl
-plain_elements (x ∷ text) a =
-    let e = both (may_stand x) (list_all may_stand text) a in
-    let rest = plain_elements text e.1 in
-    elim (eqb x 44) as (λ b. eqb x 44 ≡ b → list_all (list_all is_plain) (elements_of (x ∷ text)) ≡ true) [
-      | true ↦ λ is. rw (slice_split-cons_yes (λ byte. eqb byte 44) x text is) rest
-      | false ↦ λ is. rw (slice_split-cons_no (λ byte. eqb byte 44) x text is) (onto_elements x (elements_of text) (join (may_stand x) (not (eqb x 44)) e.0 (ap not is)) rest)
-    ] refl
-
 -- what was read is sound
 
 words_of_choices : (choices : List (List ℕ)) → list_all (list_all is_plain) choices ≡ true → list_all is_word (filter is_flavor choices) ≡ true
@@ -133,7 +115,7 @@ sound_by false false true text path is e =
     let same : value_of (elements_of text) ≡ path = cc in
     let t = both (list_all may_stand text && is_directory (directory_of (elements_of text))) (not (list_any is_bare_dash (choices_of (elements_of text)))) is in
     let bytes = both (list_all may_stand text) (is_directory (directory_of (elements_of text))) t.0 in
-    let plain = plain_elements text bytes.0 in
+    let plain = parts_are_between comma may_stand text bytes.0 in
     let choices = choices_plain (elements_of text) plain in
     let sound : IsSound (value_of (elements_of text)) = record {
       bytes = directory_plain (elements_of text) plain;
@@ -156,30 +138,6 @@ written path = flavor_choices path.flavors ++ option_to_list path.subpackage
 canonical_is : (path : PathValue) → canonical path ≡ path.directory ++ choices_text (written path)
 unfolding canonical
 canonical_is path = append_assoc path.directory _ _ ∙ ap (λ rest. path.directory ++ rest) (sym (flat_map-append (λ choice. 44 ∷ choice) (flavor_choices path.flavors) (option_to_list path.subpackage)))
-
-no_comma : (element : List ℕ) → list_all is_plain element ≡ true → All (λ byte. eqb byte 44 ≡ false) element
-no_comma [] a = All-nil _
-no_comma (x ∷ element) a =
-    let e = both (is_plain x) (list_all is_plain element) a in
-    All-cons (λ byte. eqb byte 44 ≡ false) x element (not_true (eqb x 44) ((both (may_stand x) (not (eqb x 44)) e.0).1)) (no_comma element e.1)
-
-cut_again : (first : List ℕ) (choices : List (List ℕ)) → list_all is_plain first ≡ true → list_all (list_all is_plain) choices ≡ true → elements_of (first ++ choices_text choices) ≡ first ∷ choices
-cut_again first [] a b = ap elements_of (append-nil first) ∙ slice_split_none (λ byte. eqb byte 44) first (no_comma first a)
-cut_again first (choice ∷ choices) a b =
-    let e = both (list_all is_plain choice) (list_all (list_all is_plain) choices) b in
-    slice_split_at (λ byte. eqb byte 44) first 44 (choice ++ choices_text choices) (no_comma first a) refl ∙ ap (λ rest. first ∷ rest) (cut_again choice choices e.0 e.1)
-
-stands : (element : List ℕ) → list_all is_plain element ≡ true → list_all may_stand element ≡ true
-stands [] a = refl
-stands (x ∷ element) a =
-    let e = both (is_plain x) (list_all is_plain element) a in
-    join (may_stand x) (list_all may_stand element) ((both (may_stand x) (not (eqb x 44)) e.0).0) (stands element e.1)
-
-choices_stand : (choices : List (List ℕ)) → list_all (list_all is_plain) choices ≡ true → list_all may_stand (choices_text choices) ≡ true
-choices_stand [] a = refl
-choices_stand (choice ∷ choices) a =
-    let e = both (list_all is_plain choice) (list_all (list_all is_plain) choices) a in
-    list_all-append may_stand choice (choices_text choices) ∙ join (list_all may_stand choice) (list_all may_stand (choices_text choices)) (stands choice e.0) (choices_stand choices e.1)
 
 -- the choices that are written, read again
 
@@ -291,9 +249,9 @@ names_itself path s =
     let plain : list_all (list_all is_plain) (written path) ≡ true =
     list_all-append (list_all is_plain) (flavor_choices path.flavors) (option_to_list path.subpackage) ∙ join _ _ (flavors_plain path.flavors s.flavors) (name_plain path.subpackage s.subpackage) in
     let text = path.directory ++ choices_text (written path) in
-    let cut : elements_of text ≡ path.directory ∷ written path = cut_again path.directory (written path) s.bytes plain in
-    let bytes : list_all may_stand text ≡ true =
-    list_all-append may_stand path.directory (choices_text (written path)) ∙ join _ _ (stands path.directory s.bytes) (choices_stand (written path) plain) in
+    let whole : list_all (list_all is_plain) (path.directory ∷ written path) ≡ true = join (list_all is_plain path.directory) (list_all (list_all is_plain) (written path)) s.bytes plain in
+    let cut : elements_of text ≡ path.directory ∷ written path = written_is_cut_again comma may_stand path.directory (written path) whole in
+    let bytes : list_all may_stand text ≡ true = written_stands comma may_stand path.directory (written path) refl whole in
     let well : is_well_written text ≡ true =
     ap (λ elements. (list_all may_stand text && is_directory (directory_of elements)) && not (list_any is_bare_dash (choices_of elements))) cut
     ∙ join (list_all may_stand text && is_directory path.directory) (not (list_any is_bare_dash (written path))) (join (list_all may_stand text) (is_directory path.directory) bytes s.parts) (ap not (none_bare (flavor_choices path.flavors) path.subpackage none_names s.subpackage)) in

@@ -7,5 +7,5 @@ mod laws;
 mod parts;
 
 pub use cutting::cut_where;
-pub use laws::cut_is_its_text;
+pub use laws::{cut_is_its_text, parts_are_between, written_is_cut_again, written_stands};
 pub use parts::{copies_of, split_at};
