@@ -1,7 +1,9 @@
 -- A resolved name is its own resolved name.
-use Rattle.std.proofs.Common.{◌≡◌, ◌∙◌, sym, ap, subst, refl, ℕ, zero, suc, Bool, true, false, cond, ◌&&◌, ◌||◌, not, ◌-◌, eqb, List, [], ◌∷◌, ◌++◌, length, take, get_or, Option, Some, None, Ok, Err, codes, arith, append_assoc}
+use Rattle.std.proofs.Common.{◌≡◌, ◌∙◌, sym, ap, subst, refl, ℕ, Bool, true, false, cond, ◌&&◌, ◌||◌, not, ◌-◌, eqb, List, [], ◌∷◌, ◌++◌, length, take, drop, get_or, Option, Some, None, Ok, Err, codes, arith, append_assoc}
+use Rattle.std.proofs.lemmas.Bool.{and_parts, and_from}
 use Rattle.std.proofs.lemmas.Grind.{common_steps}
-use Rattle.std.proofs.lemmas.List.{append-nil}
+use Rattle.std.proofs.lemmas.List.{append-nil, take-append-drop}
+use Rattle.std.proofs.lemmas.List.Folds.{list_all-append}
 use Rattle.text_cuts.specs.Laws.{is_between, are_between}
 use Rattle.text_cuts.proofs.PartTexts.{parts_are_between, written_is_cut_again, written_stands}
 use Rattle.std.specs.List.{list_all}
@@ -18,32 +20,9 @@ may_stand = is_between slash is_plain
 abbrev pub is_kept : List ℕ → Bool
 is_kept part = (not (bytes_eq part []) && not (bytes_eq part (codes ".")) && not (bytes_eq part (codes ".."))) && list_all may_stand part
 
-both : (a b : Bool) → (a && b) ≡ true → (a ≡ true) × (b ≡ true)
-both true true e = (refl, refl)
-both true false e = cc
-both false b e = cc
-
-not_true : (a : Bool) → not a ≡ true → a ≡ false
-not_true true e = sym e
-not_true false e = refl
-
-join_tests : (a b : Bool) → a ≡ true → b ≡ true → (a && b) ≡ true
-join_tests true true p q = refl
-join_tests true false p q = q
-join_tests false b p q = p
-
-list_all-append : {X : Type 0} (p : X → Bool) (xs ys : List X) → list_all p xs ≡ true → list_all p ys ≡ true → list_all p (xs ++ ys) ≡ true
-list_all-append p [] ys a b = b
-list_all-append p (x ∷ xs) ys a b =
-    let e = both (p x) (list_all p xs) a in
-    join_tests (p x) (list_all p (xs ++ ys)) e.0 (list_all-append p xs ys e.1 b)
-
 list_all-take : {X : Type 0} (p : X → Bool) (n : ℕ) (xs : List X) → list_all p xs ≡ true → list_all p (take n xs) ≡ true
-list_all-take p zero xs a = refl
-list_all-take p (suc n) [] a = refl
-list_all-take p (suc n) (x ∷ xs) a =
-    let e = both (p x) (list_all p xs) a in
-    join_tests (p x) (list_all p (take n xs)) e.0 (list_all-take p n xs e.1)
+list_all-take p n xs a =
+    (and_parts (list_all p (take n xs)) (list_all p (drop n xs)) (sym (list_all-append p (take n xs) (drop n xs)) ∙ ap (list_all p) (take-append-drop n xs) ∙ a)).0
 
 -- the parts that are left
 
@@ -66,7 +45,7 @@ keeps_by false true kept part next a b e =
     subst (λ parts. list_all is_kept parts ≡ true) (last_off _ _ next e) (list_all-take is_kept (length kept - 1) kept a)
 keeps_by false false kept part next a b e =
     let same : kept ++ part ∷ [] ≡ next = cc in
-    subst (λ parts. list_all is_kept parts ≡ true) same (list_all-append is_kept kept (part ∷ []) a (join_tests (is_kept part) true (b refl refl) refl))
+    subst (λ parts. list_all is_kept parts ≡ true) same (list_all-append is_kept kept (part ∷ []) ∙ and_from (list_all is_kept kept) (list_all is_kept (part ∷ [])) a (and_from (is_kept part) true (b refl refl) refl))
 
 keeps : (kept : List (List ℕ)) (part : List ℕ) (next : List (List ℕ)) → list_all is_kept kept ≡ true → list_all may_stand part ≡ true → with_part kept part ≡ Some next → list_all is_kept next ≡ true
 keeps kept part next a b e =
@@ -78,7 +57,7 @@ kept_stand kept [] next a b e =
     let same : kept ≡ next = cc in
     subst (λ parts. list_all is_kept parts ≡ true) same a
 kept_stand kept (part ∷ parts) next a b e =
-    let t = both (list_all may_stand part) (list_all (list_all may_stand) parts) b in
+    let t = and_parts (list_all may_stand part) (list_all (list_all may_stand) parts) b in
     elim (with_part kept part) as (λ o. with_part kept part ≡ o → option_and_then (λ more. kept_parts more parts) o ≡ Some next → list_all is_kept next ≡ true) [
       | None ↦ λ is none. cc
       | Some more ↦ λ is some. kept_stand more parts next (keeps kept part more a t.0 is) t.1 some
@@ -94,7 +73,7 @@ pub kept_again : (kept parts : List (List ℕ)) → list_all is_kept parts ≡ t
 unfolding kept_parts
 kept_again kept [] a = ap Some (sym (append-nil kept))
 kept_again kept (part ∷ parts) a =
-    let e = both (is_kept part) (list_all is_kept parts) a in
+    let e = and_parts (is_kept part) (list_all is_kept parts) a in
     ap (option_and_then (λ next. kept_parts next parts)) (with_kept kept part e.0) ∙ kept_again (kept ++ part ∷ []) parts e.1 ∙ ap Some (append_assoc kept (part ∷ []) parts)
 
 -- joined parts, cut again
@@ -102,8 +81,8 @@ kept_again kept (part ∷ parts) a =
 stand : (parts : List (List ℕ)) → list_all is_kept parts ≡ true → are_between slash is_plain parts ≡ true
 stand [] a = refl
 stand (part ∷ parts) a =
-    let e = both (is_kept part) (list_all is_kept parts) a in
-    join_tests (list_all may_stand part) (are_between slash is_plain parts) ((both _ (list_all may_stand part) e.0).1) (stand parts e.1)
+    let e = and_parts (is_kept part) (list_all is_kept parts) a in
+    and_from (list_all may_stand part) (are_between slash is_plain parts) ((and_parts _ (list_all may_stand part) e.0).1) (stand parts e.1)
 
 ok_of : (test : Bool) (wanted name : List ℕ) → cond test (Ok wanted) (Err BadName) ≡ Ok name → name ≡ wanted
 ok_of true wanted name e = cc

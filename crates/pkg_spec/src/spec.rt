@@ -4,7 +4,7 @@ ghost use Rattle.std.specs.List.{slice_split, filter_map, list_any};
 ghost use Rattle.std.specs.Result.{result_ok};
 ghost use Rattle.pkg_spec.specs.Alternatives.{spec_of, alternative_of, is_refused, bar};
 ghost use Rattle.text_cuts.specs.Cuts.{now_all};
-ghost use Rattle.pkg_spec.specs.Seen.{alternative_seen};
+ghost use Rattle.pkg_spec.specs.Seen.{alternative_seen, ReadsParts};
 ghost use Rattle.pkg_spec.specs.Admitting.{admitted_by, set_of_alternative};
 ghost use Rattle.pkg_spec.specs.declared.faults.SpecFault.TheVariants.{NoStem, BadVersion, EmptyAlternative};
 
@@ -142,10 +142,7 @@ impl Reading {
 
 // What the parts of a spec say.
 fn read_parts(alloc: Global, parts: &[&str]) -> Result<Reading, AllocError>
-    ensures alternatives { IfOk result (λ reading. map alternative_seen reading.alternatives.items ≡ filter_map result_ok (map alternative_of (now_all parts.now))) }
-    ensures no_stem { IfOk result (λ reading. reading.no_stem ≡ list_any (is_refused NoStem) (map alternative_of (now_all parts.now))) }
-    ensures bad_version { IfOk result (λ reading. reading.bad_version ≡ list_any (is_refused BadVersion) (map alternative_of (now_all parts.now))) }
-    ensures empty { IfOk result (λ reading. reading.empty ≡ list_any (is_refused EmptyAlternative) (map alternative_of (now_all parts.now))) }
+    ensures { IfOk result (ReadsParts (now_all parts.now)) }
 {
     let mut reading = Reading {
         alternatives: Vec::new(alloc),
