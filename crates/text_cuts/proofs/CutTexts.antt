@@ -5,26 +5,20 @@ use Rattle.std.specs.Option.{option_map, is_some}
 use Rattle.text_cuts.specs.Cuts.{Cut, cut_where}
 use Rattle.text_cuts.specs.Laws.{CutIsItsText}
 
--- the one value of two equal options
-same_some : {A : Type 0} (x y : A) → Some x ≡ Some y → x ≡ y
-same_some x y e = ap (λ o. unwrap_or o x) e
-
-none_some : {A : Type 0} {x : A} → None ≡ Some x → ⊥
-none_some e = true≢false (sym (ap is_some e))
-
 abbrev joined : ℕ → Cut → List ℕ
 joined mark cut = cut.before ++ mark ∷ cut.behind
 
 -- the cut of a longer text
 longer : (mark byte : ℕ) (rest : List ℕ) (found : Option Cut) (cut : Cut) → ((inner : Cut) → found ≡ Some inner → rest ≡ joined mark inner)
     → option_map (λ (inner : Cut). record { before = byte ∷ inner.before; behind = inner.behind }) found ≡ Some cut → byte ∷ rest ≡ joined mark cut
-longer mark byte rest None cut known e = absurd (none_some e)
+longer mark byte rest None cut known e = cc
 longer mark byte rest (Some inner) cut known e =
-    ap (λ r. byte ∷ r) (known inner refl) ∙ ap (joined mark) (same_some _ cut e)
+    let is : record { before = byte ∷ inner.before; behind = inner.behind } ≡ cut = cc in
+    ap (λ r. byte ∷ r) (known inner refl) ∙ ap (joined mark) is
 
 pub cut_is_its_text : CutIsItsText
 unfolding cut_where
-cut_is_its_text mark test [] cut e = absurd (none_some e)
+cut_is_its_text mark test [] cut e = cc
 cut_is_its_text mark test (byte ∷ rest) cut e = elim (cases_Bool (byte == mark && test rest)) [
   | inl h ↦
       let is_mark : byte ≡ mark = eqb-true byte mark (and_parts (byte == mark) (test rest) h).0 in

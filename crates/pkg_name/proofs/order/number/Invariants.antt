@@ -1,7 +1,0 @@
--- The number so far is that of the digits up to here.
-use Rattle.std.proofs.Common.{◌≡◌, take}
-use Rattle.std.specs.Str.Parse.{digits_value}
-use Rattle.pkg_name.proofs.order.number.Given as goal
-
-abbrev pub invariant-loop-digit : goal.invariant-loop-digit
-invariant-loop-digit l = l.number ≡ digits_value 10 (take l.digit-index l.digits)
