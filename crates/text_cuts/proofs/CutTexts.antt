@@ -1,7 +1,7 @@
 -- The two parts of a cut, with the mark between, are the text.
-use Rattle.std.proofs.Common.{◌≡◌, ◌==◌, ℕ, ◌&&◌, List, [], ◌∷◌, ◌++◌, Option, Some, None, sym, ap, refl, ◌∙◌, inl, inr, unwrap_or, true≢false}
+use Rattle.std.proofs.Common.{◌≡◌, ◌==◌, ℕ, ◌&&◌, List, [], ◌∷◌, ◌++◌, Option, Some, None, sym, ap, refl, ◌∙◌, inl, inr}
 use Rattle.std.proofs.lemmas.Bool.{cases_Bool, and_parts, eqb-true}
-use Rattle.std.specs.Option.{option_map, is_some}
+use Rattle.std.specs.Option.{option_map}
 use Rattle.text_cuts.specs.Cuts.{Cut, cut_where}
 use Rattle.text_cuts.specs.Laws.{CutIsItsText}
 
@@ -13,8 +13,8 @@ longer : (mark byte : ℕ) (rest : List ℕ) (found : Option Cut) (cut : Cut) �
     → option_map (λ (inner : Cut). record { before = byte ∷ inner.before; behind = inner.behind }) found ≡ Some cut → byte ∷ rest ≡ joined mark cut
 longer mark byte rest None cut known e = cc
 longer mark byte rest (Some inner) cut known e =
-    let is : record { before = byte ∷ inner.before; behind = inner.behind } ≡ cut = cc in
-    ap (λ r. byte ∷ r) (known inner refl) ∙ ap (joined mark) is
+    let is : cut ≡ record { before = byte ∷ inner.before; behind = inner.behind } = cc in
+    ap (λ r. byte ∷ r) (known inner refl) ∙ ap (joined mark) (sym is)
 
 pub cut_is_its_text : CutIsItsText
 unfolding cut_where
@@ -23,7 +23,8 @@ cut_is_its_text mark test (byte ∷ rest) cut e = elim (cases_Bool (byte == mark
   | inl h ↦
       let is_mark : byte ≡ mark = eqb-true byte mark (and_parts (byte == mark) (test rest) h).0 in
       let here = rw h at e in
-      ap (λ b. b ∷ rest) is_mark ∙ ap (joined mark) (same_some _ cut here)
+      let is : cut ≡ record { before = []; behind = rest } = cc here in
+      ap (λ b. b ∷ rest) is_mark ∙ ap (joined mark) (sym is)
   | inr h ↦
       let further = rw h at e in
       longer mark byte rest (cut_where mark test rest) cut (cut_is_its_text mark test rest) further
