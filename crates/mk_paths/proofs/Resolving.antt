@@ -1,66 +1,28 @@
 -- A resolved name is its own resolved name.
-use Rattle.std.proofs.Common.{◌≡◌, ◌∙◌, sym, ap, subst, refl, ℕ, zero, suc, ◌<◌, Bool, true, false, cond, ◌&&◌, ◌||◌, not, ◌-◌, eqb, List, [], ◌∷◌, ◌++◌, length, take, get_or, Option, Some, None, Ok, Err, codes, arith, append_assoc}
+use Rattle.std.proofs.Common.{◌≡◌, ◌∙◌, sym, ap, subst, refl, ℕ, Bool, true, false, cond, ◌&&◌, ◌||◌, not, ◌-◌, eqb, List, [], ◌∷◌, ◌++◌, length, take, drop, get_or, Option, Some, None, Ok, Err, codes, arith, append_assoc}
+use Rattle.std.proofs.lemmas.Bool.{and_parts, and_from}
 use Rattle.std.proofs.lemmas.Grind.{common_steps}
-use Rattle.std.proofs.lemmas.List.{append-nil}
-use Rattle.std.proofs.lemmas.List.Splits.{slice_split-cons_yes, slice_split-cons_no, slice_split_none, slice_split_at}
-use Rattle.std.specs.List.{list_all, onto_first, All}
+use Rattle.std.proofs.lemmas.List.{append-nil, take-append-drop}
+use Rattle.std.proofs.lemmas.List.Folds.{list_all-append}
+use Rattle.text_cuts.specs.Laws.{is_between, are_between}
+use Rattle.text_cuts.proofs.PartTexts.{parts_are_between, written_is_cut_again, written_stands}
+use Rattle.std.specs.List.{list_all}
 use Rattle.std.specs.Option.{option_and_then}
 use Rattle.std.specs.Str.{bytes_eq}
-use Rattle.mk_paths.specs.FileName.{is_plain, parts_of, kept_parts, with_part, without_last, joined, name_of, resolved, IsResolved}
+use Rattle.mk_paths.specs.FileName.{slash, is_plain, parts_of, kept_parts, with_part, without_last, joined, name_of, resolved, IsResolved}
 use Rattle.mk_paths.specs.declared.file_name.NameFault.TheVariants.{BadName}
 
 -- a byte between slashes
 abbrev pub may_stand : ℕ → Bool
-may_stand byte = is_plain byte && not (eqb byte 47)
+may_stand = is_between slash is_plain
 
 -- a part that is kept as it stands
 abbrev pub is_kept : List ℕ → Bool
 is_kept part = (not (bytes_eq part []) && not (bytes_eq part (codes ".")) && not (bytes_eq part (codes ".."))) && list_all may_stand part
 
-both : (a b : Bool) → (a && b) ≡ true → (a ≡ true) × (b ≡ true)
-both true true e = (refl, refl)
-both true false e = cc
-both false b e = cc
-
-not_true : (a : Bool) → not a ≡ true → a ≡ false
-not_true true e = sym e
-not_true false e = refl
-
-join_tests : (a b : Bool) → a ≡ true → b ≡ true → (a && b) ≡ true
-join_tests true true p q = refl
-join_tests true false p q = q
-join_tests false b p q = p
-
-list_all-append : {X : Type 0} (p : X → Bool) (xs ys : List X) → list_all p xs ≡ true → list_all p ys ≡ true → list_all p (xs ++ ys) ≡ true
-list_all-append p [] ys a b = b
-list_all-append p (x ∷ xs) ys a b =
-    let e = both (p x) (list_all p xs) a in
-    join_tests (p x) (list_all p (xs ++ ys)) e.0 (list_all-append p xs ys e.1 b)
-
 list_all-take : {X : Type 0} (p : X → Bool) (n : ℕ) (xs : List X) → list_all p xs ≡ true → list_all p (take n xs) ≡ true
-list_all-take p zero xs a = refl
-list_all-take p (suc n) [] a = refl
-list_all-take p (suc n) (x ∷ xs) a =
-    let e = both (p x) (list_all p xs) a in
-    join_tests (p x) (list_all p (take n xs)) e.0 (list_all-take p n xs e.1)
-
--- the parts of plain text
-
-onto_parts : (x : ℕ) (parts : List (List ℕ)) → may_stand x ≡ true → list_all (list_all may_stand) parts ≡ true → list_all (list_all may_stand) (onto_first x parts) ≡ true
-onto_parts x [] a b = grind (arith, join_tests)
-onto_parts x (part ∷ parts) a b =
-    let e = both (list_all may_stand part) (list_all (list_all may_stand) parts) b in
-    join_tests (list_all may_stand (x ∷ part)) (list_all (list_all may_stand) parts) (join_tests (may_stand x) (list_all may_stand part) a e.0) e.1
-
-pub plain_parts : (text : List ℕ) → list_all is_plain text ≡ true → list_all (list_all may_stand) (parts_of text) ≡ true
-plain_parts [] a = refl
-plain_parts (x ∷ text) a =
-    let e = both (is_plain x) (list_all is_plain text) a in
-    let rest = plain_parts text e.1 in
-    elim (eqb x 47) as (λ b. eqb x 47 ≡ b → list_all (list_all may_stand) (parts_of (x ∷ text)) ≡ true) [
-      | true ↦ λ is. rw (slice_split-cons_yes (λ byte. eqb byte 47) x text is) rest
-      | false ↦ λ is. rw (slice_split-cons_no (λ byte. eqb byte 47) x text is) (onto_parts x (parts_of text) (join_tests (is_plain x) (not (eqb x 47)) e.0 (ap not is)) rest)
-    ] refl
+list_all-take p n xs a =
+    (and_parts (list_all p (take n xs)) (list_all p (drop n xs)) (sym (list_all-append p (take n xs) (drop n xs)) ∙ ap (list_all p) (take-append-drop n xs) ∙ a)).0
 
 -- the parts that are left
 
@@ -83,7 +45,7 @@ keeps_by false true kept part next a b e =
     subst (λ parts. list_all is_kept parts ≡ true) (last_off _ _ next e) (list_all-take is_kept (length kept - 1) kept a)
 keeps_by false false kept part next a b e =
     let same : kept ++ part ∷ [] ≡ next = cc in
-    subst (λ parts. list_all is_kept parts ≡ true) same (list_all-append is_kept kept (part ∷ []) a (join_tests (is_kept part) true (b refl refl) refl))
+    subst (λ parts. list_all is_kept parts ≡ true) same (list_all-append is_kept kept (part ∷ []) ∙ and_from (list_all is_kept kept) (list_all is_kept (part ∷ [])) a (and_from (is_kept part) true (b refl refl) refl))
 
 keeps : (kept : List (List ℕ)) (part : List ℕ) (next : List (List ℕ)) → list_all is_kept kept ≡ true → list_all may_stand part ≡ true → with_part kept part ≡ Some next → list_all is_kept next ≡ true
 keeps kept part next a b e =
@@ -95,7 +57,7 @@ kept_stand kept [] next a b e =
     let same : kept ≡ next = cc in
     subst (λ parts. list_all is_kept parts ≡ true) same a
 kept_stand kept (part ∷ parts) next a b e =
-    let t = both (list_all may_stand part) (list_all (list_all may_stand) parts) b in
+    let t = and_parts (list_all may_stand part) (list_all (list_all may_stand) parts) b in
     elim (with_part kept part) as (λ o. with_part kept part ≡ o → option_and_then (λ more. kept_parts more parts) o ≡ Some next → list_all is_kept next ≡ true) [
       | None ↦ λ is none. cc
       | Some more ↦ λ is some. kept_stand more parts next (keeps kept part more a t.0 is) t.1 some
@@ -111,40 +73,16 @@ pub kept_again : (kept parts : List (List ℕ)) → list_all is_kept parts ≡ t
 unfolding kept_parts
 kept_again kept [] a = ap Some (sym (append-nil kept))
 kept_again kept (part ∷ parts) a =
-    let e = both (is_kept part) (list_all is_kept parts) a in
+    let e = and_parts (is_kept part) (list_all is_kept parts) a in
     ap (option_and_then (λ next. kept_parts next parts)) (with_kept kept part e.0) ∙ kept_again (kept ++ part ∷ []) parts e.1 ∙ ap Some (append_assoc kept (part ∷ []) parts)
 
 -- joined parts, cut again
 
-no_slash_at : (part : List ℕ) → list_all may_stand part ≡ true → (k d : ℕ) → k < length part → eqb (get_or part k d) 47 ≡ false
-no_slash_at [] a k d h = absurd (omega arith)
-no_slash_at (x ∷ part) a zero d h =
-    let e = both (may_stand x) (list_all may_stand part) a in
-    not_true (eqb x 47) ((both (is_plain x) (not (eqb x 47)) e.0).1)
-no_slash_at (x ∷ part) a (suc k) d h =
-    let e = both (may_stand x) (list_all may_stand part) a in
-    no_slash_at part e.1 k d (omega arith)
-
-no_slash : (part : List ℕ) → is_kept part ≡ true → All (λ byte. eqb byte 47 ≡ false) part
-no_slash part a = no_slash_at part ((both _ (list_all may_stand part) a).1)
-
-pub split_again : (part : List ℕ) (parts : List (List ℕ)) → is_kept part ≡ true → list_all is_kept parts ≡ true → parts_of (part ++ joined parts) ≡ part ∷ parts
-split_again part [] a b = ap parts_of (append-nil part) ∙ slice_split_none (λ byte. eqb byte 47) part (no_slash part a)
-split_again part (next ∷ parts) a b =
-    let e = both (is_kept next) (list_all is_kept parts) b in
-    slice_split_at (λ byte. eqb byte 47) part 47 (next ++ joined parts) (no_slash part a) refl ∙ ap (λ rest. part ∷ rest) (split_again next parts e.0 e.1)
-
-plain_part : (part : List ℕ) → list_all may_stand part ≡ true → list_all is_plain part ≡ true
-plain_part [] a = refl
-plain_part (x ∷ part) a =
-    let e = both (may_stand x) (list_all may_stand part) a in
-    join_tests (is_plain x) (list_all is_plain part) ((both (is_plain x) (not (eqb x 47)) e.0).0) (plain_part part e.1)
-
-pub joined_plain : (parts : List (List ℕ)) → list_all is_kept parts ≡ true → list_all is_plain (joined parts) ≡ true
-joined_plain [] a = refl
-joined_plain (part ∷ parts) a =
-    let e = both (is_kept part) (list_all is_kept parts) a in
-    list_all-append is_plain part (joined parts) (plain_part part ((both _ (list_all may_stand part) e.0).1)) (joined_plain parts e.1)
+stand : (parts : List (List ℕ)) → list_all is_kept parts ≡ true → are_between slash is_plain parts ≡ true
+stand [] a = refl
+stand (part ∷ parts) a =
+    let e = and_parts (is_kept part) (list_all is_kept parts) a in
+    and_from (list_all may_stand part) (are_between slash is_plain parts) ((and_parts _ (list_all may_stand part) e.0).1) (stand parts e.1)
 
 ok_of : (test : Bool) (wanted name : List ℕ) → cond test (Ok wanted) (Err BadName) ≡ Ok name → name ≡ wanted
 ok_of true wanted name e = cc
@@ -161,16 +99,15 @@ again : (kept : List (List ℕ)) (name : List ℕ) → list_all is_kept kept ≡
 unfolding kept_parts
 again [] name a same e = absurd cc
 again (part ∷ parts) name a same e =
-    let t = both (is_kept part) (list_all is_kept parts) a in
     let text = joined (part ∷ parts) in
-    let cut : parts_of text ≡ [] ∷ part ∷ parts = ap (λ rest. [] ∷ rest) (split_again part parts t.0 t.1) in
+    let cut : parts_of text ≡ [] ∷ part ∷ parts = written_is_cut_again slash is_plain [] (part ∷ parts) (stand (part ∷ parts) a) in
     let kept : kept_parts [] (parts_of text) ≡ Some (part ∷ parts) = ap (kept_parts []) cut ∙ kept_again [] (part ∷ parts) a in
     let here : resolved text ≡ Ok name =
-    ap (λ b. cond b (name_of (kept_parts [] (parts_of text))) (Err BadName)) (joined_plain (part ∷ parts) a) ∙ ap name_of kept ∙ e in
+    ap (λ b. cond b (name_of (kept_parts [] (parts_of text))) (Err BadName)) (written_stands slash is_plain [] (part ∷ parts) refl (stand (part ∷ parts) a)) ∙ ap name_of kept ∙ e in
     record { itself = subst (λ bytes. resolved bytes ≡ Ok name) (sym same) here }
 
 -- what a text names is a name that names itself
 pub resolved-IsResolved : (text name : List ℕ) → resolved text ≡ Ok name → IsResolved name
 resolved-IsResolved text name e =
     let r = resolved_of (eqb (get_or text 0 0) 47) (list_all is_plain text) (kept_parts [] (parts_of text)) name e in
-    again r.1 name (kept_stand [] (parts_of text) r.1 refl (plain_parts text r.0) r.2) r.3 r.4
+    again r.1 name (kept_stand [] (parts_of text) r.1 refl (parts_are_between slash is_plain text r.0) r.2) r.3 r.4

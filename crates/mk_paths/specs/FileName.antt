@@ -1,8 +1,7 @@
 -- What file a name stands for: names of files in ports trees, as in /ports/editors/vim/Makefile (ports(7)).
-use Rattle.std.specs.Prelude.{◌≡◌, ℕ, ◌-◌, ◌==◌, nat_le, ◌&&◌, ◌||◌, if◌then◌else◌, Bool, List, [], ◌∷◌, ◌++◌, map, length, take, Option, Some, None, Result, Ok, Err, option_and_then, codes, slice_index}
+use Rattle.std.specs.Prelude.{◌≡◌, ℕ, ◌-◌, ◌==◌, nat_le, ◌&&◌, ◌||◌, if◌then◌else◌, Bool, List, [], ◌∷◌, ◌++◌, length, take, Option, Some, None, Result, Ok, Err, option_and_then, codes, slice_index}
 use Rattle.std.specs.List.{slice_split, flat_map, list_all}
 use Rattle.std.specs.Str.{bytes_eq}
-use Rattle.std.specs.Borrow.{Bor}
 use Rattle.mk_paths.specs.declared.file_name.NameFault.{NameFault}
 use Rattle.mk_paths.specs.declared.file_name.NameFault.TheVariants.{BadName, Above}
 
@@ -54,7 +53,3 @@ name_under directory file = if slice_index file 0 == slash then file else direct
 -- a name that is its own resolved name
 pub record IsResolved (name : List ℕ) : Type 0 where
   pub itself : resolved name ≡ Ok name
-
--- what texts behind references are
-abbrev pub now_all : List (Bor (List ℕ)) → List (List ℕ)
-now_all texts = map (λ text. text.now) texts

@@ -2,11 +2,13 @@
 ghost use Rattle.std.specs.Prelude.{◌≡◌, IfOk, IsErrOf, option_map, [], if◌then◌else◌};
 ghost use Rattle.std.specs.List.{list_all};
 ghost use Rattle.std.specs.String.{string_bytes};
-ghost use Rattle.mk_paths.specs.FileName.{resolved, IsResolved, name_under, is_plain, parts_of, kept_parts, with_part, joined, now_all};
+ghost use Rattle.mk_paths.specs.FileName.{resolved, IsResolved, name_under, is_plain, kept_parts, with_part, joined};
+ghost use Rattle.text_cuts.specs.Cuts.{now_all};
 ghost use Rattle.mk_paths.specs.declared.file_name.NameFault.TheVariants.{Memory};
 
 use std::alloc::{AllocError, Global};
 use std::marker::Model;
+use text_cuts::split_at;
 
 /// The most bytes of a resolved name.
 const LONGEST_NAME: usize = 255;
@@ -64,7 +66,7 @@ impl Name {
         if !text.starts_with('/') || !is_plain_text(text) {
             return Err(NameFault::BadName);
         }
-        let parts = split_at_slashes(alloc, text)?;
+        let parts = split_at(alloc, text, '/')?;
         let Some(kept) = kept_of(alloc, &parts)? else {
             return Err(NameFault::Above);
         };
@@ -123,13 +125,6 @@ fn is_plain_text(text: &str) -> bool
     ensures { result ≡ list_all is_plain text.now }
 {
     text.bytes().all(|byte| is_plain_byte(byte))
-}
-
-// The parts between the slashes of a text.
-fn split_at_slashes(alloc: Global, text: &str) -> Result<Vec<&str>, AllocError>
-    ensures { IfOk result (λ parts. now_all parts.items ≡ parts_of text.now) }
-{
-    text.split('/').collect(alloc)
 }
 
 // The parts that are left where empty and `.` parts are dropped and each `..` removes the part before it;

@@ -2,13 +2,14 @@
 ghost use Rattle.std.specs.Prelude.{◌≡◌, IfOk, IsErrOf, map};
 ghost use Rattle.std.specs.List.{list_all};
 ghost use Rattle.std.specs.String.{string_bytes};
-ghost use Rattle.mk_paths.specs.SearchPath.{search_path, is_search_path, may_be_in_part, is_part, is_tree, trees_of, standard_trees, IsSearchPath};
-ghost use Rattle.mk_paths.specs.FileName.{now_all};
+ghost use Rattle.mk_paths.specs.SearchPath.{search_path, is_search_path, may_be_in_part, is_part, is_tree, standard_trees, IsSearchPath};
+ghost use Rattle.text_cuts.specs.Cuts.{now_all};
 ghost use Rattle.mk_paths.specs.declared.search_path.PathFault.TheVariants.{Memory};
 
 use crate::file_name::is_plain_byte;
 use std::alloc::{AllocError, Global};
 use std::marker::Model;
+use text_cuts::{copies_of, split_at};
 
 /// The most trees of a search path.
 const MOST_TREES: usize = 8;
@@ -58,7 +59,7 @@ impl SearchPath {
         ensures ok { IfOk result (λ path. search_path text.now ≡ Some path) }
         ensures bad_path { IsErrOf result PathFault.BadPath → search_path text.now ≡ None }
     {
-        let trees = split_at_colons(alloc, text)?;
+        let trees = split_at(alloc, text, ':')?;
         if !is_path(&trees) {
             return Err(PathFault::BadPath);
         }
@@ -136,22 +137,4 @@ fn is_part_byte(byte: u8) -> bool
     ensures { result ≡ may_be_in_part byte }
 {
     is_plain_byte(byte) && byte != b'/' && byte != b':'
-}
-
-// The trees between the colons of a text.
-fn split_at_colons(alloc: Global, text: &str) -> Result<Vec<&str>, AllocError>
-    ensures { IfOk result (λ trees. now_all trees.items ≡ trees_of text.now) }
-{
-    text.split(':').collect(alloc)
-}
-
-// The same texts, each of its own.
-fn copies_of(alloc: Global, texts: &[&str]) -> Result<Vec<String>, AllocError>
-    ensures { IfOk result (λ copies. map string_bytes copies.items ≡ now_all texts.now) }
-{
-    let mut copies = Vec::with_capacity(alloc, texts.len())?;
-    for text in texts {
-        copies.push(String::from_str(alloc, text)?)?;
-    }
-    Ok(copies)
 }

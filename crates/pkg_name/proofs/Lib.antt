@@ -2,5 +2,4 @@ mod VersionLaws
 pub mod ShortNumbers
 pub mod Endings
 pub mod PartCuts
-pub mod NameCuts
 pub mod NameTexts

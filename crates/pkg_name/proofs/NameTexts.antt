@@ -1,44 +1,14 @@
 -- The text of a name that was split is the text that was split.
-use Rattle.std.proofs.Common.{◌≡◌, ◌==◌, ℕ, true, ◌&&◌, List, [], ◌∷◌, ◌++◌, slice_index, Option, Some, None, sym, ap, refl, ◌∙◌, inl, inr, unwrap_or, true≢false, append-nil}
-use Rattle.std.proofs.lemmas.Bool.{cases_Bool, and_parts, eqb-true}
+use Rattle.std.proofs.Common.{◌≡◌, ◌==◌, ℕ, true, ◌&&◌, List, [], ◌∷◌, ◌++◌, Option, Some, None, sym, ap, refl, ◌∙◌, inl, inr, append-nil}
+use Rattle.std.proofs.lemmas.Bool.{cases_Bool}
 use Rattle.std.proofs.lemmas.List.Splits.{join_with_byte-slice_split}
-use Rattle.std.specs.Option.{option_map, option_and_then, is_some}
+use Rattle.std.specs.Option.{option_and_then}
 use Rattle.std.specs.List.{list_all, slice_split, flat_map, join_with_byte}
-use Rattle.std.specs.Char.{is_ascii_digit}
-use Rattle.pkg_name.specs.Version.{is_version}
-use Rattle.pkg_name.specs.Name.{Cut, NameParts, IsName, at_version, name_of, name_if, name_text, split_name, is_word, dash}
+use Rattle.pkg_name.specs.Version.{begins_with_digit, is_version}
+use Rattle.text_cuts.specs.Cuts.{Cut}
+use Rattle.text_cuts.proofs.CutTexts.{cut_is_its_text}
+use Rattle.pkg_name.specs.Name.{NameParts, IsName, at_version, name_of, name_if, name_text, split_name, is_word, dash}
 use Rattle.pkg_name.specs.Laws.{NameIsItsText}
-
--- the one value of two equal options
-same_some : {A : Type 0} (x y : A) → Some x ≡ Some y → x ≡ y
-same_some x y e = ap (λ o. unwrap_or o x) e
-
-none_some : {A : Type 0} {x : A} → None ≡ Some x → ⊥
-none_some e = true≢false (sym (ap is_some e))
-
--- a cut text is what stands before the dash and behind it
-abbrev joined : Cut → List ℕ
-joined cut = cut.before ++ dash ∷ cut.behind
-
--- the cut of a longer text
-longer : (byte : ℕ) (rest : List ℕ) (found : Option Cut) (cut : Cut) → ((inner : Cut) → found ≡ Some inner → rest ≡ joined inner)
-    → option_map (λ (inner : Cut). record { before = byte ∷ inner.before; behind = inner.behind }) found ≡ Some cut → byte ∷ rest ≡ joined cut
-longer byte rest None cut known e = absurd (none_some e)
-longer byte rest (Some inner) cut known e =
-    ap (λ r. byte ∷ r) (known inner refl) ∙ ap joined (same_some _ cut e)
-
-pub at_version-joined : (text : List ℕ) (cut : Cut) → at_version text ≡ Some cut → text ≡ joined cut
-unfolding at_version
-at_version-joined [] cut e = absurd (none_some e)
-at_version-joined (byte ∷ rest) cut e = elim (cases_Bool (byte == dash && is_ascii_digit (slice_index rest 0))) [
-  | inl h ↦
-      let is_dash : byte ≡ dash = eqb-true byte dash (and_parts (byte == dash) (is_ascii_digit (slice_index rest 0)) h).0 in
-      let here = rw h at e in
-      ap (λ b. b ∷ rest) is_dash ∙ ap joined (same_some _ cut here)
-  | inr h ↦
-      let further = rw h at e in
-      longer byte rest (at_version rest) cut (at_version-joined rest) further
-]
 
 -- words with dashes between them, behind a dash
 words_joined : (first : List ℕ) (words : List (List ℕ)) → flat_map (λ word. dash ∷ word) (first ∷ words) ≡ dash ∷ join_with_byte dash (first ∷ words)
@@ -47,22 +17,23 @@ words_joined first (next ∷ words) = ap (λ rest. dash ∷ (first ++ rest)) (wo
 
 -- the text of a name made of a stem and words
 named : (stem : List ℕ) (words : List (List ℕ)) (parts : NameParts) → name_of stem words ≡ Some parts → name_text parts ≡ stem ++ dash ∷ join_with_byte dash words
-named stem [] parts e = absurd (none_some e)
+named stem [] parts e = cc
 named stem (version ∷ flavors) parts e = elim (cases_Bool (is_word stem && is_version version && list_all is_word flavors)) [
   | inl h ↦
-      let is = same_some _ parts (rw h at e) in
-      ap name_text (sym is) ∙ ap (λ rest. stem ++ rest) (words_joined version flavors)
-  | inr h ↦ absurd (none_some (rw h at e))
+      let here = rw h at e in
+      let is : parts ≡ record { stem = stem; version = version; flavors = flavors } = cc here in
+      ap name_text is ∙ ap (λ rest. stem ++ rest) (words_joined version flavors)
+  | inr h ↦ let here = rw h at e in cc here
 ]
 
 -- the same, for a text that is cut or not
 split_text : (text : List ℕ) (found : Option Cut) (parts : NameParts) → at_version text ≡ found
     → option_and_then (λ cut. name_of cut.before (slice_split (λ byte. byte == dash) cut.behind)) found ≡ Some parts → name_text parts ≡ text
-split_text text None parts is e = absurd (none_some e)
+split_text text None parts is e = cc
 split_text text (Some cut) parts is e =
     named cut.before (slice_split (λ byte. byte == dash) cut.behind) parts e
     ∙ ap (λ behind. cut.before ++ dash ∷ behind) (join_with_byte-slice_split dash cut.behind)
-    ∙ sym (at_version-joined text cut is)
+    ∙ sym (cut_is_its_text dash begins_with_digit text cut is)
 
 pub name_is_its_text : NameIsItsText
 name_is_its_text text parts e = split_text text (at_version text) parts refl e

@@ -1,8 +1,7 @@
 -- Texts whose numbers have at most 18 digits, and their pieces.
-use Rattle.std.proofs.Common.{◌≡◌, ◌≤◌, ◌+◌, ℕ, suc, ◌<◌, Bool, true, false, ◌&&◌, List, [], ◌∷◌, ◌++◌, length, take, drop, nat_le, ap, refl, sym, ◌∙◌, arith, inl, inr, zero-add, true≢false, get_or}
+use Rattle.std.proofs.Common.{◌≡◌, ◌≤◌, ◌+◌, ℕ, suc, ◌<◌, Bool, true, false, ◌&&◌, List, [], ◌∷◌, ◌++◌, length, take, drop, nat_le, ap, refl, sym, ◌∙◌, arith, inl, inr, zero-add}
 use Rattle.std.proofs.lemmas.Bool.{cases_Bool, and_from, and_left, leb-true, le-leb, lt-leb}
 use Rattle.std.proofs.lemmas.List.{take-append-drop}
-use Rattle.std.proofs.lemmas.List.Folds.{list_all_at}
 use Rattle.std.specs.List.{list_all, prefix_len}
 use Rattle.std.specs.Char.{is_ascii_digit}
 use Rattle.std.specs.Cmp.{first_so, second_so}
@@ -115,10 +114,3 @@ fits_behind-many digits text many =
 pub fits_behind-end : (digits : ℕ) → digits ≤ 18 → fits_behind digits [] ≡ true
 unfolding has_short_numbers
 fits_behind-end digits few = and_from (nat_le (digits + 0) 18) true (le-leb (digits + 0) 18 (omega arith)) refl
-
--- where each element passes, so does the one at a place
-pub passes_at : (p : ℕ → Bool) (xs : List ℕ) (i d : ℕ) → list_all p xs ≡ true → i < length xs → p (get_or xs i d) ≡ true
-passes_at p xs i d all inside = elim (cases_Bool (p (get_or xs i d))) [
-  | inl h ↦ h
-  | inr h ↦ absurd (true≢false (sym all ∙ list_all_at p xs i d inside h))
-]

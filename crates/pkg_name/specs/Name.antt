@@ -1,10 +1,9 @@
 -- Names of packages: a stem, a version and flavors, with dashes between (packages-specs(7)). A text is its bytes.
-use Rattle.std.specs.Prelude.{◌≡◌, ℕ, ◌+◌, ◌<◌, ◌==◌, ◌&&◌, ◌||◌, not, if◌then◌else◌, Bool, List, [], ◌∷◌, ◌++◌, map, length, take, drop, slice_index, Option, Some, None, option_map, option_and_then}
+use Rattle.std.specs.Prelude.{◌≡◌, ℕ, ◌==◌, ◌&&◌, ◌||◌, not, if◌then◌else◌, Bool, List, [], ◌∷◌, ◌++◌, Option, Some, None, option_and_then}
 use Rattle.std.specs.List.{list_all, slice_split, flat_map}
-use Rattle.std.specs.Char.{is_ascii_digit}
 use Rattle.std.specs.Str.{bytes_eq}
-use Rattle.std.specs.Borrow.{Bor}
-use Rattle.pkg_name.specs.Version.{is_version}
+use Rattle.text_cuts.specs.Cuts.{Cut, cut_where}
+use Rattle.pkg_name.specs.Version.{begins_with_digit, is_version}
 
 -- the byte `-`
 abbrev pub dash : ℕ
@@ -26,18 +25,9 @@ pub record NameParts : Type 0 where
   pub version : List ℕ
   pub flavors : List (List ℕ)
 
--- a text cut in two
-pub record Cut : Type 0 where
-  pub before : List ℕ
-  pub behind : List ℕ
-
 -- what stands before the first dash with a digit behind it, and what stands behind that dash
-unfoldable pub at_version : List ℕ → Option Cut
-at_version [] = None
-at_version (byte ∷ rest) =
-    if byte == dash && is_ascii_digit (slice_index rest 0)
-    then Some (record { before = []; behind = rest })
-    else option_map (λ cut. record { before = byte ∷ cut.before; behind = cut.behind }) (at_version rest)
+abbrev pub at_version : List ℕ → Option Cut
+at_version text = cut_where dash begins_with_digit text
 
 -- the name of these parts, where they are parts of a name
 abbrev pub name_if : Bool → List ℕ → List ℕ → List (List ℕ) → Option NameParts
@@ -59,13 +49,3 @@ name_text parts = parts.stem ++ flat_map (λ word. dash ∷ word) (parts.version
 -- a name that its own text is split into
 pub record IsName (parts : NameParts) : Type 0 where
   pub itself : split_name (name_text parts) ≡ Some parts
-
--- the cut of a text at one of its dashes
-pub record IsCutAt (text : List ℕ) (at : ℕ) (cut : Option Cut) : Type 0 where
-  pub inside : at < length text
-  pub is_dash : slice_index text at ≡ dash
-  pub sides : cut ≡ Some (record { before = take at text; behind = drop (at + 1) text })
-
--- what texts behind references are
-abbrev pub now_all : List (Bor (List ℕ)) → List (List ℕ)
-now_all texts = map (λ text. text.now) texts

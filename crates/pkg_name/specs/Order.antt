@@ -1,22 +1,19 @@
 -- The order of versions of packages (packages-specs(7)): the lexicographic order of a list of keys. A text is its
 -- bytes.
-use Rattle.std.specs.Prelude.{ℕ, ◌+◌, ◌-◌, ◌*◌, ◌==◌, ◌&&◌, if◌then◌else◌, Bool, false, List, [], ◌∷◌, map, drop, codes, Option, Some, None}
-use Rattle.std.specs.List.{list_all, prefix_len, take_while, slice_split, fold}
+use Rattle.std.specs.Prelude.{ℕ, ◌==◌, ◌&&◌, if◌then◌else◌, Bool, false, List, [], ◌∷◌, map, drop, codes, Option, Some, None}
+use Rattle.std.specs.List.{list_all, prefix_len, take_while, slice_split}
 use Rattle.std.specs.Char.{is_ascii_digit, is_ascii_alphabetic}
 use Rattle.std.specs.Str.{bytes_eq}
 use Rattle.std.specs.Option.{option_cmp}
+use Rattle.std.specs.Str.Parse.{digits_value}
 use Rattle.std.specs.Ordering.{nat_cmp, on, then_cmp}
 use Rattle.std.specs.declared.cmp.Ordering.{Ordering}
 use Rattle.std.specs.Cmp.Lexicographic.{slice_cmp}
 
--- the number that decimal digits write
-abbrev pub decimal : List ℕ → ℕ
-decimal digits = fold (λ number digit. 10 * number + (digit - 48)) 0 digits
-
--- the number that digits write, none where there are no digits
+-- the number that decimal digits write, none where there are no digits
 abbrev pub number_of : List ℕ → Option ℕ
 number_of [] = None
-number_of (digit ∷ digits) = Some (decimal (digit ∷ digits))
+number_of (digit ∷ digits) = Some (digits_value 10 (digit ∷ digits))
 
 -- what stands behind the bytes at the front that pass a test
 abbrev pub past_while : (ℕ → Bool) → List ℕ → List ℕ

@@ -16,9 +16,13 @@ unfoldable pub has_short_numbers : List ℕ → Bool
 has_short_numbers [] = true
 has_short_numbers (byte ∷ rest) = nat_le (digit_count (byte ∷ rest)) 18 && has_short_numbers rest
 
+-- a digit stands first
+abbrev pub begins_with_digit : List ℕ → Bool
+begins_with_digit text = is_ascii_digit (slice_index text 0)
+
 -- a version begins with a digit, has only bytes of versions, and no number of more than 18 digits
 abbrev pub is_version : List ℕ → Bool
-is_version text = is_ascii_digit (slice_index text 0) && list_all is_version_byte text && has_short_numbers text
+is_version text = begins_with_digit text && list_all is_version_byte text && has_short_numbers text
 
 -- this text is a version
 abbrev pub IsVersion : List ℕ → Type 0

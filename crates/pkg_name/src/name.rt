@@ -4,13 +4,15 @@ ghost use Rattle.std.specs.List.{list_all, slice_split};
 ghost use Rattle.std.specs.String.{string_bytes};
 ghost use Rattle.std.specs.Char.{is_ascii_digit};
 ghost use Rattle.pkg_name.specs.Version.{is_version};
-ghost use Rattle.pkg_name.specs.Name.{split_name, name_text, at_version, name_of, name_if, is_word, is_forbidden, now_all, dash, IsCutAt};
+ghost use Rattle.pkg_name.specs.Name.{split_name, name_text, at_version, name_of, name_if, is_word, is_forbidden};
+ghost use Rattle.text_cuts.specs.Cuts.{now_all};
 ghost use Rattle.pkg_name.specs.declared.name.NameFault.TheVariants.{Memory};
 
-use crate::version::{Version, VersionFault};
+use crate::version::{Version, VersionFault, begins_with_digit};
 use std::alloc::{AllocError, Global};
 use std::fmt;
 use std::marker::Model;
+use text_cuts::{copies_of, cut_where, split_at};
 
 /// Why a text gives no name of a package.
 #[derive(Clone, Copy, Debug, PartialEq, Eq)]
@@ -63,7 +65,7 @@ impl PkgName {
         let Some((stem, behind)) = cut_at_version(text) else {
             return Err(NameFault::NoName);
         };
-        let words = split_at_dashes(alloc, behind)?;
+        let words = split_at(alloc, behind, '-')?;
         let Some((version, flavors)) = version_and_flavors(stem, &words) else {
             return Err(NameFault::NoName);
         };
@@ -120,37 +122,7 @@ impl fmt::Display for PkgName {
 fn cut_at_version(text: &str) -> Option<(&str, &str)>
     ensures { MatchOption result (at_version text.now ≡ None) (λ cut. at_version text.now ≡ Some (record { before = cut.0.now; behind = cut.1.now })) }
 {
-    let at = dash_before_version(text.as_bytes())?;
-    Some((&text[..at], &text[at + 1..]))
-}
-
-// The first dash with a digit behind it.
-fn dash_before_version(text: &[u8]) -> Option<usize>
-    ensures { MatchOption result (at_version text.now ≡ None) (λ at. IsCutAt text.now at (at_version text.now)) }
-{
-    for at in 0..text.len() {
-        if text[at] == b'-' && is_digit_at(text, at + 1) {
-            return Some(at);
-        }
-    }
-    None
-}
-
-// Whether a digit stands at a place.
-fn is_digit_at(text: &[u8], at: usize) -> bool
-    ensures { result ≡ is_ascii_digit (slice_index text.now at) }
-{
-    match text.get(at) {
-        Some(byte) => byte.is_ascii_digit(),
-        None => false,
-    }
-}
-
-// The words between the dashes of a text.
-fn split_at_dashes(alloc: Global, text: &str) -> Result<Vec<&str>, AllocError>
-    ensures { IfOk result (λ words. now_all words.items ≡ slice_split (λ byte. byte == dash) text.now) }
-{
-    text.split('-').collect(alloc)
+    cut_where(text, '-', begins_with_digit)
 }
 
 // The words behind a stem as a version, not read yet, and flavors; `None` where the stem or a flavor is none.
@@ -194,15 +166,4 @@ fn is_forbidden_byte(byte: u8) -> bool
         byte,
         b' ' | b'\t' | b'/' | b',' | b'|' | b'<' | b'>' | b'=' | b'*' | b'!'
     )
-}
-
-// The same texts, each of its own.
-fn copies_of(alloc: Global, texts: &[&str]) -> Result<Vec<String>, AllocError>
-    ensures { IfOk result (λ copies. map string_bytes copies.items ≡ now_all texts.now) }
-{
-    let mut copies = Vec::with_capacity(alloc, texts.len())?;
-    for text in texts {
-        copies.push(String::from_str(alloc, text)?)?;
-    }
-    Ok(copies)
 }

@@ -8,6 +8,7 @@ ghost use Rattle.pkg_name.specs.Version.{has_short_numbers};
 ghost use Rattle.pkg_name.specs.Order.{number_of, past_while, ended_by, part_key, part_keys, part_cmp, letters_rank, letters_cmp, version_cmp};
 
 use std::cmp::Ordering;
+use std::str;
 
 // A text whose end, a letter and a number, is taken off.
 #[derive(Clone, Copy)]
@@ -89,14 +90,10 @@ fn number(digits: &[u8]) -> Option<u64>
     requires few { length digits.now ≤ 18 }
     ensures { result ≡ number_of digits.now }
 {
-    if digits.is_empty() {
+    let Ok(digits) = str::from_utf8(digits) else {
         return None;
-    }
-    let mut number = 0;
-    for digit in digits {
-        number = 10 * number + (*digit - b'0') as u64;
-    }
-    Some(number)
+    };
+    digits.parse().ok()
 }
 
 // How two texts compare by the parts between their dots.

@@ -5,7 +5,7 @@ ghost use Rattle.std.specs.Char.{is_ascii_digit};
 ghost use Rattle.std.specs.Str.{bytes_eq};
 ghost use Rattle.std.specs.Cmp.{partial_equiv_from_equiv};
 ghost use Rattle.std.specs.Cmp.Lexicographic.{nat_list_eq_equiv};
-ghost use Rattle.pkg_name.specs.Version.{is_version, is_version_byte, has_short_numbers, IsVersion};
+ghost use Rattle.pkg_name.specs.Version.{begins_with_digit, is_version, is_version_byte, has_short_numbers, IsVersion};
 ghost use Rattle.pkg_name.specs.Order.{version_cmp};
 ghost use Rattle.pkg_name.specs.OrderLaws.{version_cmp_total, version_cmp_ties, version_po};
 ghost use Rattle.pkg_name.specs.declared.version.VersionFault.TheVariants.{Memory};
@@ -139,9 +139,9 @@ fn is_version_text(text: &[u8]) -> bool
     begins_with_digit(text) && has_version_bytes(text) && numbers_are_short(text)
 }
 
-// Whether a text begins with a digit.
-fn begins_with_digit(text: &[u8]) -> bool
-    ensures { result ≡ is_ascii_digit (slice_index text.now 0) }
+/// Whether a text begins with a digit.
+pub(crate) fn begins_with_digit(text: &[u8]) -> bool
+    ensures { result ≡ begins_with_digit text.now }
 {
     match text.first() {
         Some(byte) => byte.is_ascii_digit(),

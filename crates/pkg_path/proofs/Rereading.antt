@@ -1,20 +1,20 @@
 -- What a text names is named by its canonical text, too.
-use Rattle.std.proofs.Common.{◌≡◌, ◌∙◌, sym, ap, subst, refl, ℕ, Bool, true, false, not, cond, ◌&&◌, ◌||◌, eqb, ltb, List, [], ◌∷◌, ◌++◌, length, Option, Some, None, Ok, Err, append_assoc, append-nil, arith}
-use Rattle.std.proofs.lemmas.Bool.{false≢true}
+use Rattle.std.proofs.Common.{◌≡◌, ◌∙◌, sym, ap, subst, refl, ℕ, Bool, true, false, not, cond, ◌&&◌, ◌||◌, eqb, ltb, List, [], ◌∷◌, ◌++◌, length, Option, Some, None, Ok, Err, append_assoc, arith}
+use Rattle.std.proofs.lemmas.Bool.{false≢true, and_parts, and_from, or_parts}
 use Rattle.std.proofs.lemmas.Grind.{common_steps, flat_map-append}
 use Rattle.std.proofs.lemmas.List.Folds.{list_all-append}
-use Rattle.std.proofs.lemmas.List.Splits.{slice_split-cons_yes, slice_split-cons_no, slice_split_none, slice_split_at}
-use Rattle.std.proofs.lemmas.List.Elements.{All-cons, All-nil}
-use Rattle.std.specs.List.{list_all, list_any, filter, find, onto_first, All}
+use Rattle.text_cuts.specs.Laws.{is_between}
+use Rattle.text_cuts.proofs.PartTexts.{parts_are_between, written_is_cut_again, written_stands}
+use Rattle.std.specs.List.{list_all, list_any, filter, find}
 use Rattle.std.specs.Option.{option_to_list}
 use Rattle.std.specs.Str.{bytes_eq}
 use Rattle.pkg_path.proofs.Ordered.{among-in_order, in_order-again}
-use Rattle.pkg_path.specs.Paths.{PathValue, elements_of, directory_of, choices_of, is_subpackage, is_flavor, in_order, flavors_of, value_of, has_two_subpackages, may_stand, is_directory, is_bare_dash, is_well_written, path_of, flavor_choices, choices_text, canonical, IsPath, without_subpackage}
+use Rattle.pkg_path.specs.Paths.{comma, PathValue, elements_of, directory_of, choices_of, is_subpackage, is_flavor, in_order, flavors_of, value_of, has_two_subpackages, may_stand, is_directory, is_bare_dash, is_well_written, path_of, flavor_choices, choices_text, canonical, IsPath, without_subpackage}
 use Rattle.pkg_path.specs.declared.faults.PkgPathFault.TheVariants.{Empty, TwoSubpackages, BadCharacter}
 
 -- a byte of an element: it may stand in a path and is no comma
 abbrev is_plain : ℕ → Bool
-is_plain byte = may_stand byte && not (eqb byte 44)
+is_plain = is_between comma may_stand
 
 -- a flavor as a path has it
 abbrev is_word : List ℕ → Bool
@@ -35,21 +35,6 @@ record IsSound (path : PathValue) : Type 0 where
   subpackage : IsSoundName path.subpackage
 
 -- tests
-
-both : (a b : Bool) → (a && b) ≡ true → (a ≡ true) × (b ≡ true)
-both true true e = (refl, refl)
-both true false e = cc
-both false b e = cc
-
-join : (a b : Bool) → a ≡ true → b ≡ true → (a && b) ≡ true
-join true true p q = refl
-join true false p q = q
-join false b p q = p
-
-neither : (a b : Bool) → (a || b) ≡ false → (a ≡ false) × (b ≡ false)
-neither false false e = (refl, refl)
-neither false true e = cc
-neither true b e = cc
 
 not_true : (a : Bool) → not a ≡ true → a ≡ false
 not_true true e = sym e
@@ -72,33 +57,15 @@ all_in_order : (p : List ℕ → Bool) (xs : List (List ℕ)) → list_all p xs 
 all_in_order p xs a =
     of_not (list_all p (in_order xs)) (sym (fails_none p (in_order xs)) ∙ among-in_order (λ x. not (p x)) xs ∙ fails_none p xs ∙ ap not a)
 
--- the elements of a text whose bytes may stand
-
-onto_elements : (x : ℕ) (elements : List (List ℕ)) → is_plain x ≡ true → list_all (list_all is_plain) elements ≡ true → list_all (list_all is_plain) (onto_first x elements) ≡ true
-onto_elements x [] a b = join (list_all is_plain (x ∷ [])) true (join (is_plain x) true a refl) refl
-onto_elements x (element ∷ elements) a b =
-    let e = both (list_all is_plain element) (list_all (list_all is_plain) elements) b in
-    join (list_all is_plain (x ∷ element)) (list_all (list_all is_plain) elements) (join (is_plain x) (list_all is_plain element) a e.0) e.1
-
-plain_elements : (text : List ℕ) → list_all may_stand text ≡ true → list_all (list_all is_plain) (elements_of text) ≡ true
-plain_elements [] a = refl
-plain_elements (x ∷ text) a =
-    let e = both (may_stand x) (list_all may_stand text) a in
-    let rest = plain_elements text e.1 in
-    elim (eqb x 44) as (λ b. eqb x 44 ≡ b → list_all (list_all is_plain) (elements_of (x ∷ text)) ≡ true) [
-      | true ↦ λ is. rw (slice_split-cons_yes (λ byte. eqb byte 44) x text is) rest
-      | false ↦ λ is. rw (slice_split-cons_no (λ byte. eqb byte 44) x text is) (onto_elements x (elements_of text) (join (may_stand x) (not (eqb x 44)) e.0 (ap not is)) rest)
-    ] refl
-
 -- what was read is sound
 
 words_of_choices : (choices : List (List ℕ)) → list_all (list_all is_plain) choices ≡ true → list_all is_word (filter is_flavor choices) ≡ true
 words_of_choices [] a = refl
 words_of_choices (choice ∷ choices) a =
-    let e = both (list_all is_plain choice) (list_all (list_all is_plain) choices) a in
+    let e = and_parts (list_all is_plain choice) (list_all (list_all is_plain) choices) a in
     let rest = words_of_choices choices e.1 in
     elim (is_flavor choice) as (λ b. is_flavor choice ≡ b → list_all is_word (cond b (choice ∷ filter is_flavor choices) (filter is_flavor choices)) ≡ true) [
-      | true ↦ λ is. join (is_word choice) (list_all is_word (filter is_flavor choices)) (join (is_flavor choice) (list_all is_plain choice) is e.0) rest
+      | true ↦ λ is. and_from (is_word choice) (list_all is_word (filter is_flavor choices)) (and_from (is_flavor choice) (list_all is_plain choice) is e.0) rest
       | false ↦ λ is. rest
     ] refl
 
@@ -109,8 +76,8 @@ sound_flavors_by false choices a = tt
 sound_name : (choices : List (List ℕ)) → list_all (list_all is_plain) choices ≡ true → list_any is_bare_dash choices ≡ false → IsSoundName (find is_subpackage choices)
 sound_name [] a b = tt
 sound_name (choice ∷ choices) a b =
-    let e = both (list_all is_plain choice) (list_all (list_all is_plain) choices) a in
-    let n = neither (is_bare_dash choice) (list_any is_bare_dash choices) b in
+    let e = and_parts (list_all is_plain choice) (list_all (list_all is_plain) choices) a in
+    let n = or_parts (is_bare_dash choice) (list_any is_bare_dash choices) b in
     elim (is_subpackage choice) as (λ b. is_subpackage choice ≡ b → IsSoundName (cond b (Some choice) (find is_subpackage choices))) [
       | true ↦ λ is. (is, e.0, n.0)
       | false ↦ λ is. sound_name choices e.1 n.1
@@ -118,11 +85,11 @@ sound_name (choice ∷ choices) a b =
 
 directory_plain : (elements : List (List ℕ)) → list_all (list_all is_plain) elements ≡ true → list_all is_plain (directory_of elements) ≡ true
 directory_plain [] a = refl
-directory_plain (directory ∷ choices) a = (both (list_all is_plain directory) (list_all (list_all is_plain) choices) a).0
+directory_plain (directory ∷ choices) a = (and_parts (list_all is_plain directory) (list_all (list_all is_plain) choices) a).0
 
 choices_plain : (elements : List (List ℕ)) → list_all (list_all is_plain) elements ≡ true → list_all (list_all is_plain) (choices_of elements) ≡ true
 choices_plain [] a = refl
-choices_plain (directory ∷ choices) a = (both (list_all is_plain directory) (list_all (list_all is_plain) choices) a).1
+choices_plain (directory ∷ choices) a = (and_parts (list_all is_plain directory) (list_all (list_all is_plain) choices) a).1
 
 sound_by : (none two written : Bool) (text : List ℕ) (path : PathValue) → is_well_written text ≡ written
     → cond none (Err Empty) (cond two (Err TwoSubpackages) (cond written (Ok (value_of (elements_of text))) (Err BadCharacter))) ≡ Ok path → IsSound path
@@ -131,9 +98,9 @@ sound_by false true written text path is e = absurd cc
 sound_by false false false text path is e = absurd cc
 sound_by false false true text path is e =
     let same : value_of (elements_of text) ≡ path = cc in
-    let t = both (list_all may_stand text && is_directory (directory_of (elements_of text))) (not (list_any is_bare_dash (choices_of (elements_of text)))) is in
-    let bytes = both (list_all may_stand text) (is_directory (directory_of (elements_of text))) t.0 in
-    let plain = plain_elements text bytes.0 in
+    let t = and_parts (list_all may_stand text && is_directory (directory_of (elements_of text))) (not (list_any is_bare_dash (choices_of (elements_of text)))) is in
+    let bytes = and_parts (list_all may_stand text) (is_directory (directory_of (elements_of text))) t.0 in
+    let plain = parts_are_between comma may_stand text bytes.0 in
     let choices = choices_plain (elements_of text) plain in
     let sound : IsSound (value_of (elements_of text)) = record {
       bytes = directory_plain (elements_of text) plain;
@@ -157,30 +124,6 @@ canonical_is : (path : PathValue) → canonical path ≡ path.directory ++ choic
 unfolding canonical
 canonical_is path = append_assoc path.directory _ _ ∙ ap (λ rest. path.directory ++ rest) (sym (flat_map-append (λ choice. 44 ∷ choice) (flavor_choices path.flavors) (option_to_list path.subpackage)))
 
-no_comma : (element : List ℕ) → list_all is_plain element ≡ true → All (λ byte. eqb byte 44 ≡ false) element
-no_comma [] a = All-nil _
-no_comma (x ∷ element) a =
-    let e = both (is_plain x) (list_all is_plain element) a in
-    All-cons (λ byte. eqb byte 44 ≡ false) x element (not_true (eqb x 44) ((both (may_stand x) (not (eqb x 44)) e.0).1)) (no_comma element e.1)
-
-cut_again : (first : List ℕ) (choices : List (List ℕ)) → list_all is_plain first ≡ true → list_all (list_all is_plain) choices ≡ true → elements_of (first ++ choices_text choices) ≡ first ∷ choices
-cut_again first [] a b = ap elements_of (append-nil first) ∙ slice_split_none (λ byte. eqb byte 44) first (no_comma first a)
-cut_again first (choice ∷ choices) a b =
-    let e = both (list_all is_plain choice) (list_all (list_all is_plain) choices) b in
-    slice_split_at (λ byte. eqb byte 44) first 44 (choice ++ choices_text choices) (no_comma first a) refl ∙ ap (λ rest. first ∷ rest) (cut_again choice choices e.0 e.1)
-
-stands : (element : List ℕ) → list_all is_plain element ≡ true → list_all may_stand element ≡ true
-stands [] a = refl
-stands (x ∷ element) a =
-    let e = both (is_plain x) (list_all is_plain element) a in
-    join (may_stand x) (list_all may_stand element) ((both (may_stand x) (not (eqb x 44)) e.0).0) (stands element e.1)
-
-choices_stand : (choices : List (List ℕ)) → list_all (list_all is_plain) choices ≡ true → list_all may_stand (choices_text choices) ≡ true
-choices_stand [] a = refl
-choices_stand (choice ∷ choices) a =
-    let e = both (list_all is_plain choice) (list_all (list_all is_plain) choices) a in
-    list_all-append may_stand choice (choices_text choices) ∙ join (list_all may_stand choice) (list_all may_stand (choices_text choices)) (stands choice e.0) (choices_stand choices e.1)
-
 -- the choices that are written, read again
 
 -- none of them names a subpackage
@@ -190,17 +133,17 @@ NoneNames choices = list_all (λ choice. not (is_subpackage choice)) choices ≡
 words_plain : (words : List (List ℕ)) → list_all is_word words ≡ true → list_all (list_all is_plain) words ≡ true
 words_plain [] a = refl
 words_plain (word ∷ words) a =
-    let e = both (is_word word) (list_all is_word words) a in
-    join (list_all is_plain word) (list_all (list_all is_plain) words) ((both (is_flavor word) (list_all is_plain word) e.0).1) (words_plain words e.1)
+    let e = and_parts (is_word word) (list_all is_word words) a in
+    and_from (list_all is_plain word) (list_all (list_all is_plain) words) ((and_parts (is_flavor word) (list_all is_plain word) e.0).1) (words_plain words e.1)
 
 flavor_names_none : (word : List ℕ) → is_word word ≡ true → not (is_subpackage word) ≡ true
-flavor_names_none word a = (both (ltb 0 (length word)) (not (is_subpackage word)) ((both (is_flavor word) (list_all is_plain word) a).0)).1
+flavor_names_none word a = (and_parts (ltb 0 (length word)) (not (is_subpackage word)) ((and_parts (is_flavor word) (list_all is_plain word) a).0)).1
 
 words_name_none : (words : List (List ℕ)) → list_all is_word words ≡ true → NoneNames words
 words_name_none [] a = refl
 words_name_none (word ∷ words) a =
-    let e = both (is_word word) (list_all is_word words) a in
-    join (not (is_subpackage word)) (list_all (λ choice. not (is_subpackage choice)) words) (flavor_names_none word e.0) (words_name_none words e.1)
+    let e = and_parts (is_word word) (list_all is_word words) a in
+    and_from (not (is_subpackage word)) (list_all (λ choice. not (is_subpackage choice)) words) (flavor_names_none word e.0) (words_name_none words e.1)
 
 flavors_plain : (flavors : Option (List (List ℕ))) → AreSound flavors → list_all (list_all is_plain) (flavor_choices flavors) ≡ true
 flavors_plain None a = refl
@@ -214,13 +157,13 @@ flavors_name_none (Some (flavor ∷ flavors)) a = words_name_none (flavor ∷ fl
 
 name_plain : (name : Option (List ℕ)) → IsSoundName name → list_all (list_all is_plain) (option_to_list name) ≡ true
 name_plain None a = refl
-name_plain (Some name) a = join (list_all is_plain name) true a.1 refl
+name_plain (Some name) a = and_from (list_all is_plain name) true a.1 refl
 
 found_behind : (choices : List (List ℕ)) (name : Option (List ℕ)) → NoneNames choices → IsSoundName name → find is_subpackage (choices ++ option_to_list name) ≡ name
 found_behind [] None a b = refl
 found_behind [] (Some name) a b = ap (λ t. cond t (Some name) None) b.0
 found_behind (choice ∷ choices) name a b =
-    let e = both (not (is_subpackage choice)) (list_all (λ choice. not (is_subpackage choice)) choices) a in
+    let e = and_parts (not (is_subpackage choice)) (list_all (λ choice. not (is_subpackage choice)) choices) a in
     ap (λ t. cond t (Some choice) (find is_subpackage (choices ++ option_to_list name))) (not_true (is_subpackage choice) e.0) ∙ found_behind choices name e.1 b
 
 names_at_most_one : (name : Option (List ℕ)) → ltb 1 (length (filter is_subpackage (option_to_list name))) ≡ false
@@ -234,7 +177,7 @@ names_at_most_one (Some name) = by (is_subpackage name)
 one_name : (choices : List (List ℕ)) (name : Option (List ℕ)) → NoneNames choices → ltb 1 (length (filter is_subpackage (choices ++ option_to_list name))) ≡ false
 one_name [] name a = names_at_most_one name
 one_name (choice ∷ choices) name a =
-    let e = both (not (is_subpackage choice)) (list_all (λ choice. not (is_subpackage choice)) choices) a in
+    let e = and_parts (not (is_subpackage choice)) (list_all (λ choice. not (is_subpackage choice)) choices) a in
     ap (λ t. ltb 1 (length (cond t (choice ∷ filter is_subpackage (choices ++ option_to_list name)) (filter is_subpackage (choices ++ option_to_list name))))) (not_true (is_subpackage choice) e.0)
     ∙ one_name choices name e.1
 
@@ -246,7 +189,7 @@ none_bare : (choices : List (List ℕ)) (name : Option (List ℕ)) → NoneNames
 none_bare [] None a b = refl
 none_bare [] (Some name) a b = ap (λ t. t || false) b.2
 none_bare (choice ∷ choices) name a b =
-    let e = both (not (is_subpackage choice)) (list_all (λ choice. not (is_subpackage choice)) choices) a in
+    let e = and_parts (not (is_subpackage choice)) (list_all (λ choice. not (is_subpackage choice)) choices) a in
     ap (λ t. t || list_any is_bare_dash (choices ++ option_to_list name)) (not_bare choice e.0) ∙ none_bare choices name e.1 b
 
 -- a subpackage chooses no flavor
@@ -266,15 +209,15 @@ name_adds_none (Some name) a = ap (λ t. cond (ltb 0 (length name) && not t) (na
 words_stay : (words : List (List ℕ)) (name : Option (List ℕ)) → list_all is_word words ≡ true → IsSoundName name → filter is_flavor (words ++ option_to_list name) ≡ words
 words_stay [] name a b = name_adds_none name b
 words_stay (word ∷ words) name a b =
-    let e = both (is_word word) (list_all is_word words) a in
-    ap (λ t. cond t (word ∷ filter is_flavor (words ++ option_to_list name)) (filter is_flavor (words ++ option_to_list name))) ((both (is_flavor word) (list_all is_plain word) e.0).0)
+    let e = and_parts (is_word word) (list_all is_word words) a in
+    ap (λ t. cond t (word ∷ filter is_flavor (words ++ option_to_list name)) (filter is_flavor (words ++ option_to_list name))) ((and_parts (is_flavor word) (list_all is_plain word) e.0).0)
     ∙ ap (λ rest. word ∷ rest) (words_stay words name e.1 b)
 
 flavors_again : (flavors : Option (List (List ℕ))) (name : Option (List ℕ)) → AreSound flavors → IsSoundName name → flavors_of (flavor_choices flavors ++ option_to_list name) ≡ flavors
 flavors_again None name a b = ap (λ t. cond t (Some (in_order (filter is_flavor (option_to_list name)))) None) (name_chooses_none name b)
 flavors_again (Some []) name a b = ap (λ names. Some (in_order names)) (name_adds_none name b)
 flavors_again (Some (flavor ∷ flavors)) name a b =
-    let e = both (is_word flavor) (list_all is_word flavors) a.0 in
+    let e = and_parts (is_word flavor) (list_all is_word flavors) a.0 in
     ap (λ t. cond (t || list_any (λ choice. not (is_subpackage choice)) (flavors ++ option_to_list name)) (Some (in_order (filter is_flavor (flavor ∷ flavors ++ option_to_list name)))) None) (flavor_names_none flavor e.0)
     ∙ ap (λ names. Some (in_order names)) (words_stay (flavor ∷ flavors) name a.0 b) ∙ ap Some a.1
 
@@ -289,14 +232,14 @@ unfolding path_of
 names_itself path s =
     let none_names = flavors_name_none path.flavors s.flavors in
     let plain : list_all (list_all is_plain) (written path) ≡ true =
-    list_all-append (list_all is_plain) (flavor_choices path.flavors) (option_to_list path.subpackage) ∙ join _ _ (flavors_plain path.flavors s.flavors) (name_plain path.subpackage s.subpackage) in
+    list_all-append (list_all is_plain) (flavor_choices path.flavors) (option_to_list path.subpackage) ∙ and_from _ _ (flavors_plain path.flavors s.flavors) (name_plain path.subpackage s.subpackage) in
     let text = path.directory ++ choices_text (written path) in
-    let cut : elements_of text ≡ path.directory ∷ written path = cut_again path.directory (written path) s.bytes plain in
-    let bytes : list_all may_stand text ≡ true =
-    list_all-append may_stand path.directory (choices_text (written path)) ∙ join _ _ (stands path.directory s.bytes) (choices_stand (written path) plain) in
+    let whole : list_all (list_all is_plain) (path.directory ∷ written path) ≡ true = and_from (list_all is_plain path.directory) (list_all (list_all is_plain) (written path)) s.bytes plain in
+    let cut : elements_of text ≡ path.directory ∷ written path = written_is_cut_again comma may_stand path.directory (written path) whole in
+    let bytes : list_all may_stand text ≡ true = written_stands comma may_stand path.directory (written path) refl whole in
     let well : is_well_written text ≡ true =
     ap (λ elements. (list_all may_stand text && is_directory (directory_of elements)) && not (list_any is_bare_dash (choices_of elements))) cut
-    ∙ join (list_all may_stand text && is_directory path.directory) (not (list_any is_bare_dash (written path))) (join (list_all may_stand text) (is_directory path.directory) bytes s.parts) (ap not (none_bare (flavor_choices path.flavors) path.subpackage none_names s.subpackage)) in
+    ∙ and_from (list_all may_stand text && is_directory path.directory) (not (list_any is_bare_dash (written path))) (and_from (list_all may_stand text) (is_directory path.directory) bytes s.parts) (ap not (none_bare (flavor_choices path.flavors) path.subpackage none_names s.subpackage)) in
     let value : value_of (path.directory ∷ written path) ≡ path =
     λ i. record { directory = path.directory; flavors = flavors_again path.flavors path.subpackage s.flavors s.subpackage i; subpackage = found_behind (flavor_choices path.flavors) path.subpackage none_names s.subpackage i } in
     ap path_of (canonical_is path)

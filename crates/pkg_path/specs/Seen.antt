@@ -1,6 +1,5 @@
 -- What the types of the code are seen as.
 use Rattle.std.specs.Prelude.{ℕ, List, map, Option, Some, None, string_bytes}
-use Rattle.std.specs.Borrow.{Bor}
 use Rattle.pkg_path.specs.declared.flavors.Flavors.{Flavors}
 use Rattle.pkg_path.specs.declared.flavors.Flavors.TheVariants.{Default, Explicit}
 
@@ -8,7 +7,3 @@ use Rattle.pkg_path.specs.declared.flavors.Flavors.TheVariants.{Default, Explici
 abbrev pub flavors_seen : Flavors → Option (List (List ℕ))
 flavors_seen Default = None
 flavors_seen (Explicit flavors) = Some (map string_bytes flavors.items)
-
--- what texts behind references are
-abbrev pub now_all : List (Bor (List ℕ)) → List (List ℕ)
-now_all texts = map (λ text. text.now) texts

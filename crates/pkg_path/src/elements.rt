@@ -2,18 +2,12 @@
 ghost use Rattle.std.specs.Prelude.{◌≡◌, IfOk, map, filter, find, length, option_map};
 ghost use Rattle.std.specs.List.{list_all, list_any};
 ghost use Rattle.std.specs.String.{string_bytes};
-ghost use Rattle.pkg_path.specs.Paths.{elements_of, is_subpackage, is_flavor, in_order, flavors_of, may_stand, is_part, is_directory, is_bare_dash, is_well_cut};
-ghost use Rattle.pkg_path.specs.Seen.{flavors_seen, now_all};
+ghost use Rattle.pkg_path.specs.Paths.{is_subpackage, is_flavor, in_order, flavors_of, may_stand, is_part, is_directory, is_bare_dash, is_well_cut};
+ghost use Rattle.pkg_path.specs.Seen.{flavors_seen};
+ghost use Rattle.text_cuts.specs.Cuts.{now_all};
 
 use crate::flavors::Flavors;
 use std::alloc::{AllocError, Global};
-
-// The elements between the commas of a text.
-pub(crate) fn split_at_commas(alloc: Global, text: &str) -> Result<Vec<&str>, AllocError>
-    ensures { IfOk result (λ elements. now_all elements.items ≡ elements_of text.now) }
-{
-    text.split(',').collect(alloc)
-}
 
 // Whether a choice names a subpackage.
 fn is_subpackage(choice: &str) -> bool

@@ -8,14 +8,13 @@ ghost use Rattle.std.specs.Cmp.{partial_equiv_from_equiv};
 ghost use Rattle.std.proofs.lemmas.Cmp.{on_equiv, nat_list_eq_equiv};
 ghost use Rattle.pkg_path.specs.Paths.{path_of, canonical, IsPath, without_subpackage, flavor_choices, choices_text};
 
-use crate::elements::{
-    count_subpackages, flavors_of, is_well_written, split_at_commas, subpackage_of,
-};
+use crate::elements::{count_subpackages, flavors_of, is_well_written, subpackage_of};
 use crate::faults::PkgPathFault;
 use crate::flavors::{Flavors, same_flavors, write_flavors};
 use std::alloc::{AllocError, Global};
 use std::fmt;
 use std::marker::Model;
+use text_cuts::split_at;
 
 /// A package path: the directory of a port below a ports tree, the flavors that are chosen, and maybe a
 /// subpackage, as in `editors/vim,gtk3,-lang` (pkgpath(7)).
@@ -71,7 +70,7 @@ impl PkgPath {
         if text.is_empty() {
             return Err(PkgPathFault::Empty);
         }
-        let elements = split_at_commas(alloc, text)?;
+        let elements = split_at(alloc, text, ',')?;
         let Some((directory, choices)) = elements.as_slice().split_first() else {
             return Err(PkgPathFault::Empty);
         };

@@ -1,3 +1,2 @@
 pub mod PartReadings
 pub mod Reading
-pub mod VersionCuts

@@ -1,11 +1,13 @@
 -- Specs of packages (packages-specs(7)): alternatives, each a stem, the versions that it takes and maybe flavors, as in
 -- `foo->=1.0,<2-gtk-!debug|bar-*`. What is refused, and the order of the refusals, is this project's choice.
-use Rattle.std.specs.Prelude.{◌≡◌, ℕ, ◌+◌, ◌<◌, ◌==◌, ◌&&◌, ◌||◌, if◌then◌else◌, Bool, true, false, not, List, [], ◌∷◌, length, take, drop, map, filter, slice_index, nat_eq, Option, Some, None, option_map, Result, Ok, Err, codes}
+use Rattle.std.specs.Prelude.{ℕ, ◌==◌, ◌&&◌, ◌||◌, if◌then◌else◌, Bool, true, false, not, List, [], ◌∷◌, length, drop, map, filter, slice_index, nat_eq, Option, Some, None, Result, Ok, Err, codes}
 use Rattle.std.specs.List.{slice_split, list_all, list_any, starts_with, filter_map}
 use Rattle.std.specs.Char.{is_ascii_digit}
 use Rattle.std.specs.Result.{result_ok}
 use Rattle.std.specs.Str.{bytes_eq}
+use Rattle.text_cuts.specs.Cuts.{Cut, cut_where}
 use Rattle.pkg_name.specs.Version.{is_version}
+use Rattle.pkg_name.specs.Name.{dash}
 use Rattle.pkg_spec.specs.declared.comparisons.Sign.{Sign}
 use Rattle.pkg_spec.specs.declared.comparisons.Sign.TheVariants.{Below, AtMost, Equals, AtLeast, Above}
 use Rattle.pkg_spec.specs.declared.faults.SpecFault.{SpecFault}
@@ -23,15 +25,12 @@ pub record AlternativeValue : Type 0 where
   pub wanted : List (List ℕ)
   pub forbidden : List (List ℕ)
 
--- the bytes `!`, `,`, `-` and `|`
+-- the bytes `!`, `,` and `|`
 abbrev pub bang : ℕ
 bang = 33
 
 abbrev pub comma : ℕ
 comma = 44
-
-abbrev pub dash : ℕ
-dash = 45
 
 abbrev pub bar : ℕ
 bar = 124
@@ -73,28 +72,13 @@ forbids (first ∷ name) = first == bang
 abbrev pub has_name : List ℕ → Bool
 has_name flavor = not (bytes_eq flavor []) && not (bytes_eq flavor (codes "!"))
 
--- a text cut in two
-pub record Cut : Type 0 where
-  pub before : List ℕ
-  pub behind : List ℕ
+-- versions begin with a digit, `*`, or a sign
+abbrev pub begins_versions : List ℕ → Bool
+begins_versions text = let byte = slice_index text 0 in is_ascii_digit byte || byte == 42 || byte == 60 || byte == 61 || byte == 62
 
--- the byte that versions begin with: a digit, `*`, or that of a sign
-abbrev pub begins_versions : ℕ → Bool
-begins_versions byte = is_ascii_digit byte || byte == 42 || byte == 60 || byte == 61 || byte == 62
-
--- what stands before the first dash with such a byte behind it, and what stands behind that dash
-unfoldable pub at_versions : List ℕ → Option Cut
-at_versions [] = None
-at_versions (byte ∷ rest) =
-    if byte == dash && begins_versions (slice_index rest 0)
-    then Some (record { before = []; behind = rest })
-    else option_map (λ cut. record { before = byte ∷ cut.before; behind = cut.behind }) (at_versions rest)
-
--- the cut of a text at one of its dashes
-pub record IsCutAt (text : List ℕ) (at : ℕ) (cut : Option Cut) : Type 0 where
-  pub inside : at < length text
-  pub is_dash : slice_index text at ≡ dash
-  pub sides : cut ≡ Some (record { before = take at text; behind = drop (at + 1) text })
+-- what stands before the first dash behind which versions begin, and what stands behind that dash
+abbrev pub at_versions : List ℕ → Option Cut
+at_versions text = cut_where dash begins_versions text
 
 -- the alternative of a stem and the words behind it: the versions, and then the flavors
 abbrev pub alternative_of_words : List ℕ → List (List ℕ) → Result AlternativeValue SpecFault

@@ -1,12 +1,14 @@
 -- What the types of the code are seen as.
-use Rattle.std.specs.Prelude.{ℕ, Bool, ◌&&◌, List, map, string_bytes}
-use Rattle.std.specs.Borrow.{Bor}
-use Rattle.std.specs.List.{list_all}
+use Rattle.std.specs.Prelude.{◌≡◌, ℕ, Bool, ◌&&◌, List, map, string_bytes}
+use Rattle.std.specs.List.{list_all, list_any, filter_map}
+use Rattle.std.specs.Result.{result_ok}
 use Rattle.pkg_name.specs.Name.{NameParts}
 use Rattle.pkg_spec.specs.Admitting.{having, lacking}
-use Rattle.pkg_spec.specs.Alternatives.{ComparisonValue, AlternativeValue}
+use Rattle.pkg_spec.specs.Alternatives.{ComparisonValue, AlternativeValue, alternative_of, is_refused}
 use Rattle.pkg_spec.specs.declared.comparisons.Comparison.{Comparison}
 use Rattle.pkg_spec.specs.declared.alternatives.Alternative.{Alternative}
+use Rattle.pkg_spec.specs.declared.spec.Reading.{Reading}
+use Rattle.pkg_spec.specs.declared.faults.SpecFault.TheVariants.{NoStem, BadVersion, EmptyAlternative}
 
 -- a comparison, its version as bytes
 abbrev pub comparison_seen : Comparison → ComparisonValue
@@ -26,6 +28,9 @@ abbrev pub admits_flavors : Alternative → NameParts → Bool
 admits_flavors alternative name =
     list_all (λ flavor. having (string_bytes flavor) name) alternative.wanted.items && list_all (λ flavor. lacking (string_bytes flavor) name) alternative.forbidden.items
 
--- what texts behind references are
-abbrev pub now_all : List (Bor (List ℕ)) → List (List ℕ)
-now_all texts = map (λ text. text.now) texts
+-- what was read of parts: the alternatives that were kept, and whether one of the parts had each refusal
+pub record ReadsParts (parts : List (List ℕ)) (reading : Reading) : Type 0 where
+  pub kept : map alternative_seen reading.alternatives.items ≡ filter_map result_ok (map alternative_of parts)
+  pub no_stem : reading.no_stem ≡ list_any (is_refused NoStem) (map alternative_of parts)
+  pub bad_version : reading.bad_version ≡ list_any (is_refused BadVersion) (map alternative_of parts)
+  pub empty : reading.empty ≡ list_any (is_refused EmptyAlternative) (map alternative_of parts)

@@ -3,14 +3,16 @@ ghost use Rattle.std.specs.Prelude.{◌≡◌, ◌==◌, ◌&&◌, not, IfOk, Is
 ghost use Rattle.std.specs.List.{list_all, list_any, slice_split};
 ghost use Rattle.std.specs.Str.{bytes_eq};
 ghost use Rattle.std.specs.String.{string_bytes};
-ghost use Rattle.pkg_spec.specs.Alternatives.{alternative_of, at_versions, begins_versions, dash, forbids, has_name, IsCutAt};
+ghost use Rattle.pkg_spec.specs.Alternatives.{alternative_of, at_versions, begins_versions, forbids, has_name};
+ghost use Rattle.text_cuts.specs.Cuts.{now_all};
 ghost use Rattle.pkg_spec.specs.Admitting.{set_of_alternative, with_stem, meeting, having, lacking};
-ghost use Rattle.pkg_spec.specs.Seen.{now_all, comparison_seen};
+ghost use Rattle.pkg_spec.specs.Seen.{comparison_seen};
 
 use crate::comparisons::{Comparison, read_versions};
 use crate::faults::SpecFault;
 use pkg_name::PkgName;
 use std::alloc::{AllocError, Global};
+use text_cuts::{cut_where, split_at};
 
 /// An alternative of a spec.
 #[derive(Debug, Drop)]
@@ -40,7 +42,7 @@ impl Alternative {
         if stem.is_empty() {
             return Err(SpecFault::NoStem);
         }
-        let words = split_at_dashes(alloc, behind)?;
+        let words = split_at(alloc, behind, '-')?;
         let Some((versions, flavors)) = words.as_slice().split_first() else {
             return Err(SpecFault::NoStem);
         };
@@ -133,44 +135,17 @@ fn is_among(others: &[String], text: &str) -> bool
 fn cut_at_versions(text: &str) -> Option<(&str, &str)>
     ensures { MatchOption result (at_versions text.now ≡ None) (λ cut. at_versions text.now ≡ Some (record { before = cut.0.now; behind = cut.1.now })) }
 {
-    let at = dash_before_versions(text.as_bytes())?;
-    Some((&text[..at], &text[at + 1..]))
+    cut_where(text, '-', begins_versions)
 }
 
-// The first dash with a byte behind it that begins versions.
-fn dash_before_versions(text: &[u8]) -> Option<usize>
-    ensures { MatchOption result (at_versions text.now ≡ None) (λ at. IsCutAt text.now at (at_versions text.now)) }
+// Whether versions begin a text.
+fn begins_versions(text: &[u8]) -> bool
+    ensures { result ≡ begins_versions text.now }
 {
-    for at in 0..text.len() {
-        if text[at] == b'-' && versions_begin_at(text, at + 1) {
-            return Some(at);
-        }
-    }
-    None
-}
-
-// Whether a byte that begins versions stands at a place.
-fn versions_begin_at(text: &[u8], at: usize) -> bool
-    ensures { result ≡ begins_versions (slice_index text.now at) }
-{
-    match text.get(at) {
-        Some(byte) => begins_versions(*byte),
+    match text.first() {
+        Some(byte) => byte.is_ascii_digit() || matches!(*byte, b'*' | b'<' | b'=' | b'>'),
         None => false,
     }
-}
-
-// Whether versions begin with a byte.
-fn begins_versions(byte: u8) -> bool
-    ensures { result ≡ begins_versions byte }
-{
-    byte.is_ascii_digit() || byte == b'*' || byte == b'<' || byte == b'=' || byte == b'>'
-}
-
-// The words between the dashes of a text.
-fn split_at_dashes(alloc: Global, text: &str) -> Result<Vec<&str>, AllocError>
-    ensures { IfOk result (λ words. now_all words.items ≡ slice_split (λ byte. byte == dash) text.now) }
-{
-    text.split('-').collect(alloc)
 }
 
 // Whether each flavor has a name.

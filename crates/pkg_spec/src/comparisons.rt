@@ -4,11 +4,13 @@ ghost use Rattle.std.specs.List.{list_all};
 ghost use Rattle.pkg_name.specs.Order.{version_cmp};
 ghost use Rattle.pkg_spec.specs.Alternatives.{signed, is_comparison, pieces_of, are_versions, comparisons_of};
 ghost use Rattle.pkg_spec.specs.Admitting.{holds};
-ghost use Rattle.pkg_spec.specs.Seen.{now_all, comparison_seen};
+ghost use Rattle.text_cuts.specs.Cuts.{now_all};
+ghost use Rattle.pkg_spec.specs.Seen.{comparison_seen};
 
 use pkg_name::{Version, VersionFault};
 use std::alloc::{AllocError, Global};
 use std::cmp::Ordering;
+use text_cuts::split_at;
 
 /// How a version is to stand to the one of a comparison.
 #[derive(Clone, Copy, Debug, PartialEq, Eq)]
@@ -92,7 +94,7 @@ pub(crate) fn read_versions(
     if versions == "*" {
         return Ok(Some(Vec::new(alloc)));
     }
-    let pieces = split_at_commas(alloc, versions)?;
+    let pieces = split_at(alloc, versions, ',')?;
     read_comparisons(alloc, &pieces)
 }
 
@@ -108,11 +110,4 @@ fn read_comparisons(alloc: Global, texts: &[&str]) -> Result<Option<Vec<Comparis
         comparisons.push(comparison)?;
     }
     Ok(Some(comparisons))
-}
-
-// What stands between the commas of a text.
-fn split_at_commas(alloc: Global, text: &str) -> Result<Vec<&str>, AllocError>
-    ensures { IfOk result (λ pieces. now_all pieces.items ≡ pieces_of text.now) }
-{
-    text.split(',').collect(alloc)
 }

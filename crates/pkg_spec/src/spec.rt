@@ -3,7 +3,8 @@ ghost use Rattle.std.specs.Prelude.{◌≡◌, ◌==◌, ◌++◌, ◌||◌, IfO
 ghost use Rattle.std.specs.List.{slice_split, filter_map, list_any};
 ghost use Rattle.std.specs.Result.{result_ok};
 ghost use Rattle.pkg_spec.specs.Alternatives.{spec_of, alternative_of, is_refused, bar};
-ghost use Rattle.pkg_spec.specs.Seen.{now_all, alternative_seen};
+ghost use Rattle.text_cuts.specs.Cuts.{now_all};
+ghost use Rattle.pkg_spec.specs.Seen.{alternative_seen, ReadsParts};
 ghost use Rattle.pkg_spec.specs.Admitting.{admitted_by, set_of_alternative};
 ghost use Rattle.pkg_spec.specs.declared.faults.SpecFault.TheVariants.{NoStem, BadVersion, EmptyAlternative};
 
@@ -13,6 +14,7 @@ use pkg_name::PkgName;
 use std::alloc::{AllocError, Global};
 use std::fmt;
 use std::marker::Model;
+use text_cuts::split_at;
 
 /// A spec of packages: alternatives, each a stem, the versions that it takes and maybe flavors, as
 /// `foo->=1.0,<2-gtk-!debug|bar-*` (packages-specs(7)).
@@ -56,7 +58,7 @@ impl Spec {
         ensures bad_version { IsErrOf result SpecFault.BadVersion → spec_of text.now ≡ Err SpecFault.BadVersion }
         ensures empty { IsErrOf result SpecFault.EmptyAlternative → spec_of text.now ≡ Err SpecFault.EmptyAlternative }
     {
-        let parts = split_at_bars(alloc, text)?;
+        let parts = split_at(alloc, text, '|')?;
         let reading = read_parts(alloc, &parts)?;
         if reading.no_stem {
             return Err(SpecFault::NoStem);
@@ -140,10 +142,7 @@ impl Reading {
 
 // What the parts of a spec say.
 fn read_parts(alloc: Global, parts: &[&str]) -> Result<Reading, AllocError>
-    ensures alternatives { IfOk result (λ reading. map alternative_seen reading.alternatives.items ≡ filter_map result_ok (map alternative_of (now_all parts.now))) }
-    ensures no_stem { IfOk result (λ reading. reading.no_stem ≡ list_any (is_refused NoStem) (map alternative_of (now_all parts.now))) }
-    ensures bad_version { IfOk result (λ reading. reading.bad_version ≡ list_any (is_refused BadVersion) (map alternative_of (now_all parts.now))) }
-    ensures empty { IfOk result (λ reading. reading.empty ≡ list_any (is_refused EmptyAlternative) (map alternative_of (now_all parts.now))) }
+    ensures { IfOk result (ReadsParts (now_all parts.now)) }
 {
     let mut reading = Reading {
         alternatives: Vec::new(alloc),
@@ -155,11 +154,4 @@ fn read_parts(alloc: Global, parts: &[&str]) -> Result<Reading, AllocError>
         reading = reading.with(alloc, part)?;
     }
     Ok(reading)
-}
-
-// The alternatives between the bars of a text.
-fn split_at_bars(alloc: Global, text: &str) -> Result<Vec<&str>, AllocError>
-    ensures { IfOk result (λ parts. now_all parts.items ≡ slice_split (λ byte. byte == bar) text.now) }
-{
-    text.split('|').collect(alloc)
 }

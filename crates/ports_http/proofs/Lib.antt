@@ -2,7 +2,6 @@ pub mod FixedReplies
 pub mod FieldLemmas
 pub mod ConnLemmas
 pub mod PutLemmas
-pub mod LengthLemmas
 pub mod StreamLemmas
 pub mod StreamLaws
 pub mod DecodeLemmas

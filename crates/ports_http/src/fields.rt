@@ -1,6 +1,7 @@
 //! The fields of a head, found by name.
 ghost use Rattle.std.specs.Prelude.{◌≡◌, length, codes, All, IfSome, Option, Some, None, option_map, if◌then◌else◌, ◌==◌};
-ghost use Rattle.std.specs.List.{list_any, slice_split};
+ghost use Rattle.std.specs.List.{list_all, list_any, slice_split};
+ghost use Rattle.std.specs.Char.{is_ascii_digit};
 ghost use Rattle.std.specs.Str.Parse.{digits_value};
 ghost use Rattle.httparse.specs.Grammar.{is_ows, trim_ows};
 ghost use Rattle.httparse.specs.Spans.{IsWithin, IsHeaderWithin, span_bytes, header_bytes};
@@ -8,6 +9,7 @@ ghost use Rattle.ports_http.specs.Fields.{field_values, is_named, is_length, is_
 ghost use Rattle.ports_http.specs.Spans.{OccursAs, with_one, named};
 
 use httparse::spans::{HeaderSpan, Span};
+use std::str;
 
 /// How often a field occurs, and the value of one that occurs once.
 #[derive(Clone, Copy)]
@@ -124,15 +126,23 @@ fn is_ows(byte: u8) -> bool
 pub(crate) fn length_of(value: &[u8]) -> Option<u64>
     ensures { result ≡ (if is_length value.now then Some (digits_value 10 value.now) else None) }
 {
-    if value.is_empty() || value.len() > 18 {
+    if !is_length(value) {
         return None;
     }
-    let mut number = 0;
-    for digit in value {
-        if !digit.is_ascii_digit() {
-            return None;
-        }
-        number = number * 10 + u64::from(*digit - b'0');
-    }
-    Some(number)
+    let Ok(digits) = str::from_utf8(value) else {
+        return None;
+    };
+    digits.parse().ok()
+}
+
+fn is_length(value: &[u8]) -> bool
+    ensures { result ≡ is_length value.now }
+{
+    !value.is_empty() && value.len() <= 18 && all_digits(value)
+}
+
+fn all_digits(value: &[u8]) -> bool
+    ensures { result ≡ list_all is_ascii_digit value.now }
+{
+    value.iter().all(|byte| byte.is_ascii_digit())
 }

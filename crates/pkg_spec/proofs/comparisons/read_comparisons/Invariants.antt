@@ -2,7 +2,8 @@
 use Rattle.std.proofs.Common.{◌≡◌, true, map, take}
 use Rattle.std.specs.List.{list_all}
 use Rattle.pkg_spec.specs.Alternatives.{is_comparison, signed}
-use Rattle.pkg_spec.specs.Seen.{comparison_seen, now_all}
+use Rattle.text_cuts.specs.Cuts.{now_all}
+use Rattle.pkg_spec.specs.Seen.{comparison_seen}
 use Rattle.pkg_spec.proofs.comparisons.read_comparisons.Given as goal
 
 abbrev pub invariant-loop-text : goal.invariant-loop-text

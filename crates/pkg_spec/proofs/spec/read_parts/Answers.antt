@@ -8,7 +8,7 @@ use Rattle.std.specs.List.{list_any, filter_map}
 use Rattle.std.specs.Option.{option_to_list}
 use Rattle.std.specs.Result.{result_ok}
 use Rattle.pkg_spec.specs.Alternatives.{AlternativeValue, alternative_of, is_refused}
-use Rattle.pkg_spec.specs.Seen.{now_all}
+use Rattle.text_cuts.specs.Cuts.{now_all}
 use Rattle.pkg_spec.specs.declared.faults.SpecFault.{SpecFault}
 use Rattle.pkg_spec.specs.declared.faults.SpecFault.TheVariants.{NoStem, BadVersion, EmptyAlternative}
 use Rattle.pkg_spec.proofs.spec.read_parts.Goals as goal
@@ -53,9 +53,10 @@ loop-part-preserved c =
     let i = c.loop-part.part-index in
     let inside = c.loop-part-test.true in
     let before = c.loop-part.invariant in
-    let now = c.in_ok-reading.ensures in (
-      kept_part parts i _ _ _ inside before.0 now.alternatives,
-      refused_part NoStem parts i _ _ _ inside before.1 now.no_stem,
-      refused_part BadVersion parts i _ _ _ inside before.2 now.bad_version,
-      refused_part EmptyAlternative parts i _ _ _ inside before.3 now.empty,
-    )
+    let now = c.in_ok-reading.ensures in
+    record {
+      kept = kept_part parts i _ _ _ inside before.kept now.alternatives;
+      no_stem = refused_part NoStem parts i _ _ _ inside before.no_stem now.no_stem;
+      bad_version = refused_part BadVersion parts i _ _ _ inside before.bad_version now.bad_version;
+      empty = refused_part EmptyAlternative parts i _ _ _ inside before.empty now.empty;
+    }

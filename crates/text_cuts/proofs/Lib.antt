@@ -1,0 +1,3 @@
+pub mod CutSteps
+pub mod CutTexts
+pub mod PartTexts
