@@ -1,5 +1,5 @@
 -- What is taken off a connection, case by case.
-use Rattle.std.proofs.Common.{◌≡◌, ℕ, Bool, true, false, List, Option, Some, None, refl, sym, ap, subst, ◌∙◌, inl, inr}
+use Rattle.std.proofs.Common.{◌≡◌, ℕ, Bool, true, false, List, Option, Some, None, refl, sym, ap, subst, ◌∙◌}
 use Rattle.std.specs.Prelude.{MatchBool, Result, Ok, Err, option_map, slice_get}
 use Rattle.ports_http.specs.declared.fault.HeadFault.{HeadFault}
 use Rattle.ports_http.specs.Messages.{RequestMessage, ReplyMessage}
@@ -12,7 +12,7 @@ use Rattle.ports_core.specs.declared.event.Tell.{Tell}
 use Rattle.ports_core.specs.Slices.{Slice}
 use Rattle.ports_core.specs.Lines.{is_ready, with_pending}
 use Rattle.ports_core.specs.Telling.{at_once}
-use Rattle.ports_core.specs.Taking.{Taken, Nothing, Whole, Refusal, Lost, TakesOff, IsTaken, TakesNext, Admits}
+use Rattle.ports_core.specs.Taking.{Taken, Nothing, Whole, Refusal, Lost, TakesOff, IsTaken, Settles, TakesNext}
 
 -- what is the same at each value is the same
 pub option_map_same : {A : Type 0} (o : Option A) → o ≡ option_map (λ x. x) o
@@ -72,16 +72,10 @@ module _ (keys : List (List ℕ)) (c : ℕ) (line : Line) (slices : List Slice) 
     };
   }
 
-  pub takes_whole : (stream : Incoming) (request : RequestMessage) (told : Option Tell) (new : Line) (after : List Slice) → is_ready line ≡ true → (result : Taking) → TakesOrLoses line.stream result stream → result ≡ Ok (Some (Ok request)) → Admits keys c request (record line { stream = stream }) slices told new after → TakesNext keys c line slices told new after
-  takes_whole stream request told new after ready result takes result_is (inl settles) = record {
+  pub takes_whole : (stream : Incoming) (request : RequestMessage) (told : Option Tell) (new : Line) (after : List Slice) → is_ready line ≡ true → (result : Taking) → TakesOrLoses line.stream result stream → result ≡ Ok (Some (Ok request)) → Settles keys c (Whole request) (record line { stream = stream }) slices told new after → TakesNext keys c line slices told new after
+  takes_whole stream request told new after ready result takes result_is settles = record {
     taken = Whole request;
     stream = stream;
     stands = taken_of_ready line (Whole request) stream ready (subst (λ (r : Taking). TakesOrLoses line.stream r stream) result_is takes);
-    settles = settles;
-  }
-  takes_whole stream request told new after ready result takes result_is (inr settles) = record {
-    taken = Lost request.close;
-    stream = stream;
-    stands = taken_of_ready line (Lost request.close) stream ready (request, subst (λ (r : Taking). TakesOrLoses line.stream r stream) result_is takes, refl);
     settles = settles;
   }

@@ -1,7 +1,9 @@
 //! Taking the next request off a connection.
-ghost use Rattle.std.specs.Prelude.{◌≡◌, ◌<◌, length, option_map, IfSome, position, bytes_eq, string_bytes};
+ghost use Rattle.std.specs.Prelude.{◌≡◌, ◌<◌, true, All, length, option_map, IfSome, position, bytes_eq, string_bytes};
 ghost use Rattle.ports_core.specs.Keys.{key_texts, tenant_of};
-ghost use Rattle.ports_core.specs.Taking.{TakesNext, Admits};
+ghost use Rattle.ports_core.specs.Lines.{is_ready};
+ghost use Rattle.ports_core.specs.Places.{HasPlace};
+ghost use Rattle.ports_core.specs.Taking.{Whole, Settles, TakesNext};
 
 use crate::event::Tell;
 use crate::line::Line;
@@ -11,7 +13,7 @@ use std::alloc::Global;
 
 /// Takes the request that stands first on a connection with nothing waiting and nothing pending. A
 /// request with a known key waits for its tenant's turn; any other, a head refusal, and a request
-/// for which there is no memory is told a fixed reply at once.
+/// for whose own bytes there is no memory is told a fixed reply at once.
 pub(crate) fn take_next(
     alloc: Global,
     keys: &[String],
@@ -19,7 +21,8 @@ pub(crate) fn take_next(
     conn: u64,
     line: &mut Line,
 ) -> Option<Tell>
-    requires { length tenants.old ≡ length keys.now }
+    requires keyed { length tenants.old ≡ length keys.now }
+    requires places { is_ready line.old ≡ true → All HasPlace tenants.old }
     ensures { TakesNext (key_texts keys.now) conn line.old tenants.old result line.new tenants.new }
 {
     if !line.is_ready() {
@@ -33,7 +36,7 @@ pub(crate) fn take_next(
     }
 }
 
-/// Puts a request in its tenant's queue, or tells why it isn't there.
+/// Puts a request in its tenant's queue; one without a known key is refused at once.
 fn admit(
     keys: &[String],
     tenants: &mut [Tenant],
@@ -41,17 +44,16 @@ fn admit(
     line: &mut Line,
     request: Request,
 ) -> Option<Tell>
-    requires { length tenants.old ≡ length keys.now }
-    ensures { Admits (key_texts keys.now) conn request line.old tenants.old result line.new tenants.new }
+    requires keyed { length tenants.old ≡ length keys.now }
+    requires places { All HasPlace tenants.old }
+    ensures { Settles (key_texts keys.now) conn (Whole request) line.old tenants.old result line.new tenants.new }
 {
     let close = request.close;
     let Some(place) = place_of(keys, &request.key) else {
         return Some(line.tell(conn, Reply::unknown_key(), close));
     };
     let tenant = &mut tenants[place];
-    if tenant.join(conn, request).is_err() {
-        return Some(line.tell(conn, Reply::store_failed(), close));
-    }
+    tenant.join(conn, request);
     line.waits = Some(place);
     None
 }
