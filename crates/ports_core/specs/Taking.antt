@@ -1,6 +1,8 @@
 -- Taking the next request off a connection.
-use Rattle.std.specs.Prelude.{◌≡◌, ℕ, Bool, true, MatchBool, List, ◌==◌, slice_get, option_map, Option, Some, None, Ok, Err, if◌then◌else◌}
+use Rattle.std.specs.Prelude.{◌≡◌, ℕ, Bool, true, MatchBool, List, ◌==◌, slice_get, option_map, Option, Some, None, Result, Ok, Err, if◌then◌else◌}
 use Rattle.ports_http.specs.declared.fault.HeadFault.{HeadFault}
+use Rattle.ports_http.specs.declared.request.TakeError.{TakeError}
+use Rattle.ports_http.specs.declared.request.TakeError.TheVariants.{Memory}
 use Rattle.ports_http.specs.Messages.{RequestMessage}
 use Rattle.ports_http.specs.Incoming.{Incoming, Takes, Loses}
 use Rattle.ports_http.specs.Replies.{reply_text, fault_reply, unknown_key, store_failed}
@@ -18,6 +20,13 @@ pub data Taken : Type 0 where
   Whole : RequestMessage → Taken
   Refusal : HeadFault → Taken
   Lost : Bool → Taken
+
+-- what is taken where the stream hands out that; a request is lost where its own bytes found no memory, and only there
+abbrev pub taken_of : Result (Option (Result RequestMessage HeadFault)) TakeError → Taken
+taken_of (Ok None) = Nothing
+taken_of (Ok (Some (Ok request))) = Whole request
+taken_of (Ok (Some (Err fault))) = Refusal fault
+taken_of (Err (Memory close)) = Lost close
 
 -- it stands first in the stream, and the stream is what is left behind it
 abbrev pub TakesOff : Incoming → Taken → Incoming → Type 0

@@ -3,12 +3,12 @@ ghost use Rattle.std.specs.Prelude.{◌≡◌, ◌<◌, true, All, length, optio
 ghost use Rattle.ports_core.specs.Keys.{key_texts, tenant_of};
 ghost use Rattle.ports_core.specs.Lines.{is_ready};
 ghost use Rattle.ports_core.specs.Places.{HasPlace};
-ghost use Rattle.ports_core.specs.Taking.{Whole, Settles, TakesNext};
+ghost use Rattle.ports_core.specs.Taking.{Whole, taken_of, Settles, TakesNext};
 
 use crate::event::Tell;
 use crate::line::Line;
 use crate::tenant::Tenant;
-use ports_http::{Reply, Request, TakeError};
+use ports_http::{HeadFault, Reply, Request, TakeError};
 use std::alloc::Global;
 
 /// Takes the request that stands first on a connection with nothing waiting and nothing pending. A
@@ -28,7 +28,24 @@ pub(crate) fn take_next(
     if !line.is_ready() {
         return None;
     }
-    match line.stream.next_request(alloc) {
+    let answer = line.stream.next_request(alloc);
+    settle(keys, tenants, conn, line, answer)
+}
+
+/// What becomes of what a connection handed out: a fixed reply that says the store failed is told only
+/// where the request itself found no memory.
+fn settle(
+    keys: &[String],
+    tenants: &mut [Tenant],
+    conn: u64,
+    line: &mut Line,
+    answer: Result<Option<Result<Request, HeadFault>>, TakeError>,
+) -> Option<Tell>
+    requires keyed { length tenants.old ≡ length keys.now }
+    requires places { All HasPlace tenants.old }
+    ensures { Settles (key_texts keys.now) conn (taken_of answer) line.old tenants.old result line.new tenants.new }
+{
+    match answer {
         Ok(None) => None,
         Ok(Some(Ok(request))) => admit(keys, tenants, conn, line, request),
         Ok(Some(Err(fault))) => Some(line.tell(conn, fault.reply(), true)),
