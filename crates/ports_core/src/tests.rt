@@ -1,6 +1,6 @@
 //! Runs of two tenants, with the bytes that are sent.
 use super::{Config, Event, Refused, ReplayFault, Service, Step, Transcript, replay};
-use ports_http::Status;
+use ports_http::StatusCode;
 use std::alloc::Global;
 use std::process::Abort;
 use std::test::Fail;
@@ -54,7 +54,7 @@ fn sent(alloc: Global, steps: &[Step]) -> Result<Vec<u8>, Fail> {
 }
 
 /// Whether a step told this tenant, connection and status.
-fn told(step: &Step, tenant: Option<usize>, conn: u64, status: Status) -> bool {
+fn told(step: &Step, tenant: Option<usize>, conn: u64, status: StatusCode) -> bool {
     match &step.told.reply {
         Some(tell) => tell.tenant == tenant && tell.conn == conn && tell.reply.status == status,
         None => false,
@@ -75,9 +75,9 @@ fn stores_and_asks(rt: HostRuntime) -> Result<(), Fail> {
     ]?;
     let done = run(&rt, alloc, events.as_slice())?;
     assert_eq!(rt; done.steps.len(), 7);
-    assert!(rt; told(&done.steps[2], Some(0), 0, Status::Success));
+    assert!(rt; told(&done.steps[2], Some(0), 0, StatusCode::OK));
     assert_eq!(rt; done.steps[3].sent.as_slice(), STORED.as_bytes());
-    assert!(rt; told(&done.steps[5], Some(0), 0, Status::Success));
+    assert!(rt; told(&done.steps[5], Some(0), 0, StatusCode::OK));
     assert_eq!(rt; done.steps[6].sent.as_slice(), VALUE.as_bytes());
     assert_eq!(rt; done.service.next_conn(), 1);
     assert_eq!(rt; done.service.waiting(0), 0);
@@ -120,8 +120,8 @@ fn each_tenant_is_told_its_own(rt: HostRuntime) -> Result<(), Fail> {
     ]?;
     let done = run(&rt, alloc, events.as_slice())?;
     assert_eq!(rt; done.steps.len(), 14);
-    assert!(rt; told(&done.steps[4], Some(1), 1, Status::Success));
-    assert!(rt; told(&done.steps[5], Some(0), 0, Status::Success));
+    assert!(rt; told(&done.steps[4], Some(1), 1, StatusCode::OK));
+    assert!(rt; told(&done.steps[5], Some(0), 0, StatusCode::OK));
     assert!(rt;
         ends_with(
             &done.steps[12],
@@ -183,13 +183,13 @@ fn refusals_are_told_at_once(rt: HostRuntime) -> Result<(), Fail> {
     ]?;
     let done = run(&rt, alloc, events.as_slice())?;
     assert_eq!(rt; done.steps.len(), 7);
-    assert!(rt; told(&done.steps[1], None, 0, Status::BadRequest));
+    assert!(rt; told(&done.steps[1], None, 0, StatusCode::BAD_REQUEST));
     assert_eq!(rt;
         done.steps[2].sent.as_slice(),
         b"HTTP/1.1 400 Bad Request\r\nContent-Length: 0\r\nConnection: close\r\n\r\n".as_slice()
     );
     assert_eq!(rt; done.steps[2].told.closed, Some(0));
-    assert!(rt; told(&done.steps[4], None, 1, Status::Forbidden));
+    assert!(rt; told(&done.steps[4], None, 1, StatusCode::FORBIDDEN));
     assert!(rt; ends_with(&done.steps[5], "\r\n\r\n{\"error\":\"Key\"}"));
     assert_eq!(rt; done.steps[5].told.closed, None);
     assert_eq!(rt; done.steps[6].told.closed, Some(1));

@@ -1,5 +1,5 @@
 use crate::{
-    Conn, Content, HeadFault, Method, Reply, Request, Status, StreamEnd, decode, write_fixed,
+    Conn, Content, HeadFault, Method, Reply, Request, StatusCode, StreamEnd, decode, write_fixed,
     write_reply,
 };
 use std::alloc::Global;
@@ -119,13 +119,13 @@ fn head_of_8192_bytes(rt: HostRuntime) -> Result<(), Fail> {
 #[test]
 fn replies(rt: HostRuntime) -> Result<(), Fail> {
     let alloc = rt.alloc();
-    let stored = Reply::of_text(Status::Success, Some(Content::Json), "{\"stored\":true}");
+    let stored = Reply::of_text(StatusCode::OK, Some(Content::Json), "{\"stored\":true}");
     assert_eq!(rt;
         write_reply(alloc, &stored, false)?.as_slice(),
         b"HTTP/1.1 200 OK\r\nContent-Type: application/json\r\nContent-Length: 15\r\n\r\n{\"stored\":true}".as_slice()
     );
     let method = Reply::of_text(
-        Status::MethodNotAllowed,
+        StatusCode::METHOD_NOT_ALLOWED,
         Some(Content::Json),
         "{\"error\":\"Method\"}",
     )
@@ -135,7 +135,7 @@ fn replies(rt: HostRuntime) -> Result<(), Fail> {
         b"HTTP/1.1 405 Method Not Allowed\r\nContent-Type: application/json\r\nContent-Length: 18\r\nAllow: GET, PUT, DELETE\r\nConnection: close\r\n\r\n{\"error\":\"Method\"}".as_slice()
     );
     let file = Reply::of_bytes(
-        Status::Success,
+        StatusCode::OK,
         Some(Content::Octets),
         Vec::from_slice(alloc, b"A=1\n")?,
     );

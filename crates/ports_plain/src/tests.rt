@@ -1,6 +1,6 @@
 use super::*;
 use mk_files::MemoryFiles;
-use ports_http::{Method, Reply, Status};
+use ports_http::{Method, Reply, StatusCode};
 use std::alloc::Global;
 use std::test::Fail;
 
@@ -33,7 +33,7 @@ fn answers(
     method: Method,
     target: &str,
     body: &[u8],
-    status: Status,
+    status: StatusCode,
     text: &str,
 ) -> bool {
     reply_to(alloc, files, method, target, body).is_ok_and(|reply| reply.status == status
@@ -53,7 +53,7 @@ fn stores_and_shows(rt: HostRuntime) -> Result<(), Fail> {
             Method::Put,
             put,
             text,
-            Status::Success,
+            StatusCode::OK,
             "{\"stored\":true}"
         )
     );
@@ -65,7 +65,7 @@ fn stores_and_shows(rt: HostRuntime) -> Result<(), Fail> {
             Method::Get,
             get,
             b"",
-            Status::Success,
+            StatusCode::OK,
             "{\"defined\":true,\"value\":\"vim-9.1\"}"
         )
     );
@@ -77,7 +77,7 @@ fn stores_and_shows(rt: HostRuntime) -> Result<(), Fail> {
             Method::Get,
             absent,
             b"",
-            Status::Success,
+            StatusCode::OK,
             "{\"defined\":false,\"value\":\"\"}"
         )
     );
@@ -111,7 +111,7 @@ fn tells_faults(rt: HostRuntime) -> Result<(), Fail> {
                 Method::Put,
                 put,
                 text,
-                Status::Success,
+                StatusCode::OK,
                 "{\"stored\":true}"
             )
         );
@@ -122,7 +122,7 @@ fn tells_faults(rt: HostRuntime) -> Result<(), Fail> {
                 Method::Get,
                 get,
                 b"",
-                Status::UnprocessableEntity,
+                StatusCode::UNPROCESSABLE_ENTITY,
                 fault
             ),
             "{fault}"
@@ -132,71 +132,71 @@ fn tells_faults(rt: HostRuntime) -> Result<(), Fail> {
 }
 
 /// Requests over no files that are refused: method, target, status and body.
-const REFUSED: [(Method, &str, Status, &str); 11] = [
+const REFUSED: [(Method, &str, StatusCode, &str); 11] = [
     (
         Method::Put,
         "/v1/files?name=/ports/x",
-        Status::NotFound,
+        StatusCode::NOT_FOUND,
         "{\"error\":\"Route\"}",
     ),
     (
         Method::Get,
         "http://h?x",
-        Status::NotFound,
+        StatusCode::NOT_FOUND,
         "{\"error\":\"Route\"}",
     ),
     (
         Method::Get,
         "/v1/file?name=/ports/x",
-        Status::MethodNotAllowed,
+        StatusCode::METHOD_NOT_ALLOWED,
         "{\"error\":\"Method\"}",
     ),
     (
         Method::Put,
         "/v1/file",
-        Status::BadRequest,
+        StatusCode::BAD_REQUEST,
         "{\"error\":\"Parameter\"}",
     ),
     (
         Method::Put,
         "/v1/file?name=/ports/x&name=/ports/y",
-        Status::BadRequest,
+        StatusCode::BAD_REQUEST,
         "{\"error\":\"Parameter\"}",
     ),
     (
         Method::Get,
         "/v1/var?path=a/b&name=",
-        Status::BadRequest,
+        StatusCode::BAD_REQUEST,
         "{\"error\":\"Parameter\"}",
     ),
     (
         Method::Put,
         "/v1/file?name=/ports",
-        Status::BadRequest,
+        StatusCode::BAD_REQUEST,
         "{\"error\":\"Name\"}",
     ),
     (
         Method::Put,
         "/v1/file?name=/../x",
-        Status::BadRequest,
+        StatusCode::BAD_REQUEST,
         "{\"error\":\"Name\"}",
     ),
     (
         Method::Get,
         "/v1/var?path=a/b,y&name=X",
-        Status::BadRequest,
+        StatusCode::BAD_REQUEST,
         "{\"error\":\"Path\"}",
     ),
     (
         Method::Get,
         "/v1/var?path=a/../b&name=X",
-        Status::BadRequest,
+        StatusCode::BAD_REQUEST,
         "{\"error\":\"Path\"}",
     ),
     (
         Method::Get,
         "/v1/var?path=a/b&name=X",
-        Status::NotFound,
+        StatusCode::NOT_FOUND,
         "{\"error\":\"NoPort\"}",
     ),
 ];
