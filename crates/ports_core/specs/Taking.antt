@@ -21,7 +21,8 @@ pub data Taken : Type 0 where
   Refusal : HeadFault → Taken
   Lost : Bool → Taken
 
--- what is taken where the stream hands out that; a request is lost where its own bytes found no memory, and only there
+-- what is taken where the stream hands out that: a request is lost where its own bytes found no memory,
+-- and only there
 abbrev pub taken_of : Result (Option (Result RequestMessage HeadFault)) TakeError → Taken
 taken_of (Ok None) = Nothing
 taken_of (Ok (Some (Ok request))) = Whole request

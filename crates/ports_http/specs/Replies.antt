@@ -11,7 +11,7 @@ use Rattle.ports_http.specs.Limits.{fixed_limit}
 use Rattle.ports_http.specs.Messages.{ReplyMessage}
 use Rattle.ports_http.specs.Heads.{method_text}
 
--- a status code, a blank, and its phrase (RFC 9110, section 15)
+-- a status code, a blank, and its phrase (RFC 9112, section 4)
 unfoldable pub status_text : ℕ → List ℕ
 status_text status = code_digits status ++ codes " " ++ unwrap_or (reason_phrase status) []
 
