@@ -1,8 +1,10 @@
 -- What a world of files in memory holds.
-use Rattle.std.specs.Prelude.{ℕ, List, map, None, refl, String, string_bytes}
+use Rattle.std.specs.Prelude.{◌≡◌, ℕ, List, map, None, refl, String, string_bytes}
 use Rattle.std.specs.Coded.{Coded, code_by, coded×, coded_list, coded_ℕ}
 use Rattle.std.specs.declared.alloc.Global.{Global}
 use Rattle.std.specs.FinMap as finite
+use Rattle.mk_paths.specs.declared.asking.FilesFault.{FilesFault}
+use Rattle.mk_paths.specs.declared.asking.FilesFault.TheVariants.{Memory}
 use Rattle.mk_paths.specs.World.{FileMap, Shelf}
 
 -- the files, and how many readings failed
@@ -30,6 +32,10 @@ without_file held name = record held { files = finite.remove held.files name }
 -- the world that it is: it keeps no log
 abbrev pub shelf_of : Holding → Shelf
 shelf_of held = record { files = held.files; log = None; failures = held.failures }
+
+-- files in memory fail for want of memory alone: there is no store
+abbrev pub IsMemory : FilesFault → Type 0
+IsMemory fault = fault ≡ Memory
 
 -- the map of these names and contents
 abbrev pub files_of : List (String Global × List ℕ) → FileMap

@@ -3,14 +3,16 @@ use Rattle.std.specs.Prelude.{List, [], ◌∷◌, ℕ}
 use Rattle.std.specs.FinMap.{get}
 use Rattle.mk_base.specs.declared.stopping.Stop.{Stop}
 use Rattle.mk_base.specs.declared.stopping.Stop.TheVariants as stops
+use Rattle.mk_paths.specs.declared.asking.FilesFault.{FilesFault}
+use Rattle.mk_paths.specs.declared.asking.FilesFault.TheVariants as faults
 use Rattle.mk_paths.specs.World.{Contents, Shelf, noted}
 
 -- the world after a look at a file: the question and its answer are in the log, if there is one
 abbrev pub looked : Shelf → List ℕ → Shelf
 looked world name = noted world ((name, Contents (get world.files name)) ∷ [])
 
--- a stop that is no fault of a makefile
-abbrev pub IsRefusal : {F : Type 0} → Stop F → Type 0
-IsRefusal (stops.Fault fault) = ⊥
-IsRefusal stops.Store = Unit {0}
-IsRefusal stops.Memory = Unit {0}
+-- a stop that is no fault of a makefile, but one with which the files may fail
+abbrev pub Refuses : {F : Type 0} → (FilesFault → Type 0) → Stop F → Type 0
+Refuses may (stops.Fault fault) = ⊥
+Refuses may stops.Store = may faults.Store
+Refuses may stops.Memory = may faults.Memory

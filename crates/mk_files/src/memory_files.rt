@@ -2,7 +2,7 @@
 ghost use Rattle.std.specs.Prelude.{◌≡◌, OnOk, OnErr};
 ghost use Rattle.std.specs.Option.{option_copied};
 ghost use Rattle.std.specs.FinMap as map;
-ghost use Rattle.mk_files.specs.Holding.{nothing, with_file, without_file, shelf_of};
+ghost use Rattle.mk_files.specs.Holding.{nothing, with_file, without_file, shelf_of, IsMemory};
 
 use crate::shared::Content;
 use crate::worlds::Files;
@@ -11,7 +11,8 @@ use std::alloc::{AllocError, Global};
 use std::collections::BTreeMap;
 use std::marker::Model;
 
-/// A world of files in memory, which keeps no log. Clauses see its map and how many readings failed.
+/// A world of files in memory, which keeps no log and fails for want of memory alone. Clauses see its map and
+/// how many readings failed.
 #[derive(Debug, Drop)]
 pub struct MemoryFiles {
     files: BTreeMap<String, Content>,
@@ -67,6 +68,8 @@ impl MemoryFiles {
 
 impl Names for MemoryFiles {
     ghost shelf = { shelf_of };
+
+    ghost fails_with = { IsMemory };
 
     fn has(&mut self, name: &Name) -> Result<bool, FilesFault> {
         Ok(self.files.contains_key(name.as_str()))

@@ -1,15 +1,13 @@
 -- The search for a directory's makefile, one tree after another.
-use Rattle.std.proofs.Common.{◌≡◌, ◌∙◌, sym, ap, refl, inl, inr, ℕ, Bool, true, false, cond, List, [], ◌∷◌, ◌++◌, map, Option, Some, None, append_assoc}
+use Rattle.std.proofs.Common.{◌≡◌, ◌∙◌, sym, ap, refl, ℕ, Bool, true, false, cond, List, [], ◌∷◌, ◌++◌, map, Option, Some, None, append_assoc}
 use Rattle.std.proofs.lemmas.List.{append-nil}
 use Rattle.std.specs.List.{find, cons_option}
 use Rattle.std.specs.Option.{option_map}
 use Rattle.std.specs.Result.{result_ok}
 use Rattle.std.specs.FinMap.{contains_key}
 use Rattle.mk_paths.specs.FileName.{resolved}
-use Rattle.mk_paths.specs.World.{FileMap, Presence, Question, Shelf, Answers, Fails, noted, failed}
-use Rattle.mk_paths.specs.Place.{makefile_in, candidates, place, up_to_first, places_asked, AsksPlaces, StopsAsking}
-use Rattle.mk_paths.specs.declared.asking.FilesFault.{FilesFault}
-use Rattle.mk_paths.specs.declared.asking.FilesFault.TheVariants.{Memory}
+use Rattle.mk_paths.specs.World.{FileMap, Presence, Question, Shelf, Answers, noted}
+use Rattle.mk_paths.specs.Place.{makefile_in, candidates, place, up_to_first, places_asked, AsksPlaces}
 
 -- the search has these trees before it: what was asked, and what is to be asked and found, are those of all trees
 pub record IsUnderway (old now : Shelf) (trees all : List (List ℕ)) (directory : List ℕ) : Type 0 where
@@ -104,9 +102,3 @@ hits {old} {now} {new} {all} tree trees directory name some answer h =
 
 pub ends : {old now : Shelf} {all : List (List ℕ)} (directory : List ℕ) → IsUnderway old now [] all directory → (None ≡ place old.files all directory) × AsksPlaces old now all directory
 ends {old} {now} {all} directory h = (h.finds, h.state ∙ ap (noted old) (sym (append-nil h.asked) ∙ h.rest))
-
-pub stops : {old now new : Shelf} {all trees : List (List ℕ)} {directory : List ℕ} (fault : FilesFault) → Fails now new → IsUnderway old now trees all directory → StopsAsking old new all directory fault
-stops {old} {now} {new} {all} {trees} {directory} fault fails h = (h.asked, places_asked old.files trees directory, sym h.rest, inl (fails ∙ ap failed h.state))
-
-pub starves : {old now : Shelf} {all trees : List (List ℕ)} {directory : List ℕ} (fault : FilesFault) → fault ≡ Memory → IsUnderway old now trees all directory → StopsAsking old now all directory fault
-starves {old} {now} {all} {trees} {directory} fault is h = (h.asked, places_asked old.files trees directory, sym h.rest, inr (is, h.state))

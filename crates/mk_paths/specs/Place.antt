@@ -34,8 +34,9 @@ places_asked files trees directory =
 abbrev pub AsksPlaces : Shelf → Shelf → List (List ℕ) → List ℕ → Type 0
 AsksPlaces old new trees directory = new ≡ noted old (places_asked old.files trees directory)
 
--- the first of these questions were asked, some or none, and then one failed, or memory for a name did
-abbrev pub StopsAsking : Shelf → Shelf → List (List ℕ) → List ℕ → FilesFault → Type 0
-StopsAsking old new trees directory fault =
+-- the first of these questions were asked, some or none, and then one failed, with a fault that the files answer,
+-- or memory for a name did
+abbrev pub StopsAsking : (FilesFault → Type 0) → Shelf → Shelf → List (List ℕ) → List ℕ → FilesFault → Type 0
+StopsAsking may old new trees directory fault =
     (asked : List Question) × (rest : List Question) × (places_asked old.files trees directory ≡ asked ++ rest)
-    × ((new ≡ failed (noted old asked)) ⊎ ((fault ≡ Memory) × (new ≡ noted old asked)))
+    × (((new ≡ failed (noted old asked)) × may fault) ⊎ ((fault ≡ Memory) × (new ≡ noted old asked)))

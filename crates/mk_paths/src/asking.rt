@@ -1,6 +1,7 @@
 // Asking whether files are there.
-ghost use Rattle.std.specs.Prelude.{◌≡◌, IfOk, OnErr};
+ghost use Rattle.std.specs.Prelude.{◌≡◌, IfOk, IfErr, OnErr};
 ghost use Rattle.mk_paths.specs.World.{Shelf, Presence, Answers, Fails};
+ghost use Rattle.mk_paths.specs.declared.asking.FilesFault.{FilesFault};
 ghost use Rattle.mk_paths.specs.declared.asking.FilesFault.TheVariants.{Memory};
 
 use crate::file_name::Name;
@@ -26,9 +27,12 @@ impl From<AllocError> for FilesFault {
 /// A world of files that can be asked which files are there.
 ///
 /// Its meaning is a `Shelf`: one map from names to contents, which no question changes, a log of the
-/// questions asked with their answers where it keeps one, and the count of the questions that failed.
+/// questions asked with their answers where it keeps one, and the count of the questions that failed. It
+/// says too with which faults its questions may fail.
 pub trait Names {
     ghost shelf: { Self → Shelf };
+
+    ghost fails_with: { FilesFault → Type 0 };
 
     /// Whether a file of this name is there.
     ///
@@ -36,5 +40,6 @@ pub trait Names {
     /// and adds one to the count of failures, which stands still at 2^64 - 1.
     fn has(&mut self, name: &Name) -> Result<bool, FilesFault>
         ensures answer { IfOk result (λ there. Answers (shelf self.old) (shelf self.new) name.now (Presence there)) }
-        ensures fault { OnErr result (Fails (shelf self.old) (shelf self.new)) };
+        ensures fault { OnErr result (Fails (shelf self.old) (shelf self.new)) }
+        ensures kind { IfErr result fails_with };
 }

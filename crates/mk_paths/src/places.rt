@@ -13,8 +13,8 @@ use std::alloc::{AllocError, Global};
 /// `/ports/editors/vim/Makefile`; `None` where no tree has it.
 ///
 /// The trees are asked in their order, up to the first that has the makefile; a tree in which the text is no
-/// file name has none, and asks nothing. `Store` and `Memory` come from the files, which then count one more
-/// failure; `Memory` comes too where none is left for a name, and then nothing is counted.
+/// file name has none, and asks nothing. A fault of the files, which then count one more failure, is told as it
+/// is; `Memory` comes too where none is left for a name, and then nothing is counted.
 pub fn find<N: Names>(
     alloc: Global,
     names: &mut N,
@@ -23,7 +23,7 @@ pub fn find<N: Names>(
 ) -> Result<Option<Name>, FilesFault>
     ensures place { IfOk result (λ found. found ≡ place (N.shelf names.old).files path.now directory.now) }
     ensures asked { OnOk result (AsksPlaces (N.shelf names.old) (N.shelf names.new) path.now directory.now) }
-    ensures fault { IfErr result (StopsAsking (N.shelf names.old) (N.shelf names.new) path.now directory.now) }
+    ensures fault { IfErr result (StopsAsking N.fails_with (N.shelf names.old) (N.shelf names.new) path.now directory.now) }
 {
     let trees = path.trees();
     for tree in trees {

@@ -14,5 +14,6 @@ mod ChangeLemmas
 mod IsolationLemmas
 mod TalkLemmas
 mod StandingLemmas
+mod PlaceLemmas
 mod ConversingLemmas
 mod OneListLemmas

@@ -1,10 +1,9 @@
 -- What events take off connections is read off the events and what was told: there is one such list.
-use Rattle.std.proofs.Common.{◌≡◌, ℕ, Bool, true, false, List, [], ◌∷◌, ◌++◌, Option, Some, None, refl, sym, ap, subst, ◌∙◌, ⊎_elim}
+use Rattle.std.proofs.Common.{◌≡◌, ℕ, Bool, true, false, List, [], ◌∷◌, ◌++◌, Option, Some, None, refl, sym, ap, subst, ◌∙◌, arith, ⊎_elim}
 use Rattle.std.specs.Prelude.{MatchBool, MatchOption, option_map, option_and_then}
 use Rattle.std.proofs.lemmas.Bool.{cases_eq}
 use Rattle.ports_http.specs.declared.fault.HeadFault.{HeadFault}
 use Rattle.ports_http.specs.declared.fault.HeadFault.TheVariants as fault
-use Rattle.ports_http.specs.declared.reply.Status.TheVariants.{Forbidden, ServiceUnavailable}
 use Rattle.ports_http.specs.Messages.{RequestMessage, ReplyMessage}
 use Rattle.ports_http.specs.Streams.{Waits}
 use Rattle.ports_http.specs.Incoming.{Incoming, behind, Removes}
@@ -26,22 +25,22 @@ use Rattle.ports_core.specs.Books.{Book, no_lines, KeepsLines, KeepsOthers, Book
 use Rattle.ports_core.proofs.StandingLemmas.{none_some, some_same}
 
 -- a head refusal isn't 503
-refusal_not_failed : (why : HeadFault) → fault_status why ≡ ServiceUnavailable → ⊥
-refusal_not_failed fault.Malformed e = cc
-refusal_not_failed fault.HeadTooLarge e = cc
-refusal_not_failed fault.UnknownMethod e = cc
-refusal_not_failed fault.TransferEncoding e = cc
-refusal_not_failed fault.HostCount e = cc
-refusal_not_failed fault.ContentLength e = cc
-refusal_not_failed fault.LengthRequired e = cc
-refusal_not_failed fault.BodyTooLarge e = cc
+refusal_not_failed : (why : HeadFault) → fault_status why ≡ 503 → ⊥
+refusal_not_failed fault.Malformed e = absurd (omega (arith, e))
+refusal_not_failed fault.HeadTooLarge e = absurd (omega (arith, e))
+refusal_not_failed fault.UnknownMethod e = absurd (omega (arith, e))
+refusal_not_failed fault.TransferEncoding e = absurd (omega (arith, e))
+refusal_not_failed fault.HostCount e = absurd (omega (arith, e))
+refusal_not_failed fault.ContentLength e = absurd (omega (arith, e))
+refusal_not_failed fault.LengthRequired e = absurd (omega (arith, e))
+refusal_not_failed fault.BodyTooLarge e = absurd (omega (arith, e))
 
 status_told : (c : ℕ) (reply other : ReplyMessage) → ◌≡◌ {A = Option Tell} (Some (at_once c reply)) (Some (at_once c other)) → reply.status ≡ other.status
 status_told c reply other e = ap (λ (t : Tell). t.reply.status) (some_same e)
 
 -- a request in a queue, or of an unknown key, isn't told 503
 whole_not_lost : (c : ℕ) (place : Option ℕ) → told_of_tenant c place ≡ Some (at_once c store_failed) → ⊥
-whole_not_lost c None e = let status : Forbidden ≡ ServiceUnavailable = status_told c unknown_key store_failed e in cc
+whole_not_lost c None e = let status : 403 ≡ 503 = status_told c unknown_key store_failed e in absurd (omega (arith, status))
 whole_not_lost c (Some tenant) e = none_some e
 
 refused_not_lost : (c : ℕ) (why : HeadFault) → ◌≡◌ {A = Option Tell} (Some (at_once c (fault_reply why))) (Some (at_once c store_failed)) → ⊥

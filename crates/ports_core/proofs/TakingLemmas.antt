@@ -1,18 +1,16 @@
 -- What is taken off a connection, case by case.
-use Rattle.std.proofs.Common.{◌≡◌, ℕ, Bool, true, false, List, Option, Some, None, refl, sym, ap, subst, ◌∙◌, inl, inr}
+use Rattle.std.proofs.Common.{◌≡◌, ℕ, Bool, true, false, List, Option, Some, None, refl, sym, subst}
 use Rattle.std.specs.Prelude.{MatchBool, Result, Ok, Err, option_map, slice_get}
 use Rattle.ports_http.specs.declared.fault.HeadFault.{HeadFault}
-use Rattle.ports_http.specs.Messages.{RequestMessage, ReplyMessage}
+use Rattle.ports_http.specs.Messages.{RequestMessage}
 use Rattle.ports_http.specs.declared.request.TakeError.{TakeError}
 use Rattle.ports_http.specs.declared.request.TakeError.TheVariants.{Memory}
 use Rattle.ports_http.specs.Incoming.{Incoming, TakesOrLoses}
-use Rattle.ports_http.specs.Replies.{reply_text, fault_reply, store_failed}
 use Rattle.ports_core.specs.declared.line.Line.{Line}
 use Rattle.ports_core.specs.declared.event.Tell.{Tell}
 use Rattle.ports_core.specs.Slices.{Slice}
-use Rattle.ports_core.specs.Lines.{is_ready, with_pending}
-use Rattle.ports_core.specs.Telling.{at_once}
-use Rattle.ports_core.specs.Taking.{Taken, Nothing, Whole, Refusal, Lost, TakesOff, IsTaken, TakesNext, Admits}
+use Rattle.ports_core.specs.Lines.{is_ready}
+use Rattle.ports_core.specs.Taking.{Taken, Nothing, taken_of, TakesOff, IsTaken, Settles, TakesNext}
 
 -- what is the same at each value is the same
 pub option_map_same : {A : Type 0} (o : Option A) → o ≡ option_map (λ x. x) o
@@ -35,6 +33,13 @@ taken_of_busy line busy =
 abbrev Taking : Type 0
 Taking = Result (Option (Result RequestMessage HeadFault)) TakeError
 
+-- what it hands out stood first in it
+takes_off : (old new : Incoming) (answer : Taking) → TakesOrLoses old answer new → TakesOff old (taken_of answer) new
+takes_off old new (Ok None) takes = takes
+takes_off old new (Ok (Some (Ok request))) takes = takes
+takes_off old new (Ok (Some (Err fault))) takes = takes
+takes_off old new (Err (Memory close)) takes = takes
+
 module _ (keys : List (List ℕ)) (c : ℕ) (line : Line) (slices : List Slice) where
   pub takes_nothing : is_ready line ≡ false → TakesNext keys c line slices None line slices
   takes_nothing busy = record {
@@ -44,44 +49,11 @@ module _ (keys : List (List ℕ)) (c : ℕ) (line : Line) (slices : List Slice) 
     settles = record { told_is = refl; line_is = refl; slices_are = λ t. option_map_same (slice_get slices t) };
   }
 
-  pub takes_none : (stream : Incoming) (new : Line) → is_ready line ≡ true → (result : Taking) → TakesOrLoses line.stream result stream → result ≡ Ok None → new ≡ record line { stream = stream } → TakesNext keys c line slices None new slices
-  takes_none stream new ready result takes result_is is = record {
-    taken = Nothing;
+  pub takes_answer : (stream : Incoming) (answer : Taking) (told : Option Tell) (new : Line) (after : List Slice) → is_ready line ≡ true → TakesOrLoses line.stream answer stream
+      → Settles keys c (taken_of answer) (record line { stream = stream }) slices told new after → TakesNext keys c line slices told new after
+  takes_answer stream answer told new after ready takes settles = record {
+    taken = taken_of answer;
     stream = stream;
-    stands = taken_of_ready line Nothing stream ready (subst (λ (r : Taking). TakesOrLoses line.stream r stream) result_is takes);
-    settles = record { told_is = refl; line_is = is; slices_are = λ t. option_map_same (slice_get slices t) };
-  }
-
-  pub takes_refusal : (stream : Incoming) (fault : HeadFault) (told : Tell) (new : Line) → is_ready line ≡ true → (result : Taking) → TakesOrLoses line.stream result stream → result ≡ Ok (Some (Err fault)) → told ≡ at_once c (fault_reply fault) → new ≡ with_pending (reply_text (fault_reply fault) true) (record line { stream = stream }) → TakesNext keys c line slices (Some told) new slices
-  takes_refusal stream fault told new ready result takes result_is told_is line_is = record {
-    taken = Refusal fault;
-    stream = stream;
-    stands = taken_of_ready line (Refusal fault) stream ready (subst (λ (r : Taking). TakesOrLoses line.stream r stream) result_is takes);
-    settles = record { told_is = ap Some told_is; line_is = line_is; slices_are = λ t. option_map_same (slice_get slices t) };
-  }
-
-  pub takes_lost : (stream : Incoming) (error : TakeError) (close : Bool) (reply : ReplyMessage) (told : Tell) (new : Line) → is_ready line ≡ true → (result : Taking) → TakesOrLoses line.stream result stream → result ≡ Err error → ((k : Bool) → error ≡ Memory k → close ≡ k) → reply ≡ store_failed → told ≡ at_once c reply → new ≡ with_pending (reply_text reply close) (record line { stream = stream }) → TakesNext keys c line slices (Some told) new slices
-  takes_lost stream (Memory k) close reply told new ready result takes result_is close_is reply_is told_is line_is = record {
-    taken = Lost k;
-    stream = stream;
-    stands = taken_of_ready line (Lost k) stream ready (subst (λ (r : Taking). TakesOrLoses line.stream r stream) result_is takes);
-    settles = record {
-      told_is = ap Some (told_is ∙ ap (at_once c) reply_is);
-      line_is = line_is ∙ ap (λ r. with_pending (reply_text r close) (record line { stream = stream })) reply_is ∙ ap (λ b. with_pending (reply_text store_failed b) (record line { stream = stream })) (close_is k refl);
-      slices_are = λ t. option_map_same (slice_get slices t);
-    };
-  }
-
-  pub takes_whole : (stream : Incoming) (request : RequestMessage) (told : Option Tell) (new : Line) (after : List Slice) → is_ready line ≡ true → (result : Taking) → TakesOrLoses line.stream result stream → result ≡ Ok (Some (Ok request)) → Admits keys c request (record line { stream = stream }) slices told new after → TakesNext keys c line slices told new after
-  takes_whole stream request told new after ready result takes result_is (inl settles) = record {
-    taken = Whole request;
-    stream = stream;
-    stands = taken_of_ready line (Whole request) stream ready (subst (λ (r : Taking). TakesOrLoses line.stream r stream) result_is takes);
-    settles = settles;
-  }
-  takes_whole stream request told new after ready result takes result_is (inr settles) = record {
-    taken = Lost request.close;
-    stream = stream;
-    stands = taken_of_ready line (Lost request.close) stream ready (request, subst (λ (r : Taking). TakesOrLoses line.stream r stream) result_is takes, refl);
+    stands = taken_of_ready line (taken_of answer) stream ready (takes_off line.stream stream answer takes);
     settles = settles;
   }

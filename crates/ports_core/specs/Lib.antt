@@ -4,6 +4,7 @@ pub mod Lines
 pub mod Telling
 pub mod Taking
 pub mod Opened
+pub mod Places
 pub mod State
 pub mod Steps
 pub mod Changes

@@ -1,10 +1,8 @@
 -- Each tenant is told what a plain service of its own would tell it.
-use Rattle.std.specs.Prelude.{◌≡◌, ℕ, Bool, true, false, List, [], ◌∷◌, ◌++◌, ◌==◌, length, Option, Some, None, if◌then◌else◌}
+use Rattle.std.specs.Prelude.{◌≡◌, ℕ, Bool, false, List, [], ◌∷◌, ◌++◌, ◌==◌, length, Option, Some, None, if◌then◌else◌}
 use Rattle.std.specs.FinMap as map
 use Rattle.mk_paths.specs.World.{FileMap}
 use Rattle.ports_http.specs.Messages.{ReplyMessage}
-use Rattle.ports_http.specs.declared.reply.Status.{Status}
-use Rattle.ports_http.specs.declared.reply.Status.TheVariants.{ServiceUnavailable}
 use Rattle.ports_core.specs.declared.event.Event.{Event}
 use Rattle.ports_core.specs.declared.event.Tell.{Tell}
 use Rattle.ports_core.specs.declared.tenant.Waiter.{Waiter}
@@ -29,9 +27,8 @@ told_to t [] = []
 told_to t (step ∷ steps) = told_if t step.told.reply ++ told_to t steps
 
 -- 503, which is answered where the service failed: it changed nothing
-abbrev pub is_failure : Status → Bool
-is_failure ServiceUnavailable = true
-is_failure _ = false
+abbrev pub is_failure : ℕ → Bool
+is_failure status = status == 503
 
 -- the replies told other than 503, each with the connection that it goes to
 abbrev pub answers_of : List Tell → List (ℕ × ReplyMessage)

@@ -1,6 +1,8 @@
 -- Taking the next request off a connection.
-use Rattle.std.specs.Prelude.{◌≡◌, ◌⊎◌, ℕ, Bool, true, MatchBool, List, ◌==◌, slice_get, option_map, Option, Some, None, Ok, Err, if◌then◌else◌}
+use Rattle.std.specs.Prelude.{◌≡◌, ℕ, Bool, true, MatchBool, List, ◌==◌, slice_get, option_map, Option, Some, None, Result, Ok, Err, if◌then◌else◌}
 use Rattle.ports_http.specs.declared.fault.HeadFault.{HeadFault}
+use Rattle.ports_http.specs.declared.request.TakeError.{TakeError}
+use Rattle.ports_http.specs.declared.request.TakeError.TheVariants.{Memory}
 use Rattle.ports_http.specs.Messages.{RequestMessage}
 use Rattle.ports_http.specs.Incoming.{Incoming, Takes, Loses}
 use Rattle.ports_http.specs.Replies.{reply_text, fault_reply, unknown_key, store_failed}
@@ -11,13 +13,21 @@ use Rattle.ports_core.specs.Slices.{Slice, joined}
 use Rattle.ports_core.specs.Lines.{is_ready, with_pending}
 use Rattle.ports_core.specs.Telling.{at_once}
 
--- what an event takes off a connection: nothing, a request, a head refusal, or a request for which
--- there is no memory, with whether it closes the connection
+-- what an event takes off a connection: nothing, a request, a head refusal, or a request for whose own
+-- bytes there is no memory, with whether it closes the connection
 pub data Taken : Type 0 where
   Nothing : Taken
   Whole : RequestMessage → Taken
   Refusal : HeadFault → Taken
   Lost : Bool → Taken
+
+-- what is taken where the stream hands out that: a request is lost where its own bytes found no memory,
+-- and only there
+abbrev pub taken_of : Result (Option (Result RequestMessage HeadFault)) TakeError → Taken
+taken_of (Ok None) = Nothing
+taken_of (Ok (Some (Ok request))) = Whole request
+taken_of (Ok (Some (Err fault))) = Refusal fault
+taken_of (Err (Memory close)) = Lost close
 
 -- it stands first in the stream, and the stream is what is left behind it
 abbrev pub TakesOff : Incoming → Taken → Incoming → Type 0
@@ -83,8 +93,3 @@ pub record TakesNext (keys : List (List ℕ)) (c : ℕ) (old : Line) (slices : L
   pub stream : Incoming
   pub stands : IsTaken old taken stream
   pub settles : Settles keys c taken (record old { stream = stream }) slices told new after
-
--- a request joins its tenant's queue or is refused at once, or there is no memory for it
-abbrev pub Admits : List (List ℕ) → ℕ → RequestMessage → Line → List Slice → Option Tell → Line → List Slice → Type 0
-Admits keys c request old slices told new after =
-    Settles keys c (Whole request) old slices told new after ⊎ Settles keys c (Lost request.close) old slices told new after

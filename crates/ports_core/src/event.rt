@@ -24,7 +24,7 @@ pub enum Event {
 
 /// A reply that is told: whose request it answers, and the connection that asked. There is no tenant
 /// where the request entered no queue: a head refusal, a request without a known key, or one for
-/// which there was no memory.
+/// whose own bytes there was no memory.
 #[derive(Drop)]
 pub struct Tell {
     pub tenant: Option<usize>,

@@ -1,17 +1,19 @@
 //! Taking the next request off a connection.
-ghost use Rattle.std.specs.Prelude.{◌≡◌, ◌<◌, length, option_map, IfSome, position, bytes_eq, string_bytes};
+ghost use Rattle.std.specs.Prelude.{◌≡◌, ◌<◌, true, All, length, option_map, IfSome, position, bytes_eq, string_bytes};
 ghost use Rattle.ports_core.specs.Keys.{key_texts, tenant_of};
-ghost use Rattle.ports_core.specs.Taking.{TakesNext, Admits};
+ghost use Rattle.ports_core.specs.Lines.{is_ready};
+ghost use Rattle.ports_core.specs.Places.{HasPlace};
+ghost use Rattle.ports_core.specs.Taking.{Whole, taken_of, Settles, TakesNext};
 
 use crate::event::Tell;
 use crate::line::Line;
 use crate::tenant::Tenant;
-use ports_http::{Reply, Request, TakeError};
+use ports_http::{HeadFault, Reply, Request, TakeError};
 use std::alloc::Global;
 
 /// Takes the request that stands first on a connection with nothing waiting and nothing pending. A
 /// request with a known key waits for its tenant's turn; any other, a head refusal, and a request
-/// for which there is no memory is told a fixed reply at once.
+/// for whose own bytes there is no memory is told a fixed reply at once.
 pub(crate) fn take_next(
     alloc: Global,
     keys: &[String],
@@ -19,13 +21,31 @@ pub(crate) fn take_next(
     conn: u64,
     line: &mut Line,
 ) -> Option<Tell>
-    requires { length tenants.old ≡ length keys.now }
+    requires keyed { length tenants.old ≡ length keys.now }
+    requires places { is_ready line.old ≡ true → All HasPlace tenants.old }
     ensures { TakesNext (key_texts keys.now) conn line.old tenants.old result line.new tenants.new }
 {
     if !line.is_ready() {
         return None;
     }
-    match line.stream.next_request(alloc) {
+    let answer = line.stream.next_request(alloc);
+    settle(keys, tenants, conn, line, answer)
+}
+
+/// What becomes of what a connection handed out: a fixed reply that says the store failed is told only
+/// where the request itself found no memory.
+fn settle(
+    keys: &[String],
+    tenants: &mut [Tenant],
+    conn: u64,
+    line: &mut Line,
+    answer: Result<Option<Result<Request, HeadFault>>, TakeError>,
+) -> Option<Tell>
+    requires keyed { length tenants.old ≡ length keys.now }
+    requires places { All HasPlace tenants.old }
+    ensures { Settles (key_texts keys.now) conn (taken_of answer) line.old tenants.old result line.new tenants.new }
+{
+    match answer {
         Ok(None) => None,
         Ok(Some(Ok(request))) => admit(keys, tenants, conn, line, request),
         Ok(Some(Err(fault))) => Some(line.tell(conn, fault.reply(), true)),
@@ -33,7 +53,7 @@ pub(crate) fn take_next(
     }
 }
 
-/// Puts a request in its tenant's queue, or tells why it isn't there.
+/// Puts a request in its tenant's queue; one without a known key is refused at once.
 fn admit(
     keys: &[String],
     tenants: &mut [Tenant],
@@ -41,17 +61,16 @@ fn admit(
     line: &mut Line,
     request: Request,
 ) -> Option<Tell>
-    requires { length tenants.old ≡ length keys.now }
-    ensures { Admits (key_texts keys.now) conn request line.old tenants.old result line.new tenants.new }
+    requires keyed { length tenants.old ≡ length keys.now }
+    requires places { All HasPlace tenants.old }
+    ensures { Settles (key_texts keys.now) conn (Whole request) line.old tenants.old result line.new tenants.new }
 {
     let close = request.close;
     let Some(place) = place_of(keys, &request.key) else {
         return Some(line.tell(conn, Reply::unknown_key(), close));
     };
     let tenant = &mut tenants[place];
-    if tenant.join(conn, request).is_err() {
-        return Some(line.tell(conn, Reply::store_failed(), close));
-    }
+    tenant.join(conn, request);
     line.waits = Some(place);
     None
 }

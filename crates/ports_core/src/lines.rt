@@ -1,9 +1,10 @@
 //! The open connections, by their numbers.
-ghost use Rattle.std.specs.Prelude.{◌≡◌, ◌≢◌, ◌↔◌, ℕ, IsTrue, length, option_map, option_and_then};
+ghost use Rattle.std.specs.Prelude.{◌≡◌, ◌≢◌, ◌≤◌, ◌↔◌, ℕ, All, None, IsTrue, length, option_map, option_and_then};
 ghost use Rattle.ports_core.specs.Keys.{key_texts};
 ghost use Rattle.ports_core.specs.Lines.{Fits, answered, closes_on, kept, closing};
 ghost use Rattle.ports_core.specs.Telling.{AreBytesOf};
 ghost use Rattle.ports_core.specs.Opened.{line_in, is_line_done, OpenAnd, HearsLine};
+ghost use Rattle.ports_core.specs.Places.{HasPlace};
 
 use crate::event::{Event, Tell};
 use crate::intake::take_next;
@@ -12,6 +13,9 @@ use crate::tenant::Tenant;
 use ports_http::Reply;
 use std::alloc::Global;
 use std::collections::BTreeMap;
+
+/// The most connections, and so the most requests that wait: one of each.
+pub(crate) const MOST_CONNECTIONS: usize = 16;
 
 /// The open connections, by their numbers.
 pub(crate) type Lines = BTreeMap<u64, Line>;
@@ -27,7 +31,9 @@ pub(crate) fn hear_line(
 ) -> Option<Tell>
     requires keyed { length tenants.old ≡ length keys.now }
     requires open { OpenAnd (line_in conn lines.old.entries) (Fits event.now) }
-    ensures { HearsLine (key_texts keys.now) event.now conn result lines.old.entries tenants.old lines.new.entries tenants.new }
+    requires places { OpenAnd (line_in conn lines.old.entries) (λ line. line.waits ≡ None → All HasPlace tenants.old) }
+    ensures count { length lines.new.entries ≡ length lines.old.entries }
+    ensures hears { HearsLine (key_texts keys.now) event.now conn result lines.old.entries tenants.old lines.new.entries tenants.new }
 {
     let line = lines.get_mut(&conn).unwrap();
     line.hear(event);
@@ -47,6 +53,7 @@ pub(crate) fn closes(lines: &Lines, conn: u64) -> bool
 /// The waiting request of a connection is answered, if it is open.
 pub(crate) fn answer_line(lines: &mut Lines, conn: u64, reply: &Reply, bytes: Option<Vec<u8>>)
     requires { AreBytesOf reply.now (closes_on (line_in conn lines.old.entries)) bytes }
+    ensures count { length lines.new.entries ≡ length lines.old.entries }
     ensures line { line_in conn lines.new.entries ≡ option_map (answered reply.now) (line_in conn lines.old.entries) }
     ensures others { (d : ℕ) → d ≢ conn → line_in d lines.new.entries ≡ line_in d lines.old.entries }
 {
@@ -57,6 +64,7 @@ pub(crate) fn answer_line(lines: &mut Lines, conn: u64, reply: &Reply, bytes: Op
 
 /// A connection closes if its stream has ended, nothing waits and nothing is pending.
 pub(crate) fn close_done(lines: &mut Lines, conn: u64) -> Option<u64>
+    ensures count { length lines.new.entries ≤ length lines.old.entries }
     ensures closed { result ≡ option_and_then (closing conn) (line_in conn lines.old.entries) }
     ensures line { line_in conn lines.new.entries ≡ option_and_then kept (line_in conn lines.old.entries) }
     ensures others { (d : ℕ) → d ≢ conn → line_in d lines.new.entries ≡ line_in d lines.old.entries }

@@ -6,15 +6,12 @@ ghost use Rattle.ports_core.specs.declared.service.NewFault.TheVariants.{Memory}
 use crate::event::{Event, Refused, Tell, Told};
 use crate::keys::Config;
 use crate::line::Line;
-use crate::lines::{Lines, answer_line, close_done, closes, hear_line, may_hear};
+use crate::lines::{Lines, MOST_CONNECTIONS, answer_line, close_done, closes, hear_line, may_hear};
 use crate::tenant::{Tenant, Waiter};
 use ports_plain::Plain;
 use std::alloc::{AllocError, Global};
 use std::collections::BTreeMap;
 use std::marker::Model;
-
-/// The most connections.
-const MOST_CONNECTIONS: usize = 16;
 
 /// Why a service can't begin.
 #[derive(Clone, Copy, Debug, PartialEq, Eq)]
@@ -71,7 +68,7 @@ impl Service {
     ghost use Rattle.ports_core.specs.Lines.{Fits};
     ghost use Rattle.ports_core.specs.Steps.{Does, Opens, Hears, Turns};
 
-    /// A service without files and without connections.
+    /// A service without files and without connections, with places for all requests that can wait.
     ///
     /// Err: `Config` exactly where the keys and sizes aren't fit; `Memory`.
     pub fn new(alloc: Global, config: Config) -> Result<Service, NewFault>
@@ -220,7 +217,7 @@ fn new_tenants(alloc: Global, count: usize) -> Result<Vec<Tenant>, AllocError>
 {
     let mut tenants = Vec::with_capacity(alloc, count)?;
     for _ in 0..count {
-        tenants.push(Tenant::new(alloc))?;
+        tenants.push(Tenant::new(alloc)?)?;
     }
     Ok(tenants)
 }

@@ -1,8 +1,9 @@
 //! One tenant: its files, and the requests that wait for its turns.
-ghost use Rattle.std.specs.Prelude.{◌≡◌, ◌∷◌, [], length, IfOk, IfSome, IfNone, OnOk, OnErr};
+ghost use Rattle.std.specs.Prelude.{◌≡◌, ◌∷◌, [], length, IfOk, IfSome, IfNone, OnErr};
 ghost use Rattle.ports_http.specs.Replies.{reply_text};
 ghost use Rattle.ports_core.specs.Slices.{plain_answer};
 
+use crate::lines::MOST_CONNECTIONS;
 use mk_files::MemoryFiles;
 use ports_http::{Reply, Request, write_reply};
 use ports_plain::{Plain, Prepared, Refused};
@@ -17,7 +18,8 @@ pub(crate) struct Waiter {
     pub(crate) request: Request,
 }
 
-/// A tenant. A contract sees its slice of the service: the files, and the requests that wait.
+/// A tenant, with places kept for all requests that can wait. A contract sees its slice of the service: the
+/// files, and the requests that wait.
 #[derive(Drop)]
 pub(crate) struct Tenant {
     files: MemoryFiles,
@@ -34,24 +36,27 @@ impl Model for Tenant {
 
     ghost coded = { Prim.hlevel (codes, files_code) };
 
-    ghost use Rattle.ports_core.specs.TenantView.{tenant_view};
+    ghost use Rattle.ports_core.specs.TenantView.{tenant_view, IsTenant};
 
     ghost view = { tenant_view };
+
+    ghost invariant = { IsTenant };
 }
 
 impl Tenant {
     ghost use Rattle.ports_core.specs.Slices.{new_slice, joined, world_of, waiting_of};
+    ghost use Rattle.ports_core.specs.Places.{HasPlace};
     ghost use Rattle.ports_core.specs.Steps.{Answers};
     ghost use Rattle.ports_core.specs.Telling.{AreBytesOf};
 
-    /// A tenant without files, for which nothing waits.
-    pub(crate) fn new(alloc: Global) -> Tenant
-        ensures { result ≡ new_slice }
+    /// A tenant without files, for which nothing waits. The one error is want of memory for the places.
+    pub(crate) fn new(alloc: Global) -> Result<Tenant, AllocError>
+        ensures { IfOk result (λ tenant. tenant ≡ new_slice) }
     {
-        Tenant {
+        Ok(Tenant {
             files: MemoryFiles::new(alloc),
-            waiting: VecDeque::new(alloc),
-        }
+            waiting: VecDeque::with_capacity(alloc, MOST_CONNECTIONS)?,
+        })
     }
 
     /// How many requests wait.
@@ -61,13 +66,12 @@ impl Tenant {
         self.waiting.len()
     }
 
-    /// A request waits behind the others. Err: there was no memory, and the request is gone.
-    pub(crate) fn join(&mut self, conn: u64, request: Request) -> Result<(), AllocError>
-        ensures ok { OnOk result (self.new ≡ joined (record { conn = conn; request = request }) self.old) }
-        ensures err { OnErr result (self.new ≡ self.old) }
+    /// A request waits behind the others. It takes no memory.
+    pub(crate) fn join(&mut self, conn: u64, request: Request)
+        requires { HasPlace self.old }
+        ensures { self.new ≡ joined (record { conn = conn; request = request }) self.old }
     {
-        self.waiting.push_back(Waiter { conn, request })?;
-        Ok(())
+        self.waiting.push_back_reserved(Waiter { conn, request });
     }
 
     /// The request that waited longest, which waits no more.

@@ -4,20 +4,20 @@ use Rattle.std.specs.Fmt.{digits}
 use Rattle.ports_http.specs.declared.fault.HeadFault.{HeadFault}
 use Rattle.ports_http.specs.declared.fault.HeadFault.TheVariants.{Malformed, HeadTooLarge, UnknownMethod, TransferEncoding, HostCount, ContentLength, LengthRequired, BodyTooLarge}
 use Rattle.ports_http.specs.Limits.{fixed_limit}
-use Rattle.ports_http.specs.Replies.{reply_text, IsFixed, unknown_key, store_failed, fault_reply}
+use Rattle.ports_http.specs.Replies.{reply_text, status_text, IsFixed, unknown_key, store_failed, fault_reply}
 
 pub unknown_key_fits : (close : Bool) → IsFixed unknown_key close
-unfolding reply_text fixed_limit digits
+unfolding reply_text status_text fixed_limit digits
 unknown_key_fits true = lit≤ tt
 unknown_key_fits false = lit≤ tt
 
 pub store_failed_fits : (close : Bool) → IsFixed store_failed close
-unfolding reply_text fixed_limit digits
+unfolding reply_text status_text fixed_limit digits
 store_failed_fits true = lit≤ tt
 store_failed_fits false = lit≤ tt
 
 pub fault_reply_fits : (refusal : HeadFault) (close : Bool) → IsFixed (fault_reply refusal) close
-unfolding reply_text fixed_limit digits
+unfolding reply_text status_text fixed_limit digits
 fault_reply_fits Malformed true = lit≤ tt
 fault_reply_fits Malformed false = lit≤ tt
 fault_reply_fits HeadTooLarge true = lit≤ tt

@@ -1,31 +1,19 @@
 -- The bytes of a reply (RFC 9112, sections 2 to 4), and the fixed replies.
-use Rattle.std.specs.Prelude.{ℕ, ◌≤◌, Bool, List, [], ◌∷◌, ◌++◌, length, if◌then◌else◌, codes, decimal, Option, Some, None}
+use Rattle.std.specs.Prelude.{ℕ, ◌≤◌, Bool, List, [], ◌∷◌, ◌++◌, length, if◌then◌else◌, codes, decimal, Option, Some, None, unwrap_or}
 use Rattle.std.specs.List.{flat_map}
+use Rattle.http.specs.StatusCode.{code_digits, reason_phrase}
 use Rattle.ports_http.specs.declared.method.Method.{Method}
 use Rattle.ports_http.specs.declared.fault.HeadFault.{HeadFault}
 use Rattle.ports_http.specs.declared.fault.HeadFault.TheVariants as fault
-use Rattle.ports_http.specs.declared.reply.Status.{Status}
-use Rattle.ports_http.specs.declared.reply.Status.TheVariants as status
 use Rattle.ports_http.specs.declared.reply.Content.{Content}
 use Rattle.ports_http.specs.declared.reply.Content.TheVariants.{Json, Octets}
 use Rattle.ports_http.specs.Limits.{fixed_limit}
 use Rattle.ports_http.specs.Messages.{ReplyMessage}
 use Rattle.ports_http.specs.Heads.{method_text}
 
--- a status code and its phrase
-abbrev pub status_text : Status → List ℕ
-status_text status.Success = codes "200 OK"
-status_text status.BadRequest = codes "400 Bad Request"
-status_text status.Forbidden = codes "403 Forbidden"
-status_text status.NotFound = codes "404 Not Found"
-status_text status.MethodNotAllowed = codes "405 Method Not Allowed"
-status_text status.Conflict = codes "409 Conflict"
-status_text status.LengthRequired = codes "411 Length Required"
-status_text status.PayloadTooLarge = codes "413 Payload Too Large"
-status_text status.UnprocessableEntity = codes "422 Unprocessable Entity"
-status_text status.HeaderFieldsTooLarge = codes "431 Request Header Fields Too Large"
-status_text status.NotImplemented = codes "501 Not Implemented"
-status_text status.ServiceUnavailable = codes "503 Service Unavailable"
+-- a status code, a blank, and its phrase (RFC 9112, section 4)
+unfoldable pub status_text : ℕ → List ℕ
+status_text status = code_digits status ++ codes " " ++ unwrap_or (reason_phrase status) []
 
 -- a line of a head
 abbrev pub line : List ℕ → List ℕ
@@ -69,15 +57,15 @@ unfoldable pub reply_text : ReplyMessage → Bool → List ℕ
 reply_text reply close = reply_head reply close (length reply.body) ++ reply.body
 
 -- the status that answers a head refusal
-abbrev pub fault_status : HeadFault → Status
-fault_status fault.Malformed = status.BadRequest
-fault_status fault.HeadTooLarge = status.HeaderFieldsTooLarge
-fault_status fault.UnknownMethod = status.NotImplemented
-fault_status fault.TransferEncoding = status.NotImplemented
-fault_status fault.HostCount = status.BadRequest
-fault_status fault.ContentLength = status.BadRequest
-fault_status fault.LengthRequired = status.LengthRequired
-fault_status fault.BodyTooLarge = status.PayloadTooLarge
+abbrev pub fault_status : HeadFault → ℕ
+fault_status fault.Malformed = 400
+fault_status fault.HeadTooLarge = 431
+fault_status fault.UnknownMethod = 501
+fault_status fault.TransferEncoding = 501
+fault_status fault.HostCount = 400
+fault_status fault.ContentLength = 400
+fault_status fault.LengthRequired = 411
+fault_status fault.BodyTooLarge = 413
 
 -- the reply to a head refusal: no body
 abbrev pub fault_reply : HeadFault → ReplyMessage
@@ -86,12 +74,12 @@ fault_reply fault = record { status = fault_status fault; body = []; content = N
 -- the reply to a request without a known key
 abbrev pub unknown_key : ReplyMessage
 unknown_key =
-    record { status = status.Forbidden; body = codes "{\"error\":\"Key\"}"; content = Some Json; allow = [] }
+    record { status = 403; body = codes "{\"error\":\"Key\"}"; content = Some Json; allow = [] }
 
 -- the reply where the store or the memory failed
 abbrev pub store_failed : ReplyMessage
 store_failed = record {
-  status = status.ServiceUnavailable;
+  status = 503;
   body = codes "{\"error\":\"Store\"}";
   content = Some Json;
   allow = [];

@@ -2,7 +2,8 @@
 ghost use Rattle.std.specs.Prelude.{◌≡◌, Bool};
 ghost use Rattle.ports_http.specs.Replies.{fault_status, fault_reply, IsFixed};
 
-use crate::reply::{Body, Reply, Status};
+use crate::reply::{Body, Reply};
+use http::StatusCode;
 
 /// Why a head is refused. Where several fit, the first that stands here is told.
 #[derive(Clone, Copy, Debug, PartialEq, Eq)]
@@ -27,18 +28,18 @@ pub enum HeadFault {
 
 impl HeadFault {
     /// The status that answers the refusal.
-    pub fn status(self) -> Status
+    pub fn status(self) -> StatusCode
         ensures { result ≡ fault_status self }
     {
         match self {
-            HeadFault::Malformed => Status::BadRequest,
-            HeadFault::HeadTooLarge => Status::HeaderFieldsTooLarge,
-            HeadFault::UnknownMethod => Status::NotImplemented,
-            HeadFault::TransferEncoding => Status::NotImplemented,
-            HeadFault::HostCount => Status::BadRequest,
-            HeadFault::ContentLength => Status::BadRequest,
-            HeadFault::LengthRequired => Status::LengthRequired,
-            HeadFault::BodyTooLarge => Status::PayloadTooLarge,
+            HeadFault::Malformed => StatusCode::BAD_REQUEST,
+            HeadFault::HeadTooLarge => StatusCode::REQUEST_HEADER_FIELDS_TOO_LARGE,
+            HeadFault::UnknownMethod => StatusCode::NOT_IMPLEMENTED,
+            HeadFault::TransferEncoding => StatusCode::NOT_IMPLEMENTED,
+            HeadFault::HostCount => StatusCode::BAD_REQUEST,
+            HeadFault::ContentLength => StatusCode::BAD_REQUEST,
+            HeadFault::LengthRequired => StatusCode::LENGTH_REQUIRED,
+            HeadFault::BodyTooLarge => StatusCode::PAYLOAD_TOO_LARGE,
         }
     }
 

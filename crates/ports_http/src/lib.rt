@@ -18,8 +18,9 @@ mod write;
 
 pub use conn::Conn;
 pub use fault::HeadFault;
+pub use http::StatusCode;
 pub use method::Method;
-pub use reply::{Body, Content, Reply, Status};
+pub use reply::{Body, Content, Reply};
 pub use request::{Request, TakeError};
 pub use stream::{Decoded, StreamEnd, decode};
 pub use write::{write_fixed, write_reply};

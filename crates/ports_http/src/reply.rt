@@ -1,49 +1,11 @@
 //! Replies.
 ghost use Rattle.std.specs.Prelude.{◌≡◌, [], Bool, Option, Some, None};
 ghost use Rattle.ports_http.specs.Messages.{ReplyMessage};
-ghost use Rattle.ports_http.specs.Replies.{status_text, content_text, unknown_key, store_failed, IsFixed};
+ghost use Rattle.ports_http.specs.Replies.{content_text, unknown_key, store_failed, IsFixed};
 
 use crate::method::Method;
+use http::StatusCode;
 use std::marker::Model;
-
-/// A status code with its phrase (RFC 9110, section 15). No other is answered.
-#[derive(Clone, Copy, Debug, PartialEq, Eq)]
-pub enum Status {
-    Success,
-    BadRequest,
-    Forbidden,
-    NotFound,
-    MethodNotAllowed,
-    Conflict,
-    LengthRequired,
-    PayloadTooLarge,
-    UnprocessableEntity,
-    HeaderFieldsTooLarge,
-    NotImplemented,
-    ServiceUnavailable,
-}
-
-impl Status {
-    /// The code, a blank and the phrase, as in `200 OK`.
-    pub fn as_str(self) -> &'static str
-        ensures { result.now ≡ status_text self }
-    {
-        match self {
-            Status::Success => "200 OK",
-            Status::BadRequest => "400 Bad Request",
-            Status::Forbidden => "403 Forbidden",
-            Status::NotFound => "404 Not Found",
-            Status::MethodNotAllowed => "405 Method Not Allowed",
-            Status::Conflict => "409 Conflict",
-            Status::LengthRequired => "411 Length Required",
-            Status::PayloadTooLarge => "413 Payload Too Large",
-            Status::UnprocessableEntity => "422 Unprocessable Entity",
-            Status::HeaderFieldsTooLarge => "431 Request Header Fields Too Large",
-            Status::NotImplemented => "501 Not Implemented",
-            Status::ServiceUnavailable => "503 Service Unavailable",
-        }
-    }
-}
 
 /// The media type of a body.
 #[derive(Clone, Copy, Debug, PartialEq, Eq)]
@@ -77,7 +39,7 @@ pub enum Body {
 /// type, and the methods of its Allow field, none where there is no such field.
 #[derive(Drop)]
 pub struct Reply {
-    pub status: Status,
+    pub status: StatusCode,
     pub body: Body,
     pub content: Option<Content>,
     pub allow: &'static [Method],
@@ -95,7 +57,7 @@ impl Model for Reply {
 
 impl Reply {
     /// A reply whose body is a text of the program's own, which takes no memory.
-    pub fn of_text(status: Status, content: Option<Content>, text: &'static str) -> Reply
+    pub fn of_text(status: StatusCode, content: Option<Content>, text: &'static str) -> Reply
         ensures { result ≡ record { status = status; body = text.now; content = content; allow = [] } }
     {
         Reply {
@@ -107,7 +69,7 @@ impl Reply {
     }
 
     /// A reply with these bytes as its body.
-    pub fn of_bytes(status: Status, content: Option<Content>, body: Vec<u8>) -> Reply
+    pub fn of_bytes(status: StatusCode, content: Option<Content>, body: Vec<u8>) -> Reply
         ensures { result ≡ record { status = status; body = body.items; content = content; allow = [] } }
     {
         Reply {
@@ -142,7 +104,7 @@ impl Reply {
         ensures fixed { (close : Bool) → IsFixed result close }
     {
         Reply::of_text(
-            Status::Forbidden,
+            StatusCode::FORBIDDEN,
             Some(Content::Json),
             "{\"error\":\"Key\"}",
         )
@@ -154,7 +116,7 @@ impl Reply {
         ensures fixed { (close : Bool) → IsFixed result close }
     {
         Reply::of_text(
-            Status::ServiceUnavailable,
+            StatusCode::SERVICE_UNAVAILABLE,
             Some(Content::Json),
             "{\"error\":\"Store\"}",
         )

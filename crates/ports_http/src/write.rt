@@ -1,5 +1,5 @@
 //! The bytes of replies.
-ghost use Rattle.std.specs.Prelude.{◌≡◌, ◌+◌, ◌≤◌, ◌<◌, [], ◌++◌, length, decimal, IfOk, OnOk, OnErr, vec_len, vec_capacity};
+ghost use Rattle.std.specs.Prelude.{◌≡◌, ◌+◌, ◌≤◌, ◌<◌, [], ◌++◌, length, codes, decimal, IfOk, OnOk, OnErr, vec_len, vec_capacity};
 ghost use Rattle.std.specs.List.{flat_map};
 ghost use Rattle.ports_http.specs.Limits.{fixed_limit};
 ghost use Rattle.ports_http.specs.Puts.{Puts};
@@ -7,6 +7,7 @@ ghost use Rattle.ports_http.specs.Replies.{reply_text, reply_head, line, content
 
 use crate::method::Method;
 use crate::reply::{Content, Reply};
+use http::StatusCode;
 use itoa::Buffer;
 use std::alloc::{AllocError, Global};
 
@@ -46,12 +47,23 @@ fn put_reply(reply: &Reply, close: bool, out: &mut Vec<u8>) -> Result<(), AllocE
 fn put_head(reply: &Reply, close: bool, size: usize, out: &mut Vec<u8>) -> Result<(), AllocError>
     ensures { Puts out.old (reply_head reply.now close size) result out.new }
 {
-    put_line("HTTP/1.1 ", reply.status.as_str(), out)?;
+    put_status(reply.status, out)?;
     put_content(reply.content, out)?;
     put_line("Content-Length: ", Buffer::new().format(size), out)?;
     put_allow(reply.allow, out)?;
     put_close(close, out)?;
     put_line("", "", out)
+}
+
+/// Adds the status line.
+#[tactic(auto, unfolding(crate::specs::Replies::status_text))]
+fn put_status(status: StatusCode, out: &mut Vec<u8>) -> Result<(), AllocError>
+    ensures { Puts out.old (line (codes "HTTP/1.1 " ++ status_text status)) result out.new }
+{
+    put_text("HTTP/1.1 ", out)?;
+    put_text(status.as_str(), out)?;
+    put_text(" ", out)?;
+    put_line(status.canonical_reason().unwrap_or(""), "", out)
 }
 
 /// Adds the Content-Type line, where there is a type.

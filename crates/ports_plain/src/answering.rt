@@ -14,7 +14,7 @@ use crate::variables::get_variable;
 use crate::writing::Prepared;
 use mk_files::MemoryFiles;
 use mk_paths::SearchPath;
-use ports_http::{Method, Status};
+use ports_http::{Method, StatusCode};
 use std::alloc::{AllocError, Global};
 
 /// The plain service: its routes and the search path of ports, made once. It holds nothing of a tenant.
@@ -67,7 +67,7 @@ impl Plain {
         let (path, query) = path_and_query(target);
         let Some(route) = self.routes.find(path) else {
             return Ok(Prepared {
-                reply: refusal(alloc, Status::NotFound, "Route")?,
+                reply: refusal(alloc, StatusCode::NOT_FOUND, "Route")?,
                 write: None,
             });
         };

@@ -5,13 +5,12 @@ ghost use Rattle.ports_plain.specs.Plain.{put_file as put_file_of};
 ghost use Rattle.ports_plain.specs.Parameters.{parameter as parameter_of};
 ghost use Rattle.ports_plain.specs.Replies.{refusal as refusal_of};
 ghost use Rattle.ports_plain.specs.Writing.{written};
-ghost use Rattle.ports_http.specs.declared.reply.Status.TheVariants.{BadRequest};
 
 use crate::parameters::parameter;
 use crate::replies::{refusal, stored};
 use crate::writing::{Prepared, Write};
 use mk_paths::{Name, NameFault};
-use ports_http::Status;
+use ports_http::StatusCode;
 use std::alloc::{AllocError, Global};
 
 // Stores a body under the name that the query gives.
@@ -33,11 +32,11 @@ pub fn put_file(alloc: Global, query: &str, body: Vec<u8>) -> Result<Prepared, A
 
 // A bad request, by its word. Nothing is written.
 fn refused(alloc: Global, word: &str) -> Result<Prepared, AllocError>
-    ensures reply { IfOk result (λ prepared. prepared.reply ≡ refusal_of BadRequest word.now) }
+    ensures reply { IfOk result (λ prepared. prepared.reply ≡ refusal_of 400 word.now) }
     ensures write { IfOk result (λ prepared. prepared.write ≡ None) }
 {
     Ok(Prepared {
-        reply: refusal(alloc, Status::BadRequest, word)?,
+        reply: refusal(alloc, StatusCode::BAD_REQUEST, word)?,
         write: None,
     })
 }

@@ -8,12 +8,12 @@ ghost use Rattle.ports_plain.specs.Replies.{json_reply as json_reply_of, refusal
 use crate::bodies;
 use crate::routing::Route;
 use mk_base::Fault;
-use ports_http::{Content, Method, Reply, Status};
+use ports_http::{Content, Method, Reply, StatusCode};
 use serde_json::Value;
 use std::alloc::{AllocError, Global};
 
 // A reply with a JSON value.
-fn json_reply(alloc: Global, status: Status, value: &Value) -> Result<Reply, AllocError>
+fn json_reply(alloc: Global, status: StatusCode, value: &Value) -> Result<Reply, AllocError>
     requires { has_float (view value.now) ≡ false }
     ensures { IfOk result (λ reply. reply ≡ json_reply_of status (view value.now)) }
 {
@@ -22,7 +22,7 @@ fn json_reply(alloc: Global, status: Status, value: &Value) -> Result<Reply, All
 }
 
 // A refusal, by its word.
-pub fn refusal(alloc: Global, status: Status, word: &str) -> Result<Reply, AllocError>
+pub fn refusal(alloc: Global, status: StatusCode, word: &str) -> Result<Reply, AllocError>
     ensures { IfOk result (λ reply. reply ≡ refusal_of status word.now) }
 {
     let body = bodies::error(alloc, word)?;
@@ -43,7 +43,7 @@ fn methods_of_route(route: Route) -> &'static [Method]
 pub fn not_allowed(alloc: Global, route: Route) -> Result<Reply, AllocError>
     ensures { IfOk result (λ reply. reply ≡ not_allowed_on route) }
 {
-    let reply = refusal(alloc, Status::MethodNotAllowed, "Method")?;
+    let reply = refusal(alloc, StatusCode::METHOD_NOT_ALLOWED, "Method")?;
     Ok(reply.with_allow(methods_of_route(route)))
 }
 
@@ -52,7 +52,7 @@ pub fn faulty(alloc: Global, fault: &Fault) -> Result<Reply, AllocError>
     ensures { IfOk result (λ reply. reply ≡ faulty_at fault.now) }
 {
     let body = bodies::fault(alloc, fault.kind().number(), fault.line(), fault.name())?;
-    json_reply(alloc, Status::UnprocessableEntity, &body)
+    json_reply(alloc, StatusCode::UNPROCESSABLE_ENTITY, &body)
 }
 
 // A file was stored.
@@ -60,7 +60,7 @@ pub fn stored(alloc: Global) -> Result<Reply, AllocError>
     ensures { IfOk result (λ reply. reply ≡ stored_reply) }
 {
     let body = bodies::stored(alloc)?;
-    json_reply(alloc, Status::Success, &body)
+    json_reply(alloc, StatusCode::OK, &body)
 }
 
 // The value of a variable, or that it isn't defined.
@@ -68,5 +68,5 @@ pub fn variable(alloc: Global, value: Option<&str>) -> Result<Reply, AllocError>
     ensures { IfOk result (λ reply. reply ≡ variable_reply (option_copied value.entry)) }
 {
     let body = bodies::variable(alloc, value)?;
-    json_reply(alloc, Status::Success, &body)
+    json_reply(alloc, StatusCode::OK, &body)
 }

@@ -15,7 +15,7 @@ use mk_base::Stop;
 use mk_eval::{Failed, Valued, evaluate, value};
 use mk_files::MemoryFiles;
 use mk_paths::{Name, SearchPath, find};
-use ports_http::{Reply, Status};
+use ports_http::{Reply, StatusCode};
 use std::alloc::Global;
 
 // The variable that the query names, of the directory that it names.
@@ -32,14 +32,14 @@ pub fn get_variable(
     let path = parameter(alloc, query, "path")?;
     let name = parameter(alloc, query, "name")?;
     let (Some(path), Some(name)) = (path, name) else {
-        return Ok(refusal(alloc, Status::BadRequest, "Parameter")?);
+        return Ok(refusal(alloc, StatusCode::BAD_REQUEST, "Parameter")?);
     };
     if !is_directory(path.as_str()) {
-        return Ok(refusal(alloc, Status::BadRequest, "Path")?);
+        return Ok(refusal(alloc, StatusCode::BAD_REQUEST, "Path")?);
     }
     match find(alloc, files, trees, path.as_str())? {
         Some(makefile) => variable_after_makefile(alloc, files, &makefile, name.as_str()),
-        None => Ok(refusal(alloc, Status::NotFound, "NoPort")?),
+        None => Ok(refusal(alloc, StatusCode::NOT_FOUND, "NoPort")?),
     }
 }
 

@@ -1,12 +1,9 @@
 -- What a run prints.
-use Rattle.std.specs.Prelude.{ℕ, List, [], ◌∷◌, ◌++◌, codes, decimal, ◌==◌, Option, Some, None}
-use Rattle.std.specs.List.{before_first}
+use Rattle.std.specs.Prelude.{ℕ, List, [], ◌∷◌, ◌++◌, codes, decimal, Option, Some, None}
 use Rattle.ports_core.specs.declared.history.Step.{Step}
 use Rattle.ports_core.specs.declared.event.Tell.{Tell}
 use Rattle.ports_core.specs.declared.event.Refused.{Refused}
 use Rattle.ports_core.specs.declared.event.Refused.TheVariants as refused
-use Rattle.ports_http.specs.declared.reply.Status.{Status}
-use Rattle.ports_http.specs.Replies.{status_text}
 use Rattle.ports_script.specs.Escapes.{escaped}
 use Rattle.ports_script.specs.Entries.{Entry, Open, Piece, End, Fault, Wrote, Turn}
 
@@ -34,15 +31,11 @@ abbrev pub tenant_text : Option ℕ → List ℕ
 tenant_text None = codes "-"
 tenant_text (Some tenant) = decimal tenant
 
--- the number of a status: what stands in front of the blank in its text, as in `200 OK`
-abbrev pub status_number : Status → List ℕ
-status_number status = before_first (λ byte. byte == 32) (status_text status)
-
--- `told T C S`: a reply, where there is one
+-- `told T C S`: a reply, where there is one, by the number of its status
 abbrev pub told_line : ℕ → Option Tell → List ℕ
 told_line line None = []
 told_line line (Some tell) =
-    print_line line (codes "told " ++ (tenant_text tell.tenant ++ (codes " " ++ (decimal tell.conn ++ (codes " " ++ status_number tell.reply.status)))))
+    print_line line (codes "told " ++ (tenant_text tell.tenant ++ (codes " " ++ (decimal tell.conn ++ (codes " " ++ decimal tell.reply.status)))))
 
 -- why a connection wasn't opened
 abbrev pub refused_word : Refused → List ℕ

@@ -3,11 +3,10 @@ ghost use Rattle.std.specs.Prelude.{◌≡◌, ◌++◌, IfOk, OnOk, string_byte
 ghost use Rattle.ports_script.specs.Escapes.{escape, escaped, hex_text};
 ghost use Rattle.ports_script.specs.Entries.{shown};
 ghost use Rattle.ports_script.specs.Scripts.{numbered};
-ghost use Rattle.ports_script.specs.Printing.{sent_line, sent_bytes, told_line, refused_line, closed_line, refused_word, status_number, printed, transcript};
+ghost use Rattle.ports_script.specs.Printing.{sent_line, sent_bytes, told_line, refused_line, closed_line, refused_word, printed, transcript};
 
 use crate::script::Script;
 use ports_core::{Event, Refused, Step, Tell};
-use ports_http::Status;
 use std::alloc::{AllocError, Global};
 use std::fmt::Write;
 
@@ -61,21 +60,10 @@ fn push_told(text: &mut String, line: u64, reply: &Option<Tell>) -> Result<(), A
     };
     let conn = tell.conn;
     let reply = &tell.reply;
-    let status = status_number(reply.status);
+    let status = reply.status.as_u16();
     match tell.tenant {
         Some(tenant) => writeln!(text, "{line} told {tenant} {conn} {status}"),
         None => writeln!(text, "{line} told - {conn} {status}"),
-    }
-}
-
-/// The number of a status, as `200` of `200 OK`.
-fn status_number(status: Status) -> &'static str
-    ensures { result.now ≡ status_number status }
-{
-    let text = status.as_str();
-    match text.split_once(' ') {
-        Some((number, _)) => number,
-        None => text,
     }
 }
 

@@ -6,10 +6,10 @@ use Rattle.ports_http.proofs.write.put_head.Goals as goal
 
 pub returns : goal.returns
 returns c =
-    let status = rw c.as_str.ensures at c.in_ok-put_line.ensures in
+    let status = c.in_ok-put_status.ensures in
     let content = c.in_ok-put_content.ensures in
-    let size = rw c.format.ensures.text at c.in_ok-put_line-2.ensures in
+    let size = rw c.format.ensures.text at c.in_ok-put_line.ensures in
     let allow = c.in_ok-put_allow.ensures in
     let close = c.in_ok-put_close.ensures in
-    subst (λ v. Puts c.args.out.now (reply_head v c.args.close c.args.size) c.put_line-3.result c.put_line-3.new.out) c.reply.view_is
-    (puts_behind c.put_line-3.new.out (line []) c.put_line-3.result (appends_both (appends_both (appends_both (appends_both status content) size) allow) close) c.put_line-3.ensures)
+    subst (λ v. Puts c.args.out.now (reply_head v c.args.close c.args.size) c.put_line-2.result c.put_line-2.new.out) c.reply.view_is
+    (puts_behind c.put_line-2.new.out (line []) c.put_line-2.result (appends_both (appends_both (appends_both (appends_both status content) size) allow) close) c.put_line-2.ensures)

@@ -1,13 +1,17 @@
-use Rattle.std.proofs.Common.{◌<◌, length, refl, inl, inr}
+use Rattle.std.proofs.Common.{◌≢◌, ◌<◌, ◌∷◌, ◌∙◌, ℕ, ap, sym, length, arith, refl, inl, inr}
+use Rattle.std.proofs.Math.ListN.{length-set}
 use Rattle.std.proofs.lemmas.Option.{slice_get_read}
+use Rattle.std.specs.Prelude.{option_and_then}
 use Rattle.ports_core.specs.Keys.{key_texts}
+use Rattle.ports_core.specs.Lines.{kept}
+use Rattle.ports_core.proofs.PlaceLemmas.{answered_fresh, answered_seats}
 use Rattle.ports_core.proofs.StepLemmas.{idle, answered_in_turn, within_slices}
 use Rattle.ports_core.proofs.service.Service.turn.Goals as goal
 
 -- nothing waits
 pub returns-in_default : goal.returns-in_default
 returns-in_default c =
-    let within : c.args.tenant < length c.self.inside.tenants.items = within_slices c.args.tenant c.args.self.now c.self.inside.keys.items c.self.inside.tenants.items c.self.inside.lines.entries c.self.inside.next c.self.view_is c.self.invariant c.requires in
+    let within : c.args.tenant < length c.self.inside.tenants.items = within_slices c.args.tenant c.args.self.now c.self.inside.keys.items c.self.inside.tenants.items c.self.inside.lines.entries c.self.inside.next c.self.view_is c.self.invariant.keyed c.requires in
     rw (← c.self.view_is)
     (inl (idle (key_texts c.self.inside.keys.items) c.self.inside.next c.args.tenant c.nothing.result c.self.inside.tenants.items c.index_mut-slice.result.now c.next.new.self c.self.inside.lines.entries
     (slice_get_read c.self.inside.tenants.items (length c.self.inside.tenants.items) c.args.tenant c.index_mut-slice.result.now refl within c.index_mut-slice.ensures.value)
@@ -16,7 +20,7 @@ returns-in_default c =
 -- the first request is answered
 pub returns : goal.returns
 returns c =
-    let within : c.args.tenant < length c.self.inside.tenants.items = within_slices c.args.tenant c.args.self.now c.self.inside.keys.items c.self.inside.tenants.items c.self.inside.lines.entries c.self.inside.next c.self.view_is c.self.invariant c.requires in
+    let within : c.args.tenant < length c.self.inside.tenants.items = within_slices c.args.tenant c.args.self.now c.self.inside.keys.items c.self.inside.tenants.items c.self.inside.lines.entries c.self.inside.next c.self.view_is c.self.invariant.keyed c.requires in
     rw (← c.self.view_is)
     (inr (answered_in_turn (key_texts c.self.inside.keys.items) c.self.inside.next c.args.tenant c.of.result c.self.inside.tenants.items c.index_mut-slice.result.now c.next.new.self c.answer-reply.new.self
     c.in-Some.field-0 c.answer-reply.result.0 c.close_done-closed.result
@@ -25,3 +29,20 @@ returns c =
     (slice_get_read c.self.inside.tenants.items (length c.self.inside.tenants.items) c.args.tenant c.index_mut-slice.result.now refl within c.index_mut-slice.ensures.value)
     c.in-Some.ensures.some c.next.ensures.world c.answer-reply.ensures.answers c.answer-reply.ensures.waiting
     c.answer_line.ensures.line c.answer_line.ensures.others c.close_done-closed.ensures.closed c.close_done-closed.ensures.line c.close_done-closed.ensures.others c.of.ensures))
+
+-- the places, then
+pub invariant_of-self-2 : goal.invariant_of-self-2
+invariant_of-self-2 c =
+    let within : c.args.tenant < length c.self.inside.tenants.items = within_slices c.args.tenant c.args.self.now c.self.inside.keys.items c.self.inside.tenants.items c.self.inside.lines.entries c.self.inside.next c.self.view_is c.self.invariant.keyed c.requires in
+    let was = slice_get_read c.self.inside.tenants.items (length c.self.inside.tenants.items) c.args.tenant c.index_mut-slice.result.now refl within c.index_mut-slice.ensures.value in
+    let waited = c.in-Some.ensures.some ∙ ap (λ ws. c.in-Some.field-0 ∷ ws) (sym c.answer-reply.ensures.waiting) in
+    let line = c.close_done-closed.ensures.line ∙ ap (option_and_then kept) c.answer_line.ensures.line in
+    let others = λ (d : ℕ) (ne : d ≢ c.in-Some.field-0.conn). c.close_done-closed.ensures.others d ne ∙ c.answer_line.ensures.others d ne in
+    record {
+      keyed = length-set c.self.inside.tenants.items c.args.tenant c.answer-reply.new.self ∙ c.self.invariant.keyed;
+      few = omega (arith, c.self.invariant.few, c.answer_line.ensures.count, c.close_done-closed.ensures.count);
+      fresh = answered_fresh c.args.tenant c.self.inside.tenants.items c.index_mut-slice.result.now c.answer-reply.new.self c.in-Some.field-0 c.answer-reply.result.0 c.self.inside.lines.entries c.close_done-closed.new.lines.entries
+          within was waited line others c.self.inside.next c.self.invariant.fresh;
+      seated = answered_seats c.args.tenant c.self.inside.tenants.items c.index_mut-slice.result.now c.answer-reply.new.self c.in-Some.field-0 c.answer-reply.result.0 c.self.inside.lines.entries c.close_done-closed.new.lines.entries
+          within was waited line others c.self.invariant.seated;
+    }

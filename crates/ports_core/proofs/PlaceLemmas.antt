@@ -1,0 +1,354 @@
+-- The places in which requests wait: they suffice, and each event keeps what is true of them.
+use Rattle.std.proofs.Common.{◌≡◌, ◌≢◌, ◌<◌, ◌≤◌, ◌+◌, ℕ, zero, suc, Bool, true, false, not, List, [], ◌∷◌, ◌++◌, length, refl, sym, ap, subst, ◌∙◌, arith, eq-eqb, ⊎_elim, Option, Some, None, filter}
+use Rattle.std.specs.Prelude.{◌==◌, All, MatchBool, Result, Ok, Err, IfOk, is_err, replicate, is_some, is_none, option_map, option_and_then, slice_get, if◌then◌else◌, unwrap_or}
+use Rattle.std.specs.Ordering.{nat_cmp, is_eq}
+use Rattle.std.proofs.Math.ListN.{set}
+use Rattle.std.proofs.lemmas.Bool.{false≢true, cases_eq, and_parts}
+use Rattle.std.proofs.lemmas.Map.Entries.{lookup_head, lookup_tail}
+use Rattle.std.proofs.lemmas.Option.{slice_get_cases, unwrap_or-slice_get}
+use Rattle.ports_http.specs.Messages.{RequestMessage, ReplyMessage}
+use Rattle.ports_http.specs.Incoming.{Incoming}
+use Rattle.ports_core.specs.declared.line.Line.{Line}
+use Rattle.ports_core.specs.declared.event.Event.{Event}
+use Rattle.ports_core.specs.declared.event.Event.TheVariants.{Open, Piece, End, Fault, Wrote, Turn}
+use Rattle.ports_core.specs.declared.event.Tell.{Tell}
+use Rattle.ports_core.specs.declared.tenant.Waiter.{Waiter}
+use Rattle.ports_core.specs.Keys.{tenant_of}
+use Rattle.ports_core.specs.Slices.{Slice, new_slice, joined, waiting_of}
+use Rattle.ports_core.specs.Lines.{hears, answered, kept, is_done, is_ready}
+use Rattle.ports_core.specs.Taking.{Taken, Nothing, Whole, Refusal, Lost, TakesOff, IsTaken, line_with, line_behind, slice_with, slice_behind}
+use Rattle.ports_core.specs.Opened.{line_in, OpenAnd, HearsLine}
+use Rattle.ports_core.specs.Places.{HasPlace, count_from, may_wait, may_wait_on, AreSeated}
+use Rattle.ports_core.proofs.Numbers.{other_number}
+use Rattle.ports_core.proofs.Lists.{slice_get-set_same, slice_get-set_other}
+use Rattle.ports_core.proofs.OpenedLemmas.{is_eq-nat_cmp_other, is_eq-nat_cmp_same}
+use Rattle.ports_core.proofs.StandingLemmas.{none_some, some_same, option_from, waiters_behind}
+
+-- one where a test passes
+abbrev one_if : Bool → ℕ
+one_if b = if b then 1 else 0
+
+count-cons : (b : Bool) (w : Waiter) (xs : List Waiter) → length (if b then w ∷ xs else xs) ≡ one_if b + length xs
+count-cons true w xs = omega arith
+count-cons false w xs = omega arith
+
+count-step : (c : ℕ) (w : Waiter) (ws : List Waiter) → count_from c (w ∷ ws) ≡ one_if (w.conn == c) + count_from c ws
+count-step c w ws = count-cons (w.conn == c) w (filter (λ (v : Waiter). v.conn == c) ws)
+
+count-own : (w : Waiter) (ws : List Waiter) → count_from w.conn (w ∷ ws) ≡ 1 + count_from w.conn ws
+count-own w ws = count-step w.conn w ws ∙ ap (λ b. one_if b + count_from w.conn ws) (eq-eqb w.conn w.conn refl)
+
+count-joined : (c : ℕ) (w : Waiter) (ws : List Waiter) → count_from c (ws ++ w ∷ []) ≡ count_from c ws + one_if (w.conn == c)
+count-joined c w [] = count-step c w [] ∙ omega arith
+count-joined c w (x ∷ ws) =
+    let ih = count-joined c w ws in
+    let a = count-step c x (ws ++ w ∷ []) in
+    let b = count-step c x ws in
+    omega (arith, ih, a, b)
+
+-- the requests of other connections
+abbrev others : ℕ → List Waiter → List Waiter
+others k ws = filter (λ (w : Waiter). not (w.conn == k)) ws
+
+split-cons : (b : Bool) (w : Waiter) (xs ys : List Waiter) (n : ℕ) → n ≡ length xs + length ys → n + 1 ≡ length (if b then w ∷ xs else xs) + length (if not b then w ∷ ys else ys)
+split-cons true w xs ys n e = omega arith
+split-cons false w xs ys n e = omega arith
+
+count-split : (k : ℕ) (ws : List Waiter) → length ws ≡ count_from k ws + length (others k ws)
+count-split k [] = omega arith
+count-split k (w ∷ ws) =
+    let ih = count-split k ws in
+    let both = split-cons (w.conn == k) w (filter (λ (v : Waiter). v.conn == k) ws) (others k ws) (length ws) ih in
+    omega (arith, both)
+
+fewer-cons : (b : Bool) (c : ℕ) (w : Waiter) (os : List Waiter) (n : ℕ) → count_from c os ≤ n → count_from c (if not b then w ∷ os else os) ≤ one_if (w.conn == c) + n
+fewer-cons true c w os n h = omega arith
+fewer-cons false c w os n h = let step = count-step c w os in omega (arith, step, h)
+
+count-others : (k c : ℕ) (ws : List Waiter) → count_from c (others k ws) ≤ count_from c ws
+count-others k c [] = omega arith
+count-others k c (w ∷ ws) =
+    let all = fewer-cons (w.conn == k) c w (others k ws) (count_from c ws) (count-others k c ws) in
+    let step = count-step c w ws in
+    omega (arith, all, step)
+
+none-cons : (b : Bool) (k : ℕ) (w : Waiter) (os : List Waiter) → (w.conn == k) ≡ b → count_from k os ≡ 0 → count_from k (if not b then w ∷ os else os) ≡ 0
+none-cons true k w os e h = h
+none-cons false k w os e h = count-step k w os ∙ ap (λ b. one_if b + count_from k os) e ∙ omega (arith, h)
+
+count-others_same : (k : ℕ) (ws : List Waiter) → count_from k (others k ws) ≡ 0
+count-others_same k [] = refl
+count-others_same k (w ∷ ws) = none-cons (w.conn == k) k w (others k ws) refl (count-others_same k ws)
+
+-- how many of these connections wait for a tenant
+total : ℕ → List (ℕ × Line) → ℕ
+total t [] = 0
+total t (e ∷ es) = may_wait t (e.1).waits + total t es
+
+line_here : (e : ℕ × Line) (es : List (ℕ × Line)) → line_in e.0 (e ∷ es) ≡ Some e.1
+line_here e es = lookup_head (λ k. is_eq (nat_cmp e.0 k)) e es (is_eq-nat_cmp_same e.0)
+
+line_there : (c : ℕ) (e : ℕ × Line) (es : List (ℕ × Line)) → c ≢ e.0 → line_in c (e ∷ es) ≡ line_in c es
+line_there c e es ne = lookup_tail (λ k. is_eq (nat_cmp c k)) e es (is_eq-nat_cmp_other c e.0 (λ same. ne (sym same)))
+
+-- what waits for a tenant is no more than the connections that wait for it
+bound : (t : ℕ) (es : List (ℕ × Line)) (ws : List Waiter) → ((c : ℕ) → count_from c ws ≤ may_wait_on t (line_in c es)) → length ws ≤ total t es
+unfolding total
+bound t [] [] h = omega arith
+bound t [] (w ∷ ws) h = let here = h w.conn in let own = count-own w ws in absurd (omega (arith, here, own))
+bound t (e ∷ es) ws h =
+    let own : count_from e.0 ws ≤ may_wait t (e.1).waits = subst (λ o. count_from e.0 ws ≤ may_wait_on t o) (line_here e es) (h e.0) in
+    let ih = bound t es (others e.0 ws) (λ c.
+    ⊎_elim
+    (λ same. let none = ap (λ k. count_from c (others k ws)) (sym same) ∙ count-others_same c ws in omega (arith, none))
+    (λ ne. let fewer = count-others e.0 c ws in let all = subst (λ o. count_from c ws ≤ may_wait_on t o) (line_there c e es ne) (h c) in omega (arith, fewer, all))
+    (cases_eq c e.0)) in
+    let split = count-split e.0 ws in
+    omega (arith, own, ih, split)
+
+may_wait-one : (t : ℕ) (waits : Option ℕ) → may_wait t waits ≤ 1
+may_wait-one t None = omega arith
+may_wait-one t (Some u) = elim (u == t) as (λ b. one_if b ≤ 1) [ true ↦ omega arith | false ↦ omega arith ]
+
+total-le : (t : ℕ) (es : List (ℕ × Line)) → total t es ≤ length es
+unfolding total
+total-le t [] = omega arith
+total-le t (e ∷ es) = let one = may_wait-one t (e.1).waits in let ih = total-le t es in omega (arith, one, ih)
+
+-- a connection that waits for nothing leaves a place
+total-lt : (t c : ℕ) (line : Line) (es : List (ℕ × Line)) → line_in c es ≡ Some line → line.waits ≡ None → total t es < length es
+unfolding total
+total-lt t c line [] at none = absurd (none_some at)
+total-lt t c line (e ∷ es) at none =
+    ⊎_elim
+    (λ same.
+    let here : Some e.1 ≡ Some line = sym (line_here e es) ∙ ap (λ k. line_in k (e ∷ es)) (sym same) ∙ at in
+    let zero_here : may_wait t (e.1).waits ≡ 0 = ap (λ (l : Line). may_wait t l.waits) (some_same here) ∙ ap (may_wait t) none in
+    let le = total-le t es in
+    omega (arith, zero_here, le))
+    (λ ne. let ih = total-lt t c line es (sym (line_there c e es ne) ∙ at) none in let one = may_wait-one t (e.1).waits in omega (arith, ih, one))
+    (cases_eq c e.0)
+
+-- where a connection waits for nothing, each tenant has a place
+pub places_left : (slices : List Slice) (es : List (ℕ × Line)) (c : ℕ) (line : Line) → length es ≤ 16 → AreSeated slices es → line_in c es ≡ Some line → line.waits ≡ None → All HasPlace slices
+places_left slices es c line few seated at none = λ k d within.
+    let fits : (slice : Slice) → slice_get slices k ≡ Some slice → HasPlace slice = λ slice was.
+    (let all = bound k es (waiting_of slice) (λ q. seated k q slice was) in let lt = total-lt k c line es at none in omega (arith, all, lt, few)) in
+    ⊎_elim
+    (λ found. subst HasPlace (sym (ap (λ o. unwrap_or o d) found.2) ∙ unwrap_or-slice_get slices k d) (fits found.0 found.2))
+    (λ past. absurd (let above = past.0 in omega (arith, above, within)))
+    ((slice_get_cases slices k).1)
+
+-- a connection that isn't open waits for nothing
+shut_waits : (t : ℕ) (o : Option Line) → is_some o ≡ false → may_wait_on t o ≡ 0
+shut_waits t None e = refl
+shut_waits t (Some line) e = absurd (false≢true (sym e))
+
+-- a connection opens
+pub opened_seats : (slices : List Slice) (lines after : List (ℕ × Line)) (n : ℕ) → is_some (line_in n lines) ≡ false → ((d : ℕ) → d ≢ n → line_in d after ≡ line_in d lines) → AreSeated slices lines → AreSeated slices after
+opened_seats slices lines after n shut same seated = λ t c slice was.
+    ⊎_elim
+    (λ here. let none = ap (λ k. may_wait_on t (line_in k lines)) here ∙ shut_waits t (line_in n lines) shut in let all = seated t c slice was in omega (arith, none, all))
+    (λ ne. subst (λ o. count_from c (waiting_of slice) ≤ may_wait_on t o) (sym (same c ne)) (seated t c slice was))
+    (cases_eq c n)
+
+pub opened_fresh : (lines after : List (ℕ × Line)) (n : ℕ) → ((d : ℕ) → d ≢ n → line_in d after ≡ line_in d lines) → ((c : ℕ) → n ≤ c → is_some (line_in c lines) ≡ false)
+    → (c : ℕ) → n + 1 ≤ c → is_some (line_in c after) ≡ false
+opened_fresh lines after n same fresh c above = ap is_some (same c (λ e. absurd (omega (arith, e, above)))) ∙ fresh c (omega (arith, above))
+
+-- an event leaves what its connection waits for
+hears_waits : (event : Event) (line : Line) → (hears event line).waits ≡ line.waits
+hears_waits (Open c) line = refl
+hears_waits (Piece c bytes) line = refl
+hears_waits (End c) line = refl
+hears_waits (Fault c) line = refl
+hears_waits (Wrote c None) line = refl
+hears_waits (Wrote c (Some count)) line = refl
+hears_waits (Turn t) line = refl
+
+none_waits : (waits : Option ℕ) → is_none waits ≡ true → waits ≡ None
+none_waits None e = refl
+none_waits (Some t) e = absurd (cc)
+
+pub ready_waits : (line : Line) → is_ready line ≡ true → line.waits ≡ None
+ready_waits line ready = none_waits line.waits (and_parts _ _ (and_parts _ _ ready).0).0
+
+pub ready_behind : (event : Event) (line : Line) → is_ready (hears event line) ≡ true → line.waits ≡ None
+ready_behind event line ready = sym (hears_waits event line) ∙ ready_waits (hears event line) ready
+
+-- a connection that closes waits for nothing
+kept_waits : (t : ℕ) (line : Line) → may_wait_on t (kept line) ≡ may_wait t line.waits
+kept_waits t line =
+    elim (is_done line) as (λ b. is_done line ≡ b → may_wait_on t (if b then None else Some line) ≡ may_wait t line.waits) [
+      | true ↦ λ done. sym (ap (may_wait t) (none_waits line.waits (and_parts _ _ (and_parts _ _ done).0).0))
+      | false ↦ λ open_still. refl
+    ] refl
+
+-- a request that is taken waits in its tenant's queue alone
+joins_seats : (c t : ℕ) (place : Option ℕ) (request : RequestMessage) (slice : Slice) → count_from c (waiting_of slice) ≡ 0 → (waits : Option ℕ) → waits ≡ None
+    → (line : Line) → line.waits ≡ waits → count_from c (waiting_of (slice_with place c request t slice)) ≤ may_wait t (line_with place request.close line).waits
+joins_seats c t None request slice none waits free line is = omega (arith, none)
+joins_seats c t (Some u) request slice none waits free line is =
+    elim (u == t) as (λ b. count_from c (waiting_of (if b then joined (record { conn = c; request = request }) slice else slice)) ≤ one_if b) [
+      | true ↦
+          let joins = count-joined c (record { conn = c; request = request }) (waiting_of slice) in
+          let own : one_if (c == c) ≡ 1 = ap one_if (eq-eqb c c refl) in
+          omega (arith, joins, own, none)
+      | false ↦ omega (arith, none)
+    ]
+
+module _ (keys : List (List ℕ)) (c t : ℕ) (line : Line) (slice : Slice) (seated : count_from c (waiting_of slice) ≤ may_wait t line.waits) where
+  -- what is taken, and what waits then
+  taken_ready : (taken : Taken) (stream : Incoming) → line.waits ≡ None → count_from c (waiting_of (slice_behind keys c taken t slice)) ≤ may_wait t (line_behind keys taken (record line { stream = stream })).waits
+  taken_ready Nothing stream free = seated
+  taken_ready (Whole request) stream free =
+      let zero_here : may_wait t line.waits ≡ 0 = ap (may_wait t) free in
+      joins_seats c t (tenant_of keys request.key) request slice (omega (arith, seated, zero_here)) None refl (record line { stream = stream }) free
+  taken_ready (Refusal fault) stream free = seated
+  taken_ready (Lost close) stream free = seated
+
+  taken_seats : (taken : Taken) (stream : Incoming) → IsTaken line taken stream → count_from c (waiting_of (slice_behind keys c taken t slice)) ≤ may_wait t (line_behind keys taken (record line { stream = stream })).waits
+  taken_seats taken stream stands =
+      let Q : Taken → Type 0 = λ k. count_from c (waiting_of (slice_behind keys c k t slice)) ≤ may_wait t (line_behind keys k (record line { stream = stream })).waits in
+      let P : Bool → Type 0 = λ b. is_ready line ≡ b → MatchBool b (TakesOff line.stream taken stream) ((taken ≡ Nothing) × (stream ≡ line.stream)) → Q taken in
+      elim (is_ready line) as P [
+        | true ↦ λ ready off. taken_ready taken stream (ready_waits line ready)
+        | false ↦ λ busy off. subst Q (sym off.0) seated
+      ] refl stands
+
+-- an event of an open connection, whose line may close then
+module _ (keys : List (List ℕ)) (event : Event) (c : ℕ) (told : Option Tell) (old : List (ℕ × Line)) (slices : List Slice) (mid : List (ℕ × Line)) (slices_after : List Slice) (new : List (ℕ × Line))
+    (h : HearsLine keys event c told old slices mid slices_after)
+    (line_is : line_in c new ≡ option_and_then kept (line_in c mid)) (lines : (d : ℕ) → d ≢ c → line_in d new ≡ line_in d mid) where
+  pub heard_seats : AreSeated slices old → AreSeated slices_after new
+  heard_seats seated = λ t d slice was.
+      let from = option_from (slice_behind keys c h.taken t) (slice_get slices t) slice (sym (h.settles.slices_are t) ∙ was) in
+      ⊎_elim
+      (λ same.
+      let before : count_from c (waiting_of from.0) ≤ may_wait t (hears event h.line).waits =
+      subst (λ w. count_from c (waiting_of from.0) ≤ may_wait t w) (sym (hears_waits event h.line)) (subst (λ o. count_from c (waiting_of from.0) ≤ may_wait_on t o) h.was_open (seated t c from.0 from.1)) in
+      let after : count_from c (waiting_of (slice_behind keys c h.taken t from.0)) ≤ may_wait t (line_behind keys h.taken (record (hears event h.line) { stream = h.stream })).waits =
+      taken_seats keys c t (hears event h.line) from.0 before h.taken h.stream h.stands in
+      let seats : may_wait_on t (line_in c new) ≡ may_wait t (line_behind keys h.taken (record (hears event h.line) { stream = h.stream })).waits =
+      ap (may_wait_on t) (line_is ∙ ap (option_and_then kept) h.line_is) ∙ kept_waits t h.after ∙ ap (λ (l : Line). may_wait t l.waits) h.settles.line_is in
+      let here : count_from c (waiting_of slice) ≤ may_wait_on t (line_in c new) =
+      subst (λ n. count_from c (waiting_of slice) ≤ n) (sym seats) (subst (λ s. count_from c (waiting_of s) ≤ may_wait t (line_behind keys h.taken (record (hears event h.line) { stream = h.stream })).waits) from.2 after) in
+      subst (λ k. count_from k (waiting_of slice) ≤ may_wait_on t (line_in k new)) (sym same) here)
+      (λ ne.
+      let queue : count_from d (waiting_of slice) ≡ count_from d (waiting_of from.0) =
+      ap (λ s. count_from d (waiting_of s)) (sym from.2) ∙ ap length (waiters_behind keys d c h.taken t from.0 (λ e. ne (sym e))) in
+      let line : line_in d old ≡ line_in d new = sym (lines d ne ∙ h.lines d ne) in
+      subst (λ n. n ≤ may_wait_on t (line_in d new)) (sym queue) (subst (λ o. count_from d (waiting_of from.0) ≤ may_wait_on t o) line (seated t d from.0 from.1)))
+      (cases_eq d c)
+
+  pub heard_fresh : (next : ℕ) → ((d : ℕ) → next ≤ d → is_some (line_in d old) ≡ false) → (d : ℕ) → next ≤ d → is_some (line_in d new) ≡ false
+  heard_fresh next fresh d above =
+      ap is_some (lines d apart ∙ h.lines d apart) ∙ fresh d above
+    where
+      apart : d ≢ c
+      apart same = false≢true (sym (fresh d above) ∙ ap (λ k. is_some (line_in k old)) same ∙ ap is_some h.was_open)
+
+-- one request of a connection waits for one tenant
+one_tenant : (t u : ℕ) (waits : Option ℕ) → u ≢ t → 1 ≤ may_wait t waits → may_wait u waits ≡ 0
+one_tenant t u None ne h = refl
+one_tenant t u (Some v) ne h =
+    ⊎_elim
+    (λ same. ap one_if (other_number v u (λ e. ne (sym e ∙ same))))
+    (λ apart. let none : one_if (v == t) ≡ 0 = ap one_if (other_number v t apart) in absurd (omega (arith, none, h)))
+    (cases_eq v t)
+
+one_tenant_on : (t u : ℕ) (o : Option Line) → u ≢ t → 1 ≤ may_wait_on t o → may_wait_on u o ≡ 0
+one_tenant_on t u None ne h = refl
+one_tenant_on t u (Some line) ne h = one_tenant t u line.waits ne h
+
+may_wait_on-one : (t : ℕ) (o : Option Line) → may_wait_on t o ≤ 1
+may_wait_on-one t None = omega arith
+may_wait_on-one t (Some line) = may_wait-one t line.waits
+
+is_some-answered : (reply : ReplyMessage) (o : Option Line) → is_some o ≡ false → is_some (option_and_then kept (option_map (answered reply) o)) ≡ false
+is_some-answered reply None e = refl
+is_some-answered reply (Some line) e = absurd (false≢true (sym e))
+
+-- a turn that answers the first request of a tenant
+module _ (t : ℕ) (slices : List Slice) (slice after : Slice) (first : Waiter) (reply : ReplyMessage) (lines new : List (ℕ × Line))
+    (within : t < length slices) (was : slice_get slices t ≡ Some slice) (waited : waiting_of slice ≡ first ∷ waiting_of after)
+    (line_is : line_in first.conn new ≡ option_and_then kept (option_map (answered reply) (line_in first.conn lines)))
+    (others_are : (d : ℕ) → d ≢ first.conn → line_in d new ≡ line_in d lines) where
+  module _ (seated : AreSeated slices lines) where
+    its_seat : 1 + count_from first.conn (waiting_of after) ≤ may_wait_on t (line_in first.conn lines)
+    its_seat =
+        let all = seated t first.conn slice was in
+        let own = ap (count_from first.conn) waited ∙ count-own first (waiting_of after) in
+        omega (arith, all, own)
+
+    -- none of that connection's requests is left
+    none_left : (u : ℕ) (s : Slice) → slice_get (set slices t after) u ≡ Some s → count_from first.conn (waiting_of s) ≡ 0
+    none_left u s is =
+        ⊎_elim
+        (λ same.
+        let mine : after ≡ s = some_same (sym (slice_get-set_same slices t after within) ∙ ap (slice_get (set slices t after)) (sym same) ∙ is) in
+        let one = may_wait_on-one t (line_in first.conn lines) in
+        let seat = its_seat in
+        ap (λ q. count_from first.conn (waiting_of q)) (sym mine) ∙ omega (arith, one, seat))
+        (λ ne.
+        let seat = its_seat in
+        let all = seated u first.conn s (sym (slice_get-set_other slices t u after ne) ∙ is) in
+        let none = one_tenant_on t u (line_in first.conn lines) ne (omega (arith, seat)) in
+        omega (arith, all, none))
+        (cases_eq u t)
+
+    -- those of another connection are at most as many as before
+    no_more : (u d : ℕ) (s : Slice) → slice_get (set slices t after) u ≡ Some s → count_from d (waiting_of s) ≤ may_wait_on u (line_in d lines)
+    no_more u d s is =
+        ⊎_elim
+        (λ same.
+        let mine : after ≡ s = some_same (sym (slice_get-set_same slices t after within) ∙ ap (slice_get (set slices t after)) (sym same) ∙ is) in
+        let all = seated t d slice was in
+        let step = ap (count_from d) waited ∙ count-step d first (waiting_of after) in
+        let fewer : count_from d (waiting_of after) ≤ may_wait_on t (line_in d lines) = omega (arith, all, step) in
+        subst (λ k. count_from d (waiting_of s) ≤ may_wait_on k (line_in d lines)) (sym same) (subst (λ q. count_from d (waiting_of q) ≤ may_wait_on t (line_in d lines)) mine fewer))
+        (λ ne. seated u d s (sym (slice_get-set_other slices t u after ne) ∙ is))
+        (cases_eq u t)
+
+    pub answered_seats : AreSeated (set slices t after) new
+    answered_seats = λ u d s is.
+        ⊎_elim
+        (λ same. let none = ap (λ k. count_from k (waiting_of s)) same ∙ none_left u s is in omega (arith, none))
+        (λ ne. subst (λ o. count_from d (waiting_of s) ≤ may_wait_on u o) (sym (others_are d ne)) (no_more u d s is))
+        (cases_eq d first.conn)
+
+  pub answered_fresh : (next : ℕ) → ((d : ℕ) → next ≤ d → is_some (line_in d lines) ≡ false) → (d : ℕ) → next ≤ d → is_some (line_in d new) ≡ false
+  answered_fresh next fresh d above =
+      ⊎_elim
+      (λ same. ap (λ k. is_some (line_in k new)) same ∙ ap is_some line_is ∙ is_some-answered reply (line_in first.conn lines) (fresh first.conn (subst (λ k. next ≤ k) same above)))
+      (λ ne. ap is_some (others_are d ne) ∙ fresh d above)
+      (cases_eq d first.conn)
+
+-- an open connection that waits for nothing leaves a place in each queue
+pub open_places : (slices lent : List Slice) (es : List (ℕ × Line)) (c : ℕ) (P : Line → Type 0) → lent ≡ slices → length es ≤ 16 → AreSeated slices es → OpenAnd (line_in c es) P
+    → OpenAnd (line_in c es) (λ line. line.waits ≡ None → All HasPlace lent)
+open_places slices lent es c P same few seated is_open =
+    elim (line_in c es) as (λ o. line_in c es ≡ o → OpenAnd o P → OpenAnd o (λ line. line.waits ≡ None → All HasPlace lent)) [
+      | None ↦ λ at shut. shut
+      | Some line ↦ λ at fits none. subst (λ ss. All HasPlace ss) (sym same) (places_left slices es c line few seated at none)
+    ] refl is_open
+
+-- one more connection at most
+pub one_more : {A E : Type 0} (r : Result (Option A) E) (n m : ℕ) → is_err r ≡ false → IfOk r (λ old. n ≡ m + (if is_some old then 0 else 1)) → n ≤ m + 1
+one_more (Ok (Some x)) n m fine h = omega (arith, h)
+one_more (Ok None) n m fine h = omega (arith, h)
+one_more (Err e) n m fine h = absurd (cc)
+
+-- no connection is open, and nothing waits
+pub begun_seats : (n : ℕ) (slices : List Slice) (es : List (ℕ × Line)) → slices ≡ replicate n new_slice → AreSeated slices es
+begun_seats n slices es is = λ t c slice was.
+    let none : waiting_of slice ≡ [] = empty_in n t slice (sym (ap (λ ss. slice_get ss t) is) ∙ was) in
+    let zero_here = ap (count_from c) none in omega (arith, zero_here)
+  where
+    empty_in : (n t : ℕ) (slice : Slice) → slice_get (replicate n new_slice) t ≡ Some slice → waiting_of slice ≡ []
+    empty_in zero t slice was = absurd (none_some was)
+    empty_in (suc n) zero slice was = ap waiting_of (sym (some_same was))
+    empty_in (suc n) (suc t) slice was = empty_in n t slice was
+
+pub begun_fresh : (es : List (ℕ × Line)) → es ≡ [] → (c : ℕ) → is_some (line_in c es) ≡ false
+begun_fresh es none c = ap (λ ls. is_some (line_in c ls)) none
