@@ -1,4 +1,2 @@
 pub mod Runs
-pub mod Alone
-pub mod Covering
 pub mod Equals

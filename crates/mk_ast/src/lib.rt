@@ -4,11 +4,10 @@
 mod assigning;
 mod directives;
 mod kinds;
-mod outside;
-mod reading;
+mod line_kinds;
 #[cfg(test)]
 mod tests;
 
 pub use assigning::is_word;
 pub use kinds::{Directive, LineKind, Operator};
-pub use reading::line_kind;
+pub use line_kinds::{line_kind, plain_kind};
