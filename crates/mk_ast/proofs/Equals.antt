@@ -2,8 +2,8 @@
 use Rattle.std.proofs.Common.{◌≡◌, ℕ, ◌<◌, nat_eq, List, Some, length, get_or, arith, sym, ◌∙◌, eqb-true}
 use Rattle.std.proofs.lemmas.List.Quantifiers.{position-Some}
 use Rattle.std.specs.List.{position}
-use Rattle.mk_ast.specs.Outside.{outside}
-use Rattle.mk_ast.proofs.Covering.{length-outside, outside-at}
+use Rattle.mk_ref.specs.Outside.{outside}
+use Rattle.mk_ref.proofs.Covering.{length-outside, outside-at}
 
 -- it is a `=` of the text
 pub record IsEquals (text : List ℕ) (at : ℕ) : Type 0 where

@@ -1,4 +1,13 @@
 pub mod Runs
-pub mod Alone
-pub mod Covering
 pub mod Equals
+pub mod BlockParts
+pub mod HeldParts
+pub mod HeldDepths
+pub mod PartRuns
+pub mod KeptLines
+pub mod ReadLaws
+pub mod ReadOnce
+pub mod FrameKinds
+pub mod NodeTrees
+pub mod LineRuns
+pub mod ParseLaws

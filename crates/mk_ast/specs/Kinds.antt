@@ -1,6 +1,6 @@
 -- The kinds of logical lines of a makefile, as make(1) has them: commands, directives, assignments and dependencies. Where exactly an
 -- assignment's name ends, and that a line may be none of these, is this project's choice.
-use Rattle.std.specs.Prelude.{ℕ, ◌+◌, ◌-◌, ◌==◌, ◌&&◌, ◌||◌, not, nat_lt, Bool, List, [], ◌∷◌, length, take, drop, Option, Some, None, option_map, slice_index, codes, if◌then◌else◌}
+use Rattle.std.specs.Prelude.{ℕ, ◌+◌, ◌-◌, ◌==◌, ◌&&◌, ◌||◌, not, nat_lt, Bool, List, [], ◌∷◌, length, take, drop, Option, Some, None, option_map, unwrap_or, slice_index, codes, if◌then◌else◌}
 use Rattle.std.specs.Char.{is_ascii_alphabetic}
 use Rattle.std.specs.List.{list_any, position, prefix_len}
 use Rattle.std.specs.Option.{option_and_then}
@@ -12,7 +12,7 @@ use Rattle.mk_ast.specs.declared.kinds.Operator.{Operator}
 use Rattle.mk_ast.specs.declared.kinds.Operator.TheVariants as operators
 use Rattle.mk_ast.specs.declared.kinds.LineKind.{LineKind}
 use Rattle.mk_ast.specs.declared.kinds.LineKind.TheVariants as kinds
-use Rattle.mk_ast.specs.Outside.{outside}
+use Rattle.mk_ref.specs.Outside.{outside}
 
 -- a kind with its texts: of a directive its word and what stands behind it; of an assignment its operator, the name and the value
 pub data TextLineKind : Type 0 where
@@ -116,15 +116,15 @@ assignment_at text at =
 abbrev pub assignment_in : List ℕ → Option TextLineKind
 assignment_in text = option_and_then (assignment_at text) (position (λ b. b == 61) (outside text))
 
--- the kind of a line that is no command and not blank: a directive, else an assignment, else a dependency, else bad
-abbrev pub kind_among : Option TextLineKind → Option TextLineKind → Bool → TextLineKind
-kind_among (Some directive) assignment has_mark = directive
-kind_among None (Some assignment) has_mark = assignment
-kind_among None None has_mark = if has_mark then DependencyLine else BadLine
+-- the kind of a line that is an assignment, if it is one; else a dependency where a mark stands outside references; else bad
+abbrev pub kind_among : Option TextLineKind → Bool → TextLineKind
+kind_among (Some assignment) has_mark = assignment
+kind_among None has_mark = if has_mark then DependencyLine else BadLine
 
--- the kind of a line, the first that fits
+-- the kind of a line that can be neither a command nor a directive, as one of a loop's in which words were put
+unfoldable pub plain_kind : List ℕ → TextLineKind
+plain_kind text = if is_blank_line text then BlankLine else kind_among (assignment_in text) (list_any is_mark (outside text))
+
+-- the kind of a line: a command, else a directive, else a plain kind; no directive is blank, since it begins with a dot
 unfoldable pub line_kind : List ℕ → TextLineKind
-line_kind text =
-    if is_command text then CommandLine
-    else if is_blank_line text then BlankLine
-    else kind_among (directive_in text) (assignment_in text) (list_any is_mark (outside text))
+line_kind text = if is_command text then CommandLine else unwrap_or (directive_in text) (plain_kind text)

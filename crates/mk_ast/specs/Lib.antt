@@ -1,2 +1,10 @@
-pub mod Outside
 pub mod Kinds
+pub mod Parts
+pub mod Trees
+pub mod Reading
+pub mod Blocks
+pub mod Views
+pub mod Parsing
+pub mod Laws
+pub mod FrameParts
+pub mod ReaderViews

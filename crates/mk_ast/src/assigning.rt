@@ -2,7 +2,7 @@
 ghost use Rattle.std.specs.Prelude.{◌≡◌, ◌==◌, ◌<◌, length, option_map, slice_index};
 ghost use Rattle.std.specs.List.{list_any, position};
 ghost use Rattle.mk_text.specs.Blanks.{is_blank};
-ghost use Rattle.mk_ast.specs.Outside.{outside};
+ghost use Rattle.mk_ref.specs.Outside.{outside};
 ghost use Rattle.mk_ast.specs.Kinds.{shown_kind, is_mark, is_sign, is_word, operator_of, operator_start, assignment_in, assignment_at};
 
 use crate::kinds::{LineKind, Operator};

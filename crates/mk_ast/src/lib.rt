@@ -1,12 +1,21 @@
-//! The kinds of the lines of a makefile.
+//! The kinds of the lines of a makefile, and the tree of its blocks.
 #![tactic(auto)]
 
 mod assigning;
 mod directives;
 mod kinds;
-mod outside;
-mod reading;
+mod laws;
+mod line_kinds;
+mod nodes;
+mod parsing;
+mod parts;
+mod reader;
 
 pub use assigning::is_word;
 pub use kinds::{Directive, LineKind, Operator};
-pub use reading::line_kind;
+pub use laws::{
+    blocks_are_read, nothing_else_is_parsed, nothing_else_is_read, parts_have_one_block,
+};
+pub use line_kinds::{line_kind, plain_kind};
+pub use nodes::{BLOCKS, Block, Branch, Makefile, Node};
+pub use parsing::{ParseError, ParseFault, parse};

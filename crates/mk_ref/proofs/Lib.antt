@@ -6,3 +6,5 @@ pub mod PiecesSoFar
 pub mod PartSteps
 pub mod PieceUnits
 pub mod PlainTexts
+pub mod Alone
+pub mod Covering

@@ -1,7 +1,8 @@
 -- What holds of the units of every text.
-use Rattle.std.specs.Prelude.{◌≡◌, ◌⊎◌, ℕ, true, false, ◌==◌, List, [], ◌∷◌, ◌++◌, Option, Some, None, IfSome, All, map, if◌then◌else◌}
+use Rattle.std.specs.Prelude.{◌≡◌, ◌≢◌, ◌⊎◌, ℕ, true, false, ◌==◌, List, [], ◌∷◌, ◌++◌, length, slice_index, Option, Some, None, IfSome, All, map, if◌then◌else◌}
 use Rattle.std.specs.Char.{is_ascii_alphabetic}
 use Rattle.std.specs.List.{flat_map, list_any}
+use Rattle.mk_ref.specs.Outside.{outside}
 use Rattle.mk_ref.specs.Pieces.{units_in, pieces_of}
 use Rattle.mk_ref.specs.Units.{TextUnit, Byte, Pair, Reference, sources, with_more, cut_on, up_to_mark, first_unit, cut, units_of, left_of}
 
@@ -69,3 +70,8 @@ ReadGoesOn = (mark b : ℕ) (rest : List ℕ)
 -- a text without a dollar (36) is cut into its bytes, and nothing is left
 abbrev pub DollarsAlonePartTexts : Type 0
 DollarsAlonePartTexts = (text : List ℕ) → list_any (λ b. b == 36) text ≡ false → cut text ≡ (map Byte text, [])
+
+-- a text outside its references is as long as the text, and each of its bytes that is no dollar (36) is the text's at that place
+abbrev pub OutsideStandsInPlace : Type 0
+OutsideStandsInPlace = (text : List ℕ)
+    → (length (outside text) ≡ length text) × ((at : ℕ) → slice_index (outside text) at ≢ 36 → slice_index (outside text) at ≡ slice_index text at)

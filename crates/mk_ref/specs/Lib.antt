@@ -3,4 +3,5 @@ pub mod Ends
 pub mod Pieces
 pub mod Places
 pub mod Firsts
+pub mod Outside
 pub mod Laws

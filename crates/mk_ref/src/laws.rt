@@ -1,5 +1,5 @@
 //! What holds of every text. Each function does nothing: its clause is the law.
-ghost use Rattle.mk_ref.specs.Laws.{UnitsAreText, ReferencesArePutTogether, CutGoesOn, ReadGoesOn, PartsAreWhole, PiecesAreUnits, DollarsAlonePartTexts};
+ghost use Rattle.mk_ref.specs.Laws.{UnitsAreText, ReferencesArePutTogether, CutGoesOn, ReadGoesOn, PartsAreWhole, PiecesAreUnits, DollarsAlonePartTexts, OutsideStandsInPlace};
 
 /// The units of a text and what is left of it, put together, are the text.
 pub fn units_are_text()
@@ -34,4 +34,10 @@ pub fn pieces_are_units()
 /// A text without a dollar is its bytes: it has no reference and no pair, and nothing is left of it.
 pub fn dollars_alone_part_texts()
     ensures { DollarsAlonePartTexts }
+{}
+
+/// What stands outside the references of a text is as long as the text, and each of its bytes that is
+/// no dollar is the text's at that place.
+pub fn outside_stands_in_place()
+    ensures { OutsideStandsInPlace }
 {}

@@ -5,9 +5,11 @@ mod cutting;
 mod ending;
 mod laws;
 mod opening;
+mod outside_text;
 
 pub use cutting::{Piece, PiecesFault, Reference, pieces};
 pub use laws::{
-    cut_goes_on, dollars_alone_part_texts, parts_are_whole, pieces_are_units, read_goes_on,
-    references_are_put_together, units_are_text,
+    cut_goes_on, dollars_alone_part_texts, outside_stands_in_place, parts_are_whole,
+    pieces_are_units, read_goes_on, references_are_put_together, units_are_text,
 };
+pub use outside_text::outside;

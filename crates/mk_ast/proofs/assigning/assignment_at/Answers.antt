@@ -1,7 +1,7 @@
 use Rattle.std.proofs.Common.{◌<◌, length, arith, subst, sym, ap, ◌∙◌, lit<}
 use Rattle.std.proofs.lemmas.List.{length-take}
 use Rattle.std.proofs.lemmas.Str.{IsCharBoundary-after_ascii}
-use Rattle.mk_ast.proofs.Covering.{length-outside}
+use Rattle.mk_ref.proofs.Covering.{length-outside}
 use Rattle.mk_ast.proofs.assigning.assignment_at.Goals as goal
 use Rattle.mk_ast.proofs.assigning.assignment_at.Goals.{then-is_sign, else-is_sign}
 

@@ -1,7 +1,7 @@
 use Rattle.std.proofs.Common.{◌++◌, ◌∷◌, [], take, ap, sym, ◌∙◌, append_assoc}
 use Rattle.std.proofs.lemmas.List.{map-append, take_more}
-use Rattle.mk_ast.specs.Outside.{dollars}
-use Rattle.mk_ast.proofs.outside.push_dollars.Goals as goal
+use Rattle.mk_ref.specs.Outside.{dollars}
+use Rattle.mk_ref.proofs.outside_text.push_dollars.Goals as goal
 
 pub loop-preserved : goal.loop-preserved
 loop-preserved c =

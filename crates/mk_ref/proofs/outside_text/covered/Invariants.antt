@@ -1,8 +1,8 @@
 use Rattle.std.proofs.Common.{◌≡◌, ◌++◌, drop, map}
 use Rattle.std.specs.List.{flat_map}
 use Rattle.mk_ref.specs.Places.{shown}
-use Rattle.mk_ast.specs.Outside.{covered_piece}
-use Rattle.mk_ast.proofs.outside.covered.Given as goal
+use Rattle.mk_ref.specs.Outside.{covered_piece}
+use Rattle.mk_ref.proofs.outside_text.covered.Given as goal
 
 abbrev pub invariant-loop-piece : goal.invariant-loop-piece
 invariant-loop-piece l =

@@ -2,14 +2,20 @@
 ghost use Rattle.std.specs.Prelude.{◌≡◌, ◌++◌, map, All, IfOk, OnOk};
 ghost use Rattle.std.specs.List.{flat_map};
 ghost use Rattle.mk_ref.specs.Places.{shown, IsPieceIn, IsUnclosedAt};
-ghost use Rattle.mk_ast.specs.Outside.{outside, dollars, covered_piece};
+ghost use Rattle.mk_ref.specs.Outside.{outside, dollars, covered_piece};
 
-use mk_ref::{Piece, PiecesFault, pieces};
+use crate::cutting::{Piece, PiecesFault, pieces};
 use std::alloc::{AllocError, Global};
 
 /// The bytes of `text`, with a dollar in place of each byte of references and pairs, and of a
-/// reference that doesn't end, which reaches to the end of the text.
-pub(crate) fn outside(alloc: Global, text: &str) -> Result<Vec<u8>, AllocError>
+/// reference that doesn't end, which reaches to the end of the text. Every other byte is the text's
+/// own, at its own place, so what is found in these bytes can be cut out of the text there. The time
+/// is linear in the length of `text`.
+///
+/// # Errors
+///
+/// `AllocError` where there is no memory for the bytes, or for the places of the references.
+pub fn outside(alloc: Global, text: &str) -> Result<Vec<u8>, AllocError>
     ensures { IfOk result (λ bytes. bytes.items ≡ outside text.now) }
 {
     match pieces(alloc, text) {

@@ -1,9 +1,9 @@
 use Rattle.std.proofs.Common.{◌+◌, ◌++◌, map, drop, sym, ap, ◌∙◌, append_assoc}
 use Rattle.std.specs.List.{flat_map}
 use Rattle.mk_ref.specs.Places.{shown}
-use Rattle.mk_ast.specs.Outside.{covered_piece}
-use Rattle.mk_ast.proofs.Covering.{covered-next}
-use Rattle.mk_ast.proofs.outside.covered.Goals as goal
+use Rattle.mk_ref.specs.Outside.{covered_piece}
+use Rattle.mk_ref.proofs.Covering.{covered-next}
+use Rattle.mk_ref.proofs.outside_text.covered.Goals as goal
 
 pub loop-piece-preserved : goal.loop-piece-preserved
 loop-piece-preserved c =

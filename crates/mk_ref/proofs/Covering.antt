@@ -7,8 +7,8 @@ use Rattle.mk_ref.specs.Pieces.{TextPiece, LiteralPiece, PairPiece, ReferencePie
 use Rattle.std.proofs.lemmas.List.{drop_more, drop-map}
 use Rattle.mk_ref.specs.declared.cutting.Piece.{Piece}
 use Rattle.mk_ref.specs.Places.{shown, IsUnclosedAt}
-use Rattle.mk_ast.specs.Outside.{dollars, covered, covered_piece, outside}
-use Rattle.mk_ast.proofs.Alone.{cut-front}
+use Rattle.mk_ref.specs.Outside.{dollars, covered, covered_piece, outside}
+use Rattle.mk_ref.proofs.Alone.{cut-front}
 
 -- bytes are those of a text, or dollars in their place
 abbrev pub Covers : List ℕ → List ℕ → Type 0

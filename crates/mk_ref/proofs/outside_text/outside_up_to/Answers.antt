@@ -4,10 +4,10 @@ use Rattle.std.proofs.lemmas.Str.{IsCharBoundary-before_ascii}
 use Rattle.mk_ref.specs.Units.{units_of}
 use Rattle.mk_ref.specs.Pieces.{pieces_of}
 use Rattle.mk_ref.specs.Places.{shown, IsFaultOf}
-use Rattle.mk_ast.specs.Outside.{dollars, covered_piece}
-use Rattle.mk_ast.proofs.Alone.{unclosed-dollar, front-ends}
-use Rattle.mk_ast.proofs.Covering.{outside-unclosed}
-use Rattle.mk_ast.proofs.outside.outside_up_to.Goals as goal
+use Rattle.mk_ref.specs.Outside.{dollars, covered_piece}
+use Rattle.mk_ref.proofs.Alone.{unclosed-dollar, front-ends}
+use Rattle.mk_ref.proofs.Covering.{outside-unclosed}
+use Rattle.mk_ref.proofs.outside_text.outside_up_to.Goals as goal
 
 from_start : (text front : List ℕ) (at : ℕ) → front ≡ slice_range text 0 at → front ≡ take at text
 from_start text front at is = let all : at - 0 ≡ at = omega arith in is ∙ ap (λ n. take n text) all

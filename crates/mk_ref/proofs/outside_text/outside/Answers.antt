@@ -1,7 +1,7 @@
 use Rattle.std.proofs.Common.{◌≡◌, IfOk, map, subst, ap, ◌∙◌}
 use Rattle.mk_ref.specs.Places.{shown}
-use Rattle.mk_ast.proofs.Covering.{outside-whole}
-use Rattle.mk_ast.proofs.outside.outside.Goals as goal
+use Rattle.mk_ref.proofs.Covering.{outside-whole}
+use Rattle.mk_ref.proofs.outside_text.outside.Goals as goal
 
 pub returns-in-Ok : goal.returns-in-Ok
 returns-in-Ok c =

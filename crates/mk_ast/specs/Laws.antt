@@ -1,0 +1,24 @@
+-- What holds of every reading of lines into blocks.
+use Rattle.std.specs.Prelude.{◌≡◌, ℕ, List, Result}
+use Rattle.mk_text.specs.Lines.{LogicalLine}
+use Rattle.mk_ast.specs.Trees.{Block, block_parts}
+use Rattle.mk_ast.specs.Reading.{Reads}
+use Rattle.mk_ast.specs.Blocks.{blocks_of}
+use Rattle.mk_ast.specs.declared.parsing.ParseFault.{ParseFault}
+use Rattle.mk_ast.specs.Parsing.{Parses, parsed}
+
+-- the reading in one pass is a reading
+abbrev pub BlocksAreRead : Type 0
+BlocksAreRead = (limit : ℕ) (lines : List LogicalLine) → Reads limit lines (blocks_of limit lines)
+
+-- there is no other reading, neither another block nor a fault at another line
+abbrev pub NothingElseIsRead : Type 0
+NothingElseIsRead = (limit : ℕ) (lines : List LogicalLine) (result : Result Block ℕ) → Reads limit lines result → result ≡ blocks_of limit lines
+
+-- two blocks whose parts, in order, are the same are one
+abbrev pub PartsHaveOneBlock : Type 0
+PartsHaveOneBlock = (one other : Block) → block_parts one ≡ block_parts other → one ≡ other
+
+-- bytes are parsed as nothing else
+abbrev pub NothingElseIsParsed : Type 0
+NothingElseIsParsed = (bytes : List ℕ) (result : Result Block ParseFault) → Parses bytes result → result ≡ parsed bytes

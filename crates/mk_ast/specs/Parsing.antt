@@ -1,0 +1,49 @@
+-- What the bytes of a makefile are read as. That they have to be UTF-8 is this project's choice.
+use Rattle.std.specs.Prelude.{◌≡◌, ◌⊎◌, ℕ, ◌+◌, ◌==◌, true, false, List, take, count_by, Result, Ok, Err, if◌then◌else◌}
+use Rattle.std.specs.Str.{is_utf8}
+use Rattle.std.specs.Str.Lossy.{utf8_valid_len}
+use Rattle.mk_base.specs.declared.faults.FaultKind.TheVariants as kinds
+use Rattle.mk_text.specs.Lines.{logical_lines}
+use Rattle.mk_ast.specs.declared.nodes.Makefile.{Makefile}
+use Rattle.mk_ast.specs.declared.nodes.TheConstants.{BLOCKS}
+use Rattle.mk_ast.specs.declared.parsing.ParseFault.{ParseFault}
+use Rattle.mk_ast.specs.declared.parsing.ParseError.{ParseError}
+use Rattle.mk_ast.specs.declared.parsing.ParseError.TheVariants as errors
+use Rattle.mk_ast.specs.Trees.{Block}
+use Rattle.mk_ast.specs.Reading.{Reads}
+use Rattle.mk_ast.specs.Blocks.{blocks_of}
+use Rattle.mk_ast.specs.Views.{makefile_tree}
+
+-- the line of the first byte that is no UTF-8
+abbrev pub bad_line : List ℕ → ℕ
+bad_line bytes = 1 + count_by (λ byte. byte == 10) (take (utf8_valid_len bytes) bytes)
+
+-- the fault of bytes that aren't UTF-8
+abbrev pub utf8_fault : List ℕ → ParseFault
+utf8_fault bytes = record { kind = kinds.Utf8; line = bad_line bytes }
+
+-- blocks go wrong at a line
+abbrev pub block_fault : ℕ → ParseFault
+block_fault number = record { kind = kinds.Block; line = number }
+
+-- What bytes are read as: the tree of their lines; or a fault, of their first bad byte before any of their blocks.
+abbrev pub Parses : List ℕ → Result Block ParseFault → Type 0
+Parses bytes (Ok block) = (is_utf8 bytes ≡ true) × Reads BLOCKS (logical_lines bytes) (Ok block)
+Parses bytes (Err fault) =
+    ((is_utf8 bytes ≡ false) × (fault ≡ utf8_fault bytes))
+    ⊎ ((is_utf8 bytes ≡ true) × (fault ≡ block_fault fault.line) × Reads BLOCKS (logical_lines bytes) (Err fault.line))
+
+-- a reading, its fault told with its kind
+abbrev pub told : Result Block ℕ → Result Block ParseFault
+told (Ok block) = Ok block
+told (Err number) = Err (block_fault number)
+
+-- the same as a function
+unfoldable pub parsed : List ℕ → Result Block ParseFault
+parsed bytes = if is_utf8 bytes then told (blocks_of BLOCKS (logical_lines bytes)) else Err (utf8_fault bytes)
+
+-- what was answered is so; want of memory says nothing
+abbrev pub Answers : Result Makefile ParseError → (Result Block ParseFault → Type 0) → Type 0
+Answers (Ok makefile) says = says (Ok (makefile_tree makefile))
+Answers (Err (errors.Fault fault)) says = says (Err fault)
+Answers (Err errors.Memory) says = Unit {0}

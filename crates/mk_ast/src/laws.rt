@@ -1,0 +1,24 @@
+//! What holds of every reading of lines into blocks. Each function does nothing: its clause is the
+//! law.
+ghost use Rattle.mk_ast.specs.Laws.{BlocksAreRead, NothingElseIsRead, PartsHaveOneBlock, NothingElseIsParsed};
+
+/// The reading in one pass is a reading: the block whose parts the lines are, or the first line that
+/// stands wrong, or else the first line of the innermost open block.
+pub fn blocks_are_read()
+    ensures { BlocksAreRead }
+{}
+
+/// Lines have no other reading, neither another block nor a fault at another line.
+pub fn nothing_else_is_read()
+    ensures { NothingElseIsRead }
+{}
+
+/// Two blocks whose parts, in order, are the same are one.
+pub fn parts_have_one_block()
+    ensures { PartsHaveOneBlock }
+{}
+
+/// Bytes are parsed as nothing else than `parsed` says: one tree, or one fault at one line.
+pub fn nothing_else_is_parsed()
+    ensures { NothingElseIsParsed }
+{}

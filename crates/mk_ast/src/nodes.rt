@@ -1,0 +1,53 @@
+//! The tree of a makefile.
+
+use mk_text::Logical;
+use std::rc::Rc;
+
+/// How many blocks may stand one inside another.
+pub const BLOCKS: usize = 64;
+
+/// Lines and blocks in order. They are shared: a copy of the pointer is a copy of them all.
+pub type Block = Rc<Vec<Node>>;
+
+/// A line that belongs to no block's frame, or a block.
+#[derive(Debug, Drop)]
+#[cycle(tree)]
+pub enum Node {
+    /// A line that opens, parts or closes nothing.
+    Line(Logical),
+    /// A choice, from a form of `.if` to its `.endif`.
+    Choice {
+        /// The line of its `.if`.
+        head: Logical,
+        /// What stands behind that.
+        body: Block,
+        /// Its forms of `.elif`, in order.
+        branches: Vec<Branch>,
+        /// What stands behind its `.else`, if it has one.
+        otherwise: Option<Block>,
+    },
+    /// A loop, from a `.for` to its `.endfor`.
+    Loop {
+        /// The line of its `.for`.
+        head: Logical,
+        /// What stands between.
+        body: Block,
+    },
+}
+
+/// A later branch of a choice.
+#[derive(Debug, Drop)]
+#[cycle(tree)]
+pub struct Branch {
+    /// The line of its `.elif`.
+    pub head: Logical,
+    /// What stands behind that.
+    pub body: Block,
+}
+
+/// A makefile, read into its tree.
+#[derive(Debug, Drop)]
+pub struct Makefile {
+    /// Its lines and blocks.
+    pub nodes: Block,
+}

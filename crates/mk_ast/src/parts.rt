@@ -1,0 +1,72 @@
+//! What a line is to the blocks of its makefile.
+ghost use Rattle.std.specs.Prelude.{◌≡◌};
+ghost use Rattle.mk_text.specs.Lines.{LogicalLine};
+ghost use Rattle.mk_ast.specs.Kinds.{shown_kind};
+ghost use Rattle.mk_ast.specs.Parts.{part_of, part_by, part_with};
+ghost use Rattle.mk_ast.specs.FrameParts.{shown_part};
+
+use crate::directives::directive_in;
+use crate::kinds::{Directive, LineKind};
+use mk_text::Logical;
+
+/// A part of a block's frame, or any other line.
+#[derive(Debug, Clone, Copy, PartialEq, Eq)]
+pub(crate) enum FramePart {
+    /// A form of `.if`, which opens a choice.
+    If,
+    /// A form of `.elif`.
+    Elif,
+    /// `.else`
+    Else,
+    /// `.endif`, which closes a choice.
+    Endif,
+    /// `.for`, which opens a loop.
+    For,
+    /// `.endfor`, which closes a loop.
+    Endfor,
+    /// Any other line.
+    Plain,
+}
+
+/// The part that a line is.
+pub(crate) fn part_of(line: &Logical) -> FramePart
+    ensures { shown_part result line.now ≡ part_of line.now }
+{
+    match directive_in(line.text()) {
+        Some(kind) => part_by(kind),
+        None => FramePart::Plain,
+    }
+}
+
+/// The part that a line of this kind is.
+fn part_by(kind: LineKind) -> FramePart
+    ensures { (line : LogicalLine) → shown_part result line ≡ part_by line (shown_kind kind.entry) }
+{
+    match kind {
+        LineKind::Directive { word, rest: _ } => part_with(word),
+        _ => FramePart::Plain,
+    }
+}
+
+/// The part that a directive makes of its line.
+fn part_with(word: Directive) -> FramePart
+    ensures { (line : LogicalLine) → shown_part result line ≡ part_with line word }
+{
+    match word {
+        Directive::If
+        | Directive::Ifdef
+        | Directive::Ifndef
+        | Directive::Ifmake
+        | Directive::Ifnmake => FramePart::If,
+        Directive::Elif
+        | Directive::Elifdef
+        | Directive::Elifndef
+        | Directive::Elifmake
+        | Directive::Elifnmake => FramePart::Elif,
+        Directive::Else => FramePart::Else,
+        Directive::Endif => FramePart::Endif,
+        Directive::For => FramePart::For,
+        Directive::Endfor => FramePart::Endfor,
+        Directive::Include | Directive::Sinclude | Directive::Undef => FramePart::Plain,
+    }
+}
