@@ -2,7 +2,7 @@
 use crate::answer::{Answer, Trouble};
 use crate::evaluation::{self, MAKEFILE};
 use crate::line::as_text;
-use crate::{packages, service, texts};
+use crate::{packages, service, texts, trees};
 use mk_env::Env;
 use mk_files::{Content, MemoryFiles};
 use mk_paths::Name;
@@ -82,6 +82,7 @@ impl Bench {
             "reply key" => service::key_reply(alloc),
             "reply store" => service::store_reply(alloc),
             "run on" => service::run(alloc, given),
+            "open and end" => service::open_and_end(alloc, given),
             "after at" => service::after(alloc, given),
             _ => self.answer_of_evaluation(call, given),
         }
@@ -126,6 +127,9 @@ fn answer_of_text(alloc: Global, call: &str, given: &[Vec<u8>]) -> Result<Answer
         "modifiers as read" => texts::modifiers_as_read(alloc, given),
         "substitute in" => texts::substituted(alloc, given),
         "line" => texts::kind_of_line(alloc, given),
+        "plain line" => texts::plain_kind_of_line(alloc, given),
+        "outside" => texts::outside_references(alloc, given),
+        "tree" => trees::tree_of(alloc, given),
         "word" => texts::one_word(alloc, given),
         _ => answer_of_packages(alloc, call, given),
     }

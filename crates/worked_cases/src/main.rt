@@ -11,6 +11,7 @@ mod line;
 mod packages;
 mod service;
 mod texts;
+mod trees;
 
 use cases::Cases;
 use std::io;

@@ -1,14 +1,14 @@
 //! The layers of the service: streams, replies, requests over a tenant's files, whole runs.
 use crate::answer::{Answer, Trouble};
 use crate::line::{as_number, as_text};
+use http::StatusCode;
 use mk_files::MemoryFiles;
 use ports_core::{Config, Transcript, replay};
-use ports_http::{
-    Content, HeadFault, Method, Reply, Status, StreamEnd, decode, write_fixed, write_reply,
-};
+use ports_http::{Content, HeadFault, Method, Reply, StreamEnd, decode, write_fixed, write_reply};
 use ports_plain::{Plain, Prepared, Refused};
 use ports_script::{read_script, run_script};
 use std::alloc::Global;
+use std::fmt::Write;
 
 /// `stream PIECE..`: the requests of a stream that comes in these pieces, each as its method, target
 /// and body, with `key` and its key, and `closes` where it does; then how the stream ends.
@@ -52,18 +52,18 @@ pub fn file_reply(alloc: Global, given: &[Vec<u8>]) -> Result<Answer, Trouble> {
     let [bytes] = given else {
         return Err(Trouble::NoCase);
     };
-    let reply = Reply::of_bytes(Status::Success, Some(Content::Octets), bytes.clone()?);
+    let reply = Reply::of_bytes(StatusCode::OK, Some(Content::Octets), bytes.clone()?);
     bytes_told(alloc, write_reply(alloc, &reply, false)?.as_slice())
 }
 
 /// `reply method`: a 405 of a route that has every method, behind which the connection closes.
 pub fn method_reply(alloc: Global) -> Result<Answer, Trouble> {
     let text = "{\"error\":\"Method\"}";
-    let reply = Reply::of_text(Status::MethodNotAllowed, Some(Content::Json), text).with_allow(&[
-        Method::Get,
-        Method::Put,
-        Method::Delete,
-    ]);
+    let reply = Reply::of_text(
+        StatusCode::METHOD_NOT_ALLOWED,
+        Some(Content::Json),
+        text,
+    ).with_allow(&[Method::Get, Method::Put, Method::Delete]);
     bytes_told(alloc, write_reply(alloc, &reply, true)?.as_slice())
 }
 
@@ -115,6 +115,7 @@ pub fn request(
         .prepare(alloc, world, method, as_text(target)?, body)
         .map_err(of_plain)?;
     let mut answer = Answer::of_word(alloc, reply.status.as_str())?;
+    answer.word(reply.status.canonical_reason().unwrap_or(""))?;
     answer.text(reply.body())?;
     if let Some(write) = write {
         write.carry_out(world).map_err(of_plain)?;
@@ -173,6 +174,33 @@ pub fn run(alloc: Global, given: &[Vec<u8>]) -> Result<Answer, Trouble> {
     answer.number(u64::from(ran.status))?;
     answer.text(ran.printed.as_slice())?;
     answer.text(ran.said.as_slice())?;
+    Ok(answer)
+}
+
+/// `open and end N`: how many connections close where so many are opened and ended one after another
+/// and then one more is opened; `refused` where one wasn't opened.
+pub fn open_and_end(alloc: Global, given: &[Vec<u8>]) -> Result<Answer, Trouble> {
+    let [count] = given else {
+        return Err(Trouble::NoCase);
+    };
+    let count = as_number(count)?;
+    let mut script = String::new(alloc);
+    for conn in 0..count {
+        write!(script, "open {conn}\nend {conn}\n")?;
+    }
+    write!(script, "open {count}\n")?;
+    let ran = run_program(alloc, "replay alpha", script.as_bytes())?;
+    let mut answer = Answer::new(alloc);
+    let printed = as_text(&ran.printed)?;
+    answer.number(
+        printed
+            .lines()
+            .filter(|line| line.contains(" closed "))
+            .count() as u64,
+    )?;
+    if printed.contains("refused") {
+        answer.word("refused")?;
+    }
     Ok(answer)
 }
 

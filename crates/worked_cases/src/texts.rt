@@ -1,10 +1,10 @@
 //! The layers of texts: lines, words, references, patterns, modifiers, kinds of lines.
 use crate::answer::{Answer, Trouble};
 use crate::line::as_text;
-use mk_ast::{LineKind, is_word, line_kind};
+use mk_ast::{LineKind, is_word, line_kind, plain_kind};
 use mk_glob::glob;
 use mk_mods::{ApplyFault, Modifier, Mods, ModsFault, Part, Substitution, apply, substitute};
-use mk_ref::{Piece, PiecesFault, pieces};
+use mk_ref::{Piece, PiecesFault, outside, pieces};
 use mk_text::{is_blank, logical_lines, skip_blanks, trim_blanks, words};
 use std::alloc::Global;
 use std::fmt::Write;
@@ -130,6 +130,16 @@ pub fn number_of_pieces(alloc: Global, given: &[Vec<u8>]) -> Result<Answer, Trou
     Ok(answer)
 }
 
+/// `outside TEXT`: the text with dollars in place of its references.
+pub fn outside_references(alloc: Global, given: &[Vec<u8>]) -> Result<Answer, Trouble> {
+    let [text] = given else {
+        return Err(Trouble::NoCase);
+    };
+    let mut answer = Answer::new(alloc);
+    answer.text(outside(alloc, as_text(text)?)?.as_slice())?;
+    Ok(answer)
+}
+
 /// `glob PATTERN WORD`: `fits` or `no`.
 pub fn fits(alloc: Global, given: &[Vec<u8>]) -> Result<Answer, Trouble> {
     let [pattern, word] = given else {
@@ -246,7 +256,19 @@ pub fn kind_of_line(alloc: Global, given: &[Vec<u8>]) -> Result<Answer, Trouble>
     let [text] = given else {
         return Err(Trouble::NoCase);
     };
-    match line_kind(alloc, as_text(text)?)? {
+    kind_told(alloc, line_kind(alloc, as_text(text)?)?)
+}
+
+/// `plain line TEXT`: the same of a line that can be neither a command nor a directive.
+pub fn plain_kind_of_line(alloc: Global, given: &[Vec<u8>]) -> Result<Answer, Trouble> {
+    let [text] = given else {
+        return Err(Trouble::NoCase);
+    };
+    kind_told(alloc, plain_kind(alloc, as_text(text)?)?)
+}
+
+fn kind_told(alloc: Global, kind: LineKind<'_>) -> Result<Answer, Trouble> {
+    match kind {
         LineKind::Command => Answer::of_word(alloc, "command"),
         LineKind::Blank => Answer::of_word(alloc, "blank"),
         LineKind::Directive { word, rest } => {

@@ -1,0 +1,74 @@
+//! The trees of makefiles.
+use crate::answer::{Answer, Trouble};
+use mk_ast::{Node, ParseError, ParseFault, parse};
+use mk_text::Logical;
+use std::alloc::{AllocError, Global};
+use std::fmt::Write;
+
+/// `tree MAKEFILE`: its nodes in order with semicolons between, a line as `line N` by its number, a
+/// choice as `if N {..} elif N {..} else {..}`, a loop as `for N {..}`; or its fault.
+pub fn tree_of(alloc: Global, given: &[Vec<u8>]) -> Result<Answer, Trouble> {
+    let [bytes] = given else {
+        return Err(Trouble::NoCase);
+    };
+    let mut out = String::new(alloc);
+    match parse(alloc, bytes) {
+        Ok(makefile) => show_block(&mut out, &makefile.nodes)?,
+        Err(ParseError::Fault(ParseFault { kind, line })) => write!(out, "{kind:?} at {line}")?,
+        Err(ParseError::Memory) => return Err(Trouble::Memory),
+    }
+    Answer::of_word(alloc, out.as_str())
+}
+
+#[cycle(show)]
+fn show_block(out: &mut String, nodes: &[Node]) -> Result<(), AllocError> {
+    let mut first = true;
+    for node in nodes {
+        if !first {
+            out.push_str("; ")?;
+        }
+        first = false;
+        show_node(out, node)?;
+    }
+    Ok(())
+}
+
+#[cycle(show)]
+fn show_node(out: &mut String, node: &Node) -> Result<(), AllocError> {
+    match node {
+        Node::Line(line) => {
+            let number = line.line();
+            write!(out, "line {number}")
+        }
+        Node::Choice {
+            head,
+            body,
+            branches,
+            otherwise,
+        } => {
+            show_frame(out, "if", head)?;
+            show_block(out, body)?;
+            for branch in branches {
+                out.push_str("} el")?;
+                show_frame(out, "if", &branch.head)?;
+                show_block(out, &branch.body)?;
+            }
+            if let Some(last) = otherwise {
+                out.push_str("} else {")?;
+                show_block(out, last)?;
+            }
+            out.push_str("}")
+        }
+        Node::Loop { head, body } => {
+            show_frame(out, "for", head)?;
+            show_block(out, body)?;
+            out.push_str("}")
+        }
+    }
+}
+
+/// The beginning of a block.
+fn show_frame(out: &mut String, word: &str, head: &Logical) -> Result<(), AllocError> {
+    let number = head.line();
+    write!(out, "{word} {number} {{")
+}
