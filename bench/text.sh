@@ -1,7 +1,8 @@
 #!/usr/bin/env bash
 # Shows how the time of the text layers grows: for each case of the program text_speed, the seconds for
 # sizes n, 2n and 4n. Each line should be about twice the one before. The size is the number of
-# references, of dollars, of brackets, of the letters of a word, or of words.
+# references, of dollars, of brackets, of the letters of a word, of words, or of blocks. Openings that
+# nothing closes are refused at the 65th, however many there are.
 set -eu
 top=$(cd "$(dirname "$0")/.." && pwd)
 (cd "$top/crates/text_speed" && rt run >/dev/null)
@@ -32,3 +33,5 @@ sizes runs 100000
 sizes restarts 100000
 sizes substitute 8000
 sizes words 8000
+sizes blocks 100000
+sizes openings 200000

@@ -1,6 +1,7 @@
 -- What holds of every reading of lines into blocks.
 use Rattle.std.specs.Prelude.{◌≡◌, ℕ, List, Result}
 use Rattle.mk_text.specs.Lines.{LogicalLine}
+use Rattle.mk_ast.specs.declared.nodes.TheConstants.{BLOCKS}
 use Rattle.mk_ast.specs.Trees.{Block, block_parts}
 use Rattle.mk_ast.specs.Reading.{Reads}
 use Rattle.mk_ast.specs.Blocks.{blocks_of}
@@ -22,3 +23,7 @@ PartsHaveOneBlock = (one other : Block) → block_parts one ≡ block_parts othe
 -- bytes are parsed as nothing else
 abbrev pub NothingElseIsParsed : Type 0
 NothingElseIsParsed = (bytes : List ℕ) (result : Result Block ParseFault) → Parses bytes result → result ≡ parsed bytes
+
+-- a makefile's blocks may stand 64 deep
+abbrev pub BlocksNest64Deep : Type 0
+BlocksNest64Deep = BLOCKS ≡ 64

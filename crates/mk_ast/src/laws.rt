@@ -1,6 +1,6 @@
 //! What holds of every reading of lines into blocks. Each function does nothing: its clause is the
 //! law.
-ghost use Rattle.mk_ast.specs.Laws.{BlocksAreRead, NothingElseIsRead, PartsHaveOneBlock, NothingElseIsParsed};
+ghost use Rattle.mk_ast.specs.Laws.{BlocksAreRead, NothingElseIsRead, PartsHaveOneBlock, NothingElseIsParsed, BlocksNest64Deep};
 
 /// The reading in one pass is a reading: the block whose parts the lines are, or the first line that
 /// stands wrong, or else the first line of the innermost open block.
@@ -21,4 +21,9 @@ pub fn parts_have_one_block()
 /// Bytes are parsed as nothing else than `parsed` says: one tree, or one fault at one line.
 pub fn nothing_else_is_parsed()
     ensures { NothingElseIsParsed }
+{}
+
+/// A makefile's blocks may stand 64 deep: `BLOCKS` is that number.
+pub fn blocks_nest_64_deep()
+    ensures { BlocksNest64Deep }
 {}

@@ -14,7 +14,8 @@ mod reader;
 pub use assigning::is_word;
 pub use kinds::{Directive, LineKind, Operator};
 pub use laws::{
-    blocks_are_read, nothing_else_is_parsed, nothing_else_is_read, parts_have_one_block,
+    blocks_are_read, blocks_nest_64_deep, nothing_else_is_parsed, nothing_else_is_read,
+    parts_have_one_block,
 };
 pub use line_kinds::{line_kind, plain_kind};
 pub use nodes::{BLOCKS, Block, Branch, Makefile, Node};

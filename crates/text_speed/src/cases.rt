@@ -1,13 +1,14 @@
 //! The inputs, and what the text layers make of them.
 ghost use Rattle.std.specs.Prelude.{◌≡◌, if◌then◌else◌};
 
+use mk_ast::{ParseError, parse};
 use mk_glob::glob;
 use mk_mods::{ApplyFault, Modifier, Mods, ModsFault, apply};
 use mk_ref::{PiecesFault, pieces};
 use std::alloc::{AllocError, Global};
 
 /// The cases, in the order in which they are run.
-pub const CASES: [&str; 7] = [
+pub const CASES: [&str; 9] = [
     "references",
     "dollars",
     "runs",
@@ -15,6 +16,8 @@ pub const CASES: [&str; 7] = [
     "brackets",
     "substitute",
     "words",
+    "blocks",
+    "openings",
 ];
 
 /// What came of a case: a count or a length. The error is want of memory.
@@ -26,6 +29,8 @@ pub fn outcome(alloc: Global, case: &str, size: usize) -> Result<usize, AllocErr
         "restarts" => fitting(alloc, "*", "a", repeated(alloc, "a", size)?.as_str()),
         "brackets" => unclosed_brackets(alloc, size),
         "substitute" => modified(alloc, "S/aaab/c/g", repeated(alloc, "a", size)?.as_str()),
+        "blocks" => parsed(alloc, repeated(alloc, ".if 1\n.endif\n", size)?.as_str()),
+        "openings" => parsed(alloc, repeated(alloc, ".if 1\n", size)?.as_str()),
         _ => modified(alloc, "U", repeated(alloc, "a ", size)?.as_str()),
     }
 }
@@ -108,5 +113,14 @@ fn made_length(alloc: Global, modifier: &Modifier, value: &str) -> Result<usize,
             ApplyFault::Length => Ok(0),
             ApplyFault::Memory => Err(AllocError),
         },
+    }
+}
+
+/// How many nodes a makefile has that stand in no block, or the line at which it is at fault.
+fn parsed(alloc: Global, makefile: &str) -> Result<usize, AllocError> {
+    match parse(alloc, makefile.as_bytes()) {
+        Ok(makefile) => Ok(makefile.nodes.len()),
+        Err(ParseError::Fault(fault)) => Ok(fault.line as usize),
+        Err(ParseError::Memory) => Err(AllocError),
     }
 }

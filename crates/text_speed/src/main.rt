@@ -13,23 +13,23 @@ use std::{env, io};
 const SMALL: usize = 100;
 
 fn main(rt: HostRuntime) -> ExitCode {
-    match run(&rt) {
+    match run(&rt, &CASES) {
         Ok(()) => ExitCode::from(0),
         Err(_error) => ExitCode::from(1),
     }
 }
 
-/// Runs the case that the command line names, or every case. The error is a failed output or want of
-/// memory.
-fn run(rt: &HostRuntime) -> io::Result<()> {
+/// Runs the case that the command line names, or every one of these. The error is a failed output or
+/// want of memory.
+fn run(rt: &HostRuntime, cases: &[&str]) -> io::Result<()> {
     let words = env::args(rt)?.collect::<Vec<String>>(rt.alloc())?;
     let size = match words.get(2) {
         Some(word) => word.as_str().parse::<usize>().unwrap_or(SMALL),
         None => SMALL,
     };
-    for case in CASES {
+    for case in cases {
         let chosen = match words.get(1) {
-            Some(word) => word.as_str() == case,
+            Some(word) => word.as_str() == *case,
             None => true,
         };
         if chosen {
