@@ -87,22 +87,23 @@ fn run_narrow(alloc: Global, script: &str, writes: usize) -> Result<(u8, Vec<u8>
     Ok((status, out.taken, said))
 }
 
-const UPLOAD: &str =
-    "open 0\npiece 0 PUT /v1/file?name=/ports/a/Makefile HTTP/1.1\\r\\nHost: x\\r\\nX-Ports-Key: alpha\\r\\nContent-Length: 2\\r\\n\\r\\nA=\nturn 0\nwrote 0 all\n";
+/// An upload and a question about it, and what is printed of them.
+const SCRIPT: &str =
+    "open 0\npiece 0 PUT /v1/file?name=/ports/editors/vim/Makefile HTTP/1.1\\r\\nHost: x\\r\\nX-Ports-Key: alpha\\r\\nContent-Length: 28\\r\\n\\r\\nV = 9.1\\nDISTNAME = vim-${V}\\n\nturn 0\nwrote 0 all\npiece 0 GET /v1/var?path=editors/vim&name=DISTNAME HTTP/1.1\\r\\nHost: x\\r\\nX-Ports-Key: alpha\\r\\n\\r\\n\nturn 0\nwrote 0 all\n";
 
 const PRINTED: &[u8] =
-    b"3 told 0 0 200\n4 sent 0 HTTP/1.1 200 OK\\r\\nContent-Type: application/json\\r\\nContent-Length: 15\\r\\n\\r\\n{\"stored\":true}\n";
+    b"3 told 0 0 200\n4 sent 0 HTTP/1.1 200 OK\\r\\nContent-Type: application/json\\r\\nContent-Length: 15\\r\\n\\r\\n{\"stored\":true}\n6 told 0 0 200\n7 sent 0 HTTP/1.1 200 OK\\r\\nContent-Type: application/json\\r\\nContent-Length: 34\\r\\n\\r\\n{\"defined\":true,\"value\":\"vim-9.1\"}\n";
 
 #[test]
 fn an_output_takes_each_byte_once_up_to_where_it_fails(rt: HostRuntime) -> Result<(), Fail> {
     let alloc = rt.alloc();
     for writes in 0..PRINTED.len() {
-        let (status, written, said) = run_narrow(alloc, UPLOAD, writes)?;
+        let (status, written, said) = run_narrow(alloc, SCRIPT, writes)?;
         assert_eq!(rt; status, 1, "at {writes}");
         assert_eq!(rt; written.as_slice(), &PRINTED[..writes]);
         assert_eq!(rt; said.as_slice(), b"portsd: cannot write\n".as_slice());
     }
-    let (status, written, said) = run_narrow(alloc, UPLOAD, PRINTED.len())?;
+    let (status, written, said) = run_narrow(alloc, SCRIPT, PRINTED.len())?;
     assert_eq!(rt; status, 0);
     assert_eq!(rt; written.as_slice(), PRINTED);
     assert_eq!(rt; said.len(), 0);
