@@ -1,0 +1,6 @@
+pub mod Scans
+pub mod Chains
+pub mod Sound
+pub mod Levels
+pub mod Complete
+pub mod Found

@@ -1,0 +1,16 @@
+use Rattle.std.proofs.Common.{option_map, sym, ap, ◌∙◌}
+use Rattle.cond_grammar.specs.Views.{condition_tree}
+use Rattle.cond_grammar.proofs.Found.{condition-found, condition-refused}
+use Rattle.cond_grammar.proofs.condition.read_condition.Goals as goal
+
+pub returns-in-Some-clause-tree : goal.returns-in-Some-clause-tree
+returns-in-Some-clause-tree c =
+    condition-found c.args.text.now c.as_slice.result.now (condition_tree c.in-Some.condition) (c.in_ok-ends_each_reference.ensures.closed c.if-not-branch.false)
+    (c.as_slice.ensures.value ∙ c.in_ok-covered.ensures) (sym (ap (option_map condition_tree) (sym c.in-Some.is) ∙ c.in_ok-condition.ensures))
+
+pub returns-clause-fault : goal.returns-clause-fault
+returns-clause-fault c = (
+  c.in_ok-ends_each_reference.ensures.closed c.if-not-branch.false,
+  condition-refused c.args.text.now c.as_slice.result.now (c.as_slice.ensures.value ∙ c.in_ok-covered.ensures)
+      (sym (ap (option_map condition_tree) (sym c.in-None.is) ∙ c.in_ok-condition.ensures)),
+)

@@ -1,0 +1,13 @@
+-- What holds of every list of tokens.
+use Rattle.std.specs.Prelude.{◌≡◌, ◌↔◌, ℕ, List, Some}
+use Rattle.cond_grammar.specs.declared.tokens.Token.{Token}
+use Rattle.cond_grammar.specs.Trees.{OrTree, IsTreeOf}
+use Rattle.cond_grammar.specs.Reading.{tree_of}
+
+-- tokens have at most one tree
+abbrev pub TokensHaveOneTree : Type 0
+TokensHaveOneTree = (limit : ℕ) (tokens : List Token) (one other : OrTree) → IsTreeOf limit tokens one → IsTreeOf limit tokens other → one ≡ other
+
+-- the reading of tokens gives their tree, and none where they have none
+abbrev pub TreesAreRead : Type 0
+TreesAreRead = (limit : ℕ) (tokens : List Token) (tree : OrTree) → IsTreeOf limit tokens tree ↔ (tree_of limit tokens ≡ Some tree)

@@ -1,0 +1,6 @@
+pub mod Tokens
+pub mod Trees
+pub mod Reading
+pub mod Views
+pub mod Laws
+pub mod Conditions

@@ -1,0 +1,141 @@
+-- How tokens are read into their tree, for those who want the reading as a function: it gives the tree of `IsTreeOf`, and none where there
+-- is none.
+use Rattle.std.specs.Prelude.{ℕ, zero, suc, List, [], ◌∷◌, length, Option, Some, None, option_map}
+use Rattle.cond_grammar.specs.declared.tokens.Comparison.{Comparison}
+use Rattle.cond_grammar.specs.declared.tokens.Side.{Side}
+use Rattle.cond_grammar.specs.declared.tokens.Token.{Token}
+use Rattle.cond_grammar.specs.declared.tokens.Token.TheVariants as t
+use Rattle.cond_grammar.specs.Trees.{OrTree, OrOf, LaterAnds, NoAnds, MoreAnds, AndTree, AndOf, LaterNots, NoNots, MoreNots, NotTree, Negated, Grouped, Called, Compared, Alone}
+
+-- a reader takes something off the front of tokens, and tells what is left behind it
+abbrev pub Reader : Type 0 → Type 0
+Reader A = List Token → Option (A × List Token)
+
+-- the tokens behind a sign that stands first
+abbrev pub behind_or : List Token → Option (List Token)
+behind_or [] = None
+behind_or (t.Or ∷ rest) = Some rest
+behind_or (token ∷ rest) = None
+
+abbrev pub behind_and : List Token → Option (List Token)
+behind_and [] = None
+behind_and (t.And ∷ rest) = Some rest
+behind_and (token ∷ rest) = None
+
+abbrev pub behind_right : List Token → Option (List Token)
+behind_right [] = None
+behind_right (t.Right ∷ rest) = Some rest
+behind_right (token ∷ rest) = None
+
+abbrev pub behind_side : Reader Side
+behind_side [] = None
+behind_side (t.Side side ∷ rest) = Some (side, rest)
+behind_side (token ∷ rest) = None
+
+abbrev pub behind_comparison : Reader Comparison
+behind_comparison [] = None
+behind_comparison (t.Compare comparison ∷ rest) = Some (comparison, rest)
+behind_comparison (token ∷ rest) = None
+
+-- one operand, and those that `more` reads behind it
+abbrev pub operand_on : {A : Type 0} → Reader (List A) → Option (A × List Token) → Option (List A × List Token)
+operand_on more None = None
+operand_on more (Some (first, rest)) = option_map (λ later. (first ∷ later.0, later.1)) (more rest)
+
+-- what `read` makes of what stands behind a sign; nothing was read where there is no sign
+abbrev pub signed : {A : Type 0} → Reader (List A) → List Token → Option (List Token) → Option (List A × List Token)
+signed read tokens None = Some ([], tokens)
+signed read tokens (Some behind) = read behind
+
+-- Operands, each behind a sign, as many as stand there. The number bounds how many are read.
+unfoldable pub operands_by : {A : Type 0} → (List Token → Option (List Token)) → Reader A → ℕ → Reader (List A)
+operands_by sign read zero tokens = None
+operands_by sign read (suc fuel) tokens = signed (λ behind. operand_on (operands_by sign read fuel) (read behind)) tokens (sign tokens)
+
+-- the same with no bound: there are fewer operands than tokens
+unfoldable pub operands : {A : Type 0} → (List Token → Option (List Token)) → Reader A → Reader (List A)
+operands sign read tokens = operands_by sign read (suc (length tokens)) tokens
+
+-- the trees of operands in a list
+abbrev pub later_nots : List NotTree → LaterNots
+later_nots [] = NoNots
+later_nots (not ∷ more) = MoreNots not (later_nots more)
+
+abbrev pub later_ands : List AndTree → LaterAnds
+later_ands [] = NoAnds
+later_ands (and ∷ more) = MoreAnds and (later_ands more)
+
+-- a first operand, and those that are read behind it
+abbrev pub chain_on : {A B : Type 0} → (A → List A → B) → Reader (List A) → Option (A × List Token) → Option (B × List Token)
+chain_on made more None = None
+chain_on made more (Some (first, rest)) = option_map (λ later. (made first later.0, later.1)) (more rest)
+
+-- a conjunction and a condition, where `read` reads the terms
+abbrev pub and_by : Reader NotTree → Reader AndTree
+and_by read tokens = chain_on (λ first more. AndOf first (later_nots more)) (operands behind_and read) (read tokens)
+
+abbrev pub or_by : Reader NotTree → Reader OrTree
+or_by read tokens = chain_on (λ first more. OrOf first (later_ands more)) (operands behind_or (and_by read)) (and_by read tokens)
+
+-- a side, and what it is compared with, if it is
+abbrev pub right_of : Side → Comparison → Option (Side × List Token) → Option (NotTree × List Token)
+right_of left comparison None = None
+right_of left comparison (Some (right, rest)) = Some (Compared left comparison right, rest)
+
+abbrev pub compared : Side → List Token → Option (Comparison × List Token) → Option (NotTree × List Token)
+compared left tokens None = Some (Alone left, tokens)
+compared left tokens (Some (comparison, rest)) = right_of left comparison (behind_side rest)
+
+-- a condition whose parenthesis closes
+abbrev pub closed : OrTree → Option (List Token) → Option (NotTree × List Token)
+closed or None = None
+closed or (Some rest) = Some (Grouped or, rest)
+
+abbrev pub grouped : Option (OrTree × List Token) → Option (NotTree × List Token)
+grouped None = None
+grouped (Some (or, rest)) = closed or (behind_right rest)
+
+-- a term turned
+abbrev pub turned : Option (NotTree × List Token) → Option (NotTree × List Token)
+turned read = option_map (λ x. (Negated x.0, x.1)) read
+
+-- a term, where `inner` reads those one level deeper
+abbrev pub not_with : Reader NotTree → Reader NotTree
+not_with inner [] = None
+not_with inner (t.Not ∷ rest) = turned (inner rest)
+not_with inner (t.Left ∷ rest) = grouped (or_by inner rest)
+not_with inner (t.Call call argument ∷ rest) = Some (Called call argument, rest)
+not_with inner (t.Side side ∷ rest) = compared side rest (behind_comparison rest)
+not_with inner (token ∷ rest) = None
+
+-- The term that tokens begin with, inside so many `!` and parentheses at most: none where the number is zero.
+unfoldable pub inside_of : ℕ → Reader NotTree
+inside_of zero tokens = None
+inside_of (suc levels) tokens = not_with (inside_of levels) tokens
+
+-- the term that tokens begin with; no more than so many `!` and parentheses stand one inside another in it
+abbrev pub read_not : ℕ → Reader NotTree
+read_not levels tokens = not_with (inside_of levels) tokens
+
+-- what stands behind a `!` and behind a parenthesis
+abbrev pub negated_below : ℕ → Reader NotTree
+negated_below levels tokens = turned (inside_of levels tokens)
+
+abbrev pub grouped_below : ℕ → Reader NotTree
+grouped_below levels tokens = grouped (or_by (inside_of levels) tokens)
+
+abbrev pub read_and : ℕ → Reader AndTree
+read_and levels = and_by (read_not levels)
+
+abbrev pub read_or : ℕ → Reader OrTree
+read_or levels = or_by (read_not levels)
+
+-- the tree, where nothing is left behind it
+abbrev pub with_nothing_left : Option (OrTree × List Token) → Option OrTree
+with_nothing_left None = None
+with_nothing_left (Some (or, [])) = Some or
+with_nothing_left (Some (or, token ∷ rest)) = None
+
+-- the tree of tokens
+abbrev pub tree_of : ℕ → List Token → Option OrTree
+tree_of levels tokens = with_nothing_left (read_or levels tokens)

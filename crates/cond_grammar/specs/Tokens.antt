@@ -1,0 +1,116 @@
+-- The tokens of a condition.
+use Rattle.std.specs.Prelude.{ℕ, zero, suc, ◌+◌, ◌-◌, ◌==◌, ◌||◌, Bool, false, List, [], ◌∷◌, drop, take, codes, Option, Some, None, option_map, not, if◌then◌else◌}
+use Rattle.std.specs.Str.{bytes_eq}
+use Rattle.mk_text.specs.Blanks.{is_blank}
+use Rattle.cond_grammar.specs.declared.tokens.Comparison.TheVariants as o
+use Rattle.cond_grammar.specs.declared.tokens.Call.{Call}
+use Rattle.cond_grammar.specs.declared.tokens.Call.TheVariants.{Defined, Empty, Exists, Make, Target}
+use Rattle.cond_grammar.specs.declared.tokens.Side.TheVariants.{Quoted, Bare}
+use Rattle.cond_grammar.specs.declared.tokens.Token.{Token}
+use Rattle.cond_grammar.specs.declared.tokens.Token.TheVariants as t
+
+-- a byte that ends a side: a blank, or one of `( ) ! = < > & | "`
+abbrev pub is_stop : ℕ → Bool
+is_stop b = is_blank b || b == 40 || b == 41 || b == 33 || b == 61 || b == 60 || b == 62 || b == 38 || b == 124 || b == 34
+
+-- whether a text begins with a byte
+abbrev pub begins : ℕ → List ℕ → Bool
+begins byte [] = false
+begins byte (b ∷ rest) = b == byte
+
+-- the place of the first byte with a property, in a text that begins at a place
+abbrev pub first_at : (ℕ → Bool) → ℕ → List ℕ → Option ℕ
+first_at p at [] = None
+first_at p at (b ∷ rest) = if p b then Some at else first_at p (at + 1) rest
+
+-- that place, or the end of the text
+abbrev pub first_or_end : (ℕ → Bool) → ℕ → List ℕ → ℕ
+first_or_end p at [] = at
+first_or_end p at (b ∷ rest) = if p b then at else first_or_end p (at + 1) rest
+
+-- The place of the parenthesis that closes one, in the text behind that, which begins at a place; so many others are open there.
+abbrev pub closing : ℕ → ℕ → List ℕ → Option ℕ
+closing at depth [] = None
+closing at depth (b ∷ rest) =
+    if b == 40 then closing (at + 1) (suc depth) rest
+    else if b == 41 then (if depth == 0 then Some at else closing (at + 1) (depth - 1) rest)
+    else closing (at + 1) depth rest
+
+-- a quoted side: the text goes up to the next double quote (34), which begins behind the first at this place
+abbrev pub quoted : ℕ → Option ℕ → Option (Token × ℕ)
+quoted start None = None
+quoted start (Some end) = Some (t.Side (Quoted (record { start = start; end = end })), end + 1)
+
+-- the call with this word
+abbrev pub call_of : List ℕ → Option Call
+call_of word =
+    if bytes_eq word (codes "defined") then Some Defined
+    else if bytes_eq word (codes "empty") then Some Empty
+    else if bytes_eq word (codes "exists") then Some Exists
+    else if bytes_eq word (codes "make") then Some Make
+    else if bytes_eq word (codes "target") then Some Target
+    else None
+
+-- a call whose argument begins at a place and goes up to the parenthesis that closes it
+abbrev pub closed_call : Call → ℕ → Option ℕ → Option (Token × ℕ)
+closed_call call start None = None
+closed_call call start (Some end) = Some (t.Call call (record { start = start; end = end }), end + 1)
+
+-- the end of the blanks that stand first in a text which begins at a place
+abbrev pub blanks_end : ℕ → List ℕ → ℕ
+blanks_end at text = first_or_end (λ b. not (is_blank b)) at text
+
+-- A side that isn't quoted, from one place up to another; or a call, where it is a call's word and a parenthesis (40) stands at the third
+-- place. `rest` stands behind its first byte.
+abbrev pub word_token : ℕ → List ℕ → ℕ → ℕ → Option Call → Option (Token × ℕ)
+word_token at rest end left None = Some (t.Side (Bare (record { start = at; end = end })), end)
+word_token at rest end left (Some call) =
+    if begins 40 (drop (left - (at + 1)) rest) then closed_call call (left + 1) (closing (left + 1) 0 (drop (left + 1 - (at + 1)) rest))
+    else Some (t.Side (Bare (record { start = at; end = end })), end)
+
+-- the same, of the longest run of bytes that don't end a side; the first is `b`
+abbrev pub word_at : ℕ → ℕ → List ℕ → Option (Token × ℕ)
+word_at at b rest =
+    let end = first_or_end is_stop (at + 1) rest in
+    word_token at rest end (blanks_end end (drop (end - (at + 1)) rest)) (call_of (b ∷ take (end - (at + 1)) rest))
+
+-- a sign of two bytes, or of one where the second isn't there
+abbrev pub sign_at : ℕ → Bool → Token → Token → Option (Token × ℕ)
+sign_at at doubled two one = if doubled then Some (two, at + 2) else Some (one, at + 1)
+
+-- a sign of two bytes alone
+abbrev pub pair_at : ℕ → Bool → Token → Option (Token × ℕ)
+pair_at at doubled two = if doubled then Some (two, at + 2) else None
+
+-- The token that begins with byte `b` at a place, where `rest` follows, and the place behind it; none where there is no token. `b` is no
+-- blank. References are covered by dollars in the text.
+unfoldable pub token_at : ℕ → ℕ → List ℕ → Option (Token × ℕ)
+token_at at b rest =
+    if b == 40 then Some (t.Left, at + 1)
+    else if b == 41 then Some (t.Right, at + 1)
+    else if b == 33 then sign_at at (begins 61 rest) (t.Compare o.Unequal) t.Not
+    else if b == 60 then sign_at at (begins 61 rest) (t.Compare o.AtMost) (t.Compare o.Less)
+    else if b == 62 then sign_at at (begins 61 rest) (t.Compare o.AtLeast) (t.Compare o.Greater)
+    else if b == 61 then pair_at at (begins 61 rest) (t.Compare o.Equal)
+    else if b == 38 then pair_at at (begins 38 rest) t.And
+    else if b == 124 then pair_at at (begins 124 rest) t.Or
+    else if b == 34 then quoted (at + 1) (first_at (λ c. c == 34) (at + 1) rest)
+    else word_at at b rest
+
+-- a token in front of those that `more` gives from the place behind it on
+abbrev pub token_before : (ℕ → Option (List Token)) → Option (Token × ℕ) → Option (List Token)
+token_before more None = None
+token_before more (Some (token, end)) = option_map (λ tokens. token ∷ tokens) (more end)
+
+-- The tokens of a text that begins at a place, from its byte of this number on: blanks are passed over, and so are the bytes of a token
+-- behind its first.
+unfoldable pub walk : ℕ → ℕ → List ℕ → Option (List Token)
+walk at skipped [] = Some []
+walk at (suc skipped) (b ∷ rest) = walk (at + 1) skipped rest
+walk at zero (b ∷ rest) =
+    if is_blank b then walk (at + 1) 0 rest
+    else token_before (λ end. walk (at + 1) (end - (at + 1)) rest) (token_at at b rest)
+
+-- the tokens of a text in which dollars cover the references
+abbrev pub tokens_of : List ℕ → Option (List Token)
+tokens_of text = walk 0 0 text

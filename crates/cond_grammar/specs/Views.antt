@@ -1,0 +1,44 @@
+-- The tree that the code's nodes are.
+use Rattle.std.specs.Prelude.{List, Option, option_map}
+use Rattle.std.specs.Borrow.{Bor}
+use Rattle.cond_grammar.specs.declared.nodes.Condition.{Condition, Condition-F, fold-Condition}
+use Rattle.cond_grammar.specs.declared.nodes.Conjunction.{Conjunction, Conjunction-F, fold-Conjunction}
+use Rattle.cond_grammar.specs.declared.nodes.Term.{Term, Term-F, fold-Term}
+use Rattle.cond_grammar.specs.declared.tokens.Token.{Token}
+use Rattle.cond_grammar.specs.Trees.{OrTree, OrOf, AndTree, AndOf, NotTree, Negated, Grouped, Called, Compared, Alone}
+use Rattle.cond_grammar.specs.Reading.{later_nots, later_ands}
+
+-- one level, with what stands inside already seen as its tree
+abbrev pub condition_step : Condition-F NotTree OrTree AndTree → OrTree
+condition_step condition = OrOf condition.first (later_ands condition.more.items)
+
+abbrev pub conjunction_step : Conjunction-F NotTree OrTree AndTree → AndTree
+conjunction_step conjunction = AndOf conjunction.first (later_nots conjunction.more.items)
+
+abbrev pub term_step : Term-F NotTree OrTree AndTree → NotTree
+term_step (Term-F.Not term) = Negated term.value
+term_step (Term-F.Group condition) = Grouped condition.value
+term_step (Term-F.Call call argument) = Called call argument
+term_step (Term-F.Compare left comparison right) = Compared left comparison right
+term_step (Term-F.Side side) = Alone side
+
+-- the tree of a condition, of a conjunction, of a term
+abbrev pub condition_tree : Condition → OrTree
+condition_tree = fold-Condition NotTree OrTree AndTree term_step condition_step conjunction_step
+
+abbrev pub conjunction_tree : Conjunction → AndTree
+conjunction_tree = fold-Conjunction NotTree OrTree AndTree term_step condition_step conjunction_step
+
+abbrev pub term_tree : Term → NotTree
+term_tree = fold-Term NotTree OrTree AndTree term_step condition_step conjunction_step
+
+-- the tokens that a reference points to
+abbrev pub left_behind : Option (Bor (List Token)) → Option (List Token)
+left_behind left = option_map (λ rest. rest.now) left
+
+-- what was read, and the tokens left
+abbrev pub found : {A B : Type 0} → (A → B) → Option (A × Bor (List Token)) → Option (B × List Token)
+found shown read = option_map (λ x. (shown x.0, x.1.now)) read
+
+abbrev pub read_behind : {A : Type 0} → Option (A × Bor (List Token)) → Option (A × List Token)
+read_behind read = found (λ x. x) read

@@ -1,0 +1,88 @@
+//! Conditions read into their trees.
+ghost use Rattle.std.specs.Prelude.{◌≡◌, ◌≢◌, [], true, false, option_map, IfOk, IfErr};
+ghost use Rattle.cond_grammar.specs.declared.condition.ConditionError.TheVariants as errors;
+ghost use Rattle.mk_ref.specs.Units.{left_of};
+ghost use Rattle.cond_grammar.specs.Views.{condition_tree};
+ghost use Rattle.cond_grammar.specs.Conditions.{IsConditionOf, IsFaultOf, tree_in};
+
+use crate::nodes::Condition;
+use crate::reading::read;
+use crate::scanning::tokens;
+use mk_ref::{PiecesFault, outside, pieces};
+use std::alloc::{AllocError, Global};
+
+/// How many `!` and parentheses may stand one inside another. A call's parentheses don't count.
+pub const LEVELS: usize = 64;
+
+/// Why a text has no condition.
+#[derive(Debug, Clone, Copy, PartialEq, Eq)]
+pub enum ConditionError {
+    /// A reference doesn't end.
+    Unclosed,
+    /// It isn't of the grammar, or more than 64 `!` and parentheses stand one inside another.
+    Unreadable,
+    /// There is no memory.
+    Memory,
+}
+
+impl From<AllocError> for ConditionError {
+    ghost from_gives = { λ _ error. error ≡ errors.Memory };
+
+    fn from(_: AllocError) -> ConditionError {
+        ConditionError::Memory
+    }
+}
+
+/// The tree of the condition that `text` is, what stands behind the word of a directive. Nothing is
+/// expanded: sides and arguments are places in `text`. References are atomic: a parenthesis, a quote
+/// or the end of a side is not sought in them. The time is linear in the length of `text`, and the
+/// depth of the recursion is bounded by `LEVELS`.
+///
+/// The grammar is that of make(1), "CONDITIONALS", where `!` binds most tightly, then `&&`, then
+/// `||`:
+///
+/// ```text
+/// or  = and {"||" and}
+/// and = not {"&&" not}
+/// not = "!" not | "(" or ")" | call | side [comparison side]
+/// ```
+///
+/// # Errors
+///
+/// `Unclosed` where a reference doesn't end, whatever else is wrong; `Unreadable` where the text is no
+/// condition; `Memory` where there is no memory for its tokens or its tree.
+pub fn read_condition(alloc: Global, text: &str) -> Result<Condition, ConditionError>
+    ensures tree { IfOk result (λ condition. IsConditionOf text.now (condition_tree condition)) }
+    ensures fault { IfErr result (IsFaultOf text.now) }
+{
+    if !ends_each_reference(alloc, text)? {
+        return Err(ConditionError::Unclosed);
+    }
+    let covered = outside(alloc, text)?;
+    match tree_in(alloc, covered.as_slice())? {
+        Some(condition) => Ok(condition),
+        None => Err(ConditionError::Unreadable),
+    }
+}
+
+/// Whether each reference of a text ends.
+fn ends_each_reference(alloc: Global, text: &str) -> Result<bool, AllocError>
+    ensures closed { IfOk result (λ ends. ends ≡ true → left_of text.now ≡ []) }
+    ensures unclosed { IfOk result (λ ends. ends ≡ false → left_of text.now ≢ []) }
+{
+    match pieces(alloc, text) {
+        Ok(_) => Ok(true),
+        Err(PiecesFault::Unclosed { at: _ }) => Ok(false),
+        Err(PiecesFault::Memory) => Err(AllocError),
+    }
+}
+
+/// The tree of a text in which dollars cover the references.
+fn tree_in(alloc: Global, covered: &[u8]) -> Result<Option<Condition>, AllocError>
+    ensures { IfOk result (λ read. option_map condition_tree read ≡ tree_in covered.now) }
+{
+    match tokens(alloc, covered)? {
+        Some(tokens) => read(alloc, tokens.as_slice(), LEVELS),
+        None => Ok(None),
+    }
+}

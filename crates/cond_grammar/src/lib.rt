@@ -1,0 +1,14 @@
+//! The grammar of conditions: their tokens, and the tree whose tokens, in order, these are.
+#![tactic(auto)]
+
+mod condition;
+mod laws;
+mod nodes;
+mod reading;
+mod scanning;
+mod tokens;
+
+pub use condition::{ConditionError, LEVELS, read_condition};
+pub use laws::{tokens_have_one_tree, trees_are_read};
+pub use nodes::{Condition, Conjunction, Term};
+pub use tokens::{Call, Comparison, Side};

@@ -1,0 +1,211 @@
+//! Tokens read into their tree.
+ghost use Rattle.std.specs.Prelude.{◌≡◌, map, option_map, IfOk};
+ghost use Rattle.cond_grammar.specs.Reading.{behind_or, behind_and, behind_right, behind_side, behind_comparison, compared, negated_below, grouped_below, operands, read_not, read_and, read_or, tree_of};
+ghost use Rattle.cond_grammar.specs.Views.{condition_tree, conjunction_tree, term_tree, left_behind, read_behind, found};
+
+use crate::nodes::{Condition, Conjunction, Term};
+use crate::tokens::{Comparison, Side, Token};
+use std::alloc::{AllocError, Global};
+
+/// What was read off the front of tokens, and what is left behind it.
+type Read<'t, T> = Option<(T, &'t [Token])>;
+
+/// The tokens behind a `||` that stands first.
+fn behind_or(tokens: &[Token]) -> Option<&[Token]>
+    ensures { left_behind result ≡ behind_or tokens.now }
+{
+    match tokens.split_first() {
+        Some((Token::Or, rest)) => Some(rest),
+        _ => None,
+    }
+}
+
+/// The tokens behind a `&&` that stands first.
+fn behind_and(tokens: &[Token]) -> Option<&[Token]>
+    ensures { left_behind result ≡ behind_and tokens.now }
+{
+    match tokens.split_first() {
+        Some((Token::And, rest)) => Some(rest),
+        _ => None,
+    }
+}
+
+/// The tokens behind a `)` that stands first.
+fn behind_right(tokens: &[Token]) -> Option<&[Token]>
+    ensures { left_behind result ≡ behind_right tokens.now }
+{
+    match tokens.split_first() {
+        Some((Token::Right, rest)) => Some(rest),
+        _ => None,
+    }
+}
+
+/// The side that stands first.
+fn behind_side(tokens: &[Token]) -> Read<'_, Side>
+    ensures { read_behind result ≡ behind_side tokens.now }
+{
+    match tokens.split_first() {
+        Some((Token::Side(side), rest)) => Some((*side, rest)),
+        _ => None,
+    }
+}
+
+/// The sign of a comparison that stands first.
+fn behind_comparison(tokens: &[Token]) -> Read<'_, Comparison>
+    ensures { read_behind result ≡ behind_comparison tokens.now }
+{
+    match tokens.split_first() {
+        Some((Token::Compare(comparison), rest)) => Some((*comparison, rest)),
+        _ => None,
+    }
+}
+
+/// The condition that tokens begin with.
+#[cycle(reading)]
+fn read_or(
+    alloc: Global,
+    tokens: &[Token],
+    levels: usize,
+) -> Result<Read<'_, Condition>, AllocError>
+    ensures { IfOk result (λ read. found condition_tree read ≡ read_or levels tokens.now) }
+{
+    let Some((first, rest)) = read_and(alloc, tokens, levels)? else {
+        return Ok(None);
+    };
+    match later_ands(alloc, rest, levels)? {
+        Some((more, left)) => Ok(Some((Condition { first, more }, left))),
+        None => Ok(None),
+    }
+}
+
+/// The conjunctions that tokens begin with, each behind a `||`.
+#[cycle(reading)]
+fn later_ands(
+    alloc: Global,
+    tokens: &[Token],
+    levels: usize,
+) -> Result<Read<'_, Vec<Conjunction>>, AllocError>
+    ensures { IfOk result (λ read. found (λ more. map conjunction_tree more.items) read ≡ operands behind_or (read_and levels) tokens.now) }
+{
+    let mut more = Vec::new(alloc);
+    let mut rest = tokens;
+    while let Some(behind) = behind_or(rest) {
+        let Some((next, left)) = read_and(alloc, behind, levels)? else {
+            return Ok(None);
+        };
+        more.push(next)?;
+        rest = left;
+    }
+    Ok(Some((more, rest)))
+}
+
+/// The conjunction that tokens begin with.
+#[cycle(reading)]
+fn read_and(
+    alloc: Global,
+    tokens: &[Token],
+    levels: usize,
+) -> Result<Read<'_, Conjunction>, AllocError>
+    ensures { IfOk result (λ read. found conjunction_tree read ≡ read_and levels tokens.now) }
+{
+    let Some((first, rest)) = read_not(alloc, tokens, levels)? else {
+        return Ok(None);
+    };
+    match later_nots(alloc, rest, levels)? {
+        Some((more, left)) => Ok(Some((Conjunction { first, more }, left))),
+        None => Ok(None),
+    }
+}
+
+/// The terms that tokens begin with, each behind a `&&`.
+#[cycle(reading)]
+fn later_nots(
+    alloc: Global,
+    tokens: &[Token],
+    levels: usize,
+) -> Result<Read<'_, Vec<Term>>, AllocError>
+    ensures { IfOk result (λ read. found (λ more. map term_tree more.items) read ≡ operands behind_and (read_not levels) tokens.now) }
+{
+    let mut more = Vec::new(alloc);
+    let mut rest = tokens;
+    while let Some(behind) = behind_and(rest) {
+        let Some((next, left)) = read_not(alloc, behind, levels)? else {
+            return Ok(None);
+        };
+        more.push(next)?;
+        rest = left;
+    }
+    Ok(Some((more, rest)))
+}
+
+/// The term that tokens begin with.
+#[cycle(reading)]
+fn read_not(alloc: Global, tokens: &[Token], levels: usize) -> Result<Read<'_, Term>, AllocError>
+    ensures { IfOk result (λ read. found term_tree read ≡ read_not levels tokens.now) }
+{
+    match tokens.split_first() {
+        Some((Token::Not, rest)) => negated(alloc, rest, levels),
+        Some((Token::Left, rest)) => grouped(alloc, rest, levels),
+        Some((Token::Call(call, argument), rest)) => Ok(Some((Term::Call(*call, *argument), rest))),
+        Some((Token::Side(side), rest)) => Ok(sided(*side, rest)),
+        _ => Ok(None),
+    }
+}
+
+/// The term behind a `!`, turned.
+#[cycle(reading)]
+fn negated(alloc: Global, tokens: &[Token], levels: usize) -> Result<Read<'_, Term>, AllocError>
+    ensures { IfOk result (λ read. found term_tree read ≡ negated_below levels tokens.now) }
+{
+    if levels == 0 {
+        return Ok(None);
+    }
+    match read_not(alloc, tokens, levels - 1)? {
+        Some((term, rest)) => Ok(Some((Term::Not(Box::new(alloc, term)?), rest))),
+        None => Ok(None),
+    }
+}
+
+/// The condition behind a parenthesis, as a group, where the parenthesis closes.
+#[cycle(reading)]
+fn grouped(alloc: Global, tokens: &[Token], levels: usize) -> Result<Read<'_, Term>, AllocError>
+    ensures { IfOk result (λ read. found term_tree read ≡ grouped_below levels tokens.now) }
+{
+    if levels == 0 {
+        return Ok(None);
+    }
+    let Some((condition, rest)) = read_or(alloc, tokens, levels - 1)? else {
+        return Ok(None);
+    };
+    match behind_right(rest) {
+        Some(left) => Ok(Some((Term::Group(Box::new(alloc, condition)?), left))),
+        None => Ok(None),
+    }
+}
+
+/// The side in front of tokens, compared with the side behind a sign that they begin with, or alone.
+fn sided(left: Side, tokens: &[Token]) -> Read<'_, Term>
+    ensures { found term_tree result ≡ compared left tokens.now (behind_comparison tokens.now) }
+{
+    let Some((comparison, rest)) = behind_comparison(tokens) else {
+        return Some((Term::Side(left), tokens));
+    };
+    match behind_side(rest) {
+        Some((right, behind)) => Some((Term::Compare(left, comparison, right), behind)),
+        None => None,
+    }
+}
+
+/// The tree of tokens.
+pub(crate) fn read(
+    alloc: Global,
+    tokens: &[Token],
+    levels: usize,
+) -> Result<Option<Condition>, AllocError>
+    ensures { IfOk result (λ read. option_map condition_tree read ≡ tree_of levels tokens.now) }
+{
+    match read_or(alloc, tokens, levels)? {
+        Some((condition, [])) => Ok(Some(condition)),
+        _ => Ok(None),
+    }
+}
