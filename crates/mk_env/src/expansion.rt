@@ -1,5 +1,6 @@
 //! Texts with their references expanded.
 ghost use Rattle.std.specs.Prelude.{◌≡◌, string_bytes};
+ghost use Rattle.mk_base.specs.Meter.{IsLater};
 ghost use Rattle.mk_base.specs.Stopping.{Gives, NeverStore};
 ghost use Rattle.mk_env.specs.Expansion as meaning;
 
@@ -34,6 +35,7 @@ pub fn expand(
     budget: &mut Budget,
 ) -> Result<String, Stop<FaultKind>>
     ensures store { NeverStore result }
+    ensures later { IsLater budget.old budget.new }
     ensures gives { Gives string_bytes result budget.new (meaning.expand variables.now text.now budget.old) }
 {
     let scope = Scope {
@@ -55,6 +57,7 @@ pub fn expand_now(
     budget: &mut Budget,
 ) -> Result<String, Stop<FaultKind>>
     ensures store { NeverStore result }
+    ensures later { IsLater budget.old budget.new }
     ensures gives { Gives string_bytes result budget.new (meaning.expand_now variables.now text.now budget.old) }
 {
     let scope = Scope {
@@ -75,6 +78,7 @@ pub fn expand_variable(
     budget: &mut Budget,
 ) -> Result<String, Stop<FaultKind>>
     ensures store { NeverStore result }
+    ensures later { IsLater budget.old budget.new }
     ensures gives { Gives string_bytes result budget.new (meaning.variable variables.now name.now budget.old) }
 {
     budget.pay()?;
