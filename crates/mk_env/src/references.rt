@@ -71,7 +71,7 @@ fn join_piece(
 /// What a reference means: it is paid for, and its name is expanded.
 #[cycle(expansion)]
 #[tactic(auto, unfolding(crate::specs::Expansion::reference))]
-fn expand_reference(
+pub(crate) fn expand_reference(
     alloc: Global,
     scope: Scope<'_>,
     mention: Mention<'_>,
@@ -166,7 +166,7 @@ fn expand_value(
 
 /// What modifiers make of a value, from left to right.
 #[cycle(expansion)]
-fn apply_modifiers(
+pub(crate) fn apply_modifiers(
     alloc: Global,
     scope: Scope<'_>,
     value: String,
