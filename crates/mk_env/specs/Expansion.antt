@@ -11,7 +11,7 @@ use Rattle.mk_base.specs.Outcome.{Work, give, fail, each, ◌>>=◌}
 use Rattle.mk_text.specs.Words.{words_of}
 use Rattle.mk_ref.specs.Units.{TextUnit, sources, before_colon, behind_colon, units_of, left_of}
 use Rattle.mk_ref.specs.Pieces.{TextPiece, LiteralPiece, PairPiece, ReferencePiece, pieces_of}
-use Rattle.mk_mods.specs.declared.joining.TheConstants.{TEXT_LIMIT}
+use Rattle.mk_text.specs.declared.limits.TheConstants.{TEXT_LIMIT}
 use Rattle.mk_mods.specs.Actions.{Symbol, Byte, Whole, Reference, Action, Match, Exclude, Substitute, Change}
 use Rattle.mk_mods.specs.Grammar.{modifiers_of}
 use Rattle.mk_mods.specs.Joined.{joined, within_limit}

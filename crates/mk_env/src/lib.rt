@@ -10,5 +10,4 @@ mod scope;
 mod variables;
 
 pub use expansion::{REFERENCE_LEVELS, expand, expand_inside, expand_now, expand_variable, modify};
-pub use mk_mods::TEXT_LIMIT;
 pub use variables::Env;

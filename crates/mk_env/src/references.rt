@@ -15,8 +15,9 @@ use crate::joining::{copy_bounded, has_dollar, push_bounded};
 use crate::reading::{Mention, apply_expanded, apply_substitution, cut, mentioned, read_modifiers};
 use crate::scope::{Active, Scope};
 use mk_base::{Budget, FaultKind, Stop};
-use mk_mods::{Modifier, Part, TEXT_LIMIT};
+use mk_mods::{Modifier, Part};
 use mk_ref::Piece;
+use mk_text::TEXT_LIMIT;
 use std::alloc::Global;
 
 /// What a text means.

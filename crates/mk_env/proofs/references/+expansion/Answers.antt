@@ -8,7 +8,7 @@ use Rattle.mk_base.specs.Outcome.{each, after}
 use Rattle.mk_base.specs.Each.{each-value, each-stop, each-end}
 use Rattle.mk_base.specs.Stopping.{StopsAt, StopsAt-whole, Gives}
 use Rattle.mk_ref.specs.Places.{shown}
-use Rattle.mk_mods.specs.declared.joining.TheConstants.{TEXT_LIMIT}
+use Rattle.mk_text.specs.declared.limits.TheConstants.{TEXT_LIMIT}
 use Rattle.mk_mods.specs.Actions.{Whole, Reference, action_of, symbols_of}
 use Rattle.mk_env.specs.declared.scope.Undefined.TheVariants as kept
 use Rattle.mk_env.specs.Expansion as meaning

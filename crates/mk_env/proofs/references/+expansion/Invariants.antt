@@ -3,7 +3,7 @@ use Rattle.std.specs.List.{flat_map}
 use Rattle.mk_base.specs.Meter.{IsLater}
 use Rattle.mk_base.specs.Outcome.{each}
 use Rattle.mk_ref.specs.Places.{shown}
-use Rattle.mk_mods.specs.declared.joining.TheConstants.{TEXT_LIMIT}
+use Rattle.mk_text.specs.declared.limits.TheConstants.{TEXT_LIMIT}
 use Rattle.mk_mods.specs.Actions.{action_of, symbols_of}
 use Rattle.mk_env.specs.Expansion as meaning
 use Rattle.mk_env.specs.ActiveNames.{references_in}
