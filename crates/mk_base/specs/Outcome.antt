@@ -31,3 +31,8 @@ each turn s (x ∷ xs) m = after (turn s x m) (λ next. each turn next xs)
 abbrev pub tell : {M F G A : Type 0} → (F → G) → Result (A × M) (F × M) → Result (A × M) (G × M)
 tell f (Ok x) = Ok x
 tell f (Err stop) = Err (f stop.0, stop.1)
+
+-- the state that some work left, whether it gave a value or stopped
+abbrev pub left : {M F A : Type 0} → Result (A × M) (F × M) → M
+left (Ok end) = end.1
+left (Err end) = end.1

@@ -3,9 +3,11 @@
 #![tactic(auto)]
 
 mod faults;
+mod laws;
 mod metering;
 mod stopping;
 
 pub use faults::{Fault, FaultKind};
+pub use laws::budget_limits;
 pub use metering::{Budget, QUESTIONS, UNITS};
 pub use stopping::Stop;

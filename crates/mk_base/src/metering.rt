@@ -1,5 +1,5 @@
 ghost use Rattle.std.specs.Prelude.{◌≡◌};
-ghost use Rattle.mk_base.specs.Meter.{full, pay, question};
+ghost use Rattle.mk_base.specs.Meter.{full, pay, question, IsLater};
 ghost use Rattle.mk_base.specs.Stopping.{GivesOnly};
 
 use super::FaultKind;
@@ -59,7 +59,8 @@ impl Budget {
 
     /// Spends one unit. Where none is left it is a fault of the kind `Budget`, and nothing is spent.
     pub fn pay(&mut self) -> Result<(), FaultKind>
-        ensures { GivesOnly (λ x. x) result self.new (pay self.old) }
+        ensures gives { GivesOnly (λ x. x) result self.new (pay self.old) }
+        ensures later { IsLater self.old self.new }
     {
         if self.spent < self.limit {
             self.spent += 1;
@@ -72,7 +73,8 @@ impl Budget {
     /// Counts one question about a file. The 257th is a fault of the kind `Questions`, and isn't
     /// counted.
     pub fn ask(&mut self) -> Result<(), FaultKind>
-        ensures { GivesOnly (λ x. x) result self.new (question self.old) }
+        ensures gives { GivesOnly (λ x. x) result self.new (question self.old) }
+        ensures later { IsLater self.old self.new }
     {
         if self.questions < QUESTIONS {
             self.questions += 1;

@@ -14,7 +14,7 @@ use Rattle.mk_ref.specs.Units.{units_of, left_of}
 use Rattle.mk_ref.specs.Units.{Byte as TextByte}
 use Rattle.mk_ref.proofs.PlainTexts.{cut-plain}
 use Rattle.mk_ref.specs.Pieces.{TextPiece, LiteralPiece, with_byte, pieces_of}
-use Rattle.mk_mods.specs.declared.joining.TheConstants.{TEXT_LIMIT}
+use Rattle.mk_text.specs.declared.limits.TheConstants.{TEXT_LIMIT}
 use Rattle.mk_mods.specs.Actions.{Symbol, Byte}
 use Rattle.mk_env.specs.declared.scope.Undefined.{Undefined}
 use Rattle.mk_env.specs.declared.scope.Undefined.TheVariants as kept

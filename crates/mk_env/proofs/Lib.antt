@@ -2,3 +2,4 @@ pub mod TextMap
 pub mod Leftovers
 pub mod Walks
 pub mod ExpansionSteps
+pub mod InsideParts

@@ -1,6 +1,6 @@
 -- What texts with references in them mean among variables (make(1), "VARIABLES"). The order in which faults are looked for, the limits
 -- and the cost are this project's choice.
-use Rattle.std.specs.Prelude.{ℕ, suc, zero, Bool, false, true, if◌then◌else◌, nat_lt, List, [], ◌∷◌, ◌++◌, length, Option, Some, None}
+use Rattle.std.specs.Prelude.{ℕ, suc, zero, Bool, false, true, if◌then◌else◌, nat_lt, List, [], ◌∷◌, ◌++◌, length, Option, Some, None, option_map}
 use Rattle.std.specs.List.{list_any}
 use Rattle.std.specs.Str.{bytes_eq}
 use Rattle.std.specs.FinMap as finite
@@ -9,9 +9,9 @@ use Rattle.mk_base.specs.declared.faults.FaultKind.TheVariants as kinds
 use Rattle.mk_base.specs.Meter.{Meter, pay}
 use Rattle.mk_base.specs.Outcome.{Work, give, fail, each, ◌>>=◌}
 use Rattle.mk_text.specs.Words.{words_of}
-use Rattle.mk_ref.specs.Units.{units_of, left_of}
+use Rattle.mk_ref.specs.Units.{TextUnit, sources, before_colon, behind_colon, units_of, left_of}
 use Rattle.mk_ref.specs.Pieces.{TextPiece, LiteralPiece, PairPiece, ReferencePiece, pieces_of}
-use Rattle.mk_mods.specs.declared.joining.TheConstants.{TEXT_LIMIT}
+use Rattle.mk_text.specs.declared.limits.TheConstants.{TEXT_LIMIT}
 use Rattle.mk_mods.specs.Actions.{Symbol, Byte, Whole, Reference, Action, Match, Exclude, Substitute, Change}
 use Rattle.mk_mods.specs.Grammar.{modifiers_of}
 use Rattle.mk_mods.specs.Joined.{joined, within_limit}
@@ -143,3 +143,20 @@ expand_now variables = text_meaning (reference kept.Kept 32 variables [])
 -- what a reference to the variable of this very name means, which nothing stands round
 abbrev pub variable : Variables → Meaning
 variable variables name = pay >>= λ _. named (reference kept.Empty 31 variables) variables [] name None
+
+-- What a reference means that is given by what stands inside it, of which these units are read and this is left: its name are those before
+-- the first colon outside references, its modifiers those behind it. Where a reference in it doesn't end, it is a fault before anything is
+-- paid.
+abbrev pub by_inside : References → List ℕ → List TextUnit → List ℕ → Work Meter FaultKind (List ℕ)
+by_inside references text units [] = references text (sources (before_colon units)) (option_map sources (behind_colon units))
+by_inside references text units (b ∷ left) = fail kinds.Reference
+
+-- what a reference with this inside means, which nothing stands round; a mark that would close it is a byte like any other.
+-- It is never kept as it is written, so only its name and its modifiers count.
+abbrev pub inside : Variables → Meaning
+inside variables text = by_inside (reference kept.Empty 32 variables []) text (units_of text) (left_of text)
+
+-- What these modifiers make of a text that is given, as the word is that a loop puts in the place of a reference. That reference is paid
+-- for already, and stands round the references in the modifiers.
+abbrev pub modified_by : Variables → List ℕ → List ℕ → Work Meter FaultKind (List ℕ)
+modified_by variables modifiers text = readable (modifiers_of modifiers) >>= λ actions. each (modified (reference kept.Empty 31 variables [])) text actions

@@ -7,19 +7,19 @@ ghost use Rattle.mk_env.specs.Expansion.{bounded};
 ghost use Rattle.mk_env.specs.Refusals.{IsTooLong};
 
 use mk_base::{FaultKind, Stop};
-use mk_mods::TEXT_LIMIT;
+use mk_text::{TEXT_LIMIT, TextFault, add_text};
 use std::alloc::Global;
 
-/// Adds the text, unless the whole is then too long: so nothing longer is ever made.
+/// Adds the text, unless the whole is then too long.
 pub(crate) fn push_bounded(joined: &mut String, text: &str) -> Result<(), Stop<FaultKind>>
     ensures ok { IfOk result (λ _. (length (string_bytes joined.old ++ text.now) ≤ TEXT_LIMIT) × (string_bytes joined.new ≡ string_bytes joined.old ++ text.now)) }
     ensures err { IfErr result (IsTooLong (string_bytes joined.old ++ text.now)) }
 {
-    if joined.len() + text.len() > TEXT_LIMIT {
-        return Err(Stop::Fault(FaultKind::Length));
+    match add_text(joined, text) {
+        Ok(()) => Ok(()),
+        Err(TextFault::Length) => Err(Stop::Fault(FaultKind::Length)),
+        Err(TextFault::Memory) => Err(Stop::Memory),
     }
-    joined.push_str(text)?;
-    Ok(())
 }
 
 /// A copy of the text, unless it is too long.

@@ -2,12 +2,12 @@
 #![tactic(auto)]
 
 mod expansion;
+mod insides;
 mod joining;
 mod reading;
 mod references;
 mod scope;
 mod variables;
 
-pub use expansion::{expand, expand_now, expand_variable};
-pub use mk_mods::TEXT_LIMIT;
+pub use expansion::{REFERENCE_LEVELS, expand, expand_inside, expand_now, expand_variable, modify};
 pub use variables::Env;

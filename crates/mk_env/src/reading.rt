@@ -12,8 +12,9 @@ ghost use Rattle.mk_env.specs.Expansion.{actions_of};
 ghost use Rattle.mk_env.specs.Refusals.{IsUncut, IsUnread, IsUnmade};
 
 use mk_base::{FaultKind, Stop};
-use mk_mods::{ApplyFault, Modifier, Mods, ModsFault, Substitution, apply, substitute};
+use mk_mods::{Modifier, Mods, ModsFault, Substitution, apply, substitute};
 use mk_ref::{Piece, PiecesFault, Reference, pieces};
+use mk_text::TextFault;
 use std::alloc::Global;
 
 /// A reference by its texts.
@@ -89,8 +90,8 @@ pub(crate) fn apply_expanded(
 {
     match apply(alloc, modifier, value) {
         Ok(made) => Ok(made),
-        Err(ApplyFault::Length) => Err(Stop::Fault(FaultKind::Length)),
-        Err(ApplyFault::Memory) => Err(Stop::Memory),
+        Err(TextFault::Length) => Err(Stop::Fault(FaultKind::Length)),
+        Err(TextFault::Memory) => Err(Stop::Memory),
     }
 }
 
@@ -107,7 +108,7 @@ pub(crate) fn apply_substitution(
 {
     match substitute(alloc, substitution, old, new, value) {
         Ok(made) => Ok(made),
-        Err(ApplyFault::Length) => Err(Stop::Fault(FaultKind::Length)),
-        Err(ApplyFault::Memory) => Err(Stop::Memory),
+        Err(TextFault::Length) => Err(Stop::Fault(FaultKind::Length)),
+        Err(TextFault::Memory) => Err(Stop::Memory),
     }
 }

@@ -3,6 +3,7 @@ ghost use Rattle.std.specs.Prelude.{◌≡◌, ◌≢◌, ◌≤◌, ◌-◌, �
 ghost use Rattle.std.specs.List.{flat_map};
 ghost use Rattle.std.specs.FinMap as finite;
 ghost use Rattle.mk_base.specs.Outcome.{each};
+ghost use Rattle.mk_base.specs.Meter.{IsLater};
 ghost use Rattle.mk_base.specs.Stopping.{Gives, NeverStore};
 ghost use Rattle.mk_ref.specs.Places.{shown, IsPieceIn};
 ghost use Rattle.mk_mods.specs.Actions.{action_of, symbols_of};
@@ -14,8 +15,9 @@ use crate::joining::{copy_bounded, has_dollar, push_bounded};
 use crate::reading::{Mention, apply_expanded, apply_substitution, cut, mentioned, read_modifiers};
 use crate::scope::{Active, Scope};
 use mk_base::{Budget, FaultKind, Stop};
-use mk_mods::{Modifier, Part, TEXT_LIMIT};
+use mk_mods::{Modifier, Part};
 use mk_ref::Piece;
+use mk_text::TEXT_LIMIT;
 use std::alloc::Global;
 
 /// What a text means.
@@ -27,6 +29,7 @@ pub(crate) fn expand_text(
     budget: &mut Budget,
 ) -> Result<String, Stop<FaultKind>>
     ensures store { NeverStore result }
+    ensures later { IsLater budget.old budget.new }
     ensures gives { Gives string_bytes result budget.new (meaning.text_meaning (references_in scope.entry) text.now budget.old) }
 {
     // Without a dollar the text is its one literal.
@@ -52,6 +55,7 @@ fn join_piece(
 ) -> Result<(), Stop<FaultKind>>
     requires { IsPieceIn text.now piece.now }
     ensures store { NeverStore result }
+    ensures later { IsLater budget.old budget.new }
     ensures gives { Gives (λ _. string_bytes joined.new) result budget.new
         (meaning.join_piece (references_in scope.entry) (string_bytes joined.old) (shown text.now piece.now) budget.old) }
 {
@@ -68,13 +72,14 @@ fn join_piece(
 /// What a reference means: it is paid for, and its name is expanded.
 #[cycle(expansion)]
 #[tactic(auto, unfolding(crate::specs::Expansion::reference))]
-fn expand_reference(
+pub(crate) fn expand_reference(
     alloc: Global,
     scope: Scope<'_>,
     mention: Mention<'_>,
     budget: &mut Budget,
 ) -> Result<String, Stop<FaultKind>>
     ensures store { NeverStore result }
+    ensures later { IsLater budget.old budget.new }
     ensures gives { Gives string_bytes result budget.new
         (references_in scope.entry mention.entry.written.now mention.entry.name.now (option_map (λ t. t.now) mention.entry.modifiers) budget.old) }
 {
@@ -101,6 +106,7 @@ fn expand_by_name(
 ) -> Result<String, Stop<FaultKind>>
     requires { scope.levels ≢ 0 }
     ensures store { NeverStore result }
+    ensures later { IsLater budget.old budget.new }
     ensures gives { Gives string_bytes result budget.new
         (meaning.by_name scope.entry.undefined (meaning.reference kept.Empty (scope.entry.levels - 1) scope.entry.variables.now) scope.entry.variables.now (names_of scope.entry.active) mention.entry.written.now (option_map (λ t. t.now) mention.entry.modifiers) name.now budget.old) }
 {
@@ -121,6 +127,7 @@ pub(crate) fn expand_named(
 ) -> Result<String, Stop<FaultKind>>
     requires { scope.undefined ≡ kept.Empty }
     ensures store { NeverStore result }
+    ensures later { IsLater budget.old budget.new }
     ensures gives { Gives string_bytes result budget.new
         (meaning.named (meaning.reference kept.Empty scope.entry.levels scope.entry.variables.now) scope.entry.variables.now (names_of scope.entry.active) name.now (option_map (λ t. t.now) modifiers.entry) budget.old) }
 {
@@ -142,6 +149,7 @@ fn expand_value(
 ) -> Result<String, Stop<FaultKind>>
     requires { scope.undefined ≡ kept.Empty }
     ensures store { NeverStore result }
+    ensures later { IsLater budget.old budget.new }
     ensures gives { Gives string_bytes result budget.new
         (meaning.value_meaning (meaning.reference kept.Empty scope.entry.levels scope.entry.variables.now (name.now ∷ names_of scope.entry.active)) (finite.get scope.entry.variables.now name.now) budget.old) }
 {
@@ -159,7 +167,7 @@ fn expand_value(
 
 /// What modifiers make of a value, from left to right.
 #[cycle(expansion)]
-fn apply_modifiers(
+pub(crate) fn apply_modifiers(
     alloc: Global,
     scope: Scope<'_>,
     value: String,
@@ -167,6 +175,7 @@ fn apply_modifiers(
     budget: &mut Budget,
 ) -> Result<String, Stop<FaultKind>>
     ensures store { NeverStore result }
+    ensures later { IsLater budget.old budget.new }
     ensures gives { Gives string_bytes result budget.new
         (each (meaning.modified (references_in scope.entry)) (string_bytes value) (map action_of modifiers.now) budget.old) }
 {
@@ -187,6 +196,7 @@ fn apply_modifier(
     budget: &mut Budget,
 ) -> Result<String, Stop<FaultKind>>
     ensures store { NeverStore result }
+    ensures later { IsLater budget.old budget.new }
     ensures gives { Gives string_bytes result budget.new
         (meaning.modified (references_in scope.entry) value.now (action_of modifier.now) budget.old) }
 {
@@ -218,6 +228,7 @@ fn expand_parts(
     budget: &mut Budget,
 ) -> Result<String, Stop<FaultKind>>
     ensures store { NeverStore result }
+    ensures later { IsLater budget.old budget.new }
     ensures gives { Gives string_bytes result budget.new
         (meaning.symbols_meaning (references_in scope.entry) old.now (flat_map symbols_of parts.now) budget.old) }
 {
@@ -241,6 +252,7 @@ fn join_part(
     requires small { length (string_bytes joined.old) ≤ TEXT_LIMIT }
     ensures small { IfOk result (λ _. length (string_bytes joined.new) ≤ TEXT_LIMIT) }
     ensures store { NeverStore result }
+    ensures later { IsLater budget.old budget.new }
     ensures gives { Gives (λ _. string_bytes joined.new) result budget.new
         (each (meaning.join_symbol (references_in scope.entry) old.now) (string_bytes joined.old) (symbols_of part.now) budget.old) }
 {

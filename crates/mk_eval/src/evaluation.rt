@@ -8,7 +8,7 @@ use super::outcome::{Evaluated, Failed, Valued, with_cost};
 use super::reading::evaluate_text;
 use mk_base::{Budget, FaultKind, Stop, UNITS};
 use mk_env::expand_variable;
-use mk_files::{Content, Files, look};
+use mk_files::{Content, Files, look_read};
 use mk_paths::Name;
 use std::alloc::Global;
 
@@ -31,7 +31,7 @@ pub fn evaluate<F: Files>(
     ensures looked { OnOk result (Looked (F.shelf files.old) (F.shelf files.new) name.now) }
     ensures stops { IfErr result (LooksAndStops (F.shelf files.old) (F.shelf files.new) name.now) }
 {
-    let content = look(files, name)?;
+    let content = look_read(files, name)?;
     evaluate_content(alloc, name, content)
 }
 

@@ -9,8 +9,8 @@ ghost use Rattle.mk_eval.specs.Lines as lines;
 
 use mk_ast::{Directive, LineKind, Operator, is_word, line_kind};
 use mk_base::{Budget, FaultKind, Stop};
-use mk_env::{Env, TEXT_LIMIT, expand, expand_now};
-use mk_text::words;
+use mk_env::{Env, expand, expand_now};
+use mk_text::{TEXT_LIMIT, words};
 use std::alloc::{AllocError, Global};
 
 /// Does what the line with this text says. A line that isn't blank costs a unit, before anything

@@ -1,2 +1,3 @@
 pub mod Holding
+pub mod Asking
 pub mod Looking

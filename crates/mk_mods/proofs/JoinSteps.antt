@@ -7,9 +7,10 @@ use mathlib.Core.Bool.{beq}
 use Rattle.mk_mods.specs.Applied.{kept}
 use Rattle.mk_text.specs.declared.splitting.Span.{Span}
 use Rattle.mk_text.specs.Words.{span_text}
-use Rattle.mk_mods.specs.declared.joining.ApplyFault.{ApplyFault}
-use Rattle.mk_mods.specs.declared.joining.ApplyFault.TheVariants as faults
-use Rattle.mk_mods.specs.Joined.{joined, has_bytes, with_word, IsTooLong, IsOverlong}
+use Rattle.mk_text.specs.declared.limits.TextFault.{TextFault}
+use Rattle.mk_text.specs.declared.limits.TextFault.TheVariants as faults
+use Rattle.mk_mods.specs.Joined.{joined, has_bytes, with_word, IsOverlong}
+use Rattle.mk_text.specs.TextLimit.{IsTooLong}
 
 -- words put behind words that are joined
 abbrev pub onto : List ℕ → List (List ℕ) → List ℕ
@@ -80,7 +81,7 @@ pub no-word : (text : List ℕ) (spans : List Span) (words : List (List ℕ)) (a
 no-word text spans words at is far = drop_all at words (omega (arith, ap length is, length-map spans (span_text text)))
 
 -- what is at least as long as a text that is too long
-pub too_long-over : (text whole : List ℕ) (fault : ApplyFault) → length text ≤ length whole → IsTooLong text fault → IsTooLong whole fault
+pub too_long-over : (text whole : List ℕ) (fault : TextFault) → length text ≤ length whole → IsTooLong text fault → IsTooLong whole fault
 too_long-over text whole faults.Length at_least long = omega arith
 too_long-over text whole faults.Memory at_least long = tt
 
@@ -94,7 +95,7 @@ kept-is false false = refl
 pub kept-by : (found matching is : Bool) → found ≡ is → kept matching is ≡ beq found matching
 kept-by found matching is e = kept-is matching is ∙ ap (λ b. beq b matching) (sym e)
 
-pub overlong-of : (made : Option (List ℕ)) (text : List ℕ) (fault : ApplyFault) → made ≡ Some text → IsTooLong text fault → IsOverlong made fault
+pub overlong-of : (made : Option (List ℕ)) (text : List ℕ) (fault : TextFault) → made ≡ Some text → IsTooLong text fault → IsOverlong made fault
 overlong-of made text fault e long = subst (λ o. IsOverlong o fault) (sym e) long
 
 with_word-covers : (made word : List ℕ) → length word ≤ length (with_word made word)
@@ -108,7 +109,7 @@ joining-covers limit whole made word rest later so_far e =
     omega (arith, with_word-covers made word, joining-over limit whole made word rest later so_far e)
 
 -- a whole that a text which wasn't made is part of
-pub overlong-whole : (made : Option (List ℕ)) (whole : List ℕ) (fault : ApplyFault) → ((text : List ℕ) → made ≡ Some text → length text ≤ length whole)
+pub overlong-whole : (made : Option (List ℕ)) (whole : List ℕ) (fault : TextFault) → ((text : List ℕ) → made ≡ Some text → length text ≤ length whole)
     → IsOverlong made fault → IsTooLong whole fault
 overlong-whole None whole fault part over = subst (IsTooLong whole) (sym over) tt
 overlong-whole (Some text) whole fault part over = too_long-over text whole fault (part text refl) over

@@ -1,10 +1,11 @@
 -- Values made of words: the words joined by single spaces, within the limit of a text.
-use Rattle.std.specs.Prelude.{◌≡◌, ◌<◌, ◌≤◌, ℕ, Bool, true, false, nat_le, List, [], ◌∷◌, ◌++◌, length, filter, Option, Some, None, if◌then◌else◌, String, string_bytes}
+use Rattle.std.specs.Prelude.{◌≡◌, ◌≤◌, ℕ, Bool, true, false, nat_le, List, [], ◌∷◌, ◌++◌, length, filter, Option, Some, None, if◌then◌else◌, String, string_bytes}
 use Rattle.std.specs.declared.alloc.Global.{Global}
 use Rattle.std.specs.List.{join_with_byte}
-use Rattle.mk_mods.specs.declared.joining.TheConstants.{TEXT_LIMIT}
-use Rattle.mk_mods.specs.declared.joining.ApplyFault.{ApplyFault}
-use Rattle.mk_mods.specs.declared.joining.ApplyFault.TheVariants as faults
+use Rattle.mk_text.specs.declared.limits.TheConstants.{TEXT_LIMIT}
+use Rattle.mk_text.specs.TextLimit.{IsTooLong}
+use Rattle.mk_text.specs.declared.limits.TextFault.{TextFault}
+use Rattle.mk_text.specs.declared.limits.TextFault.TheVariants as faults
 
 -- whether a text isn't empty
 abbrev pub has_bytes : List ℕ → Bool
@@ -20,7 +21,7 @@ abbrev pub within_limit : List ℕ → Option (List ℕ)
 within_limit text = if nat_le (length text) TEXT_LIMIT then Some text else None
 
 -- why a text wasn't made: it would be too long, or there was no memory, which says nothing of the text
-abbrev pub IsUnmade : {X : Type 0} → Option X → ApplyFault → Type 0
+abbrev pub IsUnmade : {X : Type 0} → Option X → TextFault → Type 0
 IsUnmade made faults.Length = made ≡ None
 IsUnmade made faults.Memory = Unit {0}
 
@@ -30,16 +31,11 @@ with_word made [] = made
 with_word [] (b ∷ word) = b ∷ word
 with_word (m ∷ made) (b ∷ word) = m ∷ made ++ 32 ∷ b ∷ word
 
--- why a text wasn't added to: the whole would be too long, or there was no memory
-abbrev pub IsTooLong : List ℕ → ApplyFault → Type 0
-IsTooLong whole faults.Length = TEXT_LIMIT < length whole
-IsTooLong whole faults.Memory = Unit {0}
-
 -- a text was made that isn't too long
 abbrev pub IsMade : List ℕ → String Global → Type 0
 IsMade text made = (length text ≤ TEXT_LIMIT) × (string_bytes made ≡ text)
 
 -- why a text wasn't made, where there is one to make
-abbrev pub IsOverlong : Option (List ℕ) → ApplyFault → Type 0
+abbrev pub IsOverlong : Option (List ℕ) → TextFault → Type 0
 IsOverlong None fault = fault ≡ faults.Memory
 IsOverlong (Some text) fault = IsTooLong text fault

@@ -2,17 +2,18 @@
 ghost use Rattle.std.specs.Prelude.{◌≡◌, Bool, All, if◌then◌else◌, not, filter, map, string_bytes, IfOk, IfErr, Some};
 ghost use Rattle.mk_text.specs.Words.{words_of};
 ghost use Rattle.mk_glob.specs.Matching.{fits};
-ghost use Rattle.mk_mods.specs.Joined.{joined, IsUnmade, IsMade, IsTooLong};
+ghost use Rattle.mk_mods.specs.Joined.{joined, IsUnmade, IsMade};
+ghost use Rattle.mk_text.specs.TextLimit.{IsTooLong};
 ghost use Rattle.mk_mods.specs.WordChanges.{word_change};
 ghost use Rattle.mk_mods.specs.Actions.{action_of, IsExpanded};
 ghost use Rattle.mk_mods.specs.Applied.{applied, kept};
 
-use crate::joining::{ApplyFault, add_word};
+use crate::joining::add_word;
 use crate::modifiers::{Modifier, WordMap};
 use crate::substituting::join_substituted;
 use crate::word_maps::add_changed;
 use mk_glob::glob;
-use mk_text::words;
+use mk_text::{TextFault, words};
 use std::alloc::Global;
 
 /// What a modifier makes of a value.
@@ -28,7 +29,7 @@ use std::alloc::Global;
 ///
 /// `Length` where the result, or the old or the new text of a substitution, has more than 65,536
 /// bytes; no text is made that is longer than that. `Memory` where there is no memory.
-pub fn apply(alloc: Global, modifier: &Modifier, value: &str) -> Result<String, ApplyFault>
+pub fn apply(alloc: Global, modifier: &Modifier, value: &str) -> Result<String, TextFault>
     requires { IsExpanded (action_of modifier.now) }
     ensures ok { IfOk result (λ made. applied (action_of modifier.now) value.now ≡ Some (string_bytes made)) }
     ensures err { IfErr result (IsUnmade (applied (action_of modifier.now) value.now)) }
@@ -42,12 +43,7 @@ pub fn apply(alloc: Global, modifier: &Modifier, value: &str) -> Result<String, 
 }
 
 /// The words that match a pattern, or those that don't, joined.
-fn join_kept(
-    alloc: Global,
-    pattern: &str,
-    matching: bool,
-    value: &str,
-) -> Result<String, ApplyFault>
+fn join_kept(alloc: Global, pattern: &str, matching: bool, value: &str) -> Result<String, TextFault>
     ensures ok { IfOk result (IsMade (joined (filter (λ word. kept matching (fits pattern.now word)) (words_of value.now)))) }
     ensures err { IfErr result (IsTooLong (joined (filter (λ word. kept matching (fits pattern.now word)) (words_of value.now)))) }
 {
@@ -62,7 +58,7 @@ fn join_kept(
 }
 
 /// What is made of each word, joined.
-fn join_changed(alloc: Global, word_map: WordMap, value: &str) -> Result<String, ApplyFault>
+fn join_changed(alloc: Global, word_map: WordMap, value: &str) -> Result<String, TextFault>
     ensures ok { IfOk result (IsMade (joined (map (word_change word_map) (words_of value.now)))) }
     ensures err { IfErr result (IsTooLong (joined (map (word_change word_map) (words_of value.now)))) }
 {

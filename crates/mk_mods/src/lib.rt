@@ -12,7 +12,6 @@ mod substituting;
 mod word_maps;
 
 pub use applying::apply;
-pub use joining::{ApplyFault, TEXT_LIMIT};
 pub use laws::acts_at_least_places;
 pub use modifiers::{Modifier, Part, Substitution, WordMap};
 pub use reading::{Mods, ModsFault};

@@ -3,14 +3,15 @@ ghost use Rattle.std.specs.Prelude.{◌≡◌, ◌<◌, ◌++◌, ℕ, zero, len
 ghost use Rattle.std.specs.List.{flat_map};
 ghost use Rattle.std.specs.Option.{option_and_then};
 ghost use Rattle.mk_text.specs.Words.{words_of};
-ghost use Rattle.mk_mods.specs.Joined.{joined, within_limit, IsUnmade, IsMade, IsTooLong, IsOverlong};
+ghost use Rattle.mk_mods.specs.Joined.{joined, within_limit, IsUnmade, IsMade, IsOverlong};
+ghost use Rattle.mk_text.specs.TextLimit.{IsTooLong};
 ghost use Rattle.mk_mods.specs.Actions.{symbols_of, replacement_of, AllPlain};
 ghost use Rattle.mk_mods.specs.Substituted.{text_of, somewhere_replaced, all_replaced, replaced, substituted};
 ghost use Rattle.mk_mods.specs.Applied.{words_substituted};
 
-use crate::joining::{ApplyFault, add_text, add_word};
+use crate::joining::add_word;
 use crate::modifiers::{Part, Substitution};
-use mk_text::words;
+use mk_text::{TextFault, add_text, words};
 use std::alloc::Global;
 
 /// What a substitution makes of the words of a value, joined.
@@ -18,7 +19,7 @@ pub(crate) fn join_substituted(
     alloc: Global,
     substitution: &Substitution,
     value: &str,
-) -> Result<String, ApplyFault>
+) -> Result<String, TextFault>
     requires old { AllPlain (flat_map symbols_of substitution.now.old.items) }
     requires new { AllPlain (flat_map symbols_of substitution.now.new.items) }
     ensures ok { IfOk result (λ made. option_and_then (λ words. within_limit (joined words)) (words_substituted (replacement_of substitution.now) (words_of value.now)) ≡ Some (string_bytes made)) }
@@ -46,7 +47,7 @@ pub fn substitute(
     old: &str,
     new: &str,
     value: &str,
-) -> Result<String, ApplyFault>
+) -> Result<String, TextFault>
     ensures ok { IfOk result (λ made. within_limit (joined (substituted (replacement_of substitution.now) old.now new.now (words_of value.now))) ≡ Some (string_bytes made)) }
     ensures err { IfErr result (IsUnmade (within_limit (joined (substituted (replacement_of substitution.now) old.now new.now (words_of value.now))))) }
 {
@@ -54,7 +55,7 @@ pub fn substitute(
 }
 
 /// The text that parts stand for, beside an old text.
-fn text_of(alloc: Global, parts: &[Part], old: &str) -> Result<String, ApplyFault>
+fn text_of(alloc: Global, parts: &[Part], old: &str) -> Result<String, TextFault>
     requires { AllPlain (flat_map symbols_of parts.now) }
     ensures ok { IfOk result (IsMade (text_of old.now (flat_map symbols_of parts.now))) }
     ensures err { IfErr result (IsTooLong (text_of old.now (flat_map symbols_of parts.now))) }
@@ -77,7 +78,7 @@ fn join_replaced(
     old: &str,
     new: &str,
     value: &str,
-) -> Result<String, ApplyFault>
+) -> Result<String, TextFault>
     ensures ok { IfOk result (IsMade (joined (substituted (replacement_of substitution.now) old.now new.now (words_of value.now)))) }
     ensures err { IfErr result (IsTooLong (joined (substituted (replacement_of substitution.now) old.now new.now (words_of value.now)))) }
 {
@@ -107,7 +108,7 @@ fn replaced(
     old: &str,
     new: &str,
     word: &str,
-) -> Result<Option<String>, ApplyFault>
+) -> Result<Option<String>, TextFault>
     ensures ok { IfOk result (λ made. replaced (replacement_of substitution.now) old.now new.now word.now ≡ option_map string_bytes made) }
     ensures err { IfErr result (IsOverlong (replaced (replacement_of substitution.now) old.now new.now word.now)) }
 {
@@ -139,7 +140,7 @@ fn somewhere_replaced(
     old: &str,
     new: &str,
     word: &str,
-) -> Result<Option<String>, ApplyFault>
+) -> Result<Option<String>, TextFault>
     ensures ok { IfOk result (λ made. somewhere_replaced every old.now new.now word.now ≡ option_map string_bytes made) }
     ensures err { IfErr result (IsOverlong (somewhere_replaced every old.now new.now word.now)) }
 {
@@ -166,7 +167,7 @@ fn all_replaced(
     new: &str,
     front: &str,
     behind: &str,
-) -> Result<String, ApplyFault>
+) -> Result<String, TextFault>
     requires { 0 < length old.now }
     ensures ok { IfOk result (IsMade (front.now ++ (new.now ++ all_replaced old.now new.now zero behind.now))) }
     ensures err { IfErr result (IsTooLong (front.now ++ (new.now ++ all_replaced old.now new.now zero behind.now))) }
@@ -183,7 +184,7 @@ fn all_replaced(
 }
 
 /// Three texts joined.
-fn joined(alloc: Global, front: &str, new: &str, behind: &str) -> Result<String, ApplyFault>
+fn joined(alloc: Global, front: &str, new: &str, behind: &str) -> Result<String, TextFault>
     ensures ok { IfOk result (IsMade (front.now ++ (new.now ++ behind.now))) }
     ensures err { IfErr result (IsTooLong (front.now ++ (new.now ++ behind.now))) }
 {

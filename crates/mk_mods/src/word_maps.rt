@@ -1,11 +1,13 @@
 //! What modifiers of one letter make of a word.
 ghost use Rattle.std.specs.Prelude.{◌≡◌, ◌≤◌, length, string_bytes, IfOk, IfErr};
-ghost use Rattle.mk_mods.specs.Joined.{with_word, IsTooLong};
+ghost use Rattle.mk_mods.specs.Joined.{with_word};
+ghost use Rattle.mk_text.specs.TextLimit.{IsTooLong};
 ghost use Rattle.mk_mods.specs.WordChanges.{word_change};
 ghost use Rattle.mk_mods.specs.declared.modifiers.WordMap.TheVariants as maps;
 
-use crate::joining::{ApplyFault, TEXT_LIMIT, add_word};
+use crate::joining::add_word;
 use crate::modifiers::WordMap;
+use mk_text::{TEXT_LIMIT, TextFault};
 use std::alloc::Global;
 
 /// What stands before the last dot of a word, and without a dot the word.
@@ -55,7 +57,7 @@ pub(crate) fn add_changed(
     made: &mut String,
     map: WordMap,
     word: &str,
-) -> Result<(), ApplyFault>
+) -> Result<(), TextFault>
     requires { length (string_bytes made.old) ≤ TEXT_LIMIT }
     ensures ok { IfOk result (λ _. (length (string_bytes made.new) ≤ TEXT_LIMIT) × (string_bytes made.new ≡ with_word (string_bytes made.old) (word_change map word.now))) }
     ensures err { IfErr result (IsTooLong (with_word (string_bytes made.old) (word_change map word.now))) }

@@ -1,3 +1,4 @@
 pub mod Blanks
 pub mod Words
 pub mod Lines
+pub mod TextLimit

@@ -3,8 +3,9 @@ ghost use Rattle.std.specs.Prelude.{◌≡◌, if◌then◌else◌};
 
 use mk_ast::{ParseError, parse};
 use mk_glob::glob;
-use mk_mods::{ApplyFault, Modifier, Mods, ModsFault, apply};
+use mk_mods::{Modifier, Mods, ModsFault, apply};
 use mk_ref::{PiecesFault, pieces};
+use mk_text::TextFault;
 use std::alloc::{AllocError, Global};
 
 /// The cases, in the order in which they are run.
@@ -110,8 +111,8 @@ fn made_length(alloc: Global, modifier: &Modifier, value: &str) -> Result<usize,
     match apply(alloc, modifier, value) {
         Ok(made) => Ok(made.len()),
         Err(fault) => match fault {
-            ApplyFault::Length => Ok(0),
-            ApplyFault::Memory => Err(AllocError),
+            TextFault::Length => Ok(0),
+            TextFault::Memory => Err(AllocError),
         },
     }
 }

@@ -4,7 +4,7 @@ use crate::line::{as_number, as_text};
 use mk_base::{Budget, Fault, FaultKind, Stop, UNITS};
 use mk_env::{Env, expand, expand_now, expand_variable};
 use mk_eval::{Evaluated, Failed, evaluate, value};
-use mk_files::{Content, Files, MemoryFiles, look};
+use mk_files::{Content, Files, MemoryFiles, look_read};
 use mk_paths::{FilesFault, Name, NameFault, Names, PathFault, SearchPath, Settings, find};
 use std::alloc::Global;
 
@@ -241,7 +241,7 @@ pub fn read(alloc: Global, world: &mut MemoryFiles, given: &[Vec<u8>]) -> Result
     let is_there = world.has(&name).map_err(of_files)?;
     let is_held = world.get(&name).is_some();
     let read = world.read(&name).map_err(of_files)?;
-    let seen = match look::<MemoryFiles, FaultKind>(world, &name) {
+    let seen = match look_read::<MemoryFiles, FaultKind>(world, &name) {
         Ok(seen) => seen,
         Err(_) => return Err(Trouble::Memory),
     };

@@ -3,9 +3,9 @@ use crate::answer::{Answer, Trouble};
 use crate::line::as_text;
 use mk_ast::{LineKind, is_word, line_kind, plain_kind};
 use mk_glob::glob;
-use mk_mods::{ApplyFault, Modifier, Mods, ModsFault, Part, Substitution, apply, substitute};
+use mk_mods::{Modifier, Mods, ModsFault, Part, Substitution, apply, substitute};
 use mk_ref::{Piece, PiecesFault, outside, pieces};
-use mk_text::{is_blank, logical_lines, skip_blanks, trim_blanks, words};
+use mk_text::{TextFault, is_blank, logical_lines, skip_blanks, trim_blanks, words};
 use std::alloc::Global;
 use std::fmt::Write;
 
@@ -165,8 +165,8 @@ pub fn modified(alloc: Global, given: &[Vec<u8>]) -> Result<Answer, Trouble> {
         }
         made = match apply(alloc, modifier, made.as_str()) {
             Ok(text) => text,
-            Err(ApplyFault::Length) => return Answer::of_word(alloc, "Length"),
-            Err(ApplyFault::Memory) => return Err(Trouble::Memory),
+            Err(TextFault::Length) => return Answer::of_word(alloc, "Length"),
+            Err(TextFault::Memory) => return Err(Trouble::Memory),
         };
     }
     Answer::of_text(alloc, made.as_str())
@@ -198,8 +198,8 @@ pub fn substituted(alloc: Global, given: &[Vec<u8>]) -> Result<Answer, Trouble> 
         let (old, new, value) = (as_text(old)?, as_text(new)?, as_text(value)?);
         match substitute(alloc, substitution, old, new, value) {
             Ok(made) => answer.text(made.as_bytes())?,
-            Err(ApplyFault::Length) => answer.word("Length")?,
-            Err(ApplyFault::Memory) => return Err(Trouble::Memory),
+            Err(TextFault::Length) => answer.word("Length")?,
+            Err(TextFault::Memory) => return Err(Trouble::Memory),
         }
     }
     Ok(answer)

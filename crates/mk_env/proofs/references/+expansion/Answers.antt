@@ -3,11 +3,12 @@ use Rattle.std.specs.List.{flat_map}
 use Rattle.std.proofs.lemmas.List.{drop_more}
 use Rattle.std.proofs.Math.Seq.{drop-length}
 use Rattle.std.proofs.lemmas.Result.{err_from_is_err_and}
+use Rattle.mk_base.specs.Meter.{IsLater-on}
 use Rattle.mk_base.specs.Outcome.{each, after}
 use Rattle.mk_base.specs.Each.{each-value, each-stop, each-end}
 use Rattle.mk_base.specs.Stopping.{StopsAt, StopsAt-whole, Gives}
 use Rattle.mk_ref.specs.Places.{shown}
-use Rattle.mk_mods.specs.declared.joining.TheConstants.{TEXT_LIMIT}
+use Rattle.mk_text.specs.declared.limits.TheConstants.{TEXT_LIMIT}
 use Rattle.mk_mods.specs.Actions.{Whole, Reference, action_of, symbols_of}
 use Rattle.mk_env.specs.declared.scope.Undefined.TheVariants as kept
 use Rattle.mk_env.specs.Expansion as meaning
@@ -23,7 +24,7 @@ apply_modifiers-returns-in_err-value-clause-gives t c =
     rw (p.1, p.2)
     (StopsAt-whole c.in_err-value.field-0.0 c.apply_modifier.new.budget _ _
     (λ end stops.
-    c.loop-modifier.invariant ∙
+    c.loop-modifier.invariant.goes ∙
     each-stop turn action_of (string_bytes c.loop-modifier.value) c.args.modifiers.now c.loop-modifier.modifier-index _ c.modifier-item.result c.loop-modifier.budget end (omega arith) c.modifier-item.is
     (ap (λ value. turn value (action_of c.modifier-item.result) c.loop-modifier.budget) (sym c.as_str.ensures.value) ∙ stops))
     c.in_err-value.ensures.gives)
@@ -31,15 +32,18 @@ apply_modifiers-returns-in_err-value-clause-gives t c =
 pub apply_modifiers-loop-modifier-preserved : goal.apply_modifiers-loop-modifier-preserved
 apply_modifiers-loop-modifier-preserved t c =
     let turn = meaning.modified (references_in c.args.scope) in
-    c.loop-modifier.invariant ∙
-    each-value turn action_of (string_bytes c.loop-modifier.value) (string_bytes c.in_ok-value.value) c.args.modifiers.now c.loop-modifier.modifier-index _ c.modifier-item.result c.loop-modifier.budget c.apply_modifier.new.budget (omega arith) c.modifier-item.is
-    (ap (λ value. turn value (action_of c.modifier-item.result) c.loop-modifier.budget) (sym c.as_str.ensures.value) ∙ c.in_ok-value.ensures.gives)
+    record {
+      later = IsLater-on c.loop-modifier.invariant.later c.in_ok-value.ensures.later;
+      goes = c.loop-modifier.invariant.goes ∙
+          each-value turn action_of (string_bytes c.loop-modifier.value) (string_bytes c.in_ok-value.value) c.args.modifiers.now c.loop-modifier.modifier-index _ c.modifier-item.result c.loop-modifier.budget c.apply_modifier.new.budget (omega arith) c.modifier-item.is
+          (ap (λ value. turn value (action_of c.modifier-item.result) c.loop-modifier.budget) (sym c.as_str.ensures.value) ∙ c.in_ok-value.ensures.gives);
+    }
 
 pub apply_modifiers-returns-clause-gives : goal.apply_modifiers-returns-clause-gives
 apply_modifiers-returns-clause-gives t c =
     let turn = meaning.modified (references_in c.args.scope) in
     let all : c.loop-modifier.modifier-index ≡ length c.args.modifiers.now = omega arith in
-    c.loop-modifier.invariant ∙
+    c.loop-modifier.invariant.goes ∙
     ap (λ index. each turn (string_bytes c.loop-modifier.value) (map action_of (drop index c.args.modifiers.now)) c.loop-modifier.budget) all ∙
     each-end turn action_of (string_bytes c.loop-modifier.value) c.args.modifiers.now c.loop-modifier.budget
 
@@ -64,6 +68,7 @@ expand_parts-loop-part-preserved t c =
     let next : flat_map symbols_of (drop c.loop-part.part-index parts) ≡ symbols_of c.part-item.result ++ later =
     ap (flat_map symbols_of) (drop_more parts c.loop-part.part-index c.part-item.result (omega arith)) ∙ ap (λ part. symbols_of part ++ later) (sym c.part-item.is) in
     record {
+      later = IsLater-on c.loop-part.invariant.later c.in_ok-join_part.ensures.later;
       small = c.in_ok-join_part.ensures.small;
       goes = c.loop-part.invariant.goes ∙ each-front turn (string_bytes c.loop-part.joined) (string_bytes c.join_part.new.joined) _ (symbols_of c.part-item.result) later c.loop-part.budget c.join_part.new.budget next c.in_ok-join_part.ensures.gives;
     }
@@ -93,14 +98,17 @@ expand_text-returns-in_err-join_piece-clause-gives t c =
     (StopsAt-whole c.in_err-join_piece.field-0.0 c.join_piece.new.budget _ _
     (λ end stops.
     text_meaning-pieces references text (map (shown text) pieces) c.args.budget.now c.in_ok-cut.ensures.whole (ap (map (shown text)) c.deref-piece-items.ensures.value ∙ c.in_ok-cut.ensures.pieces) ∙
-    c.loop-piece.invariant ∙
+    c.loop-piece.invariant.goes ∙
     each-stop (meaning.join_piece references) (shown text) (string_bytes c.loop-piece.joined) pieces c.loop-piece.piece-index _ _ c.loop-piece.budget end (omega arith) refl stops)
     c.in_err-join_piece.ensures.gives)
 
 pub expand_text-loop-piece-preserved : goal.expand_text-loop-piece-preserved
 expand_text-loop-piece-preserved t c =
-    c.loop-piece.invariant ∙
-    each-value (meaning.join_piece (references_in c.args.scope)) (shown c.args.text.now) (string_bytes c.loop-piece.joined) (string_bytes c.join_piece.new.joined) c.deref-piece-items.result.now c.loop-piece.piece-index _ _ c.loop-piece.budget c.join_piece.new.budget (omega arith) refl c.in_ok-join_piece.ensures.gives
+    record {
+      later = IsLater-on c.loop-piece.invariant.later c.in_ok-join_piece.ensures.later;
+      goes = c.loop-piece.invariant.goes ∙
+          each-value (meaning.join_piece (references_in c.args.scope)) (shown c.args.text.now) (string_bytes c.loop-piece.joined) (string_bytes c.join_piece.new.joined) c.deref-piece-items.result.now c.loop-piece.piece-index _ _ c.loop-piece.budget c.join_piece.new.budget (omega arith) refl c.in_ok-join_piece.ensures.gives;
+    }
 
 pub expand_text-returns-clause-gives : goal.expand_text-returns-clause-gives
 expand_text-returns-clause-gives t c =
@@ -110,7 +118,7 @@ expand_text-returns-clause-gives t c =
     let turn = meaning.join_piece references in
     let all : c.loop-piece.piece-index ≡ length pieces = omega arith in
     text_meaning-pieces references text (map (shown text) pieces) c.args.budget.now c.in_ok-cut.ensures.whole (ap (map (shown text)) c.deref-piece-items.ensures.value ∙ c.in_ok-cut.ensures.pieces) ∙
-    c.loop-piece.invariant ∙
+    c.loop-piece.invariant.goes ∙
     ap (λ index. each turn (string_bytes c.loop-piece.joined) (map (shown text) (drop index pieces)) c.loop-piece.budget) all ∙
     each-end turn (shown text) (string_bytes c.loop-piece.joined) pieces c.loop-piece.budget
 
@@ -170,7 +178,7 @@ expand_reference-returns-then-mention-le-TEXT_LIMIT-clause-gives t c =
     let modifiers = option_map (λ text. text.now) c.args.mention.modifiers in
     let references = meaning.reference kept.Empty (scope.levels - 1) variables in
     let value = text_meaning-small (references active) name c.pay.new.self (sym c.has_dollar.ensures ∙ c.if-not-has_dollar.true) c.if-mention-le-TEXT_LIMIT.true in
-    let whole = reference-name scope.undefined scope.levels variables active written name modifiers c.args.budget.now c.pay.new.self tt (omega arith) c.in_ok-pay.ensures
+    let whole = reference-name scope.undefined scope.levels variables active written name modifiers c.args.budget.now c.pay.new.self tt (omega arith) c.in_ok-pay.ensures.gives
     ∙ ap (λ end. after end (meaning.by_name scope.undefined references variables active written modifiers)) value in
     subst (λ outcome. Gives string_bytes c.expand_by_name.result c.expand_by_name.new.budget outcome) (sym whole) c.expand_by_name.ensures.gives
 
@@ -185,7 +193,7 @@ expand_reference-returns-in_err-name-clause-gives t c =
     rw (p.1, p.2)
     (StopsAt-whole c.in_err-name.field-0.0 c.expand_text.new.budget _ _
     (λ end stops.
-    reference-name scope.undefined scope.levels variables active written c.args.mention.name.now modifiers c.args.budget.now c.pay.new.self tt (omega arith) c.in_ok-pay.ensures ∙
+    reference-name scope.undefined scope.levels variables active written c.args.mention.name.now modifiers c.args.budget.now c.pay.new.self tt (omega arith) c.in_ok-pay.ensures.gives ∙
     ap (λ end'. after end' (meaning.by_name scope.undefined (meaning.reference kept.Empty (scope.levels - 1) variables) variables active written modifiers)) stops)
     (subst (λ inside. StopsAt c.in_err-name.field-0.0 c.expand_text.new.budget (meaning.text_meaning (references_in inside) c.args.mention.name.now c.pay.new.self)) c.inside.ensures c.in_err-name.ensures.gives))
 
@@ -200,7 +208,7 @@ expand_reference-returns-clause-gives t c =
     let behind = meaning.by_name scope.undefined references variables active written modifiers in
     let found = string_bytes c.in_ok-name.name in
     let value = subst (λ inside. meaning.text_meaning (references_in inside) c.args.mention.name.now c.pay.new.self ≡ Ok (found, c.expand_text.new.budget)) c.inside.ensures c.in_ok-name.ensures.gives in
-    let whole = reference-name scope.undefined scope.levels variables active written c.args.mention.name.now modifiers c.args.budget.now c.pay.new.self tt (omega arith) c.in_ok-pay.ensures
+    let whole = reference-name scope.undefined scope.levels variables active written c.args.mention.name.now modifiers c.args.budget.now c.pay.new.self tt (omega arith) c.in_ok-pay.ensures.gives
     ∙ ap (λ end. after end behind) value in
     subst (λ outcome. Gives string_bytes c.expand_by_name-2.result c.expand_by_name-2.new.budget outcome)
     (ap (λ name. behind name c.expand_text.new.budget) c.as_str.ensures.value ∙ sym whole)

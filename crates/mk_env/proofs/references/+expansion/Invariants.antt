@@ -1,8 +1,9 @@
 use Rattle.std.proofs.Common.{◌≡◌, ◌≤◌, [], map, drop, length, string_bytes, ◌+◌, ◌*◌}
 use Rattle.std.specs.List.{flat_map}
+use Rattle.mk_base.specs.Meter.{IsLater}
 use Rattle.mk_base.specs.Outcome.{each}
 use Rattle.mk_ref.specs.Places.{shown}
-use Rattle.mk_mods.specs.declared.joining.TheConstants.{TEXT_LIMIT}
+use Rattle.mk_text.specs.declared.limits.TheConstants.{TEXT_LIMIT}
 use Rattle.mk_mods.specs.Actions.{action_of, symbols_of}
 use Rattle.mk_env.specs.Expansion as meaning
 use Rattle.mk_env.specs.ActiveNames.{references_in}
@@ -42,18 +43,25 @@ decreases-expand_named l = 9 * l.scope.levels + 8
 abbrev pub invariant-expand_text-loop-piece : goal.invariant-expand_text-loop-piece
 invariant-expand_text-loop-piece l =
     let turn = meaning.join_piece (references_in l.scope) in
-    each turn [] (map (shown l.text) l.piece-items) l.initial.budget ≡ each turn (string_bytes l.joined) (map (shown l.text) (drop l.piece-index l.piece-items)) l.budget
+    record {
+      later : IsLater l.initial.budget l.budget;
+      goes : each turn [] (map (shown l.text) l.piece-items) l.initial.budget ≡ each turn (string_bytes l.joined) (map (shown l.text) (drop l.piece-index l.piece-items)) l.budget;
+    }
 
 -- what is left to apply, from here, ends as all of it from the start
 abbrev pub invariant-apply_modifiers-loop-modifier : goal.invariant-apply_modifiers-loop-modifier
 invariant-apply_modifiers-loop-modifier l =
     let turn = meaning.modified (references_in l.scope) in
-    each turn (string_bytes l.initial.value) (map action_of l.modifiers) l.initial.budget ≡ each turn (string_bytes l.value) (map action_of (drop l.modifier-index l.modifiers)) l.budget
+    record {
+      later : IsLater l.initial.budget l.budget;
+      goes : each turn (string_bytes l.initial.value) (map action_of l.modifiers) l.initial.budget ≡ each turn (string_bytes l.value) (map action_of (drop l.modifier-index l.modifiers)) l.budget;
+    }
 
 abbrev pub invariant-expand_parts-loop-part : goal.invariant-expand_parts-loop-part
 invariant-expand_parts-loop-part l =
     let turn = meaning.join_symbol (references_in l.scope) l.old in
     record {
+      later : IsLater l.initial.budget l.budget;
       small : length (string_bytes l.joined) ≤ TEXT_LIMIT;
       goes : each turn [] (flat_map symbols_of l.parts) l.initial.budget ≡ each turn (string_bytes l.joined) (flat_map symbols_of (drop l.part-index l.parts)) l.budget;
     }

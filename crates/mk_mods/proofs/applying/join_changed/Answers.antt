@@ -1,7 +1,7 @@
 use Rattle.std.proofs.Common.{◌≡◌, map, string_bytes, sym, ap, subst, ◌∙◌, arith}
 use Rattle.std.proofs.lemmas.Result.{err_from_is_err_and}
 use Rattle.mk_text.specs.Words.{words_of, span_text}
-use Rattle.mk_mods.specs.declared.joining.TheConstants.{TEXT_LIMIT}
+use Rattle.mk_text.specs.declared.limits.TheConstants.{TEXT_LIMIT}
 use Rattle.mk_mods.specs.Joined.{joined, with_word}
 use Rattle.mk_mods.specs.WordChanges.{word_change}
 use Rattle.mk_mods.proofs.JoinSteps.{Joining, joining-none, joining-more, joining-over, next-word, too_long-over}

@@ -1,6 +1,6 @@
 use Rattle.std.proofs.Common.{drop, map, string_bytes}
 use Rattle.mk_text.specs.Words.{words_of}
-use Rattle.mk_mods.specs.declared.joining.TheConstants.{TEXT_LIMIT}
+use Rattle.mk_text.specs.declared.limits.TheConstants.{TEXT_LIMIT}
 use Rattle.mk_mods.specs.Joined.{joined}
 use Rattle.mk_mods.specs.WordChanges.{word_change}
 use Rattle.mk_mods.proofs.JoinSteps.{Joining}

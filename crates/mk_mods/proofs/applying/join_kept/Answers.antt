@@ -4,7 +4,7 @@ use Rattle.std.proofs.lemmas.Result.{err_from_is_err_and}
 use Rattle.std.proofs.lemmas.Bool.{cond-true, cond-false}
 use Rattle.mk_text.specs.Words.{words_of, span_text}
 use Rattle.mk_glob.specs.Matching.{fits}
-use Rattle.mk_mods.specs.declared.joining.TheConstants.{TEXT_LIMIT}
+use Rattle.mk_text.specs.declared.limits.TheConstants.{TEXT_LIMIT}
 use Rattle.mk_mods.specs.Joined.{joined}
 use Rattle.mk_mods.specs.Applied.{kept}
 use Rattle.mk_mods.proofs.JoinSteps.{Joining, joining-none, joining-more, joining-same, joining-over, next-word, too_long-over, kept-by}

@@ -2,7 +2,7 @@ use Rattle.std.proofs.Common.{drop, string_bytes}
 use Rattle.std.specs.Prelude.{filter}
 use Rattle.mk_text.specs.Words.{words_of}
 use Rattle.mk_glob.specs.Matching.{fits}
-use Rattle.mk_mods.specs.declared.joining.TheConstants.{TEXT_LIMIT}
+use Rattle.mk_text.specs.declared.limits.TheConstants.{TEXT_LIMIT}
 use Rattle.mk_mods.specs.Joined.{joined}
 use Rattle.mk_mods.specs.Applied.{kept}
 use Rattle.mk_mods.proofs.JoinSteps.{Joining}

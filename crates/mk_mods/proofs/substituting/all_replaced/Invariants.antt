@@ -1,7 +1,7 @@
 use Rattle.std.proofs.Common.{◌≡◌, ◌≤◌, ◌++◌, zero, length, string_bytes}
 use denote.Text.{Utf8}
 use denote.Shadow.{shadow}
-use Rattle.mk_mods.specs.declared.joining.TheConstants.{TEXT_LIMIT}
+use Rattle.mk_text.specs.declared.limits.TheConstants.{TEXT_LIMIT}
 use Rattle.mk_mods.specs.Substituted.{all_replaced}
 use Rattle.mk_mods.proofs.substituting.all_replaced.Given as goal
 

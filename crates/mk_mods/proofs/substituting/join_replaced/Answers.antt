@@ -2,7 +2,7 @@ use Rattle.std.proofs.Common.{◌≡◌, ℕ, ◌+◌, Bool, List, ◌∷◌, dr
 use Rattle.std.specs.declared.alloc.Global.{Global}
 use Rattle.std.proofs.lemmas.Result.{err_from_is_err_and}
 use Rattle.mk_text.specs.Words.{words_of, span_text}
-use Rattle.mk_mods.specs.declared.joining.TheConstants.{TEXT_LIMIT}
+use Rattle.mk_text.specs.declared.limits.TheConstants.{TEXT_LIMIT}
 use Rattle.mk_mods.specs.Joined.{joined}
 use Rattle.mk_mods.specs.Actions.{replacement_of}
 use Rattle.mk_mods.specs.Substituted.{replaced, substituted}

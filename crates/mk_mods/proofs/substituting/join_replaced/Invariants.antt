@@ -1,6 +1,6 @@
 use Rattle.std.proofs.Common.{drop, cond, string_bytes}
 use Rattle.mk_text.specs.Words.{words_of}
-use Rattle.mk_mods.specs.declared.joining.TheConstants.{TEXT_LIMIT}
+use Rattle.mk_text.specs.declared.limits.TheConstants.{TEXT_LIMIT}
 use Rattle.mk_mods.specs.Joined.{joined}
 use Rattle.mk_mods.specs.Actions.{replacement_of}
 use Rattle.mk_mods.specs.Substituted.{substituted}

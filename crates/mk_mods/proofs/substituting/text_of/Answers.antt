@@ -2,7 +2,7 @@ use Rattle.std.proofs.Common.{◌≡◌, ◌≤◌, ◌+◌, ◌++◌, drop, len
 use Rattle.std.specs.List.{flat_map}
 use Rattle.std.proofs.lemmas.List.{drop_more}
 use Rattle.std.proofs.lemmas.Result.{err_from_is_err_and}
-use Rattle.mk_mods.specs.declared.joining.TheConstants.{TEXT_LIMIT}
+use Rattle.mk_text.specs.declared.limits.TheConstants.{TEXT_LIMIT}
 use Rattle.mk_mods.specs.Actions.{symbols_of, AllPlain}
 use Rattle.mk_mods.specs.Substituted.{text_of}
 use Rattle.mk_mods.proofs.JoinSteps.{too_long-over}

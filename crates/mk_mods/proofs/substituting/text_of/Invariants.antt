@@ -1,6 +1,6 @@
 use Rattle.std.proofs.Common.{◌≡◌, ◌≤◌, ◌++◌, drop, length, string_bytes}
 use Rattle.std.specs.List.{flat_map}
-use Rattle.mk_mods.specs.declared.joining.TheConstants.{TEXT_LIMIT}
+use Rattle.mk_text.specs.declared.limits.TheConstants.{TEXT_LIMIT}
 use Rattle.mk_mods.specs.Actions.{symbols_of, AllPlain}
 use Rattle.mk_mods.specs.Substituted.{text_of}
 use Rattle.mk_mods.proofs.substituting.text_of.Given as goal

@@ -1,0 +1,65 @@
+//! References that are given by what stands inside them.
+ghost use Rattle.std.specs.Prelude.{◌≡◌, ◌==◌, ◌<◌, ◌+◌, [], length, take, drop, option_map, slice_index, IfOk, IfErr, Some};
+ghost use Rattle.std.specs.List.{position};
+ghost use Rattle.mk_ref.specs.Units.{sources, before_colon, behind_colon, units_of, left_of};
+ghost use Rattle.mk_ref.specs.Outside.{outside};
+ghost use Rattle.mk_env.specs.Refusals.{IsUncut};
+
+use crate::reading::{Mention, cut};
+use mk_base::{FaultKind, Stop};
+use mk_ref::outside;
+use std::alloc::Global;
+
+/// The reference that has this inside. A reference in it that doesn't end is a fault.
+pub(crate) fn mention_of<'a>(alloc: Global, inside: &'a str) -> Result<Mention<'a>, Stop<FaultKind>>
+    ensures whole { IfOk result (λ found. left_of inside.now ≡ []) }
+    ensures written { IfOk result (λ found. found.written.now ≡ inside.now) }
+    ensures name { IfOk result (λ found. found.name.now ≡ sources (before_colon (units_of inside.now))) }
+    ensures modifiers { IfOk result (λ found. option_map (λ t. t.now) found.modifiers ≡ option_map sources (behind_colon (units_of inside.now))) }
+    ensures err { IfErr result (IsUncut inside.now) }
+{
+    let _pieces = cut(alloc, inside)?;
+    let plain = outside(alloc, inside)?;
+    Ok(parted(inside, plain.as_slice()))
+}
+
+/// The reference with this inside, in which every reference ends; `plain` is what of it stands outside
+/// references.
+fn parted<'a>(inside: &'a str, plain: &[u8]) -> Mention<'a>
+    requires same { plain.now ≡ outside inside.now }
+    requires whole { left_of inside.now ≡ [] }
+    ensures written { result.written.now ≡ inside.now }
+    ensures name { result.name.now ≡ sources (before_colon (units_of inside.now)) }
+    ensures modifiers { option_map (λ t. t.now) result.modifiers ≡ option_map sources (behind_colon (units_of inside.now)) }
+{
+    match first_colon(plain) {
+        Some(at) => parted_at(inside, at),
+        None => Mention {
+            written: inside,
+            name: inside,
+            modifiers: None,
+        },
+    }
+}
+
+/// The index of the first colon among these bytes.
+fn first_colon(bytes: &[u8]) -> Option<usize>
+    ensures { result ≡ position (λ b. b == 58) bytes.now }
+{
+    bytes.iter().position(|byte| *byte == b':')
+}
+
+/// The reference with this inside, whose name ends at the colon at this index.
+fn parted_at<'a>(inside: &'a str, at: usize) -> Mention<'a>
+    requires within { at < length inside.now }
+    requires colon { slice_index inside.now at ≡ 58 }
+    ensures written { result.written.now ≡ inside.now }
+    ensures name { result.name.now ≡ take at inside.now }
+    ensures modifiers { option_map (λ t. t.now) result.modifiers ≡ Some (drop (at + 1) inside.now) }
+{
+    Mention {
+        written: inside,
+        name: &inside[..at],
+        modifiers: Some(&inside[at + 1..]),
+    }
+}
