@@ -5,3 +5,4 @@ mod ScriptFacts
 mod PrintFacts
 mod RunFacts
 mod WriteFacts
+mod CommandFacts

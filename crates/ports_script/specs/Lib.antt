@@ -4,3 +4,4 @@ pub mod Entries
 pub mod Scripts
 pub mod Printing
 pub mod Running
+pub mod CommandLine

@@ -1,5 +1,10 @@
 //! The command line.
-use clap::{Arg, ArgAction, Command, Error};
+ghost use Rattle.std.specs.Prelude.{◌≡◌, IfOk, map, false, string_bytes};
+ghost use Rattle.clap.specs.Words.{FailsBy, app_of, fault_of, found_of, rows_of, rule_of};
+ghost use Rattle.ports_core.specs.Keys.{key_texts};
+ghost use Rattle.ports_script.specs.CommandLine.{AsksFor, Gives, keys_argument, portsd, size_argument};
+
+use clap::{Arg, ArgAction, ArgMatches, Command, Error};
 use ports_core::Config;
 use std::alloc::{AllocError, Global};
 
@@ -13,49 +18,77 @@ const EVALS: u32 = 1_024;
 
 /// What a command line asks for, the program's name being its first word: the keys of the tenants
 /// and the sizes of the caches. The error has the text for the terminal: a fault of usage, or help.
-pub fn read_config(alloc: Global, words: &[String]) -> Result<Config, Error> {
+pub fn read_config(alloc: Global, words: &[String]) -> Result<Config, Error>
+    ensures read { IfOk result (AsksFor (map string_bytes words.now)) }
+    ensures fails { FailsBy (fault_of portsd (map string_bytes words.now)) result }
+{
     let matches = portsd_command(alloc)?.try_get_matches_from(words)?;
-    let mut config = Config {
-        keys: Vec::new(alloc),
-        parses: PARSES,
-        evals: EVALS,
-    };
-    if let Some(replay) = matches.subcommand_matches("replay") {
-        config.parses = replay.get_one::<u32>("parses").unwrap_or(PARSES);
-        config.evals = replay.get_one::<u32>("evals").unwrap_or(EVALS);
-        for key in replay.get_strs("keys").unwrap_or(&[]) {
-            config.keys.push(String::from_str(alloc, key)?)?;
-        }
+    match matches.subcommand_matches("replay") {
+        Some(given) => Ok(config_given(alloc, given)?),
+        None => Ok(Config {
+            keys: Vec::new(alloc),
+            parses: PARSES,
+            evals: EVALS,
+        }),
     }
-    Ok(config)
 }
 
-fn portsd_command<'a>(alloc: Global) -> Result<Command<'a>, AllocError> {
+/// The config that is given to `replay`.
+fn config_given(alloc: Global, given: &ArgMatches<'_>) -> Result<Config, AllocError>
+    ensures { IfOk result (Gives (rows_of (found_of given.now))) }
+{
+    Ok(Config {
+        keys: copies(alloc, given.get_strs("keys").unwrap_or(&[]))?,
+        parses: given.get_one::<u32>("parses").unwrap_or(PARSES),
+        evals: given.get_one::<u32>("evals").unwrap_or(EVALS),
+    })
+}
+
+/// Copies of the texts, in their order.
+fn copies(alloc: Global, texts: &[&str]) -> Result<Vec<String>, AllocError>
+    ensures { IfOk result (λ copies. key_texts copies.items ≡ map (λ text. text.now) texts.now) }
+{
+    let mut copies = Vec::new(alloc);
+    for text in texts {
+        copies.push(String::from_str(alloc, text)?)?;
+    }
+    Ok(copies)
+}
+
+fn portsd_command<'a>(alloc: Global) -> Result<Command<'a>, AllocError>
+    ensures { IfOk result (λ command. app_of command ≡ portsd) }
+{
+    let parses = "The most parsed files that are kept [default: 256]";
+    let evals = "The most evaluations that are kept [default: 1024]";
+    let replay = Command::new(alloc, "replay")
+        .about("Runs a script of events from standard input and prints what was told and sent")
+        .arg(size_argument(alloc, "parses", parses))?
+        .arg(size_argument(alloc, "evals", evals))?
+        .arg(keys_argument(alloc))?;
     Command::new(alloc, "portsd")
         .about("Keeps ports trees for several tenants and answers what their ports are")
         .subcommand_required(true)
-        .subcommand(replay_command(alloc)?)
+        .subcommand(replay)
 }
 
-fn replay_command<'a>(alloc: Global) -> Result<Command<'a>, AllocError> {
-    let keys = Arg::new(alloc, "keys")
-        .value_name("KEY")
-        .help("The keys of the tenants, which are numbered from 0")
-        .required(true)
-        .num_args(1..)
-        .action(ArgAction::Append);
-    Command::new(alloc, "replay")
-        .about("Runs a script of events from standard input and prints what was told and sent")
-        .arg(size_argument(alloc, "parses", "The most parsed files that are kept"))?
-        .arg(size_argument(alloc, "evals", "The most evaluations that are kept"))?
-        .arg(keys)
-}
-
-fn size_argument<'a>(alloc: Global, name: &'a str, help: &'a str) -> Arg<'a> {
+fn size_argument<'a>(alloc: Global, name: &'a str, help: &'a str) -> Arg<'a>
+    ensures { (rule_of result ≡ size_argument name.entry.now) × (result.global ≡ false) }
+{
     Arg::new(alloc, name)
         .long(name)
         .value_name("N")
         .help(help)
         .action(ArgAction::Set)
         .value_parser(clap::value_parser!(u32).range(1..=MOST_KEPT as i64))
+}
+
+fn keys_argument<'a>(alloc: Global) -> Arg<'a>
+    ensures { (rule_of result ≡ keys_argument) × (result.global ≡ false) }
+{
+    Arg::new(alloc, "keys")
+        .value_name("KEY")
+        .help("The keys of the tenants, which are numbered from 0")
+        .required(true)
+        .num_args(1..)
+        .action(ArgAction::Append)
 }

@@ -1,15 +1,18 @@
 //! One run of the program.
-ghost use Rattle.std.specs.Prelude.{◌≡◌, ◌≤◌, ◌++◌, OnOk, IfErr, OnErr, codes, decimal};
+ghost use Rattle.std.specs.Prelude.{◌≡◌, ◌++◌, OnOk, IfErr, OnErr, codes, decimal, map, string_bytes};
 ghost use Rattle.std.specs.Io.KnownBytes.{Appends};
 ghost use Rattle.ports_script.specs.declared.running.Failure.TheVariants as failures;
 ghost use Rattle.ports_script.specs.Scripts.{numbered};
 ghost use Rattle.ports_script.specs.Printing.{transcript};
 ghost use Rattle.ports_script.specs.Running.{failure_status, failure_text, script_failure, new_failure, Completes, Ends, Finishes, FailsToPrint, AppendsFront, AppendsUpTo};
+ghost use Rattle.clap.specs.Words.{kind_of};
+ghost use Rattle.ports_script.specs.CommandLine.{EndsUnasked, Runs};
 
 use crate::command_line::read_config;
 use crate::printing::transcript_text;
 use crate::script::{Script, ScriptFault, read_script};
 use crate::writing::write_whole;
+use clap::Error;
 use clap::error::ErrorKind;
 use itoa::Buffer;
 use ports_core::{Config, NewFault, ReplayFault, Step, replay};
@@ -92,19 +95,28 @@ pub fn run_script<R: Read, O: Write, E: Write>(
     out: &mut O,
     err: &mut E,
 ) -> u8
-    ensures { result ≤ 2 }
+    ensures { Runs (map string_bytes words.now) (record { unread = R.remaining reader.old; left = R.remaining reader.new; held = O.contents out.old; holds = O.contents out.new }) (E.contents err.old) (E.contents err.new) result }
 {
     match read_config(alloc, words) {
         Ok(config) => run_config(alloc, config, reader, out, err),
-        Err(error) if error.kind() == ErrorKind::OutOfMemory => report(Failure::OutOfMemory, err),
-        Err(error) if error.use_stderr() => {
-            let _ = write!(err, "{error}");
-            REFUSED
-        }
-        Err(error) => match write!(out, "{error}") {
+        Err(error) => answer(&error, out, err),
+    }
+}
+
+/// Prints help, or says why the words ask for no run, and gives the status.
+fn answer<O: Write, E: Write>(error: &Error, out: &mut O, err: &mut E) -> u8
+    ensures { EndsUnasked (kind_of error.now) (O.contents out.old) (O.contents out.new) (E.contents err.old) (E.contents err.new) result }
+{
+    match error.kind() {
+        ErrorKind::OutOfMemory => report(Failure::OutOfMemory, err),
+        ErrorKind::DisplayHelp | ErrorKind::DisplayVersion => match write!(out, "{error}") {
             Ok(()) => DONE,
             Err(_) => report(Failure::CannotWrite, err),
         },
+        _ => {
+            let _ = write!(err, "{error}");
+            REFUSED
+        }
     }
 }
 

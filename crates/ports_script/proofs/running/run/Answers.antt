@@ -1,5 +1,4 @@
-use Rattle.std.proofs.Common.{◌≡◌, ◌⊎◌, inl, inr, length, get_or, arith, rules, true, Err, sym, subst}
-use Rattle.std.specs.Result.{IfErr}
+use Rattle.std.proofs.Common.{◌≡◌, inl, inr, length, get_or, arith, rules, true, Err}
 use Rattle.ports_core.specs.Keys.{is_fit}
 use Rattle.ports_script.specs.Running.{Streams}
 use Rattle.ports_script.proofs.RunFacts.{completes, happens, stops_at, happened_up_to, unprinted}

@@ -1,4 +1,4 @@
-use Rattle.std.proofs.Common.{◌≡◌, ◌++◌, ◌∙◌, List, ℕ, codes, decimal, refl}
+use Rattle.std.proofs.Common.{◌++◌, ◌∙◌, codes, decimal}
 use Rattle.ports_script.proofs.WriteFacts.{first_fails, second_fails, third_fails, three_written}
 use Rattle.ports_script.proofs.running.say_line.Goals as goal
 

@@ -1,4 +1,4 @@
-use Rattle.std.proofs.Common.{◌+◌, ◌≡◌, ◌≤◌, ℕ, List, length, arith, take, drop}
+use Rattle.std.proofs.Common.{arith}
 use Rattle.ports_script.proofs.WriteFacts.{goes_on, stays, length-left_of}
 use Rattle.ports_script.proofs.writing.write_whole.Goals as goal
 use Rattle.ports_script.proofs.writing.write_whole.Goals.{in-Ok, in-Err}
