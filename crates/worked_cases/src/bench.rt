@@ -2,7 +2,7 @@
 use crate::answer::{Answer, Trouble};
 use crate::evaluation::{self, MAKEFILE};
 use crate::line::as_text;
-use crate::{packages, service, texts, trees};
+use crate::{conditions, packages, service, texts, trees};
 use mk_env::Env;
 use mk_files::{Content, MemoryFiles};
 use mk_paths::Name;
@@ -94,9 +94,14 @@ impl Bench {
             "numbers of kinds" => evaluation::numbers_of_kinds(alloc),
             "budget pays asks" => evaluation::budget(alloc, given),
             "blame" => evaluation::blamed(alloc, given),
-            "expand" | "expand within" | "expand now" | "variable" => {
+            "expand" | "expand within" | "expand now" | "variable" | "inside" | "inside within" => {
                 evaluation::expansion(alloc, &self.variables, call, given)
             }
+            "modify on" | "modify on within" => {
+                evaluation::modified(alloc, &self.variables, given)
+            }
+            "ask has after" => evaluation::ask_has_told(alloc, &mut self.world, given),
+            "ask read after" => evaluation::ask_read_told(alloc, &mut self.world, given),
             "get" => evaluation::text_of_variable(alloc, &self.variables, given),
             "get from copy" => evaluation::text_of_variable(alloc, &self.copy, given),
             "name" | "name under" => evaluation::name_of(alloc, given),
@@ -130,6 +135,8 @@ fn answer_of_text(alloc: Global, call: &str, given: &[Vec<u8>]) -> Result<Answer
         "plain line" => texts::plain_kind_of_line(alloc, given),
         "outside" => texts::outside_references(alloc, given),
         "tree" => trees::tree_of(alloc, given),
+        "condition" => conditions::condition(alloc, given),
+        "conjunctions" => conditions::conjunctions(alloc, given),
         "word" => texts::one_word(alloc, given),
         _ => answer_of_packages(alloc, call, given),
     }

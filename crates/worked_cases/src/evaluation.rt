@@ -2,9 +2,9 @@
 use crate::answer::{Answer, Trouble};
 use crate::line::{as_number, as_text};
 use mk_base::{Budget, Fault, FaultKind, Stop, UNITS};
-use mk_env::{Env, expand, expand_now, expand_variable};
+use mk_env::{Env, expand, expand_inside, expand_now, expand_variable, modify};
 use mk_eval::{Evaluated, Failed, evaluate, value};
-use mk_files::{Content, Files, MemoryFiles, look_read};
+use mk_files::{Content, Files, MemoryFiles, ask_has, ask_read, look_has, look_read};
 use mk_paths::{FilesFault, Name, NameFault, Names, PathFault, SearchPath, Settings, find};
 use std::alloc::Global;
 
@@ -98,7 +98,7 @@ fn told_fault(alloc: Global, fault: &Fault) -> Result<Answer, Trouble> {
     )
 }
 
-/// `expand TEXT`, `expand now TEXT`, `variable NAME`: what one of these calls expands a text to, with
+/// `expand TEXT`, `expand now TEXT`, `variable NAME`, `inside TEXT`: what one of these calls expands a text to, with
 /// the units spent; of a fault its kind. A number in front is the limit of the budget.
 pub fn expansion(
     alloc: Global,
@@ -116,8 +116,31 @@ pub fn expansion(
     let outcome = match call {
         "expand now" => expand_now(alloc, variables, text, &mut budget),
         "variable" => expand_variable(alloc, variables, text, &mut budget),
+        "inside" | "inside within" => expand_inside(alloc, variables, text, &mut budget),
         _ => expand(alloc, variables, text, &mut budget),
     };
+    told_expansion(alloc, outcome, &budget)
+}
+
+/// `modify MODIFIERS on TEXT`: what they make of a text that is given, as `expand` tells it. A number
+/// behind `within` is the limit of the budget.
+pub fn modified(alloc: Global, variables: &Env, given: &[Vec<u8>]) -> Result<Answer, Trouble> {
+    let (limit, modifiers, text) = match given {
+        [modifiers, text] => (UNITS, modifiers, text),
+        [modifiers, text, limit] => (as_number(limit)?, modifiers, text),
+        _ => return Err(Trouble::NoCase),
+    };
+    let mut budget = Budget::new(limit);
+    let (text, modifiers) = (as_text(text)?, as_text(modifiers)?);
+    let outcome = modify(alloc, variables, text, modifiers, &mut budget);
+    told_expansion(alloc, outcome, &budget)
+}
+
+fn told_expansion(
+    alloc: Global,
+    outcome: Result<String, Stop<FaultKind>>,
+    budget: &Budget,
+) -> Result<Answer, Trouble> {
     let mut answer = match outcome {
         Ok(text) => Answer::of_text(alloc, text.as_str())?,
         Err(Stop::Fault(kind)) => Answer::of_word(alloc, format!(in alloc; "{kind:?}")?.as_str())?,
@@ -238,7 +261,10 @@ pub fn read(alloc: Global, world: &mut MemoryFiles, given: &[Vec<u8>]) -> Result
         return Err(Trouble::NoCase);
     };
     let name = given_name(alloc, name)?;
-    let is_there = world.has(&name).map_err(of_files)?;
+    let Ok(is_there) = look_has::<MemoryFiles, FaultKind>(world, &name) else {
+        return Err(Trouble::Memory);
+    };
+    let has = world.has(&name).map_err(of_files)?;
     let is_held = world.get(&name).is_some();
     let read = world.read(&name).map_err(of_files)?;
     let seen = match look_read::<MemoryFiles, FaultKind>(world, &name) {
@@ -246,7 +272,7 @@ pub fn read(alloc: Global, world: &mut MemoryFiles, given: &[Vec<u8>]) -> Result
         Err(_) => return Err(Trouble::Memory),
     };
     match (read, seen) {
-        (Some(read), Some(seen)) if is_there && is_held => {
+        (Some(read), Some(seen)) if is_there && is_held && has => {
             let mut answer = Answer::new(alloc);
             answer.text(read.as_slice())?;
             if seen.as_slice() != read.as_slice() {
@@ -254,9 +280,62 @@ pub fn read(alloc: Global, world: &mut MemoryFiles, given: &[Vec<u8>]) -> Result
             }
             Ok(answer)
         }
-        (None, None) if !is_there && !is_held => Answer::of_word(alloc, "absent"),
+        (None, None) if !is_there && !is_held && !has => Answer::of_word(alloc, "absent"),
         _ => Answer::of_word(alloc, "both"),
     }
+}
+
+/// A budget that has counted so many questions.
+fn asked(count: &[u8]) -> Result<Budget, Trouble> {
+    let mut budget = Budget::new(UNITS);
+    for _ in 0..as_number(count)? {
+        budget.ask().map_err(|_| Trouble::NoCase)?;
+    }
+    Ok(budget)
+}
+
+/// `ask has NAME after N`: `there` or `absent`, or the kind of the fault, where so many questions were
+/// counted before, and how many are counted then.
+pub fn ask_has_told(
+    alloc: Global,
+    world: &mut MemoryFiles,
+    given: &[Vec<u8>],
+) -> Result<Answer, Trouble> {
+    let [name, count] = given else {
+        return Err(Trouble::NoCase);
+    };
+    let mut budget = asked(count)?;
+    let mut answer = match ask_has(world, &given_name(alloc, name)?, &mut budget) {
+        Ok(is_there) => Answer::of_choice(alloc, is_there, "there", "absent")?,
+        Err(Stop::Fault(kind)) => Answer::of_word(alloc, format!(in alloc; "{kind:?}")?.as_str())?,
+        Err(_) => return Err(Trouble::Memory),
+    };
+    answer.number(budget.questions())?;
+    Ok(answer)
+}
+
+/// `ask read NAME after N`: the same of a file's bytes.
+pub fn ask_read_told(
+    alloc: Global,
+    world: &mut MemoryFiles,
+    given: &[Vec<u8>],
+) -> Result<Answer, Trouble> {
+    let [name, count] = given else {
+        return Err(Trouble::NoCase);
+    };
+    let mut budget = asked(count)?;
+    let mut answer = match ask_read(world, &given_name(alloc, name)?, &mut budget) {
+        Ok(Some(content)) => {
+            let mut answer = Answer::new(alloc);
+            answer.text(content.as_slice())?;
+            answer
+        }
+        Ok(None) => Answer::of_word(alloc, "absent")?,
+        Err(Stop::Fault(kind)) => Answer::of_word(alloc, format!(in alloc; "{kind:?}")?.as_str())?,
+        Err(_) => return Err(Trouble::Memory),
+    };
+    answer.number(budget.questions())?;
+    Ok(answer)
 }
 
 /// `place of DIRECTORY on PATH`: the makefile of a directory, or `none`.

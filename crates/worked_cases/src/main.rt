@@ -6,6 +6,7 @@
 mod answer;
 mod bench;
 mod cases;
+mod conditions;
 mod evaluation;
 mod line;
 mod packages;

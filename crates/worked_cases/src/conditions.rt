@@ -1,0 +1,127 @@
+//! The trees of conditions.
+use crate::answer::{Answer, Trouble};
+use crate::line::as_text;
+use cond_grammar::{
+    Call, Comparison, Condition, ConditionError, Conjunction, Side, Term, read_condition,
+};
+use mk_text::Span;
+use std::alloc::{AllocError, Global};
+use std::fmt::Write;
+
+/// `condition TEXT`: its tree as `or(..)` of `and(..)` of terms: `not(..)`, `group(..)`, a call with its
+/// argument in single quotes, or sides, a quoted one in single quotes; or `unclosed`, `unreadable`.
+pub fn condition(alloc: Global, given: &[Vec<u8>]) -> Result<Answer, Trouble> {
+    let [text] = given else {
+        return Err(Trouble::NoCase);
+    };
+    let text = as_text(text)?;
+    let mut out = String::new(alloc);
+    match read_condition(alloc, text) {
+        Ok(condition) => show_condition(&mut out, text, &condition)?,
+        Err(ConditionError::Unclosed) => out.push_str("unclosed")?,
+        Err(ConditionError::Unreadable) => out.push_str("unreadable")?,
+        Err(ConditionError::Memory) => return Err(Trouble::Memory),
+    }
+    Answer::of_word(alloc, out.as_str())
+}
+
+/// `conjunctions TEXT`: how many conjunctions the condition has.
+pub fn conjunctions(alloc: Global, given: &[Vec<u8>]) -> Result<Answer, Trouble> {
+    let [text] = given else {
+        return Err(Trouble::NoCase);
+    };
+    let mut answer = Answer::new(alloc);
+    if let Ok(condition) = read_condition(alloc, as_text(text)?) {
+        answer.number((condition.more.len() as u64).saturating_add(1))?;
+    }
+    Ok(answer)
+}
+
+#[cycle(show)]
+fn show_condition(out: &mut String, text: &str, condition: &Condition) -> Result<(), AllocError> {
+    out.push_str("or(")?;
+    show_conjunction(out, text, &condition.first)?;
+    for conjunction in &condition.more {
+        out.push_str(", ")?;
+        show_conjunction(out, text, conjunction)?;
+    }
+    out.push_str(")")
+}
+
+#[cycle(show)]
+fn show_conjunction(out: &mut String, text: &str, terms: &Conjunction) -> Result<(), AllocError> {
+    out.push_str("and(")?;
+    show_term(out, text, &terms.first)?;
+    for term in &terms.more {
+        out.push_str(", ")?;
+        show_term(out, text, term)?;
+    }
+    out.push_str(")")
+}
+
+#[cycle(show)]
+fn show_term(out: &mut String, text: &str, term: &Term) -> Result<(), AllocError> {
+    match term {
+        Term::Not(turned) => {
+            out.push_str("not(")?;
+            show_term(out, text, turned)?;
+            out.push_str(")")
+        }
+        Term::Group(condition) => {
+            out.push_str("group(")?;
+            show_condition(out, text, condition)?;
+            out.push_str(")")
+        }
+        Term::Call(call, argument) => {
+            out.push_str(call_word(*call))?;
+            out.push_str(" '")?;
+            out.push_str(at_place(text, *argument))?;
+            out.push_str("'")
+        }
+        Term::Compare(left, comparison, right) => {
+            show_side(out, text, *left)?;
+            out.push_str(comparison_sign(*comparison))?;
+            show_side(out, text, *right)
+        }
+        Term::Side(side) => show_side(out, text, *side),
+    }
+}
+
+fn show_side(out: &mut String, text: &str, side: Side) -> Result<(), AllocError> {
+    match side {
+        Side::Quoted(span) => {
+            let quoted = at_place(text, span);
+            write!(out, "side '{quoted}'")
+        }
+        Side::Bare(span) => {
+            let word = at_place(text, span);
+            write!(out, "side {word}")
+        }
+    }
+}
+
+/// What stands at a place of the text.
+fn at_place(text: &str, span: Span) -> &str {
+    text.get(span.start..span.end).unwrap_or("no-place")
+}
+
+fn call_word(call: Call) -> &'static str {
+    match call {
+        Call::Defined => "defined",
+        Call::Empty => "empty",
+        Call::Exists => "exists",
+        Call::Make => "make",
+        Call::Target => "target",
+    }
+}
+
+fn comparison_sign(comparison: Comparison) -> &'static str {
+    match comparison {
+        Comparison::Equal => " == ",
+        Comparison::Unequal => " != ",
+        Comparison::Less => " < ",
+        Comparison::AtMost => " <= ",
+        Comparison::Greater => " > ",
+        Comparison::AtLeast => " >= ",
+    }
+}
