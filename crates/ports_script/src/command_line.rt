@@ -17,7 +17,8 @@ const PARSES: u32 = 256;
 const EVALS: u32 = 1_024;
 
 /// What a command line asks for, the program's name being its first word: the keys of the tenants
-/// and the sizes of the caches. The error has the text for the terminal: a fault of usage, or help.
+/// and the sizes of the caches. The error has the text for the terminal: a fault of usage, help, or
+/// want of memory.
 pub fn read_config(alloc: Global, words: &[String]) -> Result<Config, Error>
     ensures read { IfOk result (AsksFor (map string_bytes words.now)) }
     ensures fails { FailsBy (fault_of portsd (map string_bytes words.now)) result }
