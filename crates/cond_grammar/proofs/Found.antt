@@ -1,5 +1,5 @@
 -- A text's tree, from the tree of what stands outside its references.
-use Rattle.std.proofs.Common.{◌≡◌, ◌≢◌, ℕ, List, [], length, Option, Some, None, refl, sym, ap, ◌∙◌, arith, length-drop}
+use Rattle.std.proofs.Common.{◌≡◌, ◌≢◌, ◌↔◌, ℕ, List, [], length, Option, Some, None, refl, sym, ap, ◌∙◌, arith, length-drop}
 use Rattle.mk_ref.specs.Units.{left_of}
 use Rattle.mk_ref.specs.Outside.{outside}
 use Rattle.mk_ref.specs.Places.{IsUnclosedAt}
@@ -23,3 +23,9 @@ condition-refused text covered covered_is is tree condition =
 
 pub unclosed-left : (text : List ℕ) (at : ℕ) → IsUnclosedAt text at → left_of text ≢ []
 unclosed-left text at unclosed is = absurd (omega (arith, unclosed.inside, length-drop at text, ap length (sym unclosed.left ∙ is)))
+
+pub conditions-read : (text : List ℕ) (tree : OrTree) → IsConditionOf text tree ↔ ((left_of text ≡ []) × (tree_in (outside text) ≡ Some tree))
+conditions-read text tree = (
+  λ condition. (condition.ends, ap tree_on condition.cut ∙ tree-read 64 condition.tokens tree condition.read),
+  λ h. condition-found text (outside text) tree h.0 refl h.1,
+)

@@ -4,3 +4,5 @@ pub mod Sound
 pub mod Levels
 pub mod Complete
 pub mod Found
+pub mod Edges
+pub mod InText

@@ -1,8 +1,11 @@
 -- What holds of every list of tokens.
-use Rattle.std.specs.Prelude.{◌≡◌, ◌↔◌, ℕ, List, Some}
+use Rattle.std.specs.Prelude.{◌≡◌, ◌↔◌, ℕ, List, [], Some}
+use Rattle.mk_ref.specs.Units.{left_of}
+use Rattle.mk_ref.specs.Outside.{outside}
 use Rattle.cond_grammar.specs.declared.tokens.Token.{Token}
 use Rattle.cond_grammar.specs.Trees.{OrTree, IsTreeOf}
 use Rattle.cond_grammar.specs.Reading.{tree_of}
+use Rattle.cond_grammar.specs.Conditions.{IsConditionOf, tree_in}
 
 -- tokens have at most one tree
 abbrev pub TokensHaveOneTree : Type 0
@@ -11,3 +14,7 @@ TokensHaveOneTree = (limit : ℕ) (tokens : List Token) (one other : OrTree) →
 -- the reading of tokens gives their tree, and none where they have none
 abbrev pub TreesAreRead : Type 0
 TreesAreRead = (limit : ℕ) (tokens : List Token) (tree : OrTree) → IsTreeOf limit tokens tree ↔ (tree_of limit tokens ≡ Some tree)
+
+-- a text has the tree that is read of it, where its references end, and no other
+abbrev pub ConditionsAreRead : Type 0
+ConditionsAreRead = (text : List ℕ) (tree : OrTree) → IsConditionOf text tree ↔ ((left_of text ≡ []) × (tree_in (outside text) ≡ Some tree))

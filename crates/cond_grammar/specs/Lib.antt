@@ -4,3 +4,4 @@ pub mod Reading
 pub mod Views
 pub mod Laws
 pub mod Conditions
+pub mod Placed

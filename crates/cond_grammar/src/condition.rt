@@ -1,14 +1,16 @@
 //! Conditions read into their trees.
-ghost use Rattle.std.specs.Prelude.{◌≡◌, ◌≢◌, [], true, false, option_map, IfOk, IfErr};
+ghost use Rattle.std.specs.Prelude.{◌≡◌, ◌≢◌, [], true, false, option_map, All, IfOk, IfErr};
 ghost use Rattle.cond_grammar.specs.declared.condition.ConditionError.TheVariants as errors;
 ghost use Rattle.mk_ref.specs.Units.{left_of};
+ghost use Rattle.cond_grammar.specs.Trees.{or_tokens};
+ghost use Rattle.cond_grammar.specs.Placed.{IsTokenIn};
 ghost use Rattle.cond_grammar.specs.Views.{condition_tree};
 ghost use Rattle.cond_grammar.specs.Conditions.{IsConditionOf, IsFaultOf, tree_in};
 
 use crate::nodes::Condition;
 use crate::reading::read;
 use crate::scanning::tokens;
-use mk_ref::{PiecesFault, outside, pieces};
+use mk_ref::{PiecesFault, outside, outside_stands_in_place, pieces};
 use std::alloc::{AllocError, Global};
 
 /// How many `!` and parentheses may stand one inside another. A call's parentheses don't count.
@@ -34,7 +36,7 @@ impl From<AllocError> for ConditionError {
 }
 
 /// The tree of the condition that `text` is, what stands behind the word of a directive. Nothing is
-/// expanded: sides and arguments are places in `text`. References are atomic: a parenthesis, a quote
+/// expanded: sides and arguments are places in `text`, at which it can be cut. References are atomic: a parenthesis, a quote
 /// or the end of a side is not sought in them. The time is linear in the length of `text`, and the
 /// depth of the recursion is bounded by `LEVELS`.
 ///
@@ -53,8 +55,10 @@ impl From<AllocError> for ConditionError {
 /// condition; `Memory` where there is no memory for its tokens or its tree.
 pub fn read_condition(alloc: Global, text: &str) -> Result<Condition, ConditionError>
     ensures tree { IfOk result (λ condition. IsConditionOf text.now (condition_tree condition)) }
+    ensures places { IfOk result (λ condition. All (IsTokenIn text.now) (or_tokens (condition_tree condition))) }
     ensures fault { IfErr result (IsFaultOf text.now) }
 {
+    outside_stands_in_place();
     if !ends_each_reference(alloc, text)? {
         return Err(ConditionError::Unclosed);
     }

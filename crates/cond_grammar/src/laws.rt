@@ -1,5 +1,5 @@
-//! What holds of every list of tokens. Each function does nothing: its clause is the law.
-ghost use Rattle.cond_grammar.specs.Laws.{TokensHaveOneTree, TreesAreRead};
+//! What holds of every list of tokens and of every text. Each function does nothing: its clause is the law.
+ghost use Rattle.cond_grammar.specs.Laws.{TokensHaveOneTree, TreesAreRead, ConditionsAreRead};
 
 /// Tokens have at most one tree.
 pub fn tokens_have_one_tree()
@@ -9,4 +9,9 @@ pub fn tokens_have_one_tree()
 /// The reading of tokens gives their tree, and none where they have none.
 pub fn trees_are_read()
     ensures { TreesAreRead }
+{}
+
+/// A text has the tree that is read of it, where its references end, and no other.
+pub fn conditions_are_read()
+    ensures { ConditionsAreRead }
 {}

@@ -9,6 +9,6 @@ mod scanning;
 mod tokens;
 
 pub use condition::{ConditionError, LEVELS, read_condition};
-pub use laws::{tokens_have_one_tree, trees_are_read};
+pub use laws::{conditions_are_read, tokens_have_one_tree, trees_are_read};
 pub use nodes::{Condition, Conjunction, Term};
 pub use tokens::{Call, Comparison, Side};
