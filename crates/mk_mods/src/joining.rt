@@ -1,8 +1,7 @@
 //! Words joined within the limit of a text.
-ghost use Rattle.std.specs.Prelude.{◌≡◌, ◌≤◌, ◌++◌, [], length, string_bytes, map, IfOk, IfErr, Some};
-ghost use Rattle.mk_mods.specs.Joined.{within_limit, with_word, IsUnmade};
+ghost use Rattle.std.specs.Prelude.{◌≡◌, ◌≤◌, length, string_bytes, IfOk, IfErr};
 ghost use Rattle.mk_text.specs.TextLimit.{IsTooLong};
-ghost use Rattle.mk_mods.specs.Substituted.{text_of};
+ghost use Rattle.mk_mods.specs.Joined.{with_word};
 
 use mk_text::{TEXT_LIMIT, TextFault, add_text};
 
