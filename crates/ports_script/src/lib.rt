@@ -9,9 +9,8 @@ mod numerals;
 mod printing;
 mod running;
 mod script;
-#[cfg(test)]
-mod tests;
 mod writing;
 
+pub use printing::transcript_text;
 pub use running::{run_config, run_script};
 pub use script::{Script, ScriptFault, read_script};

@@ -2,7 +2,7 @@
 use crate::answer::{Answer, Trouble};
 use crate::evaluation::{self, MAKEFILE};
 use crate::line::as_text;
-use crate::{conditions, packages, service, texts, trees};
+use crate::{conditions, packages, service, streams, texts, trees};
 use mk_env::Env;
 use mk_files::{Content, MemoryFiles};
 use mk_paths::Name;
@@ -82,6 +82,9 @@ impl Bench {
             "reply key" => service::key_reply(alloc),
             "reply store" => service::store_reply(alloc),
             "run on" => service::run(alloc, given),
+            "input failing after" => streams::failing_input(alloc, given),
+            "narrow output" => streams::narrow_output(alloc, given),
+            "print" => streams::printed_steps(alloc, given),
             "open and end" => service::open_and_end(alloc, given),
             "after at" => service::after(alloc, given),
             _ => self.answer_of_evaluation(call, given),

@@ -1,0 +1,159 @@
+//! Inputs and outputs that fail, and steps that no run can be made to take.
+use crate::answer::{Answer, Trouble};
+use crate::line::as_number;
+use ports_core::{Config, Refused, Step, Tell, Told};
+use ports_http::Reply;
+use ports_script::{ScriptFault, read_script, run_config, transcript_text};
+use std::alloc::Global;
+use std::io::{self, ErrorKind, Read, Write};
+
+/// An input that gives at most five bytes at a read, and fails after so many reads.
+#[derive(Drop)]
+struct Failing<'a> {
+    rest: &'a [u8],
+    reads: u64,
+}
+
+impl Read for Failing<'_> {
+    fn read(&mut self, buf: &mut [u8]) -> io::Result<usize> {
+        if self.reads == 0 {
+            return Err(io::Error::from(ErrorKind::ConnectionReset));
+        }
+        self.reads -= 1;
+        let count = self.rest.len().min(buf.len()).min(5);
+        let (given, rest) = self.rest.split_at(count);
+        buf[..count].copy_from_slice(given);
+        self.rest = rest;
+        Ok(count)
+    }
+}
+
+/// `input SCRIPT failing after N`: the fault of a script whose input gives five bytes at a read and
+/// fails after so many, or how many events were read.
+pub fn failing_input(alloc: Global, given: &[Vec<u8>]) -> Result<Answer, Trouble> {
+    let [script, reads] = given else {
+        return Err(Trouble::NoCase);
+    };
+    let mut input = Failing {
+        rest: script.as_slice(),
+        reads: as_number(reads)?,
+    };
+    let mut answer = Answer::new(alloc);
+    match read_script(alloc, &mut input) {
+        Ok(script) => answer.number(script.events.len() as u64)?,
+        Err(ScriptFault::BadEvent(line)) => {
+            answer.word("BadEvent")?;
+            answer.number(line)?;
+        }
+        Err(ScriptFault::Memory) => return Err(Trouble::Memory),
+    }
+    Ok(answer)
+}
+
+/// An output that takes one byte at a write, and fails after so many writes.
+#[derive(Drop)]
+struct Narrow {
+    taken: Vec<u8>,
+    writes: usize,
+}
+
+impl Write for Narrow {
+    fn write(&mut self, buf: &[u8]) -> io::Result<usize> {
+        if self.writes == 0 {
+            return Err(io::Error::from(ErrorKind::BrokenPipe));
+        }
+        self.writes -= 1;
+        let Some(first) = buf.first() else {
+            return Ok(0);
+        };
+        self.taken.push(*first)?;
+        Ok(1)
+    }
+
+    fn flush(&mut self) -> io::Result<()> {
+        Ok(())
+    }
+}
+
+/// `narrow output SCRIPT PRINTED`: how many bytes were written by a run whose output takes one byte at
+/// a write and all that is to be printed; before that, runs in which each write fails in turn. Where
+/// one of them ends with another status than 1, writes other than the bytes in front of that write, or
+/// says anything but that it can't write, `wrong` and the number of that write.
+pub fn narrow_output(alloc: Global, given: &[Vec<u8>]) -> Result<Answer, Trouble> {
+    let [script, printed] = given else {
+        return Err(Trouble::NoCase);
+    };
+    let mut answer = Answer::new(alloc);
+    for writes in 0..printed.len() {
+        let (status, written, said) = run_narrow(alloc, script, writes)?;
+        let is_front = written.as_slice() == &printed[..writes];
+        if status != 1 || !is_front || said.as_slice() != b"portsd: cannot write\n".as_slice() {
+            answer.word("wrong")?;
+            answer.number(writes as u64)?;
+        }
+    }
+    let (status, written, said) = run_narrow(alloc, script, printed.len())?;
+    if status != 0 || written.as_slice() != printed.as_slice() || !said.is_empty() {
+        answer.word("wrong")?;
+    }
+    answer.number(written.len() as u64)?;
+    Ok(answer)
+}
+
+/// A run for one tenant whose output takes so many bytes: its status, what was written, and what was
+/// said.
+fn run_narrow(
+    alloc: Global,
+    script: &[u8],
+    writes: usize,
+) -> Result<(u8, Vec<u8>, Vec<u8>), Trouble> {
+    let mut keys = Vec::new(alloc);
+    keys.push(String::from_str(alloc, "alpha")?)?;
+    let config = Config {
+        keys,
+        parses: 1,
+        evals: 1,
+    };
+    let mut out = Narrow {
+        taken: Vec::new(alloc),
+        writes,
+    };
+    let mut said = Vec::new(alloc);
+    let mut input = script;
+    let status = run_config(alloc, config, &mut input, &mut out, &mut said);
+    let Narrow { taken, .. } = out;
+    Ok((status, taken, said))
+}
+
+/// `print SENT`: what is printed of two events: the first refused for memory and closed connection 7,
+/// the second refused for memory and, a Wrote, sent these bytes; each told 403 to no tenant.
+pub fn printed_steps(alloc: Global, given: &[Vec<u8>]) -> Result<Answer, Trouble> {
+    let [sent] = given else {
+        return Err(Trouble::NoCase);
+    };
+    let mut input = b"open 0\nwrote 0 all".as_slice();
+    let Ok(script) = read_script(alloc, &mut input) else {
+        return Err(Trouble::NoCase);
+    };
+    let mut steps = Vec::new(alloc);
+    steps.push(step(Vec::new(alloc), Some(7)))?;
+    steps.push(step(sent.clone()?, None))?;
+    let text = transcript_text(alloc, &script, steps.as_slice())?;
+    Answer::of_text(alloc, text.as_str())
+}
+
+fn step(sent: Vec<u8>, closed: Option<u64>) -> Step {
+    let reply = Tell {
+        tenant: None,
+        conn: 7,
+        reply: Reply::unknown_key(),
+    };
+    let told = Told {
+        reply: Some(reply),
+        refused: Some(Refused::Memory),
+        closed,
+        units: 0,
+        checks: 0,
+    };
+    Step { told, sent }
+}
