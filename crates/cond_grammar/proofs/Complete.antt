@@ -4,20 +4,8 @@ use Rattle.cond_grammar.specs.declared.tokens.Token.{Token}
 use Rattle.cond_grammar.specs.declared.tokens.Token.TheVariants as t
 use Rattle.cond_grammar.specs.Trees.{OrTree, OrOf, LaterAnds, NoAnds, MoreAnds, AndTree, AndOf, LaterNots, NoNots, MoreNots, NotTree, Negated, Grouped, Called, Compared, Alone, or_tokens, later_and_tokens, and_tokens, later_not_tokens, not_tokens, or_depth, later_and_depth, and_depth, later_not_depth, not_depth, IsTreeOf}
 use Rattle.cond_grammar.specs.Reading.{behind_or, behind_and, behind_comparison, operand_on, signed, operands, later_nots, later_ands, chain_on, or_by, compared, grouped, turned, inside_of, read_not, read_and, read_or, with_nothing_left, tree_of}
-use Rattle.cond_grammar.proofs.Chains.{operands-next, Shrinks, TakesSome}
-use Rattle.cond_grammar.proofs.Sound.{Takes, takes, shrinks, or-sign, and-sign, not-sound, and-sound, or-sound}
-
-and_takes : TakesSome behind_and
-and_takes = takes t.And behind_and and-sign
-
-or_takes : TakesSome behind_or
-or_takes = takes t.Or behind_or or-sign
-
-not_shrinks : (levels : ℕ) → Shrinks (read_not levels)
-not_shrinks levels = shrinks not_tokens not_depth levels (read_not levels) (not-sound levels)
-
-and_shrinks : (levels : ℕ) → Shrinks (read_and levels)
-and_shrinks levels = shrinks and_tokens and_depth levels (read_and levels) (and-sound levels (read_not levels) (not-sound levels))
+use Rattle.cond_grammar.proofs.Chains.{operands-next}
+use Rattle.cond_grammar.proofs.Sound.{Takes, not-sound, or-sound, and-takes, or-takes, not-shrinks, and-shrinks}
 
 -- the terms, and the conjunctions, that are read behind the first
 abbrev read_nots : ℕ → List Token → Option (LaterNots × List Token)
@@ -53,27 +41,27 @@ more_ands and (Some x) = refl
 nots_end : (levels : ℕ) (rest : List Token) → behind_and rest ≡ None → read_nots levels rest ≡ Some (NoNots, rest)
 nots_end levels rest is =
     ap (option_map {U = LaterNots × List Token} (λ x. (later_nots x.0, x.1)))
-    (operands-next behind_and (read_not levels) and_takes (not_shrinks levels) rest
+    (operands-next behind_and (read_not levels) and-takes (not-shrinks levels) rest
     ∙ ap (signed (λ behind. operand_on (operands behind_and (read_not levels)) (read_not levels behind)) rest) is)
 
 ands_end : (levels : ℕ) (rest : List Token) → behind_or rest ≡ None → read_ands levels rest ≡ Some (NoAnds, rest)
 ands_end levels rest is =
     ap (option_map {U = LaterAnds × List Token} (λ x. (later_ands x.0, x.1)))
-    (operands-next behind_or (read_and levels) or_takes (and_shrinks levels) rest
+    (operands-next behind_or (read_and levels) or-takes (and-shrinks levels) rest
     ∙ ap (signed (λ behind. operand_on (operands behind_or (read_and levels)) (read_and levels behind)) rest) is)
 
 nots_more : (levels : ℕ) (tokens left : List Token) (not : NotTree) → read_not levels tokens ≡ Some (not, left)
     → read_nots levels (t.And ∷ tokens) ≡ option_map {U = LaterNots × List Token} (λ y. (MoreNots not y.0, y.1)) (read_nots levels left)
 nots_more levels tokens left not is =
     ap (option_map {U = LaterNots × List Token} (λ x. (later_nots x.0, x.1)))
-    (operands-next behind_and (read_not levels) and_takes (not_shrinks levels) (t.And ∷ tokens) ∙ ap (operand_on (operands behind_and (read_not levels))) is)
+    (operands-next behind_and (read_not levels) and-takes (not-shrinks levels) (t.And ∷ tokens) ∙ ap (operand_on (operands behind_and (read_not levels))) is)
     ∙ more_nots not (operands behind_and (read_not levels) left)
 
 ands_more : (levels : ℕ) (tokens left : List Token) (and : AndTree) → read_and levels tokens ≡ Some (and, left)
     → read_ands levels (t.Or ∷ tokens) ≡ option_map {U = LaterAnds × List Token} (λ y. (MoreAnds and y.0, y.1)) (read_ands levels left)
 ands_more levels tokens left and is =
     ap (option_map {U = LaterAnds × List Token} (λ x. (later_ands x.0, x.1)))
-    (operands-next behind_or (read_and levels) or_takes (and_shrinks levels) (t.Or ∷ tokens) ∙ ap (operand_on (operands behind_or (read_and levels))) is)
+    (operands-next behind_or (read_and levels) or-takes (and-shrinks levels) (t.Or ∷ tokens) ∙ ap (operand_on (operands behind_or (read_and levels))) is)
     ∙ more_ands and (operands behind_or (read_and levels) left)
 
 -- what may stand behind a term, and behind a conjunction

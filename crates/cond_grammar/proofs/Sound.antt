@@ -4,7 +4,7 @@ use Rattle.cond_grammar.specs.declared.tokens.Side.{Side}
 use Rattle.cond_grammar.specs.declared.tokens.Token.{Token}
 use Rattle.cond_grammar.specs.declared.tokens.Token.TheVariants as t
 use Rattle.cond_grammar.specs.Trees.{OrTree, OrOf, AndTree, AndOf, NotTree, or_tokens, later_and_tokens, and_tokens, later_not_tokens, not_tokens, or_depth, later_and_depth, and_depth, later_not_depth, not_depth}
-use Rattle.cond_grammar.specs.Reading.{Reader, behind_or, behind_and, behind_right, behind_comparison, operand_on, signed, operands_by, operands, later_nots, later_ands, chain_on, and_by, or_by, compared, closed, grouped, turned, inside_of, read_not}
+use Rattle.cond_grammar.specs.Reading.{Reader, behind_or, behind_and, behind_right, behind_comparison, operand_on, signed, operands_by, operands, later_nots, later_ands, chain_on, and_by, or_by, compared, closed, grouped, turned, inside_of, read_not, read_and}
 use Rattle.cond_grammar.proofs.Chains.{Shrinks, TakesSome}
 
 -- tokens taken off the front and those left are all of them
@@ -39,7 +39,7 @@ shorter_sign : (token : Token) (tokens : List Token) (behind : Option (List Toke
 shorter_sign token tokens None h = tt
 shorter_sign token tokens (Some rest) h = subst (λ l. length rest < length l) (sym h) (omega arith)
 
-pub takes : (token : Token) (sign : List Token → Option (List Token)) → IsSign token sign → TakesSome sign
+takes : (token : Token) (sign : List Token → Option (List Token)) → IsSign token sign → TakesSome sign
 takes token sign is tokens = shorter_sign token tokens (sign tokens) (is tokens)
 
 shorter_read : {A : Type 0} (written : A → List Token) (deep : A → ℕ) (limit : ℕ) (tokens : List Token) (x : Option (A × List Token))
@@ -47,7 +47,7 @@ shorter_read : {A : Type 0} (written : A → List Token) (deep : A → ℕ) (lim
 shorter_read written deep limit tokens None h = tt
 shorter_read written deep limit tokens (Some p) h = subst (λ l. length p.1 ≤ length l) h.whole (omega (arith, length-append (written p.0) p.1))
 
-pub shrinks : {A : Type 0} (written : A → List Token) (deep : A → ℕ) (limit : ℕ) (read : Reader A) → IsSound written deep limit read → Shrinks read
+shrinks : {A : Type 0} (written : A → List Token) (deep : A → ℕ) (limit : ℕ) (read : Reader A) → IsSound written deep limit read → Shrinks read
 shrinks written deep limit read sound tokens = shorter_read written deep limit tokens (read tokens) (sound tokens)
 
 -- operands with their signs, and how deep they are
@@ -172,3 +172,16 @@ not-sound (suc levels) (t.Left ∷ rest) = grouped_sound levels rest (or_by (rea
 not-sound levels (t.Call call argument ∷ rest) = record { whole = refl; not_deep = omega arith }
 not-sound levels (t.Side side ∷ rest) = sided_sound levels side rest
 not-sound levels (token ∷ rest) = tt
+
+-- so each sign takes some, and each reading leaves no more than was there
+pub and-takes : TakesSome behind_and
+and-takes = takes t.And behind_and and-sign
+
+pub or-takes : TakesSome behind_or
+or-takes = takes t.Or behind_or or-sign
+
+pub not-shrinks : (levels : ℕ) → Shrinks (read_not levels)
+not-shrinks levels = shrinks not_tokens not_depth levels (read_not levels) (not-sound levels)
+
+pub and-shrinks : (levels : ℕ) → Shrinks (read_and levels)
+and-shrinks levels = shrinks and_tokens and_depth levels (read_and levels) (and-sound levels (read_not levels) (not-sound levels))

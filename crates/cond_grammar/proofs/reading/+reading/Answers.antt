@@ -1,26 +1,13 @@
-use Rattle.std.proofs.Common.{ℕ, ◌≡◌, ◌<◌, ◌≤◌, ◌++◌, ◌∷◌, [], List, length, map, Option, Some, IfSome, sym, ap, subst, ◌∙◌, arith}
+use Rattle.std.proofs.Common.{◌≡◌, ◌<◌, ◌≤◌, ◌++◌, ◌∷◌, [], List, length, map, Option, Some, IfSome, sym, ap, subst, ◌∙◌, arith}
 use Rattle.std.proofs.lemmas.List.{map-append}
 use Rattle.cond_grammar.specs.declared.tokens.Token.{Token}
-use Rattle.cond_grammar.specs.declared.tokens.Token.TheVariants as t
-use Rattle.cond_grammar.specs.Trees.{Negated, Grouped, not_tokens, not_depth, and_tokens, and_depth}
+use Rattle.cond_grammar.specs.Trees.{Negated, Grouped}
 use Rattle.cond_grammar.specs.Reading.{Reader, behind_or, behind_and, closed, turned, grouped, read_not, read_and, operands}
 use Rattle.cond_grammar.specs.Views.{found, left_behind, term_tree, condition_tree, conjunction_tree}
 use Rattle.cond_grammar.proofs.Chains.{continued, continued-ends, continued-more, continued-refused, Shrinks, TakesSome}
-use Rattle.cond_grammar.proofs.Sound.{takes, shrinks, or-sign, and-sign, not-sound, and-sound}
+use Rattle.cond_grammar.proofs.Sound.{and-takes, or-takes, not-shrinks, and-shrinks}
 use Rattle.cond_grammar.proofs.Levels.{negated-zero, grouped-zero, negated-below, grouped-below, tree-not, tree-group}
 use Rattle.cond_grammar.proofs.reading.+reading.Goals as goal
-
-and_takes : TakesSome behind_and
-and_takes = takes t.And behind_and and-sign
-
-or_takes : TakesSome behind_or
-or_takes = takes t.Or behind_or or-sign
-
-not_shrinks : (levels : ℕ) → Shrinks (read_not levels)
-not_shrinks levels = shrinks not_tokens not_depth levels (read_not levels) (not-sound levels)
-
-and_shrinks : (levels : ℕ) → Shrinks (read_and levels)
-and_shrinks levels = shrinks and_tokens and_depth levels (read_and levels) (and-sound levels (read_not levels) (not-sound levels))
 
 -- each turn leaves fewer tokens
 fewer : {A : Type 0} (sign : List Token → Option (List Token)) (read : Reader A) (takes : TakesSome sign) (shrinks : Shrinks read) (rest behind left : List Token) (next : A)
@@ -77,14 +64,14 @@ negated-returns-in-None t c =
 pub later_nots-returns-in_default-2 : goal.later_nots-returns-in_default-2
 later_nots-returns-in_default-2 t c =
     let levels = c.args.levels in
-    sym (continued-refused behind_and (read_not levels) and_takes (not_shrinks levels) (map term_tree c.loop-behind.more.items) c.loop-behind.rest.now c.in-Some.behind.now
+    sym (continued-refused behind_and (read_not levels) and-takes (not-shrinks levels) (map term_tree c.loop-behind.more.items) c.loop-behind.rest.now c.in-Some.behind.now
     (sym (ap left_behind (sym c.in-Some.is) ∙ c.behind_and.ensures)) (sym (ap (found term_tree) (sym c.in_default-2.is) ∙ c.in_ok-next.ensures)))
     ∙ c.loop-behind.invariant
 
 pub later_nots-loop-behind-smaller : goal.later_nots-loop-behind-smaller
 later_nots-loop-behind-smaller t c =
     let levels = c.args.levels in
-    fewer behind_and (read_not levels) and_takes (not_shrinks levels) c.loop-behind.rest.now c.in-Some.behind.now c.in-Some-2.left.now (term_tree c.in-Some-2.next)
+    fewer behind_and (read_not levels) and-takes (not-shrinks levels) c.loop-behind.rest.now c.in-Some.behind.now c.in-Some-2.left.now (term_tree c.in-Some-2.next)
     (sym (ap left_behind (sym c.in-Some.is) ∙ c.behind_and.ensures)) (sym (ap (found term_tree) (sym c.in-Some-2.is) ∙ c.in_ok-next.ensures))
 
 pub later_nots-loop-behind-preserved : goal.later_nots-loop-behind-preserved
@@ -92,28 +79,28 @@ later_nots-loop-behind-preserved t c =
     let levels = c.args.levels in
     kept behind_and (read_not levels) term_tree (operands behind_and (read_not levels) c.args.tokens.now) c.loop-behind.more.items c.push.new.self.items c.in-Some-2.next
     c.loop-behind.rest.now c.in-Some-2.left.now c.in_ok-push.ensures.items
-    (continued-more behind_and (read_not levels) and_takes (not_shrinks levels) (map term_tree c.loop-behind.more.items) c.loop-behind.rest.now c.in-Some.behind.now c.in-Some-2.left.now
+    (continued-more behind_and (read_not levels) and-takes (not-shrinks levels) (map term_tree c.loop-behind.more.items) c.loop-behind.rest.now c.in-Some.behind.now c.in-Some-2.left.now
     (term_tree c.in-Some-2.next) (sym (ap left_behind (sym c.in-Some.is) ∙ c.behind_and.ensures)) (sym (ap (found term_tree) (sym c.in-Some-2.is) ∙ c.in_ok-next.ensures)))
     c.loop-behind.invariant
 
 pub later_nots-returns : goal.later_nots-returns
 later_nots-returns t c =
     let levels = c.args.levels in
-    sym (continued-ends behind_and (read_not levels) and_takes (not_shrinks levels) (map term_tree c.loop-behind.more.items) c.loop-behind.rest.now
+    sym (continued-ends behind_and (read_not levels) and-takes (not-shrinks levels) (map term_tree c.loop-behind.more.items) c.loop-behind.rest.now
     (sym (ap left_behind (sym c.in_default.is) ∙ c.behind_and.ensures)))
     ∙ c.loop-behind.invariant
 
 pub later_ands-returns-in_default-2 : goal.later_ands-returns-in_default-2
 later_ands-returns-in_default-2 t c =
     let levels = c.args.levels in
-    sym (continued-refused behind_or (read_and levels) or_takes (and_shrinks levels) (map conjunction_tree c.loop-behind.more.items) c.loop-behind.rest.now c.in-Some.behind.now
+    sym (continued-refused behind_or (read_and levels) or-takes (and-shrinks levels) (map conjunction_tree c.loop-behind.more.items) c.loop-behind.rest.now c.in-Some.behind.now
     (sym (ap left_behind (sym c.in-Some.is) ∙ c.behind_or.ensures)) (sym (ap (found conjunction_tree) (sym c.in_default-2.is) ∙ c.in_ok-next.ensures)))
     ∙ c.loop-behind.invariant
 
 pub later_ands-loop-behind-smaller : goal.later_ands-loop-behind-smaller
 later_ands-loop-behind-smaller t c =
     let levels = c.args.levels in
-    fewer behind_or (read_and levels) or_takes (and_shrinks levels) c.loop-behind.rest.now c.in-Some.behind.now c.in-Some-2.left.now (conjunction_tree c.in-Some-2.next)
+    fewer behind_or (read_and levels) or-takes (and-shrinks levels) c.loop-behind.rest.now c.in-Some.behind.now c.in-Some-2.left.now (conjunction_tree c.in-Some-2.next)
     (sym (ap left_behind (sym c.in-Some.is) ∙ c.behind_or.ensures)) (sym (ap (found conjunction_tree) (sym c.in-Some-2.is) ∙ c.in_ok-next.ensures))
 
 pub later_ands-loop-behind-preserved : goal.later_ands-loop-behind-preserved
@@ -121,13 +108,13 @@ later_ands-loop-behind-preserved t c =
     let levels = c.args.levels in
     kept behind_or (read_and levels) conjunction_tree (operands behind_or (read_and levels) c.args.tokens.now) c.loop-behind.more.items c.push.new.self.items c.in-Some-2.next
     c.loop-behind.rest.now c.in-Some-2.left.now c.in_ok-push.ensures.items
-    (continued-more behind_or (read_and levels) or_takes (and_shrinks levels) (map conjunction_tree c.loop-behind.more.items) c.loop-behind.rest.now c.in-Some.behind.now c.in-Some-2.left.now
+    (continued-more behind_or (read_and levels) or-takes (and-shrinks levels) (map conjunction_tree c.loop-behind.more.items) c.loop-behind.rest.now c.in-Some.behind.now c.in-Some-2.left.now
     (conjunction_tree c.in-Some-2.next) (sym (ap left_behind (sym c.in-Some.is) ∙ c.behind_or.ensures)) (sym (ap (found conjunction_tree) (sym c.in-Some-2.is) ∙ c.in_ok-next.ensures)))
     c.loop-behind.invariant
 
 pub later_ands-returns : goal.later_ands-returns
 later_ands-returns t c =
     let levels = c.args.levels in
-    sym (continued-ends behind_or (read_and levels) or_takes (and_shrinks levels) (map conjunction_tree c.loop-behind.more.items) c.loop-behind.rest.now
+    sym (continued-ends behind_or (read_and levels) or-takes (and-shrinks levels) (map conjunction_tree c.loop-behind.more.items) c.loop-behind.rest.now
     (sym (ap left_behind (sym c.in_default.is) ∙ c.behind_or.ensures)))
     ∙ c.loop-behind.invariant
