@@ -13,7 +13,7 @@ use Rattle.mk_text.specs.Lines.{LogicalLine, logical_lines}
 use Rattle.mk_ast.specs.Kinds.{line_kind}
 use Rattle.mk_env.specs.Texts.{Variables}
 use Rattle.mk_env.specs.Expansion.{variable}
-use Rattle.mk_paths.specs.World.{FileMap}
+use Rattle.mk_paths.specs.World.{World, files_in}
 use Rattle.mk_eval.specs.Expanded.{Expanded}
 use Rattle.mk_eval.specs.Lines.{perform}
 use Rattle.mk_eval.specs.declared.outcome.Evaluated.{Evaluated}
@@ -47,9 +47,9 @@ abbrev pub evaluated : Result (Variables × Meter) (FaultAt × Meter) → Result
 evaluated (Ok end) = Ok (record { env = end.0; cost = end.1.spent })
 evaluated (Err end) = Err (record { fault = end.0; cost = end.1.spent })
 
--- what a makefile among these files means
-abbrev pub means : FileMap → List ℕ → Result Evaluated Failed
-means files name = evaluated (file_meaning name (finite.get files name) (full UNITS))
+-- what a makefile of a world means; no line that is read so far depends on the settings
+abbrev pub means : World → List ℕ → Result Evaluated Failed
+means world name = evaluated (file_meaning name (finite.get (files_in world) name) (full UNITS))
 
 -- the end of an expansion with its cost, in units
 abbrev pub valued : Result (List ℕ × Meter) (FaultAt × Meter) → Result (Option Expanded) Failed

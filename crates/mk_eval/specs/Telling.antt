@@ -2,7 +2,7 @@ use Rattle.std.specs.Prelude.{◌≡◌, ◌⊎◌, ℕ, List, Result, Ok, Err}
 use Rattle.mk_base.specs.declared.stopping.Stop.{Stop}
 use Rattle.mk_base.specs.declared.stopping.Stop.TheVariants as stops
 use Rattle.mk_base.specs.FaultAt.{FaultAt}
-use Rattle.mk_paths.specs.World.{Shelf, failed}
+use Rattle.mk_paths.specs.Shelf.{Shelf, failed}
 use Rattle.mk_files.specs.Looking.{looked}
 use Rattle.mk_eval.specs.declared.outcome.Failed.{Failed}
 

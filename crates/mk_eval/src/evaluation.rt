@@ -9,12 +9,13 @@ use super::reading::evaluate_text;
 use mk_base::{Budget, FaultKind, Stop, UNITS};
 use mk_env::expand_variable;
 use mk_files::{Content, Files, look_read};
-use mk_paths::Name;
+use mk_paths::{Name, Settings};
 use std::alloc::Global;
 
-/// What the makefile of this name means among the files: its variables and what it cost, in a budget
-/// of 50,000 units, or its first fault with what it cost until there. The files are asked once, for
-/// the makefile itself, which a log of theirs notes.
+/// What the makefile of this name means in the world of these files and settings: its variables and
+/// what it cost, in a budget of 50,000 units, or its first fault with what it cost until there. The
+/// files are asked once, for the makefile itself, which a log of theirs notes. No line that is read so
+/// far depends on the settings.
 ///
 /// The faults: `Include` at line 0 where the file isn't there; `Utf8` at the line of the first bad
 /// byte, before any line is executed; then, at the line that is executed, `Budget` where no unit is
@@ -25,9 +26,10 @@ use std::alloc::Global;
 pub fn evaluate<F: Files>(
     alloc: Global,
     files: &mut F,
+    _settings: &Settings,
     name: &Name,
 ) -> Result<Evaluated, Stop<Failed>>
-    ensures means { Tells (λ x. x) result (means (F.shelf files.old).files name.now) }
+    ensures means { Tells (λ x. x) result (means ((F.shelf files.old).files, _settings.now) name.now) }
     ensures looked { OnOk result (Looked (F.shelf files.old) (F.shelf files.new) name.now) }
     ensures stops { IfErr result (LooksAndStops (F.shelf files.old) (F.shelf files.new) name.now) }
 {

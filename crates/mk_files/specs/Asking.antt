@@ -8,7 +8,8 @@ use Rattle.mk_base.specs.declared.faults.FaultKind.{FaultKind}
 use Rattle.mk_base.specs.Meter.{Meter, question}
 use Rattle.mk_base.specs.Outcome.{Work, ◌>>=◌}
 use Rattle.mk_base.specs.Stopping.{Gives}
-use Rattle.mk_paths.specs.World.{FileMap, Reply, Presence, Contents, Question, Shelf}
+use Rattle.mk_paths.specs.World.{FileMap}
+use Rattle.mk_paths.specs.Shelf.{Reply, Presence, Contents, Question, Shelf}
 
 -- what work on a makefile among files is accounted by: the meter of its budget, and the log of the questions asked, if the files keep one
 pub record Account : Type 0 where

@@ -5,7 +5,8 @@ use Rattle.std.specs.declared.alloc.Global.{Global}
 use Rattle.std.specs.FinMap as finite
 use Rattle.mk_paths.specs.declared.asking.FilesFault.{FilesFault}
 use Rattle.mk_paths.specs.declared.asking.FilesFault.TheVariants.{Memory}
-use Rattle.mk_paths.specs.World.{FileMap, Shelf}
+use Rattle.mk_paths.specs.World.{FileMap}
+use Rattle.mk_paths.specs.Shelf.{Shelf}
 
 -- the files, and how many readings failed
 pub record Holding : Type 0 where

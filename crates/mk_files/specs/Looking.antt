@@ -5,7 +5,7 @@ use Rattle.mk_base.specs.declared.stopping.Stop.{Stop}
 use Rattle.mk_base.specs.declared.stopping.Stop.TheVariants as stops
 use Rattle.mk_paths.specs.declared.asking.FilesFault.{FilesFault}
 use Rattle.mk_paths.specs.declared.asking.FilesFault.TheVariants as faults
-use Rattle.mk_paths.specs.World.{Contents, Shelf, noted, failed}
+use Rattle.mk_paths.specs.Shelf.{Contents, Shelf, noted, failed}
 
 -- the world after a look at a file: the question and its answer are in the log, if there is one
 abbrev pub looked : Shelf → List ℕ → Shelf

@@ -1,6 +1,6 @@
 // Worlds of files that can be read.
 ghost use Rattle.std.specs.Prelude.{IfOk, IfErr, OnErr};
-ghost use Rattle.mk_paths.specs.World.{Contents, Answers, Fails};
+ghost use Rattle.mk_paths.specs.Shelf.{Contents, Answers, Fails};
 
 use crate::shared::Content;
 use mk_paths::{FilesFault, Name, Names};

@@ -6,15 +6,16 @@ use Rattle.std.specs.Option.{option_map}
 use Rattle.std.specs.Result.{result_ok}
 use Rattle.std.specs.FinMap.{contains_key}
 use Rattle.mk_paths.specs.FileName.{resolved}
-use Rattle.mk_paths.specs.World.{FileMap, Presence, Question, Shelf, Answers, noted}
-use Rattle.mk_paths.specs.Place.{makefile_in, candidates, place, up_to_first, places_asked, AsksPlaces}
+use Rattle.mk_paths.specs.World.{FileMap}
+use Rattle.mk_paths.specs.Shelf.{Presence, Question, Shelf, Answers, noted}
+use Rattle.mk_paths.specs.Place.{makefile_in, candidates, place_among, up_to_first, places_asked, AsksPlaces}
 
 -- the search has these trees before it: what was asked, and what is to be asked and found, are those of all trees
 pub record IsUnderway (old now : Shelf) (trees all : List (List ℕ)) (directory : List ℕ) : Type 0 where
   pub asked : List Question
   pub state : now ≡ noted old asked
   pub rest : asked ++ places_asked old.files trees directory ≡ places_asked old.files all directory
-  pub finds : place old.files trees directory ≡ place old.files all directory
+  pub finds : place_among old.files trees directory ≡ place_among old.files all directory
 
 log_kept : (log : Option (List Question)) → option_map (λ questions. questions ++ []) log ≡ log
 log_kept None = refl
@@ -90,7 +91,7 @@ misses {old} {now} {new} {all} tree trees directory name some answer h =
     }
 
 pub hits : {old now new : Shelf} {all : List (List ℕ)} (tree : List ℕ) (trees : List (List ℕ)) (directory name : List ℕ) → result_ok (resolved (makefile_in tree directory)) ≡ Some name → Answers now new name (Presence true)
-    → IsUnderway old now (tree ∷ trees) all directory → (Some name ≡ place old.files all directory) × AsksPlaces old new all directory
+    → IsUnderway old now (tree ∷ trees) all directory → (Some name ≡ place_among old.files all directory) × AsksPlaces old new all directory
 unfolding asked_of
 hits {old} {now} {new} {all} tree trees directory name some answer h =
     let one = one_candidate old.files tree trees directory name some in
@@ -100,5 +101,5 @@ hits {old} {now} {new} {all} tree trees directory name some answer h =
       next.1 ∙ ap (noted old) (ap (λ more. h.asked ++ more) (sym (ap (asked_of old.files) one ∙ asked_from old.files name names true next.0)) ∙ h.rest),
     )
 
-pub ends : {old now : Shelf} {all : List (List ℕ)} (directory : List ℕ) → IsUnderway old now [] all directory → (None ≡ place old.files all directory) × AsksPlaces old now all directory
+pub ends : {old now : Shelf} {all : List (List ℕ)} (directory : List ℕ) → IsUnderway old now [] all directory → (None ≡ place_among old.files all directory) × AsksPlaces old now all directory
 ends {old} {now} {all} directory h = (h.finds, h.state ∙ ap (noted old) (sym (append-nil h.asked) ∙ h.rest))

@@ -1,4 +1,5 @@
 pub mod FileName
-pub mod World
 pub mod SearchPath
+pub mod World
+pub mod Shelf
 pub mod Place

@@ -4,7 +4,8 @@ use Rattle.std.specs.List.{filter_map}
 use Rattle.std.specs.Result.{result_ok}
 use Rattle.std.specs.FinMap.{contains_key}
 use Rattle.mk_paths.specs.FileName.{slash, resolved}
-use Rattle.mk_paths.specs.World.{FileMap, Presence, Question, Shelf, noted, failed}
+use Rattle.mk_paths.specs.World.{FileMap, World, files_in, search_path_of}
+use Rattle.mk_paths.specs.Shelf.{Presence, Question, Shelf, noted, failed}
 use Rattle.mk_paths.specs.declared.asking.FilesFault.{FilesFault}
 use Rattle.mk_paths.specs.declared.asking.FilesFault.TheVariants.{Memory}
 
@@ -16,9 +17,13 @@ makefile_in tree directory = tree ++ slash ∷ directory ++ codes "/Makefile"
 abbrev pub candidates : List (List ℕ) → List ℕ → List (List ℕ)
 candidates trees directory = filter_map (λ tree. result_ok (resolved (makefile_in tree directory))) trees
 
--- the place of a directory: the makefile in the first tree that has it
-abbrev pub place : FileMap → List (List ℕ) → List ℕ → Option (List ℕ)
-place files trees directory = find (contains_key files) (candidates trees directory)
+-- the makefile of a directory in the first of these trees that has it
+abbrev pub place_among : FileMap → List (List ℕ) → List ℕ → Option (List ℕ)
+place_among files trees directory = find (contains_key files) (candidates trees directory)
+
+-- the place of a directory in a world
+abbrev pub place : World → List ℕ → Option (List ℕ)
+place world directory = place_among (files_in world) (search_path_of world) directory
 
 -- the names up to the first that is there
 abbrev pub up_to_first : FileMap → List (List ℕ) → List (List ℕ)

@@ -1,45 +1,45 @@
--- Worlds of files, and what it is to ask them.
-use Rattle.std.specs.Prelude.{◌≡◌, ℕ, ◌+◌, ◌-◌, ◌^◌, min, Bool, List, [], ◌∷◌, ◌++◌, Option, option_map}
+-- A tenant's world: its files, and the settings that they are read with.
+use Rattle.std.specs.Prelude.{ℕ, List, refl}
 use Rattle.std.specs.Ordering.{nat_cmp}
 use Rattle.std.specs.Cmp.Lexicographic.{slice_cmp}
-use Rattle.std.specs.FinMap.{FinMap, get, contains_key}
+use Rattle.std.specs.Coded.{Coded, code_by, coded×, coded_list, coded_ℕ}
+use Rattle.std.specs.FinMap.{FinMap, empty, insert, remove, code}
+use Rattle.mk_paths.specs.SearchPath.{standard_trees}
+use Rattle.mk_paths.specs.declared.search_path.Settings.{Settings}
 
 -- the files of a world: from the names' bytes to the contents
 abbrev pub FileMap : Type 0
 FileMap = FinMap (slice_cmp nat_cmp) (List ℕ)
 
--- what a question was answered: whether the file is there, or its content, if it is
-pub data Reply : Type 0 where
-  Presence : Bool → Reply
-  Contents : Option (List ℕ) → Reply
+-- the files, and the settings
+abbrev pub World : Type 0
+World = FileMap × Settings
 
--- a name that was asked about, with its answer
-abbrev pub Question : Type 0
-Question = List ℕ × Reply
+abbrev pub files_in : World → FileMap
+files_in world = world.0
 
--- a world of files: the map, the log of the questions asked if it keeps one, and how many questions failed
-pub record Shelf : Type 0 where
-  pub files : FileMap
-  pub log : Option (List Question)
-  pub failures : ℕ
+-- the trees that are searched for a port (PORTSDIR_PATH of bsd.port.mk(5))
+abbrev pub search_path_of : World → List (List ℕ)
+search_path_of world = world.1.path
 
--- the reply is the one that the files give
-abbrev pub IsReply : FileMap → List ℕ → Reply → Type 0
-IsReply files name (Presence there) = there ≡ contains_key files name
-IsReply files name (Contents content) = content ≡ get files name
+-- the world with which a tenant begins: no file, and the path `/ports:/mystuff`
+abbrev pub opening_world : World
+opening_world = (empty, record { path = standard_trees })
 
--- the world with more questions in its log, if it keeps one
-abbrev pub noted : Shelf → List Question → Shelf
-noted world questions = record world { log = option_map (λ log. log ++ questions) world.log }
+-- the same with this content as the file of this name
+abbrev pub with_file : World → List ℕ → List ℕ → World
+with_file world name content = (insert world.0 name content, world.1)
 
--- the world with one more failure counted, up to the greatest number of 64 bits
-abbrev pub failed : Shelf → Shelf
-failed world = record world { failures = min (world.failures + 1) (2 ^ 64 - 1) }
+-- the same without the file of this name
+abbrev pub without_file : World → List ℕ → World
+without_file world name = (remove world.0 name, world.1)
 
--- a question was answered as the files say, and is in the log
-abbrev pub Answers : Shelf → Shelf → List ℕ → Reply → Type 0
-Answers old new name reply = IsReply old.files name reply × (new ≡ noted old ((name, reply) ∷ []))
+-- the same with this search path
+abbrev pub with_search_path : World → List (List ℕ) → World
+with_search_path world trees = (world.0, record world.1 { path = trees })
 
--- a question failed: nothing changed but the count of failures
-abbrev pub Fails : Shelf → Shelf → Type 0
-Fails old new = new ≡ failed old
+-- how a proof tells worlds apart
+abbrev pub world_code : Coded World
+world_code =
+    coded× (code (coded_list coded_ℕ) (coded_list coded_ℕ))
+    (code_by (List (List ℕ)) (coded_list (coded_list coded_ℕ)) (λ settings. settings.path) (λ trees. record { path = trees }) (λ _. refl))

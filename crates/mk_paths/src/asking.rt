@@ -1,6 +1,6 @@
 // Asking whether files are there.
 ghost use Rattle.std.specs.Prelude.{◌≡◌, IfOk, IfErr, OnErr};
-ghost use Rattle.mk_paths.specs.World.{Shelf, Presence, Answers, Fails};
+ghost use Rattle.mk_paths.specs.Shelf.{Shelf, Presence, Answers, Fails};
 ghost use Rattle.mk_paths.specs.declared.asking.FilesFault.{FilesFault};
 ghost use Rattle.mk_paths.specs.declared.asking.FilesFault.TheVariants.{Memory};
 

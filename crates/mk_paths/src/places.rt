@@ -2,7 +2,7 @@
 ghost use Rattle.std.specs.Prelude.{◌≡◌, IfOk, IfErr, OnOk};
 ghost use Rattle.std.specs.Result.{result_ok};
 ghost use Rattle.mk_paths.specs.FileName.{resolved};
-ghost use Rattle.mk_paths.specs.Place.{place, makefile_in, AsksPlaces, StopsAsking};
+ghost use Rattle.mk_paths.specs.Place.{place_among, makefile_in, AsksPlaces, StopsAsking};
 
 use crate::asking::{FilesFault, Names};
 use crate::file_name::{Name, NameFault};
@@ -21,7 +21,7 @@ pub fn find<N: Names>(
     path: &SearchPath,
     directory: &str,
 ) -> Result<Option<Name>, FilesFault>
-    ensures place { IfOk result (λ found. found ≡ place (N.shelf names.old).files path.now directory.now) }
+    ensures place { IfOk result (λ found. found ≡ place_among (N.shelf names.old).files path.now directory.now) }
     ensures asked { OnOk result (AsksPlaces (N.shelf names.old) (N.shelf names.new) path.now directory.now) }
     ensures fault { IfErr result (StopsAsking N.fails_with (N.shelf names.old) (N.shelf names.new) path.now directory.now) }
 {

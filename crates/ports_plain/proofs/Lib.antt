@@ -1,4 +1,6 @@
-mod Keeping
+mod BodyLemmas
 mod LiteralRoutes
+pub mod NeverFails
 mod RouteTable
 mod TargetLemmas
+mod TrimmingLemmas

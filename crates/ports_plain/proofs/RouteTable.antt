@@ -5,7 +5,8 @@ use Rattle.matchit.specs.Rows.{RowsOf}
 use Rattle.matchit.specs.Router.{RouteOf}
 use Rattle.matchit.specs.Seek.{first}
 use Rattle.ports_plain.specs.declared.routing.Route.{Route}
-use Rattle.ports_plain.specs.Routes.{under, table, row, rows, route_of}
+use Rattle.ports_plain.specs.Routes.{under, table, route_of}
+use Rattle.ports_plain.specs.RouteRows.{row, rows}
 use Rattle.ports_plain.proofs.LiteralRoutes.{row_of, seek_literal}
 
 -- the value of a route

@@ -6,6 +6,14 @@ use Rattle.serde_json.specs.Data.{Data, boolean, number, unsigned, string, objec
 abbrev pub stored_body : Data
 stored_body = object (member (codes "stored") (boolean true) no_members)
 
+-- `{"removed":true}`
+abbrev pub removed_body : Data
+removed_body = object (member (codes "removed") (boolean true) no_members)
+
+-- a search path, as it is written
+abbrev pub path_body : List ℕ → Data
+path_body path = object (member (codes "path") (string path) no_members)
+
 -- a refusal, by its word
 abbrev pub error_body : List ℕ → Data
 error_body word = object (member (codes "error") (string word) no_members)

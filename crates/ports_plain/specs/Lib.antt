@@ -1,9 +1,11 @@
 pub mod Target
 pub mod Parameters
 pub mod Routes
+pub mod RouteRows
 pub mod Directory
 pub mod Bodies
 pub mod Replies
+pub mod Changing
+pub mod Trimming
 pub mod Plain
-pub mod Writing
 pub mod Refusing

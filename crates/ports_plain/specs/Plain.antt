@@ -1,26 +1,31 @@
--- The plain service: what one request is answered over one tenant's files, and what the files are then. It knows nothing of
+-- The plain service: what one request is answered over one tenant's world, and what the world is then. It knows nothing of
 -- connections, of other tenants, of work that waits or is shared.
 use Rattle.std.specs.Prelude.{ℕ, if◌then◌else◌, List, Option, Some, None, Result, Ok, Err, option_map, codes}
-use Rattle.std.specs.FinMap.{insert}
+use Rattle.std.specs.Str.{is_utf8}
+use Rattle.std.specs.FinMap.{get, contains_key}
 use Rattle.mk_paths.specs.FileName.{resolved}
-use Rattle.mk_paths.specs.SearchPath.{standard_trees}
+use Rattle.mk_paths.specs.SearchPath.{search_path}
 use Rattle.mk_paths.specs.Place.{place}
-use Rattle.mk_paths.specs.World.{FileMap}
+use Rattle.mk_paths.specs.World.{FileMap, World, files_in}
 use Rattle.mk_paths.specs.declared.file_name.NameFault.{NameFault}
 use Rattle.mk_eval.specs.Meaning.{means, value_of}
 use Rattle.mk_eval.specs.Expanded.{Expanded}
 use Rattle.mk_eval.specs.declared.outcome.Evaluated.{Evaluated}
 use Rattle.mk_eval.specs.declared.outcome.Failed.{Failed}
 use Rattle.ports_http.specs.declared.method.Method.{Method}
-use Rattle.ports_http.specs.declared.method.Method.TheVariants.{Get, Put}
+use Rattle.ports_http.specs.declared.method.Method.TheVariants.{Get, Put, Delete}
 use Rattle.ports_http.specs.Messages.{ReplyMessage}
+use Rattle.ports_plain.specs.declared.changing.Change.{Change}
+use Rattle.ports_plain.specs.declared.changing.Change.TheVariants.{PutFile, RemoveFile, SetPath}
 use Rattle.ports_plain.specs.declared.routing.Route.{Route}
-use Rattle.ports_plain.specs.declared.routing.Route.TheVariants.{File, Var}
+use Rattle.ports_plain.specs.declared.routing.Route.TheVariants.{File, Path, Var}
 use Rattle.ports_plain.specs.Target.{path_of, query_of}
 use Rattle.ports_plain.specs.Parameters.{parameter}
 use Rattle.ports_plain.specs.Directory.{is_directory}
+use Rattle.ports_plain.specs.Trimming.{trimmed}
 use Rattle.ports_plain.specs.Routes.{route_of}
-use Rattle.ports_plain.specs.Replies.{no_route, not_allowed, bad_parameter, bad_name, bad_path, no_port, faulty, stored, variable}
+use Rattle.ports_plain.specs.Replies.{no_route, not_allowed, bad_parameter, bad_name, bad_path, no_file, no_port, faulty, file_shown, stored, removed, path_set, variable}
+use Rattle.ports_plain.specs.Changing.{behind}
 
 -- what is asked
 pub record Asked : Type 0 where
@@ -31,19 +36,47 @@ pub record Asked : Type 0 where
 abbrev pub asked : Method → List ℕ → List ℕ → Asked
 asked method target body = record { method = method; target = target; body = body }
 
--- a reply, and the files behind it
+-- a reply, and what is to be changed, if anything is
 abbrev pub Answer : Type 0
-Answer = ReplyMessage × FileMap
+Answer = ReplyMessage × Option Change
 
--- a file under the name that a text resolves to
-abbrev pub put_under : FileMap → List ℕ → Result (List ℕ) NameFault → Answer
-put_under files body (Ok name) = (stored, insert files name body)
-put_under files body (Err fault) = (bad_name, files)
+-- a reply that changes nothing
+abbrev pub told : ReplyMessage → Answer
+told reply = (reply, None)
 
--- PUT /v1/file?name=
-abbrev pub put_file : FileMap → List ℕ → Option (List ℕ) → Answer
-put_file files body (Some name) = put_under files body (resolved name)
-put_file files body None = (bad_parameter, files)
+-- the content of a file, if it is there
+abbrev pub content_shown : Option (List ℕ) → ReplyMessage
+content_shown (Some content) = file_shown content
+content_shown None = no_file
+
+-- GET, PUT and DELETE of the file of a name
+abbrev pub on_named_file : FileMap → Method → List ℕ → List ℕ → Answer
+on_named_file files Get body name = told (content_shown (get files name))
+on_named_file files Put body name = (stored, Some (PutFile name body))
+on_named_file files Delete body name = if contains_key files name then (removed, Some (RemoveFile name)) else told no_file
+
+-- the same where a text stands for the name
+abbrev pub on_resolved : FileMap → Method → List ℕ → Result (List ℕ) NameFault → Answer
+on_resolved files method body (Ok name) = on_named_file files method body name
+on_resolved files method body (Err fault) = told bad_name
+
+-- /v1/file?name=
+abbrev pub on_file : FileMap → Method → List ℕ → Option (List ℕ) → Answer
+on_file files method body (Some name) = on_resolved files method body (resolved name)
+on_file files method body None = told bad_parameter
+
+-- a search path that a text names, if it names one, is set
+abbrev pub set_trees : List ℕ → Option (List (List ℕ)) → Answer
+set_trees text (Some trees) = (path_set text, Some (SetPath trees))
+set_trees text None = told bad_path
+
+-- the same of bytes, which are no text where they aren't UTF-8
+abbrev pub set_text : List ℕ → Answer
+set_text bytes = if is_utf8 bytes then set_trees bytes (search_path bytes) else told bad_path
+
+-- PUT /v1/path, whose body has a search path
+abbrev pub set_path : List ℕ → Answer
+set_path body = set_text (trimmed body)
 
 -- the value of a variable after a makefile's evaluation, or the fault that the evaluation or the value's expansion met
 abbrev pub value_after : List ℕ → List ℕ → Result Evaluated Failed → Result (Option Expanded) Failed
@@ -56,27 +89,32 @@ valued (Ok value) = variable (option_map (λ (known : Expanded). known.text) val
 valued (Err failed) = faulty failed.fault
 
 -- the variable of a directory's makefile
-abbrev pub variable_at : FileMap → List ℕ → Option (List ℕ) → ReplyMessage
-variable_at files name (Some makefile) = valued (value_after makefile name (means files makefile))
-variable_at files name None = no_port
+abbrev pub variable_at : World → List ℕ → Option (List ℕ) → ReplyMessage
+variable_at world name (Some makefile) = valued (value_after makefile name (means world makefile))
+variable_at world name None = no_port
 
 -- GET /v1/var?path=&name=
-abbrev pub get_variable : FileMap → Option (List ℕ) → Option (List ℕ) → ReplyMessage
-get_variable files (Some path) (Some name) =
-    if is_directory path then variable_at files name (place files standard_trees path) else bad_path
-get_variable files _ _ = bad_parameter
+abbrev pub get_variable : World → Option (List ℕ) → Option (List ℕ) → ReplyMessage
+get_variable world (Some path) (Some name) =
+    if is_directory path then variable_at world name (place world path) else bad_path
+get_variable world _ _ = bad_parameter
 
 -- a parameter of a request
 abbrev pub given : List ℕ → Asked → Option (List ℕ)
 given name request = parameter name (query_of request.target)
 
 -- the answer on a route by a method
-abbrev pub answer_on : FileMap → Asked → Option Route → Method → Answer
-answer_on files request (Some File) Put = put_file files request.body (given (codes "name") request)
-answer_on files request (Some Var) Get = (get_variable files (given (codes "path") request) (given (codes "name") request), files)
-answer_on files request (Some route) method = (not_allowed route, files)
-answer_on files request None method = (no_route, files)
+abbrev pub answer_on : World → Asked → Option Route → Method → Answer
+answer_on world request (Some File) method = on_file (files_in world) method request.body (given (codes "name") request)
+answer_on world request (Some Path) Put = set_path request.body
+answer_on world request (Some Var) Get = told (get_variable world (given (codes "path") request) (given (codes "name") request))
+answer_on world request (Some route) method = told (not_allowed route)
+answer_on world request None method = told no_route
 
--- The plain service. The path is looked at first, then the method, then the parameters.
-unfoldable pub plain : FileMap → Asked → Answer
-plain files request = answer_on files request (route_of (path_of request.target)) request.method
+-- The reply to a request, and what is to be changed. The path is looked at first, then the method, then the parameters.
+unfoldable pub answer : World → Asked → Answer
+answer world request = answer_on world request (route_of (path_of request.target)) request.method
+
+-- The plain service: the reply to a request, and the world behind it.
+abbrev pub plain : World → Asked → ReplyMessage × World
+plain world request = ((answer world request).0, behind world (answer world request).1)

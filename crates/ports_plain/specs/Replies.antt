@@ -3,14 +3,14 @@ use Rattle.std.specs.Prelude.{List, [], ◌∷◌, Option, Some, codes, ℕ}
 use Rattle.mk_base.specs.Faults.{number_of}
 use Rattle.mk_base.specs.FaultAt.{FaultAt}
 use Rattle.ports_http.specs.declared.method.Method.{Method}
-use Rattle.ports_http.specs.declared.method.Method.TheVariants.{Get, Put}
-use Rattle.ports_http.specs.declared.reply.Content.TheVariants.{Json}
+use Rattle.ports_http.specs.declared.method.Method.TheVariants.{Get, Put, Delete}
+use Rattle.ports_http.specs.declared.reply.Content.TheVariants.{Json, Octets}
 use Rattle.ports_http.specs.Messages.{ReplyMessage}
 use Rattle.serde_json.specs.Data.{Data}
 use Rattle.serde_json.specs.Written.{compact_text}
 use Rattle.ports_plain.specs.declared.routing.Route.{Route}
-use Rattle.ports_plain.specs.declared.routing.Route.TheVariants.{File, Var}
-use Rattle.ports_plain.specs.Bodies.{stored_body, error_body, fault_body, variable_body}
+use Rattle.ports_plain.specs.declared.routing.Route.TheVariants.{File, Path, Var}
+use Rattle.ports_plain.specs.Bodies.{stored_body, removed_body, path_body, error_body, fault_body, variable_body}
 
 -- a reply with a JSON value, written without blanks
 abbrev pub json_reply : ℕ → Data → ReplyMessage
@@ -26,7 +26,8 @@ no_route = refusal 404 (codes "Route")
 
 -- the methods of a route
 abbrev pub methods_of : Route → List Method
-methods_of File = Put ∷ []
+methods_of File = Get ∷ Put ∷ Delete ∷ []
+methods_of Path = Put ∷ []
 methods_of Var = Get ∷ []
 
 -- a method that the route doesn't have
@@ -41,9 +42,13 @@ bad_parameter = refusal 400 (codes "Parameter")
 abbrev pub bad_name : ReplyMessage
 bad_name = refusal 400 (codes "Name")
 
--- a text that names no directory
+-- a text that names no directory, or is no search path
 abbrev pub bad_path : ReplyMessage
 bad_path = refusal 400 (codes "Path")
+
+-- a file that isn't there
+abbrev pub no_file : ReplyMessage
+no_file = refusal 404 (codes "NoFile")
 
 -- a directory whose makefile isn't there
 abbrev pub no_port : ReplyMessage
@@ -53,9 +58,21 @@ no_port = refusal 404 (codes "NoPort")
 abbrev pub faulty : FaultAt → ReplyMessage
 faulty fault = json_reply 422 (fault_body (number_of fault.kind) fault.line fault.name)
 
+-- the content of a file
+abbrev pub file_shown : List ℕ → ReplyMessage
+file_shown content = record { status = 200; body = content; content = Some Octets; allow = [] }
+
 -- a file was stored
 abbrev pub stored : ReplyMessage
 stored = json_reply 200 stored_body
+
+-- a file was removed
+abbrev pub removed : ReplyMessage
+removed = json_reply 200 removed_body
+
+-- the search path was set
+abbrev pub path_set : List ℕ → ReplyMessage
+path_set path = json_reply 200 (path_body path)
 
 -- the value of a variable, or that it isn't defined
 abbrev pub variable : Option (List ℕ) → ReplyMessage

@@ -1,10 +1,8 @@
 -- The routes of the service.
-use Rattle.std.specs.Prelude.{ℕ, if◌then◌else◌, List, [], ◌∷◌, Option, Some, None, codes, map}
+use Rattle.std.specs.Prelude.{ℕ, if◌then◌else◌, List, [], ◌∷◌, Option, Some, None, codes}
 use Rattle.std.specs.Str.{bytes_eq}
-use Rattle.matchit.specs.Rows.{RowsOf}
-use Rattle.matchit.specs.Router.{RouteOf}
 use Rattle.ports_plain.specs.declared.routing.Route.{Route}
-use Rattle.ports_plain.specs.declared.routing.Route.TheVariants.{File, Var}
+use Rattle.ports_plain.specs.declared.routing.Route.TheVariants.{File, Path, Var}
 
 -- what stands under a path in a table
 abbrev pub under : {A : Type 0} → List (List ℕ × A) → List ℕ → Option A
@@ -13,15 +11,8 @@ under ((written, here) ∷ others) path = if bytes_eq written path then Some her
 
 -- the paths of the routes, in the order of their bytes
 abbrev pub table : List (List ℕ × Route)
-table = (codes "/v1/file", File) ∷ (codes "/v1/var", Var) ∷ []
+table = (codes "/v1/file", File) ∷ (codes "/v1/path", Path) ∷ (codes "/v1/var", Var) ∷ []
 
 -- the route of a path, which is compared as it is written
 abbrev pub route_of : List ℕ → Option Route
 route_of path = under table path
-
--- the same table as a router keeps it: each path is a pattern without parameters
-abbrev pub row : List ℕ × Route → List ℕ × RouteOf Route
-row entry = (entry.0, record { pattern = entry.0; text = entry.0; names = []; value = entry.1 })
-
-abbrev pub rows : RowsOf (RouteOf Route)
-rows = map row table

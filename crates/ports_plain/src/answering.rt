@@ -1,46 +1,47 @@
 // Requests and their answers.
 ghost use Rattle.std.specs.Prelude.{◌≡◌, IfOk};
-ghost use Rattle.mk_paths.specs.SearchPath.{standard_trees};
-ghost use Rattle.ports_plain.specs.Plain.{plain, asked};
+ghost use Rattle.std.specs.Result.{result_err};
+ghost use Rattle.ports_plain.specs.Plain.{answer, asked};
 ghost use Rattle.ports_plain.specs.Refusing.{Keeps};
-ghost use Rattle.ports_plain.specs.Writing.{written};
 
-use crate::files::put_file;
+use crate::changing::Prepared;
+use crate::files::on_file;
+use crate::paths::set_path;
 use crate::refused::Refused;
 use crate::replies::{not_allowed, refusal};
 use crate::routing::{Route, Routes};
 use crate::target::path_and_query;
 use crate::variables::get_variable;
-use crate::writing::Prepared;
-use mk_files::MemoryFiles;
-use mk_paths::SearchPath;
+use mk_files::Files;
+use mk_paths::Settings;
 use ports_http::{Method, StatusCode};
 use std::alloc::{AllocError, Global};
 
-/// The plain service: its routes and the search path of ports, made once. It holds nothing of a tenant.
+/// The plain service: its routes, made once. It holds nothing of a tenant.
 #[derive(Drop)]
 pub struct Plain {
     routes: Routes,
-    trees: SearchPath,
-    ghost standard: { trees ≡ standard_trees },
 }
 
 impl Plain {
-    /// The service with the search path `/ports:/mystuff`. Its one error is want of memory.
+    /// The service. Its one error is want of memory.
     pub fn new(alloc: Global) -> Result<Plain, AllocError> {
         Ok(Plain {
             routes: Routes::new(alloc)?,
-            trees: SearchPath::standard(alloc)?,
         })
     }
 
-    /// The answer to one request over one tenant's files, of which nothing is changed yet: its reply, and
-    /// what is to be written.
+    /// The answer to one request over one tenant's world, of which nothing is changed yet: its reply, and
+    /// what is to be changed.
     ///
-    /// `PUT /v1/file?name=N` stores the body, in bytes, as the file that N names: 200 `{"stored":true}`; 400
-    /// `{"error":"Name"}` where N names none. `GET /v1/var?path=P&name=V` shows the variable V of the
-    /// makefile of the directory P, in the first tree that has it: 200 `{"defined":B,"value":T}`, T being
-    /// empty where V isn't defined; 400 `{"error":"Path"}` where P is no directory below a tree; 404
+    /// `GET /v1/file?name=N` shows the bytes of the file that N names, 404 `{"error":"NoFile"}` where it
+    /// isn't there; `PUT` stores the body, in bytes, as that file: 200 `{"stored":true}`; `DELETE` removes
+    /// it: 200 `{"removed":true}`, 404 `{"error":"NoFile"}` where it isn't there. Each is 400
+    /// `{"error":"Name"}` where N names no file. `PUT /v1/path` makes the trees that the body names, without
+    /// the blanks and line feeds at its ends, those that are searched for ports: 200 `{"path":P}`; 400
+    /// `{"error":"Path"}` where it names no search path. `GET /v1/var?path=P&name=V` shows the variable V
+    /// of the makefile of the directory P, in the first tree that has it: 200 `{"defined":B,"value":T}`, T
+    /// being empty where V isn't defined; 400 `{"error":"Path"}` where P is no directory below a tree; 404
     /// `{"error":"NoPort"}` where no tree has its makefile; 422
     /// `{"error":"Fault","kind":K,"line":L,"name":N}` where the makefile or the value is at fault.
     ///
@@ -51,36 +52,32 @@ impl Plain {
     ///
     /// `Store` comes where reading the files failed, which then count one more failure; `Memory` where no
     /// memory was left.
-    #[tactic(auto, unfolding(crate::specs::Plain::plain))]
-    pub fn prepare(
+    #[tactic(auto, unfolding(crate::specs::Plain::answer))]
+    pub fn prepare<F: Files>(
         &self,
         alloc: Global,
-        files: &mut MemoryFiles,
+        files: &mut F,
+        settings: &Settings,
         method: Method,
         target: &str,
         body: Vec<u8>,
     ) -> Result<Prepared, Refused>
-        ensures ok { IfOk result (λ prepared. plain files.old.files (asked method target.now body.items) ≡ (prepared.reply, written prepared.write files.old.files)) }
-        ensures files { files.new.files ≡ files.old.files }
-        ensures keeps { Keeps files.old files.new result }
+        ensures ok { IfOk result (λ prepared. (prepared.reply, prepared.change) ≡ answer ((F.shelf files.old).files, settings.now) (asked method target.now body.items)) }
+        ensures keeps { Keeps (result_err result) (F.shelf files.old) (F.shelf files.new) }
     {
         let (path, query) = path_and_query(target);
         let Some(route) = self.routes.find(path) else {
-            return Ok(Prepared {
-                reply: refusal(alloc, StatusCode::NOT_FOUND, "Route")?,
-                write: None,
-            });
+            let reply = refusal(alloc, StatusCode::NOT_FOUND, "Route")?;
+            return Ok(Prepared::told(reply));
         };
         match (route, method) {
-            (Route::File, Method::Put) => Ok(put_file(alloc, query, body)?),
-            (Route::Var, Method::Get) => Ok(Prepared {
-                reply: get_variable(alloc, files, &self.trees, query)?,
-                write: None,
-            }),
-            _ => Ok(Prepared {
-                reply: not_allowed(alloc, route)?,
-                write: None,
-            }),
+            (Route::File, method) => on_file(alloc, files, method, query, body),
+            (Route::Path, Method::Put) => Ok(set_path(alloc, &body)?),
+            (Route::Var, Method::Get) => {
+                let reply = get_variable(alloc, files, settings, query)?;
+                Ok(Prepared::told(reply))
+            }
+            _ => Ok(Prepared::told(not_allowed(alloc, route)?)),
         }
     }
 }

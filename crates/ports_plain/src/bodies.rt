@@ -2,7 +2,7 @@
 ghost use Rattle.std.specs.Prelude.{◌≡◌, IfOk};
 ghost use Rattle.std.specs.Option.{option_copied};
 ghost use Rattle.serde_json.specs.View.{view};
-ghost use Rattle.ports_plain.specs.Bodies.{stored_body, error_body, fault_body, variable_body};
+ghost use Rattle.ports_plain.specs.Bodies.{stored_body, removed_body, path_body, error_body, fault_body, variable_body};
 
 use serde_json::{Value, json};
 use std::alloc::{AllocError, Global};
@@ -12,6 +12,20 @@ pub fn stored(alloc: Global) -> Result<Value, AllocError>
     ensures { IfOk result (λ value. view value ≡ stored_body) }
 {
     json!(in alloc; {"stored": true})
+}
+
+// What a removed file is answered with.
+pub fn removed(alloc: Global) -> Result<Value, AllocError>
+    ensures { IfOk result (λ value. view value ≡ removed_body) }
+{
+    json!(in alloc; {"removed": true})
+}
+
+// What a search path that was set is answered with.
+pub fn path(alloc: Global, path: &str) -> Result<Value, AllocError>
+    ensures { IfOk result (λ value. view value ≡ path_body path.now) }
+{
+    json!(in alloc; {"path": path})
 }
 
 // What a refusal is answered with: the word that names it.

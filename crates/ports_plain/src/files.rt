@@ -1,42 +1,85 @@
 // The route of files.
-ghost use Rattle.std.specs.Prelude.{◌≡◌, IfOk, None, codes};
-ghost use Rattle.mk_paths.specs.World.{FileMap};
-ghost use Rattle.ports_plain.specs.Plain.{put_file as put_file_of};
+ghost use Rattle.std.specs.Prelude.{◌≡◌, IfOk, codes};
+ghost use Rattle.std.specs.Result.{result_err};
+ghost use Rattle.ports_plain.specs.Plain.{on_file as on_file_of, on_named_file as on_named_file_of, told};
 ghost use Rattle.ports_plain.specs.Parameters.{parameter as parameter_of};
-ghost use Rattle.ports_plain.specs.Replies.{refusal as refusal_of};
-ghost use Rattle.ports_plain.specs.Writing.{written};
+ghost use Rattle.ports_plain.specs.Replies.{refusal as refusal_of, no_file as no_file_reply};
+ghost use Rattle.ports_plain.specs.Refusing.{Keeps};
 
+use crate::changing::{Change, Prepared};
 use crate::parameters::parameter;
-use crate::replies::{refusal, stored};
-use crate::writing::{Prepared, Write};
+use crate::refused::Refused;
+use crate::replies::{file_shown, refusal, removed, stored};
+use mk_files::{Content, Files, look_has, look_read};
 use mk_paths::{Name, NameFault};
-use ports_http::StatusCode;
+use ports_http::{Method, StatusCode};
 use std::alloc::{AllocError, Global};
 
-// Stores a body under the name that the query gives.
-pub fn put_file(alloc: Global, query: &str, body: Vec<u8>) -> Result<Prepared, AllocError>
-    ensures { IfOk result (λ prepared. (files : FileMap) → (prepared.reply, written prepared.write files) ≡ put_file_of files body.items (parameter_of (codes "name") query.now)) }
+// The file that the query names: shown, stored with this body, or removed.
+pub fn on_file<F: Files>(
+    alloc: Global,
+    files: &mut F,
+    method: Method,
+    query: &str,
+    body: Vec<u8>,
+) -> Result<Prepared, Refused>
+    ensures ok { IfOk result (λ prepared. (prepared.reply, prepared.change) ≡ on_file_of (F.shelf files.old).files method body.items (parameter_of (codes "name") query.now)) }
+    ensures keeps { Keeps (result_err result) (F.shelf files.old) (F.shelf files.new) }
 {
     let Some(text) = parameter(alloc, query, "name")? else {
-        return refused(alloc, "Parameter");
+        return Ok(refused(alloc, StatusCode::BAD_REQUEST, "Parameter")?);
     };
     match Name::read(alloc, text.as_str()) {
-        Ok(name) => Ok(Prepared {
-            reply: stored(alloc)?,
-            write: Some(Write::new(alloc, name, body)?),
-        }),
-        Err(NameFault::Memory) => Err(AllocError),
-        Err(NameFault::BadName | NameFault::Above) => refused(alloc, "Name"),
+        Ok(name) => on_named_file(alloc, files, method, name, body),
+        Err(NameFault::Memory) => Err(Refused::Memory),
+        Err(NameFault::BadName | NameFault::Above) => {
+            Ok(refused(alloc, StatusCode::BAD_REQUEST, "Name")?)
+        }
     }
 }
 
-// A bad request, by its word. Nothing is written.
-fn refused(alloc: Global, word: &str) -> Result<Prepared, AllocError>
-    ensures reply { IfOk result (λ prepared. prepared.reply ≡ refusal_of 400 word.now) }
-    ensures write { IfOk result (λ prepared. prepared.write ≡ None) }
+fn on_named_file<F: Files>(
+    alloc: Global,
+    files: &mut F,
+    method: Method,
+    name: Name,
+    body: Vec<u8>,
+) -> Result<Prepared, Refused>
+    ensures ok { IfOk result (λ prepared. (prepared.reply, prepared.change) ≡ on_named_file_of (F.shelf files.old).files method body.items name) }
+    ensures keeps { Keeps (result_err result) (F.shelf files.old) (F.shelf files.new) }
 {
-    Ok(Prepared {
-        reply: refusal(alloc, StatusCode::BAD_REQUEST, word)?,
-        write: None,
-    })
+    match method {
+        Method::Get => match look_read(files, &name)? {
+            Some(content) => Ok(Prepared::told(file_shown(alloc, content.as_slice())?)),
+            None => Ok(no_file(alloc)?),
+        },
+        Method::Put => {
+            let reply = stored(alloc)?;
+            let content = Content::new(alloc, body)?;
+            let change = Some(Change::PutFile(name, content));
+            Ok(Prepared { reply, change })
+        }
+        Method::Delete => {
+            let there = look_has(files, &name)?;
+            if !there {
+                return Ok(no_file(alloc)?);
+            }
+            let reply = removed(alloc)?;
+            let change = Some(Change::RemoveFile(name));
+            Ok(Prepared { reply, change })
+        }
+    }
+}
+
+fn no_file(alloc: Global) -> Result<Prepared, AllocError>
+    ensures { IfOk result (λ prepared. (prepared.reply, prepared.change) ≡ told no_file_reply) }
+{
+    refused(alloc, StatusCode::NOT_FOUND, "NoFile")
+}
+
+// A refusal, by its word.
+fn refused(alloc: Global, status: StatusCode, word: &str) -> Result<Prepared, AllocError>
+    ensures { IfOk result (λ prepared. (prepared.reply, prepared.change) ≡ told (refusal_of status word.now)) }
+{
+    Ok(Prepared::told(refusal(alloc, status, word)?))
 }

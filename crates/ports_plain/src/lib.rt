@@ -1,19 +1,23 @@
-//! One request answered over one tenant's files: the plain service, with nothing of connections, queues,
+//! One request answered over one tenant's world: the plain service, with nothing of connections, queues,
 //! sharing or suspension.
 #![tactic(auto)]
 
 mod answering;
 mod bodies;
+mod changing;
 mod directory;
 mod files;
+mod laws;
 mod parameters;
+mod paths;
 mod refused;
 mod replies;
 mod routing;
 mod target;
+mod trimming;
 mod variables;
-mod writing;
 
 pub use answering::Plain;
+pub use changing::{Change, Prepared};
+pub use laws::never_answers_503;
 pub use refused::Refused;
-pub use writing::{Prepared, Write};

@@ -3,7 +3,7 @@ ghost use Rattle.std.specs.Prelude.{◌≡◌, IfOk, false};
 ghost use Rattle.std.specs.Option.{option_copied};
 ghost use Rattle.serde_json.specs.View.{view};
 ghost use Rattle.serde_json.specs.Written.{has_float};
-ghost use Rattle.ports_plain.specs.Replies.{json_reply as json_reply_of, refusal as refusal_of, not_allowed as not_allowed_on, methods_of, faulty as faulty_at, stored as stored_reply, variable as variable_reply};
+ghost use Rattle.ports_plain.specs.Replies.{json_reply as json_reply_of, refusal as refusal_of, not_allowed as not_allowed_on, methods_of, faulty as faulty_at, file_shown as file_shown_as, stored as stored_reply, removed as removed_reply, path_set as path_set_to, variable as variable_reply};
 
 use crate::bodies;
 use crate::routing::Route;
@@ -34,7 +34,8 @@ fn methods_of_route(route: Route) -> &'static [Method]
     ensures { result.now ≡ methods_of route }
 {
     match route {
-        Route::File => &[Method::Put],
+        Route::File => &[Method::Get, Method::Put, Method::Delete],
+        Route::Path => &[Method::Put],
         Route::Var => &[Method::Get],
     }
 }
@@ -55,11 +56,35 @@ pub fn faulty(alloc: Global, fault: &Fault) -> Result<Reply, AllocError>
     json_reply(alloc, StatusCode::UNPROCESSABLE_ENTITY, &body)
 }
 
+// The content of a file.
+pub fn file_shown(alloc: Global, content: &[u8]) -> Result<Reply, AllocError>
+    ensures { IfOk result (λ reply. reply ≡ file_shown_as content.now) }
+{
+    let body = Vec::from_slice(alloc, content)?;
+    Ok(Reply::of_bytes(StatusCode::OK, Some(Content::Octets), body))
+}
+
 // A file was stored.
 pub fn stored(alloc: Global) -> Result<Reply, AllocError>
     ensures { IfOk result (λ reply. reply ≡ stored_reply) }
 {
     let body = bodies::stored(alloc)?;
+    json_reply(alloc, StatusCode::OK, &body)
+}
+
+// A file was removed.
+pub fn removed(alloc: Global) -> Result<Reply, AllocError>
+    ensures { IfOk result (λ reply. reply ≡ removed_reply) }
+{
+    let body = bodies::removed(alloc)?;
+    json_reply(alloc, StatusCode::OK, &body)
+}
+
+// The search path was set.
+pub fn path_set(alloc: Global, path: &str) -> Result<Reply, AllocError>
+    ensures { IfOk result (λ reply. reply ≡ path_set_to path.now) }
+{
+    let body = bodies::path(alloc, path)?;
     json_reply(alloc, StatusCode::OK, &body)
 }
 

@@ -2,7 +2,8 @@
 ghost use Rattle.std.specs.Prelude.{◌≡◌, OnOk, Ok};
 ghost use Rattle.matchit.specs.Route.{parse_route};
 ghost use Rattle.matchit.specs.Router.{InsertsRead};
-ghost use Rattle.ports_plain.specs.Routes.{route_of, rows};
+ghost use Rattle.ports_plain.specs.Routes.{route_of};
+ghost use Rattle.ports_plain.specs.RouteRows.{rows};
 
 use matchit::Router;
 use std::alloc::{AllocError, Global};
@@ -12,6 +13,8 @@ use std::alloc::{AllocError, Global};
 pub enum Route {
     /// `/v1/file`: one of the tenant's files.
     File,
+    /// `/v1/path`: the tenant's search path.
+    Path,
     /// `/v1/var`: a variable of a port's makefile.
     Var,
 }
@@ -28,6 +31,7 @@ impl Routes {
     pub fn new(alloc: Global) -> Result<Routes, AllocError> {
         let mut router = Router::new(alloc);
         add(&mut router, "/v1/file", Route::File)?;
+        add(&mut router, "/v1/path", Route::Path)?;
         add(&mut router, "/v1/var", Route::Var)?;
         Ok(Routes { router })
     }

@@ -2,12 +2,13 @@
 use crate::answer::{Answer, Trouble};
 use crate::evaluation::{self, MAKEFILE};
 use crate::line::as_text;
+use crate::world::World;
 use crate::{conditions, packages, service, streams, texts, trees};
 use mk_env::Env;
-use mk_files::{Content, MemoryFiles};
+use mk_files::Content;
 use mk_paths::Name;
 use ports_http::Method;
-use std::alloc::Global;
+use std::alloc::{AllocError, Global};
 
 /// What lines without `=>` set up for those behind them.
 #[derive(Drop)]
@@ -16,17 +17,17 @@ pub struct Bench {
     variables: Env,
     /// A copy of the variables, as they were when it was made.
     copy: Env,
-    world: MemoryFiles,
+    world: World,
 }
 
 impl Bench {
-    pub fn new(alloc: Global) -> Bench {
-        Bench {
+    pub fn new(alloc: Global) -> Result<Bench, AllocError> {
+        Ok(Bench {
             alloc,
             variables: Env::new(alloc),
             copy: Env::new(alloc),
-            world: MemoryFiles::new(alloc),
-        }
+            world: World::new(alloc)?,
+        })
     }
 
     /// Sets up what a line without `=>` says.
@@ -34,8 +35,8 @@ impl Bench {
         match call {
             "no variables" => self.variables = Env::new(self.alloc),
             "copy" => self.copy = self.variables.copy()?,
-            "no files" => self.world = MemoryFiles::new(self.alloc),
-            "put" => evaluation::put(self.alloc, &mut self.world, given)?,
+            "no files" => self.world = World::new(self.alloc)?,
+            "put" => evaluation::put(self.alloc, &mut self.world.files, given)?,
             "makefile" => self.put_makefile(given)?,
             _ => self.change_variables(call, given)?,
         }
@@ -51,6 +52,7 @@ impl Bench {
             return Err(Trouble::Memory);
         };
         self.world
+            .files
             .put(name, Content::new(self.alloc, bytes.clone()?)?)?;
         Ok(())
     }
@@ -103,16 +105,16 @@ impl Bench {
             "modify on" | "modify on within" => {
                 evaluation::modified(alloc, &self.variables, given)
             }
-            "ask has after" => evaluation::ask_has_told(alloc, &mut self.world, given),
-            "ask read after" => evaluation::ask_read_told(alloc, &mut self.world, given),
+            "ask has after" => evaluation::ask_has_told(alloc, &mut self.world.files, given),
+            "ask read after" => evaluation::ask_read_told(alloc, &mut self.world.files, given),
             "get" => evaluation::text_of_variable(alloc, &self.variables, given),
             "get from copy" => evaluation::text_of_variable(alloc, &self.copy, given),
             "name" | "name under" => evaluation::name_of(alloc, given),
             "search path" => evaluation::trees_of(alloc, given),
             "standard search path" => evaluation::standard_trees(alloc),
-            "remove" => evaluation::remove(alloc, &mut self.world, given),
-            "read" => evaluation::read(alloc, &mut self.world, given),
-            "place of on" => evaluation::place(alloc, &mut self.world, given),
+            "remove" => evaluation::remove(alloc, &mut self.world.files, given),
+            "read" => evaluation::read(alloc, &mut self.world.files, given),
+            "place of on" => evaluation::place(alloc, &mut self.world.files, given),
             "cost" => evaluation::cost(alloc, &mut self.world),
             "stored" => evaluation::stored(alloc, &mut self.world, given),
             "value" => evaluation::value_of(alloc, &mut self.world, given),

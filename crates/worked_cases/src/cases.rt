@@ -27,15 +27,15 @@ struct Script {
 }
 
 impl Cases {
-    pub fn new(alloc: Global) -> Cases {
-        Cases {
+    pub fn new(alloc: Global) -> Result<Cases, AllocError> {
+        Ok(Cases {
             alloc,
-            bench: Bench::new(alloc),
+            bench: Bench::new(alloc)?,
             script: None,
             line: 0,
             count: 0,
             wrong: 0,
-        }
+        })
     }
 
     /// How many cases there were.

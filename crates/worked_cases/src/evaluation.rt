@@ -1,6 +1,7 @@
 //! The layers of evaluation: budgets, variables and expansion, names and worlds of files, makefiles.
 use crate::answer::{Answer, Trouble};
 use crate::line::{as_number, as_text};
+use crate::world::World;
 use mk_base::{Budget, Fault, FaultKind, Stop, UNITS};
 use mk_env::{Env, expand, expand_inside, expand_now, expand_variable, modify};
 use mk_eval::{Evaluated, Failed, evaluate, value};
@@ -353,7 +354,7 @@ pub fn place(alloc: Global, world: &mut MemoryFiles, given: &[Vec<u8>]) -> Resul
 }
 
 /// `cost`: what the makefile costs, or its fault with what it cost until there.
-pub fn cost(alloc: Global, world: &mut MemoryFiles) -> Result<Answer, Trouble> {
+pub fn cost(alloc: Global, world: &mut World) -> Result<Answer, Trouble> {
     match evaluated(alloc, world)? {
         Ok(evaluated) => {
             let mut answer = Answer::new(alloc);
@@ -365,11 +366,7 @@ pub fn cost(alloc: Global, world: &mut MemoryFiles) -> Result<Answer, Trouble> {
 }
 
 /// `stored NAME`: the text of a variable that the makefile leaves, unexpanded.
-pub fn stored(
-    alloc: Global,
-    world: &mut MemoryFiles,
-    given: &[Vec<u8>],
-) -> Result<Answer, Trouble> {
+pub fn stored(alloc: Global, world: &mut World, given: &[Vec<u8>]) -> Result<Answer, Trouble> {
     match evaluated(alloc, world)? {
         Ok(evaluated) => text_of_variable(alloc, &evaluated.env, given),
         Err(failed) => failure(alloc, &failed),
@@ -378,11 +375,7 @@ pub fn stored(
 
 /// `value NAME`: the value of a variable behind the makefile, with its cost; `undefined`; or its
 /// fault, or the makefile's.
-pub fn value_of(
-    alloc: Global,
-    world: &mut MemoryFiles,
-    given: &[Vec<u8>],
-) -> Result<Answer, Trouble> {
+pub fn value_of(alloc: Global, world: &mut World, given: &[Vec<u8>]) -> Result<Answer, Trouble> {
     let [variable] = given else {
         return Err(Trouble::NoCase);
     };
@@ -404,9 +397,9 @@ pub fn value_of(
     }
 }
 
-fn evaluated(alloc: Global, world: &mut MemoryFiles) -> Result<Result<Evaluated, Failed>, Trouble> {
+fn evaluated(alloc: Global, world: &mut World) -> Result<Result<Evaluated, Failed>, Trouble> {
     let name = given_name(alloc, MAKEFILE.as_bytes())?;
-    match evaluate(alloc, world, &name) {
+    match evaluate(alloc, &mut world.files, &world.settings, &name) {
         Ok(evaluated) => Ok(Ok(evaluated)),
         Err(Stop::Fault(failed)) => Ok(Err(failed)),
         Err(_) => Err(Trouble::Memory),

@@ -14,6 +14,7 @@ mod service;
 mod streams;
 mod texts;
 mod trees;
+mod world;
 
 use cases::Cases;
 use std::io;
@@ -21,7 +22,7 @@ use std::io;
 fn main(rt: HostRuntime) -> io::Result<()> {
     let alloc = rt.alloc();
     let input = io::read_to_string(alloc, rt.reader())?;
-    let mut cases = Cases::new(alloc);
+    let mut cases = Cases::new(alloc)?;
     for line in input.lines() {
         if let Some(wrong) = cases.take(line)? {
             println!(rt; "{wrong}")?;

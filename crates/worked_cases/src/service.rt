@@ -1,8 +1,8 @@
 //! The layers of the service: streams, replies, requests over a tenant's files, whole runs.
 use crate::answer::{Answer, Trouble};
 use crate::line::{as_number, as_text};
+use crate::world::World;
 use http::StatusCode;
-use mk_files::MemoryFiles;
 use ports_core::{Config, Transcript, replay};
 use ports_http::{Content, HeadFault, Method, Reply, StreamEnd, decode, write_fixed, write_reply};
 use ports_plain::{Plain, Prepared, Refused};
@@ -98,10 +98,10 @@ fn bytes_told(alloc: Global, bytes: &[u8]) -> Result<Answer, Trouble> {
 }
 
 /// `GET TARGET`, `PUT TARGET BODY`, `DELETE TARGET`: the status and the body of the plain reply over
-/// the files of the world, which a PUT changes.
+/// the world, which the request may change.
 pub fn request(
     alloc: Global,
-    world: &mut MemoryFiles,
+    world: &mut World,
     method: Method,
     given: &[Vec<u8>],
 ) -> Result<Answer, Trouble> {
@@ -111,14 +111,15 @@ pub fn request(
         _ => return Err(Trouble::NoCase),
     };
     let plain = Plain::new(alloc)?;
-    let Prepared { reply, write } = plain
-        .prepare(alloc, world, method, as_text(target)?, body)
+    let World { files, settings } = world;
+    let Prepared { reply, change } = plain
+        .prepare(alloc, files, settings, method, as_text(target)?, body)
         .map_err(of_plain)?;
     let mut answer = Answer::of_word(alloc, reply.status.as_str())?;
     answer.word(reply.status.canonical_reason().unwrap_or(""))?;
     answer.text(reply.body())?;
-    if let Some(write) = write {
-        write.carry_out(world).map_err(of_plain)?;
+    if let Some(change) = change {
+        world.carry_out(change)?;
     }
     Ok(answer)
 }

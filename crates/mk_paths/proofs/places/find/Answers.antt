@@ -5,7 +5,7 @@ use Rattle.std.specs.String.{string_bytes}
 use Rattle.std.proofs.Common.{Global, String}
 use Rattle.std.proofs.lemmas.List.{drop_more}
 use Rattle.mk_paths.specs.FileName.{resolved}
-use Rattle.mk_paths.specs.World.{Shelf, Answers, Presence}
+use Rattle.mk_paths.specs.Shelf.{Shelf, Answers, Presence}
 use Rattle.mk_paths.specs.Place.{makefile_in}
 use Rattle.mk_paths.proofs.Placing.{IsUnderway, begins, misses}
 use Rattle.mk_paths.proofs.places.find.Goals as goal

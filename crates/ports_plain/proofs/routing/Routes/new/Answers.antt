@@ -7,4 +7,5 @@ unfolding matchit_on_literals
 invariant_of-result c =
     let first = c.in_ok-add.ensures in
     let second = c.in_ok-add-2.ensures in
-    record { fixed = rw (second.1, first.1, c.new-router.ensures) refl }
+    let third = c.in_ok-add-3.ensures in
+    record { fixed = rw (third.1, second.1, first.1, c.new-router.ensures) refl }

@@ -1,0 +1,88 @@
+-- The plain service answers no failure of its own.
+use Rattle.std.proofs.Common.{◌≡◌, ℕ, ◌==◌, true, false, List, Option, Some, None, refl}
+use Rattle.std.specs.Prelude.{Result, Ok, Err, codes, if◌then◌else◌}
+use Rattle.std.specs.Str.{is_utf8}
+use Rattle.std.specs.FinMap.{get, contains_key}
+use Rattle.mk_paths.specs.World.{FileMap, World, files_in}
+use Rattle.mk_paths.specs.SearchPath.{search_path}
+use Rattle.mk_paths.specs.Place.{place}
+use Rattle.mk_paths.specs.declared.file_name.NameFault.{NameFault}
+use Rattle.mk_eval.specs.Meaning.{means}
+use Rattle.mk_eval.specs.Expanded.{Expanded}
+use Rattle.mk_eval.specs.declared.outcome.Failed.{Failed}
+use Rattle.mk_paths.specs.FileName.{resolved}
+use Rattle.ports_http.specs.declared.method.Method.{Method}
+use Rattle.ports_http.specs.declared.method.Method.TheVariants.{Get, Put, Delete}
+use Rattle.ports_plain.specs.declared.routing.Route.{Route}
+use Rattle.ports_plain.specs.declared.routing.Route.TheVariants.{File, Path, Var}
+use Rattle.ports_plain.specs.Directory.{is_directory}
+use Rattle.ports_plain.specs.Routes.{route_of}
+use Rattle.ports_plain.specs.Target.{path_of}
+use Rattle.ports_plain.specs.Trimming.{trimmed}
+use Rattle.ports_plain.specs.Replies.{bad_path, no_file, removed}
+use Rattle.ports_plain.specs.Plain.{Asked, told, content_shown, on_named_file, on_resolved, on_file, set_trees, set_path, value_after, valued, variable_at, get_variable, given, answer_on, answer, plain}
+use Rattle.ports_plain.specs.declared.changing.Change.TheVariants.{RemoveFile}
+
+content-fine : (content : Option (List ℕ)) → ((content_shown content).status == 503) ≡ false
+content-fine (Some content) = refl
+content-fine None = refl
+
+on_named_file-fine : (files : FileMap) (method : Method) (body name : List ℕ) → ((on_named_file files method body name).0.status == 503) ≡ false
+on_named_file-fine files Get body name = content-fine (get files name)
+on_named_file-fine files Put body name = refl
+on_named_file-fine files Delete body name =
+    elim (contains_key files name) as (λ b. ((if b then (removed, Some (RemoveFile name)) else told no_file).0.status == 503) ≡ false) [
+      | true ↦ refl
+      | false ↦ refl
+    ]
+
+on_resolved-fine : (files : FileMap) (method : Method) (body : List ℕ) (name : Result (List ℕ) NameFault) → ((on_resolved files method body name).0.status == 503) ≡ false
+on_resolved-fine files method body (Ok name) = on_named_file-fine files method body name
+on_resolved-fine files method body (Err fault) = refl
+
+on_file-fine : (files : FileMap) (method : Method) (body : List ℕ) (name : Option (List ℕ)) → ((on_file files method body name).0.status == 503) ≡ false
+on_file-fine files method body (Some name) = on_resolved-fine files method body (resolved name)
+on_file-fine files method body None = refl
+
+set_trees-fine : (text : List ℕ) (trees : Option (List (List ℕ))) → ((set_trees text trees).0.status == 503) ≡ false
+set_trees-fine text (Some trees) = refl
+set_trees-fine text None = refl
+
+set_path-fine : (body : List ℕ) → ((set_path body).0.status == 503) ≡ false
+set_path-fine body =
+    elim (is_utf8 (trimmed body)) as (λ b. ((if b then set_trees (trimmed body) (search_path (trimmed body)) else told bad_path).0.status == 503) ≡ false) [
+      | true ↦ set_trees-fine (trimmed body) (search_path (trimmed body))
+      | false ↦ refl
+    ]
+
+valued-fine : (value : Result (Option Expanded) Failed) → ((valued value).status == 503) ≡ false
+valued-fine (Ok value) = refl
+valued-fine (Err failed) = refl
+
+variable_at-fine : (world : World) (name : List ℕ) (makefile : Option (List ℕ)) → ((variable_at world name makefile).status == 503) ≡ false
+variable_at-fine world name (Some makefile) = valued-fine (value_after makefile name (means world makefile))
+variable_at-fine world name None = refl
+
+get_variable-fine : (world : World) (path name : Option (List ℕ)) → ((get_variable world path name).status == 503) ≡ false
+get_variable-fine world (Some path) (Some name) =
+    elim (is_directory path) as (λ b. ((if b then variable_at world name (place world path) else bad_path).status == 503) ≡ false) [
+      | true ↦ variable_at-fine world name (place world path)
+      | false ↦ refl
+    ]
+get_variable-fine world (Some path) None = refl
+get_variable-fine world None (Some name) = refl
+get_variable-fine world None None = refl
+
+answer_on-fine : (world : World) (request : Asked) (route : Option Route) (method : Method) → ((answer_on world request route method).0.status == 503) ≡ false
+answer_on-fine world request (Some File) method = on_file-fine (files_in world) method request.body (given (codes "name") request)
+answer_on-fine world request (Some Path) Put = set_path-fine request.body
+answer_on-fine world request (Some Path) Get = refl
+answer_on-fine world request (Some Path) Delete = refl
+answer_on-fine world request (Some Var) Get = get_variable-fine world (given (codes "path") request) (given (codes "name") request)
+answer_on-fine world request (Some Var) Put = refl
+answer_on-fine world request (Some Var) Delete = refl
+answer_on-fine world request None method = refl
+
+pub never_503 : (world : World) (request : Asked) → ((plain world request).0.status == 503) ≡ false
+unfolding answer
+never_503 world request = answer_on-fine world request (route_of (path_of request.target)) request.method

@@ -1,0 +1,13 @@
+-- The table of the routes as a router keeps it.
+use Rattle.std.specs.Prelude.{ℕ, List, [], map}
+use Rattle.matchit.specs.Rows.{RowsOf}
+use Rattle.matchit.specs.Router.{RouteOf}
+use Rattle.ports_plain.specs.declared.routing.Route.{Route}
+use Rattle.ports_plain.specs.Routes.{table}
+
+-- each path is a pattern without parameters
+abbrev pub row : List ℕ × Route → List ℕ × RouteOf Route
+row entry = (entry.0, record { pattern = entry.0; text = entry.0; names = []; value = entry.1 })
+
+abbrev pub rows : RowsOf (RouteOf Route)
+rows = map row table

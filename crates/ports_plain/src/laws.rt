@@ -1,0 +1,9 @@
+// What holds of every answer, as a function that does nothing.
+ghost use Rattle.std.specs.Prelude.{◌≡◌, ◌==◌, false};
+ghost use Rattle.mk_paths.specs.World.{World};
+ghost use Rattle.ports_plain.specs.Plain.{Asked, plain};
+
+/// The plain service never answers 503, which is what a service over many tenants answers where it failed.
+pub fn never_answers_503()
+    ensures { (world : World) (request : Asked) → ((plain world request).0.status == 503) ≡ false }
+{}

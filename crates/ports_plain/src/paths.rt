@@ -1,0 +1,42 @@
+// The route of the search path.
+ghost use Rattle.std.specs.Prelude.{◌≡◌, IfOk};
+ghost use Rattle.ports_plain.specs.Plain.{set_path as set_path_of, set_trees as set_trees_of, told};
+ghost use Rattle.ports_plain.specs.Replies.{bad_path as bad_path_reply};
+ghost use Rattle.mk_paths.specs.SearchPath.{search_path};
+
+use crate::changing::{Change, Prepared};
+use crate::replies::{path_set, refusal};
+use crate::trimming::trimmed;
+use mk_paths::{PathFault, SearchPath};
+use ports_http::StatusCode;
+use std::alloc::{AllocError, Global};
+
+// The search path that a body has, without the blanks and line feeds at its ends, is to be set.
+pub fn set_path(alloc: Global, body: &[u8]) -> Result<Prepared, AllocError>
+    ensures { IfOk result (λ prepared. (prepared.reply, prepared.change) ≡ set_path_of body.now) }
+{
+    match str::from_utf8(trimmed(body)) {
+        Ok(text) => set_trees(alloc, text),
+        Err(_error) => bad_path(alloc),
+    }
+}
+
+fn set_trees(alloc: Global, text: &str) -> Result<Prepared, AllocError>
+    ensures { IfOk result (λ prepared. (prepared.reply, prepared.change) ≡ set_trees_of text.now (search_path text.now)) }
+{
+    match SearchPath::read(alloc, text) {
+        Ok(trees) => Ok(Prepared {
+            reply: path_set(alloc, text)?,
+            change: Some(Change::SetPath(trees)),
+        }),
+        Err(PathFault::Memory) => Err(AllocError),
+        Err(PathFault::BadPath) => bad_path(alloc),
+    }
+}
+
+fn bad_path(alloc: Global) -> Result<Prepared, AllocError>
+    ensures { IfOk result (λ prepared. (prepared.reply, prepared.change) ≡ told bad_path_reply) }
+{
+    let reply = refusal(alloc, StatusCode::BAD_REQUEST, "Path")?;
+    Ok(Prepared::told(reply))
+}

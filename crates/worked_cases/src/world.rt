@@ -1,0 +1,36 @@
+//! The world of one tenant, in memory.
+use mk_files::MemoryFiles;
+use mk_paths::{SearchPath, Settings};
+use ports_plain::Change;
+use std::alloc::{AllocError, Global};
+
+/// A tenant's files and settings.
+#[derive(Drop)]
+pub struct World {
+    pub files: MemoryFiles,
+    pub settings: Settings,
+}
+
+impl World {
+    /// No file, and the standard search path.
+    pub fn new(alloc: Global) -> Result<World, AllocError> {
+        Ok(World {
+            files: MemoryFiles::new(alloc),
+            settings: Settings {
+                path: SearchPath::standard(alloc)?,
+            },
+        })
+    }
+
+    /// Carries out what a request changes.
+    pub fn carry_out(&mut self, change: Change) -> Result<(), AllocError> {
+        match change {
+            Change::PutFile(name, content) => self.files.put(name, content)?,
+            Change::RemoveFile(name) => {
+                let _was_there = self.files.remove(&name);
+            }
+            Change::SetPath(path) => self.settings.path = path,
+        }
+        Ok(())
+    }
+}
