@@ -1,26 +1,26 @@
 -- Two runs with the same requests of a tenant.
 use Rattle.std.proofs.Common.{◌≡◌, ℕ, List, [], ◌∷◌, ◌++◌, length, refl, sym, ap, ◌∙◌, inl, inr, arith, append-nil}
 use Rattle.std.specs.Prelude.{map}
-use Rattle.std.specs.FinMap as finite
-use Rattle.mk_paths.specs.World.{FileMap}
-use Rattle.ports_http.specs.Messages.{RequestMessage, ReplyMessage}
+use Rattle.ports_http.specs.Messages.{ReplyMessage}
+use Rattle.ports_plain.specs.Plain.{Asked, plain}
 use Rattle.ports_core.specs.declared.event.Event.{Event}
-use Rattle.ports_core.specs.declared.tenant.Waiter.{Waiter}
+use Rattle.ports_core.specs.declared.queue.Waiter.{Waiter}
 use Rattle.ports_core.specs.declared.history.Step.{Step}
+use Rattle.ports_core.specs.Worlds.{World, opening_world}
 use Rattle.ports_core.specs.Slices.{plain_answer}
 use Rattle.ports_core.specs.State.{State}
 use Rattle.ports_core.specs.Plainly.{told_to, answers_of, own_of, plain_run, IsToldPlainly}
 use Rattle.ports_core.specs.Alike.{requests_of, replies_to, AreAlike, own_requests, AreToldAlike}
 
 -- the replies of the plain service to some requests
-unfoldable pub replies_from : FileMap → List RequestMessage → List ReplyMessage
-replies_from files [] = []
-replies_from files (request ∷ requests) = (plain_answer files request).0 ∷ replies_from (plain_answer files request).1 requests
+unfoldable pub replies_from : World → List Asked → List ReplyMessage
+replies_from world [] = []
+replies_from world (request ∷ requests) = (plain world request).0 ∷ replies_from (plain world request).1 requests
 
-pub replies-plain_run : (waiters : List Waiter) (files : FileMap) → map (λ (answer : ℕ × ReplyMessage). answer.1) (plain_run files waiters) ≡ replies_from files (requests_of waiters)
+pub replies-plain_run : (waiters : List Waiter) (world : World) → map (λ (answer : ℕ × ReplyMessage). answer.1) (plain_run world waiters) ≡ replies_from world (requests_of waiters)
 unfolding replies_from
-replies-plain_run [] files = refl
-replies-plain_run (waiter ∷ waiters) files = ap (λ rs. (plain_answer files waiter.request).0 ∷ rs) (replies-plain_run waiters (plain_answer files waiter.request).1)
+replies-plain_run [] world = refl
+replies-plain_run (waiter ∷ waiters) world = ap (λ rs. (plain_answer world waiter.request).0 ∷ rs) (replies-plain_run waiters (plain_answer world waiter.request).1)
 
 pub map-append : {X Y : Type 0} (f : X → Y) (xs ys : List X) → map f (xs ++ ys) ≡ map f xs ++ map f ys
 map-append f [] ys = refl
@@ -44,18 +44,18 @@ fronts (x ∷ xs) (y ∷ ys) ls bs e =
 
 -- the replies told, and those to come, are those of the plain service to the own requests
 all_replies : (keys : List (List ℕ)) (t : ℕ) (events : List Event) (steps : List Step) (service : State) (told : IsToldPlainly keys t events steps service)
-    → replies_to t steps ++ map (λ (answer : ℕ × ReplyMessage). answer.1) told.later ≡ replies_from finite.empty (own_requests told)
+    → replies_to t steps ++ map (λ (answer : ℕ × ReplyMessage). answer.1) told.later ≡ replies_from opening_world (own_requests told)
 all_replies keys t events steps service told =
     sym (map-append (λ (answer : ℕ × ReplyMessage). answer.1) (answers_of (told_to t steps)) told.later)
     ∙ ap (map (λ (answer : ℕ × ReplyMessage). answer.1)) told.plainly
-    ∙ replies-plain_run (own_of told.taken (told_to t steps)) finite.empty
+    ∙ replies-plain_run (own_of told.taken (told_to t steps)) opening_world
 
 pub told_alike : (keys other_keys : List (List ℕ)) (t u : ℕ) (events other_events : List Event) (steps others : List Step) (service other : State)
     → (told : IsToldPlainly keys t events steps service) (told_there : IsToldPlainly other_keys u other_events others other)
     → own_requests told ≡ own_requests told_there → AreToldAlike t steps service u others other
 told_alike keys other_keys t u events other_events steps others service other told told_there same =
     let all : replies_to t steps ++ map (λ (answer : ℕ × ReplyMessage). answer.1) told.later ≡ replies_to u others ++ map (λ (answer : ℕ × ReplyMessage). answer.1) told_there.later =
-    all_replies keys t events steps service told ∙ ap (replies_from finite.empty) same ∙ sym (all_replies other_keys u other_events others other told_there) in
+    all_replies keys t events steps service told ∙ ap (replies_from opening_world) same ∙ sym (all_replies other_keys u other_events others other told_there) in
     record {
       alike = fronts (replies_to t steps) (replies_to u others) _ _ all;
       whole = λ none none_there.

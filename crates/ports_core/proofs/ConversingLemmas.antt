@@ -1,5 +1,5 @@
 -- Every event, as one connection sees it, and whole runs.
-use Rattle.std.proofs.Common.{◌≡◌, ◌≢◌, ◌<◌, ◌≤◌, ◌-◌, ℕ, zero, suc, Bool, true, false, List, [], ◌∷◌, ◌++◌, length, take, drop, refl, sym, ap, subst, ◌∙◌, inl, inr, append_assoc, append-nil, arith, eq-eqb, ⊎_elim, Option, Some, None, filter, take-append-drop}
+use Rattle.std.proofs.Common.{◌≡◌, ◌≢◌, ◌<◌, ◌≤◌, ◌-◌, ℕ, zero, suc, Bool, true, false, List, [], ◌∷◌, ◌++◌, length, take, drop, refl, sym, ap, subst, ◌∙◌, inl, inr, append_assoc, append-nil, arith, eq-eqb, ⊎_elim, Option, Some, None, take-append-drop}
 use Rattle.std.specs.Prelude.{◌==◌, ◌||◌, map, option_map, option_and_then, unwrap_or, slice_get, MatchOption, if◌then◌else◌}
 use Rattle.std.specs.Prelude.{Vec}
 use Rattle.std.specs.declared.alloc.Global.{Global}
@@ -14,21 +14,26 @@ use Rattle.ports_core.specs.declared.event.Event.{Event}
 use Rattle.ports_core.specs.declared.event.Event.TheVariants.{Open, Piece, End, Fault, Wrote, Turn}
 use Rattle.ports_core.specs.declared.event.Told.{Told}
 use Rattle.ports_core.specs.declared.event.Tell.{Tell}
-use Rattle.ports_core.specs.declared.tenant.Waiter.{Waiter}
+use Rattle.ports_core.specs.declared.event.Refused.{Refused}
+use Rattle.ports_core.specs.declared.queue.Waiter.{Waiter}
 use Rattle.ports_core.specs.declared.history.Step.{Step}
 use Rattle.ports_core.specs.Keys.{tenant_of}
-use Rattle.ports_core.specs.Slices.{Slice, new_slice}
+use Rattle.ports_core.specs.Slices.{Slice, Queue, waiting_of, joined}
 use Rattle.ports_core.specs.Lines.{new_line, hears, answered, kept, is_ready, room_on, count_off, Fits}
 use Rattle.ports_core.specs.Telling.{at_once, in_turn}
-use Rattle.ports_core.specs.Taking.{Taken, Nothing, Whole, Refusal, Lost, TakesOff, IsTaken, slice_behind, line_behind, told_of_tenant, told_at_once}
-use Rattle.ports_core.specs.State.{State, new_state, keys_of, slice_of, line_of, next_of}
-use Rattle.ports_core.specs.Steps.{Does, Hears, IsSame, IsOpened, IsAnswered, Turns, Opens}
-use Rattle.ports_core.specs.Runs.{Run, Happens, sent_by}
-use Rattle.ports_core.specs.Opened.{OpenAnd}
+use Rattle.ports_core.specs.Taking.{Taken, Nothing, Whole, Refusal, Lost, TakesOff, IsTaken, line_behind, told_of_tenant, told_at_once, entering}
+use Rattle.ports_core.specs.State.{State, new_state, keys_of, world_at, queue_at, slice_of, line_of, book_of, next_of, IsAllowed}
+use Rattle.ports_core.specs.Changes.{Rests, FirstLeaves, ChangesSlices}
+use Rattle.ports_core.specs.Books.{HearsOn, TellsOn, BookTurns}
+use Rattle.ports_core.specs.Runs.{Run, sent_by}
+use Rattle.ports_core.specs.Opened.{OpenAnd, KeepsLines, KeepsOthers}
 use Rattle.ports_core.specs.Conversations.{came_in, came_on, sent_in, sent_on, told_in, told_on, loses, is_lost_in, IsLeft, IsServedOut, WaitsFor, AnswersAsked, ConversesPlainly}
 use Rattle.ports_core.proofs.Numbers.{other_number}
 use Rattle.ports_core.proofs.TalkLemmas.{Talk, none_came, talk_fed, talk_quiet, talk_sent, talk_answered}
-use Rattle.ports_core.proofs.StandingLemmas.{none_some, some_same, option_from, waiters_of, waiter, waiters_at, Queued, Holds, IsLine, Stands, settles, reply_waits, idle_behind, waiters_behind, told_here, told_there, takes}
+use Rattle.ports_core.proofs.Lists.{none_some, some_same, option_from}
+use Rattle.ports_core.proofs.QueueLemmas.{waiters_of, waiter, waiters_at, waiters_behind}
+use Rattle.ports_core.proofs.ChangeLemmas.{IsSeen, seen, slice_parts}
+use Rattle.ports_core.proofs.StandingLemmas.{Queued, Holds, IsLine, Stands, settles, reply_waits, idle_behind, told_here, told_there, takes}
 
 no_length : (bytes : List ℕ) → length bytes ≤ 0 → bytes ≡ []
 no_length [] e = refl
@@ -138,7 +143,7 @@ pub record Untouched (c : ℕ) (event : Event) (step : Step) (old mid : State) :
   pub told : told_in c step.told.reply ≡ []
   pub line : line_of c mid ≡ line_of c old
   pub next : next_of old ≤ next_of mid
-  pub queues : (u : ℕ) (slice : Slice) → slice_of u mid ≡ Some slice → (before : Slice) × (slice_of u old ≡ Some before) × (waiters_of c slice ≡ waiters_of c before)
+  pub queues : (u : ℕ) (slice : Slice) → slice_of u mid ≡ Some slice → (before : Slice) × (slice_of u old ≡ Some before) × (waiters_of c (waiting_of slice) ≡ waiters_of c (waiting_of before))
 
 module _ (keys : List (List ℕ)) (c : ℕ) (event : Event) (step : Step) (old mid : State) where
   queued_on : (h : Untouched c event step old mid) (waits : Option ℕ) (waiting : List RequestMessage) → Queued c old waits waiting → Queued c mid waits waiting
@@ -172,29 +177,39 @@ module _ (keys : List (List ℕ)) (c : ℕ) (event : Event) (step : Step) (old m
       (subst (λ bs. Stands keys c came bs (tells ++ told_in c step.told.reply) mid) (sym (ap (λ bs. sent ++ bs) h.sent ∙ append-nil sent))
       (subst (λ ts. Stands keys c came sent ts mid) (sym (ap (λ ts. tells ++ ts) h.told ∙ append-nil tells)) (stands_on h came sent tells stands)))
 
+-- where nothing is taken, nothing enters
+none_enters : (keys : List (List ℕ)) (d : ℕ) (told : Told) (taken : Taken) (old mid : State) → Rests told taken old mid → (u : ℕ) → slice_of u mid ≡ option_map (joined (entering keys d taken u)) (slice_of u old)
+none_enters keys d told taken old mid rests u =
+    rests.slices u ∙ as_it_was (slice_of u old) ∙ ap (λ k. option_map (joined (entering keys d k u)) (slice_of u old)) (sym rests.nothing)
+  where
+    as_it_was : (o : Option Slice) → o ≡ option_map (joined []) o
+    as_it_was None = refl
+    as_it_was (Some slice) = ap (λ (ws : List Waiter). let s : Slice = (slice.0, ws) in Some s) (sym (append-nil slice.1))
+
 -- queues that stay as they were
 same_queues : (c : ℕ) (old mid : State) → ((u : ℕ) → slice_of u mid ≡ slice_of u old) → (u : ℕ) (slice : Slice) → slice_of u mid ≡ Some slice
-    → (before : Slice) × (slice_of u old ≡ Some before) × (waiters_of c slice ≡ waiters_of c before)
+    → (before : Slice) × (slice_of u old ≡ Some before) × (waiters_of c (waiting_of slice) ≡ waiters_of c (waiting_of before))
 same_queues c old mid slices u slice was = (slice, sym (slices u) ∙ was, refl)
 
 -- the connection itself hears something
-hears_moves : (keys : List (List ℕ)) (c : ℕ) (event : Event) (step : Step) (old mid : State) → keys_of old ≡ keys → OpenAnd (line_of c old) (Fits event) → IsHeard keys c event step old
-    → Hears event c step.told old mid → Moves keys c event step old mid
-hears_moves keys c event step old mid keys_are allowed heard h came sent tells (inr is) = absurd (none_some (sym is.at ∙ h.was_open))
-hears_moves keys c event step old mid keys_are allowed heard h came sent tells (inl is) =
+hears_moves : (keys : List (List ℕ)) (c : ℕ) (event : Event) (step : Step) (taken : Taken) (old mid : State) → keys_of old ≡ keys → OpenAnd (line_of c old) (Fits event) → IsHeard keys c event step old
+    → HearsOn (keys_of old) event c step.told taken (book_of old) (book_of mid) → ((u : ℕ) → slice_of u mid ≡ option_map (joined (entering (keys_of old) c taken u)) (slice_of u old)) → next_of old ≤ next_of mid
+    → Moves keys c event step old mid
+hears_moves keys c event step taken old mid keys_are allowed heard h enters next came sent tells (inr is) = absurd (none_some (sym is.at ∙ h.was_open))
+hears_moves keys c event step taken old mid keys_are allowed heard h enters next came sent tells (inl is) =
     let line_is : h.line ≡ is.line = some_same (sym h.was_open ∙ is.at) in
     let fits : Fits event is.line = subst (λ (o : Option Line). OpenAnd o (Fits event)) is.at allowed in
     let now = heard came sent tells is.line fits is.at is.is_line in
-    let taken = h.taken in
-    let stands = subst (λ l. IsTaken (hears event l) taken h.stream) line_is h.stands in
-    let slices = λ (u : ℕ). h.slices u ∙ ap (λ ks. option_map (slice_behind ks c taken u) (slice_of u old)) keys_are in
-    let took = takes keys c (came ++ came_in c event) (sent ++ sent_in c event step) tells (hears event is.line) old mid now h.stream taken stands slices in
-    let after_is : line_behind keys taken (record (hears event is.line) { stream = h.stream }) ≡ h.after =
-    sym (h.after_is ∙ ap (λ ks. line_behind ks taken (record (hears event h.line) { stream = h.stream })) keys_are ∙ ap (λ l. line_behind keys taken (record (hears event l) { stream = h.stream })) line_is) in
+    let stream = h.takes.stream in
+    let stands = subst (λ l. IsTaken (hears event l) taken stream) line_is h.takes.stands in
+    let slices = λ (u : ℕ). enters u ∙ ap (λ ks. option_map (joined (entering ks c taken u)) (slice_of u old)) keys_are in
+    let took = takes keys c (came ++ came_in c event) (sent ++ sent_in c event step) tells (hears event is.line) old mid now stream taken stands slices in
+    let after_is : line_behind keys taken (record (hears event is.line) { stream = stream }) ≡ h.after =
+    sym (h.takes.line_is ∙ ap (λ ks. line_behind ks taken (record (hears event h.line) { stream = stream })) keys_are ∙ ap (λ l. line_behind keys taken (record (hears event l) { stream = stream })) line_is) in
     let told_is : told_in c (told_at_once keys c taken) ≡ told_in c step.told.reply =
-    ap (told_in c) (sym (ap (λ (t : Told). t.reply) h.told_is ∙ ap (λ ks. told_at_once ks c taken) keys_are)) in
-    settles keys c (came ++ came_in c event) (sent ++ sent_in c event step) (tells ++ told_in c step.told.reply) h.after mid h.line_is (subst (λ n. c < n) (sym h.keeps.next) is.below)
-    (λ came_some. subst (λ l. is_ready l ≡ true → TakesOff l.stream Nothing l.stream) after_is (idle_behind keys (hears event is.line) taken h.stream stands))
+    ap (told_in c) (sym (h.takes.told_is ∙ ap (λ ks. told_at_once ks c taken) keys_are)) in
+    settles keys c (came ++ came_in c event) (sent ++ sent_in c event step) (tells ++ told_in c step.told.reply) h.after mid h.line_is (omega (arith, next, is.below))
+    (λ came_some. subst (λ l. is_ready l ≡ true → TakesOff l.stream Nothing l.stream) after_is (idle_behind keys (hears event is.line) taken stream stands))
     (subst (λ ts. IsLine keys c (came ++ came_in c event) (sent ++ sent_in c event step) (tells ++ ts) h.after mid) told_is
     (subst (λ l. IsLine keys c (came ++ came_in c event) (sent ++ sent_in c event step) (tells ++ told_in c (told_at_once keys c taken)) l mid) after_is took))
 
@@ -210,48 +225,50 @@ told_by keys c d (Refusal fault) apart = told_there c (at_once d (fault_reply fa
 told_by keys c d (Lost close) apart = told_there c (at_once d store_failed) apart
 
 -- another connection hears something
-hears_untouched : (keys : List (List ℕ)) (c d : ℕ) (event : Event) (step : Step) (old mid : State) → d ≢ c → came_in c event ≡ [] → sent_in c event step ≡ []
-    → Hears event d step.told old mid → Untouched c event step old mid
-hears_untouched keys c d event step old mid apart no_bytes none_sent h = record {
+hears_untouched : (c d : ℕ) (event : Event) (step : Step) (taken : Taken) (old mid : State) → d ≢ c → came_in c event ≡ [] → sent_in c event step ≡ []
+    → HearsOn (keys_of old) event d step.told taken (book_of old) (book_of mid) → ((u : ℕ) → slice_of u mid ≡ option_map (joined (entering (keys_of old) d taken u)) (slice_of u old)) → next_of old ≤ next_of mid
+    → Untouched c event step old mid
+hears_untouched c d event step taken old mid apart no_bytes none_sent h enters next = record {
   came = no_bytes;
   sent = none_sent;
-  told = ap (λ (t : Told). told_in c t.reply) h.told_is ∙ told_by (keys_of old) c d h.taken apart;
-  line = h.lines c (λ e. apart (sym e));
-  next = omega (arith, h.keeps.next);
+  told = ap (told_in c) h.takes.told_is ∙ told_by (keys_of old) c d taken apart;
+  line = h.others c (λ e. apart (sym e));
+  next = next;
   queues = λ u slice was.
-      let from = option_from (slice_behind (keys_of old) d h.taken u) (slice_of u old) slice (sym (h.slices u) ∙ was) in
-      (from.0, from.1, ap (waiters_of c) (sym from.2) ∙ waiters_behind (keys_of old) c d h.taken u from.0 apart);
+      let from = option_from (joined (entering (keys_of old) d taken u)) (slice_of u old) slice (sym (enters u) ∙ was) in
+      (from.0, from.1, ap (λ (s : Slice). waiters_of c (waiting_of s)) (sym from.2) ∙ waiters_behind (keys_of old) c d taken u (waiting_of from.0) apart);
 }
 
--- nothing changes, and nothing is told
-same_untouched : (c : ℕ) (event : Event) (step : Step) (old mid : State) → came_in c event ≡ [] → sent_in c event step ≡ [] → told_in c step.told.reply ≡ []
-    → IsSame old mid → Untouched c event step old mid
-same_untouched c event step old mid no_bytes none_sent none_told same = record {
+-- no line and no slice changes, and nothing is told
+rests_untouched : (c : ℕ) (event : Event) (step : Step) (taken : Taken) (old mid : State) → came_in c event ≡ [] → sent_in c event step ≡ []
+    → Rests step.told taken old mid → line_of c mid ≡ line_of c old → next_of old ≤ next_of mid → Untouched c event step old mid
+rests_untouched c event step taken old mid no_bytes none_sent rests line next = record {
   came = no_bytes;
   sent = none_sent;
-  told = none_told;
-  line = same.lines c;
-  next = omega (arith, same.keeps.next);
-  queues = same_queues c old mid same.slices;
+  told = ap (told_in c) rests.silent;
+  line = line;
+  next = next;
+  queues = same_queues c old mid rests.slices;
 }
 
 -- the connection itself opens
-opened : (keys : List (List ℕ)) (c d : ℕ) (step : Step) (old mid : State) → c ≡ next_of old → IsOpened step.told old mid → Moves keys c (Open d) step old mid
-opened keys c d step old mid is_next h came sent tells (inl is) = absurd (omega (arith, is.below, is_next))
-opened keys c d step old mid is_next h came sent tells (inr is) =
-    let talk : Talk keys c came sent tells [] [] opening = subst (λ s. Talk keys c came sent tells [] [] s) (is.fresh (omega (arith, is_next))).0 is.talk in
-    let told : told_in c step.told.reply ≡ [] = ap (λ (t : Told). told_in c t.reply) h.told_is in
+opened : (keys : List (List ℕ)) (c d : ℕ) (step : Step) (taken : Taken) (old mid : State) → c ≡ d → d ≡ next_of old → d < next_of mid → line_of d mid ≡ Some new_line → Rests step.told taken old mid → Moves keys c (Open d) step old mid
+opened keys c d step taken old mid here is_next below line_is rests came sent tells (inl is) = absurd (omega (arith, is.below, is_next, here))
+opened keys c d step taken old mid here is_next below line_is rests came sent tells (inr is) =
+    let fresh = is.fresh (omega (arith, is_next, here)) in
+    let talk : Talk keys c came sent tells [] [] opening = subst (λ s. Talk keys c came sent tells [] [] s) fresh.0 is.talk in
+    let told : told_in c step.told.reply ≡ [] = ap (told_in c) rests.silent in
     let stands : Stands keys c came sent tells mid = inl (record {
       line = new_line;
-      at = ap (λ n. line_of n mid) is_next ∙ h.line;
-      below = omega (arith, h.next, is_next);
-      idle = λ some. absurd (some (is.fresh (omega (arith, is_next))).1);
+      at = ap (λ n. line_of n mid) here ∙ line_is;
+      below = omega (arith, below, here);
+      idle = λ some. absurd (some fresh.1);
       is_line = record {
         alive = refl;
         waiting = [];
         talk = talk;
         holds = refl;
-        queued = λ u slice was. is.queued u slice (sym (h.slices u) ∙ was);
+        queued = λ u slice was. is.queued u slice (sym (rests.slices u) ∙ was);
       };
     }) in
     subst (λ bs. Stands keys c bs (sent ++ []) (tells ++ told_in c step.told.reply) mid) (sym (append-nil came))
@@ -259,18 +276,16 @@ opened keys c d step old mid is_next h came sent tells (inr is) =
     (subst (λ ts. Stands keys c came sent ts mid) (sym (ap (λ ts. tells ++ ts) told ∙ append-nil tells)) stands))
 
 -- a connection opens
-opens_move : (keys : List (List ℕ)) (c d : ℕ) (step : Step) (old mid : State) → d ≡ next_of old → Opens step.told old mid → Moves keys c (Open d) step old mid
-opens_move keys c d step old mid number (inr h) =
-    untouched keys c (Open d) step old mid (same_untouched c (Open d) step old mid refl refl (ap (λ (t : Told). told_in c t.reply) h.told_is) h.same)
-opens_move keys c d step old mid number (inl h) =
-    ⊎_elim (λ is_next. opened keys c d step old mid is_next h) (λ apart. untouched keys c (Open d) step old mid (record {
-      came = refl;
-      sent = refl;
-      told = ap (λ (t : Told). told_in c t.reply) h.told_is;
-      line = h.lines c apart;
-      next = omega (arith, h.next);
-      queues = same_queues c old mid h.slices;
-    })) (cases_eq c (next_of old))
+opens_move : (keys : List (List ℕ)) (c d : ℕ) (step : Step) (old mid : State) → IsSeen (Open d) step.told old mid → Moves keys c (Open d) step old mid
+opens_move keys c d step old mid s =
+    let P : Option Refused → Type 0 = λ refused. MatchOption refused ((line_of d mid ≡ Some new_line) × KeepsOthers d (book_of old) (book_of mid)) (λ why. KeepsLines (book_of old) (book_of mid)) in
+    elim (step.told.refused) as (λ refused. step.told.refused ≡ refused → P refused → Moves keys c (Open d) step old mid) [
+      | None ↦ λ none book. ⊎_elim
+          (λ here. opened keys c d step s.taken old mid here s.numbers.0 (s.numbers.1 none) book.0 s.changes)
+          (λ apart. untouched keys c (Open d) step old mid (rests_untouched c (Open d) step s.taken old mid refl refl s.changes (book.1 c apart) s.next))
+          (cases_eq c d)
+      | Some why ↦ λ some book. untouched keys c (Open d) step old mid (rests_untouched c (Open d) step s.taken old mid refl refl s.changes (book c) s.next)
+    ] refl s.books.1
 
 some_not_none : {X : Type 0} {x : X} {xs : List X} → x ∷ xs ≡ [] → ⊥
 some_not_none e = cc
@@ -279,29 +294,28 @@ rest_none : {X : Type 0} (x y : X) (ys : List X) → x ∷ [] ≡ y ∷ ys → y
 rest_none x y ys e = cc
 
 -- the first of a queue stands first among the connection's, if it is one of them
-first_in_queue : (c t : ℕ) (slice : Slice) (first : Waiter) (rest : List Waiter) → slice.1 ≡ first ∷ rest → first.conn ≡ c
-    → first ∷ filter (λ (w : Waiter). w.conn == c) rest ≡ waiters_of c slice
-first_in_queue c t slice first rest waited here =
-    ap (λ b. if b then first ∷ filter (λ (w : Waiter). w.conn == c) rest else filter (λ (w : Waiter). w.conn == c) rest) (sym (eq-eqb first.conn c here))
-    ∙ ap (λ ws. filter (λ (w : Waiter). w.conn == c) ws) (sym waited)
+first_in_queue : (c : ℕ) (queue : Queue) (first : Waiter) (rest : List Waiter) → queue ≡ first ∷ rest → first.conn ≡ c → first ∷ waiters_of c rest ≡ waiters_of c queue
+first_in_queue c queue first rest waited here =
+    ap (λ b. if b then first ∷ waiters_of c rest else waiters_of c rest) (sym (eq-eqb first.conn c here)) ∙ ap (waiters_of c) (sym waited)
 
 -- a turn that answers another connection
-answered_there : (c t : ℕ) (step : Step) (old mid : State) (h : IsAnswered t step.told old mid) → h.first.conn ≢ c → Untouched c (Turn t) step old mid
-answered_there c t step old mid h apart = record {
+answered_there : (c t : ℕ) (step : Step) (taken : Taken) (old mid : State) (h : FirstLeaves t step.told taken old mid) → TellsOn h.tell (book_of old) (book_of mid) → next_of old ≤ next_of mid
+    → h.first.conn ≢ c → Untouched c (Turn t) step old mid
+answered_there c t step taken old mid h tells next apart = record {
   came = refl;
   sent = refl;
-  told = ap (λ (r : Told). told_in c r.reply) h.told_is ∙ told_there c (in_turn t h.first.conn h.reply) apart;
-  line = h.lines c (λ e. apart (sym e));
-  next = omega (arith, h.keeps.next);
+  told = ap (told_in c) h.told_is ∙ told_there c h.tell (λ e. apart (sym h.to_asker ∙ e));
+  line = tells.others c (λ e. apart (sym h.to_asker ∙ sym e));
+  next = next;
   queues = λ u slice was.
       ⊎_elim (λ same.
       let here : slice ≡ (h.world, h.rest) = some_same (sym was ∙ ap (λ n. slice_of n mid) same ∙ h.slice_is) in (
         h.slice,
         ap (λ n. slice_of n old) same ∙ h.was,
-        ap (waiters_of c) here ∙ ap (λ b. if b then h.first ∷ waiters_of c (h.world, h.rest) else waiters_of c (h.world, h.rest)) (sym (other_number h.first.conn c apart))
-            ∙ ap (λ ws. filter (λ (w : Waiter). w.conn == c) ws) (sym h.waited),
+        ap (λ (s : Slice). waiters_of c (waiting_of s)) here ∙ ap (λ b. if b then h.first ∷ waiters_of c h.rest else waiters_of c h.rest) (sym (other_number h.first.conn c apart))
+            ∙ ap (waiters_of c) (sym h.waited),
       ))
-      (λ other. (slice, sym (h.slices u other) ∙ was, refl)) (cases_eq u t);
+      (λ other. (slice, sym (h.others u other) ∙ was, refl)) (cases_eq u t);
 }
 
 -- the first waiter of a queue is the connection's, so its request waits there, alone
@@ -313,25 +327,30 @@ first_waits c t (Some u) waiting first rest e =
     (λ apart. absurd (some_not_none (e ∙ ap (λ b. if b then map (waiter c) waiting else []) (other_number u t apart)))) (cases_eq u t)
 
 -- a turn that answers the connection's request
-answered_here : (keys : List (List ℕ)) (c t : ℕ) (step : Step) (old mid : State) (h : IsAnswered t step.told old mid) → h.first.conn ≡ c → Moves keys c (Turn t) step old mid
-answered_here keys c t step old mid h here came sent tells (inr is) =
-    absurd (some_not_none (first_in_queue c t h.slice h.first h.rest h.waited here ∙ is.queued t h.slice h.was))
-answered_here keys c t step old mid h here came sent tells (inl is) =
+answered_here : (keys : List (List ℕ)) (c t : ℕ) (step : Step) (taken : Taken) (old mid : State) (h : FirstLeaves t step.told taken old mid) → TellsOn h.tell (book_of old) (book_of mid) → next_of old ≤ next_of mid
+    → h.first.conn ≡ c → Moves keys c (Turn t) step old mid
+answered_here keys c t step taken old mid h book next here came sent tells (inr is) =
+    absurd (some_not_none (first_in_queue c (waiting_of h.slice) h.first h.rest h.waited here ∙ is.queued t h.slice h.was))
+answered_here keys c t step taken old mid h book next here came sent tells (inl is) =
     let line = is.line in
-    let first = first_waits c t line.waits is.is_line.waiting h.first (waiters_of c (h.world, h.rest)) (first_in_queue c t h.slice h.first h.rest h.waited here ∙ is.is_line.queued t h.slice h.was) in
+    let reply = h.tell.reply in
+    let conn_is : h.tell.conn ≡ c = h.to_asker ∙ here in
+    let first = first_waits c t line.waits is.is_line.waiting h.first (waiters_of c h.rest) (first_in_queue c (waiting_of h.slice) h.first h.rest h.waited here ∙ is.is_line.queued t h.slice h.was) in
     let holds : Holds keys (Some t) is.is_line.waiting line.pending line.stream.over = subst (λ w. Holds keys w is.is_line.waiting line.pending line.stream.over) first.0 is.is_line.holds in
     let request = holds.0 in
-    let alone : waiters_of c (h.world, h.rest) ≡ [] = rest_none (waiter c request) h.first (waiters_of c (h.world, h.rest)) (ap (map (waiter c)) (sym holds.1) ∙ first.1) in
-    let tell : Tell = in_turn t c h.reply in
+    let alone : waiters_of c h.rest ≡ [] = rest_none (waiter c request) h.first (waiters_of c h.rest) (ap (map (waiter c)) (sym holds.1) ∙ first.1) in
+    let tell : Tell = in_turn t c reply in
+    let tell_is : h.tell ≡ tell =
+    ap (λ p. let x : Tell = record { tenant = p; conn = h.tell.conn; reply = reply } in x) h.of_tenant ∙ ap (λ d. let x : Tell = record { tenant = Some t; conn = d; reply = reply } in x) conn_is in
     let answers : AnswersAsked keys c (Whole request) tell =
     subst (λ (o : Option ℕ). MatchOption o (tell ≡ at_once c unknown_key) (λ tenant. tell ≡ in_turn tenant c tell.reply)) (sym holds.2) refl in
     let talk : Talk keys c came sent tells [] (request ∷ []) line.stream =
     subst (λ ws. Talk keys c came sent tells [] ws line.stream) holds.1 (subst (λ p. Talk keys c came sent tells p is.is_line.waiting line.stream) holds.3 is.is_line.talk) in
-    let after : Line = answered h.reply line in
-    let pending : after.pending ≡ reply_text h.reply request.close =
-    ap (λ b. if b then line.pending else reply_text h.reply line.stream.over) is.is_line.alive ∙ ap (reply_text h.reply) holds.4 in
+    let after : Line = answered reply line in
+    let pending : after.pending ≡ reply_text reply request.close =
+    ap (λ b. if b then line.pending else reply_text reply line.stream.over) is.is_line.alive ∙ ap (reply_text reply) holds.4 in
     let told : told_in c step.told.reply ≡ tell ∷ [] =
-    ap (λ (r : Told). told_in c r.reply) h.told_is ∙ ap (λ d. told_in c (Some (in_turn t d h.reply))) here ∙ told_here c tell refl in
+    ap (told_in c) h.told_is ∙ ap (λ (x : Tell). told_in c (Some x)) tell_is ∙ told_here c tell refl in
     let is_line : IsLine keys c came sent (tells ++ tell ∷ []) after mid = record {
       alive = is.is_line.alive;
       waiting = [];
@@ -340,54 +359,54 @@ answered_here keys c t step old mid h here came sent tells (inl is) =
       queued = λ u slice was.
           ⊎_elim (λ same.
           let slice_is : slice ≡ (h.world, h.rest) = some_same (sym was ∙ ap (λ n. slice_of n mid) same ∙ h.slice_is) in
-          ap (waiters_of c) slice_is ∙ alone)
-          (λ other. is.is_line.queued u slice (sym (h.slices u other) ∙ was) ∙ ap (λ w. waiters_at c u w is.is_line.waiting) first.0
+          ap (λ (s : Slice). waiters_of c (waiting_of s)) slice_is ∙ alone)
+          (λ other. is.is_line.queued u slice (sym (h.others u other) ∙ was) ∙ ap (λ w. waiters_at c u w is.is_line.waiting) first.0
           ∙ ap (λ b. if b then map (waiter c) is.is_line.waiting else []) (other_number t u (λ e. other (sym e)))) (cases_eq u t);
     } in
-    let after_is : h.after ≡ Some after = h.after_is ∙ ap (λ d. option_map (answered h.reply) (line_of d old)) here ∙ ap (option_map (answered h.reply)) is.at in
-    let at : line_of c mid ≡ kept after = ap (λ d. line_of d mid) (sym here) ∙ h.line_is ∙ ap (option_and_then kept) after_is in
-    let stands : Stands keys c came sent (tells ++ tell ∷ []) mid = settles keys c came sent (tells ++ tell ∷ []) after mid at (subst (λ n. c < n) (sym h.keeps.next) is.below)
-    (λ some ready. absurd (reply_waits after h.reply request.close pending ready)) is_line in
+    let at : line_of c mid ≡ kept after =
+    ap (λ d. line_of d mid) (sym conn_is) ∙ book.line_is ∙ ap (λ d. option_and_then kept (option_map (answered reply) (line_of d old))) conn_is
+    ∙ ap (λ (o : Option Line). option_and_then kept (option_map (answered reply) o)) is.at in
+    let stands : Stands keys c came sent (tells ++ tell ∷ []) mid = settles keys c came sent (tells ++ tell ∷ []) after mid at (omega (arith, next, is.below))
+    (λ some ready. absurd (reply_waits after reply request.close pending ready)) is_line in
     subst (λ bs. Stands keys c bs (sent ++ []) (tells ++ told_in c step.told.reply) mid) (sym (append-nil came))
     (subst (λ bs. Stands keys c came bs (tells ++ told_in c step.told.reply) mid) (sym (append-nil sent))
     (subst (λ ts. Stands keys c came sent (tells ++ ts) mid) (sym told) stands))
 
 -- a turn of a tenant
-turns_move : (keys : List (List ℕ)) (c t : ℕ) (step : Step) (old mid : State) → Turns t step.told old mid → Moves keys c (Turn t) step old mid
-turns_move keys c t step old mid (inl h) =
-    untouched keys c (Turn t) step old mid (same_untouched c (Turn t) step old mid refl refl (ap (λ (r : Told). told_in c r.reply) h.told_is) h.same)
-turns_move keys c t step old mid (inr h) =
-    ⊎_elim (λ here. answered_here keys c t step old mid h here) (λ apart. untouched keys c (Turn t) step old mid (answered_there c t step old mid h apart)) (cases_eq h.first.conn c)
+turns_move : (keys : List (List ℕ)) (c t : ℕ) (step : Step) (taken : Taken) (old mid : State) → ChangesSlices (Turn t) step.told taken old mid → BookTurns step.told (book_of old) (book_of mid) → next_of old ≤ next_of mid
+    → Moves keys c (Turn t) step old mid
+turns_move keys c t step taken old mid (inl rests) book next =
+    let lines : KeepsLines (book_of old) (book_of mid) =
+    subst (λ (reply : Option Tell). MatchOption reply (KeepsLines (book_of old) (book_of mid)) (λ tell. TellsOn tell (book_of old) (book_of mid))) rests.silent book in
+    untouched keys c (Turn t) step old mid (rests_untouched c (Turn t) step taken old mid refl refl rests (lines c) next)
+turns_move keys c t step taken old mid (inr h) book next =
+    let tells : TellsOn h.tell (book_of old) (book_of mid) =
+    subst (λ (reply : Option Tell). MatchOption reply (KeepsLines (book_of old) (book_of mid)) (λ tell. TellsOn tell (book_of old) (book_of mid))) h.told_is book in
+    ⊎_elim (λ here. answered_here keys c t step taken old mid h tells next here) (λ apart. untouched keys c (Turn t) step old mid (answered_there c t step taken old mid h tells next apart)) (cases_eq h.first.conn c)
+
+-- an event of an open connection, this one or another
+heard_move : (keys : List (List ℕ)) (c d : ℕ) (event : Event) (step : Step) (taken : Taken) (old mid : State) → keys_of old ≡ keys → OpenAnd (line_of d old) (Fits event) → IsHeard keys d event step old
+    → (d ≢ c → came_in c event ≡ []) → (d ≢ c → sent_in c event step ≡ [])
+    → HearsOn (keys_of old) event d step.told taken (book_of old) (book_of mid) → ((u : ℕ) → slice_of u mid ≡ option_map (joined (entering (keys_of old) d taken u)) (slice_of u old)) → next_of old ≤ next_of mid
+    → Moves keys c event step old mid
+heard_move keys c d event step taken old mid keys_are allowed heard no_bytes none_sent h enters next =
+    ⊎_elim (λ same. subst (λ n. Moves keys n event step old mid) same (hears_moves keys d event step taken old mid keys_are allowed heard h enters next))
+    (λ apart. untouched keys c event step old mid (hears_untouched c d event step taken old mid apart (no_bytes apart) (none_sent apart) h enters next))
+    (cases_eq d c)
 
 -- any event that is allowed
-pub moves : (keys : List (List ℕ)) (c : ℕ) (event : Event) (step : Step) (old mid : State) → keys_of old ≡ keys → loses c event ≡ false → Happens event step old mid → Moves keys c event step old mid
-moves keys c (Open d) step old mid keys_are alive h = opens_move keys c d step old mid h.allowed h.does
-moves keys c (Turn t) step old mid keys_are alive h = turns_move keys c t step old mid h.does
-moves keys c (Piece d bytes) step old mid keys_are alive h =
-    ⊎_elim (λ same. subst (λ n. Moves keys n (Piece d bytes) step old mid) same (hears_moves keys d (Piece d bytes) step old mid keys_are h.allowed (heard_piece keys d step old bytes) h.does))
-    (λ apart. untouched keys c (Piece d bytes) step old mid (hears_untouched keys c d (Piece d bytes) step old mid apart (ap (λ b. if b then bytes.items else []) (other_number d c apart)) refl h.does))
-    (cases_eq d c)
-moves keys c (End d) step old mid keys_are alive h =
-    ⊎_elim (λ same. subst (λ n. Moves keys n (End d) step old mid) same (hears_moves keys d (End d) step old mid keys_are h.allowed (heard_end keys d step old) h.does))
-    (λ apart. untouched keys c (End d) step old mid (hears_untouched keys c d (End d) step old mid apart refl refl h.does))
-    (cases_eq d c)
-moves keys c (Fault d) step old mid keys_are alive h =
-    untouched keys c (Fault d) step old mid (hears_untouched keys c d (Fault d) step old mid (λ same. let lost : (d == c) ≡ true = eq-eqb d c same in cc) refl refl h.does)
-moves keys c (Wrote d count) step old mid keys_are alive h =
-    ⊎_elim (λ same. subst (λ n. Moves keys n (Wrote d count) step old mid) same (hears_moves keys d (Wrote d count) step old mid keys_are h.allowed (heard_wrote keys d step old count h.sent) h.does))
-    (λ apart. untouched keys c (Wrote d count) step old mid (hears_untouched keys c d (Wrote d count) step old mid apart refl (ap (λ b. if b then step.sent.items else []) (other_number d c apart)) h.does))
-    (cases_eq d c)
-
--- the keys stay
-keys_stay : (event : Event) (told : Told) (old mid : State) → Does event told old mid → keys_of mid ≡ keys_of old
-keys_stay (Open c) told old mid (inl h) = h.keys
-keys_stay (Open c) told old mid (inr h) = h.same.keeps.keys
-keys_stay (Piece c bytes) told old mid h = h.keeps.keys
-keys_stay (End c) told old mid h = h.keeps.keys
-keys_stay (Fault c) told old mid h = h.keeps.keys
-keys_stay (Wrote c count) told old mid h = h.keeps.keys
-keys_stay (Turn t) told old mid (inl h) = h.same.keeps.keys
-keys_stay (Turn t) told old mid (inr h) = h.keeps.keys
+moves : (keys : List (List ℕ)) (c : ℕ) (event : Event) (step : Step) (old mid : State) → keys_of old ≡ keys → loses c event ≡ false → IsAllowed event old → step.sent.items ≡ sent_by event old → IsSeen event step.told old mid
+    → Moves keys c event step old mid
+moves keys c (Open d) step old mid keys_are alive allowed sent s = opens_move keys c d step old mid s
+moves keys c (Turn t) step old mid keys_are alive allowed sent s = turns_move keys c t step s.taken old mid s.changes s.books.1 s.next
+moves keys c (Piece d bytes) step old mid keys_are alive allowed sent s =
+    heard_move keys c d (Piece d bytes) step s.taken old mid keys_are allowed (heard_piece keys d step old bytes) (λ apart. ap (λ b. if b then bytes.items else []) (other_number d c apart)) (λ apart. refl) s.books s.changes.slices s.next
+moves keys c (End d) step old mid keys_are alive allowed sent s =
+    heard_move keys c d (End d) step s.taken old mid keys_are allowed (heard_end keys d step old) (λ apart. refl) (λ apart. refl) s.books s.changes.slices s.next
+moves keys c (Fault d) step old mid keys_are alive allowed sent s =
+    untouched keys c (Fault d) step old mid (hears_untouched c d (Fault d) step s.taken old mid (λ same. let lost : (d == c) ≡ true = eq-eqb d c same in cc) refl refl s.books (none_enters (keys_of old) d step.told s.taken old mid s.changes) s.next)
+moves keys c (Wrote d count) step old mid keys_are alive allowed sent s =
+    heard_move keys c d (Wrote d count) step s.taken old mid keys_are allowed (heard_wrote keys d step old count sent) (λ apart. refl) (λ apart. ap (λ b. if b then step.sent.items else []) (other_number d c apart)) s.books s.changes.slices s.next
 
 or_false : (a b : Bool) → (a || b) ≡ false → (a ≡ false) × (b ≡ false)
 or_false false false e = (refl, refl)
@@ -407,18 +426,19 @@ run_moves keys c came sent tells [] (step ∷ steps) old new keys_are alive run 
 run_moves keys c came sent tells (event ∷ events) [] old new keys_are alive run stands = absurd run
 run_moves keys c came sent tells (event ∷ events) (step ∷ steps) old new keys_are alive (mid, h, run) stands =
     let lives = or_false (loses c event) (is_lost_in c events) alive in
-    let now = moves keys c event step old mid keys_are lives.0 h came sent tells stands in
+    let s = seen event step.told old mid h.allowed h.does in
+    let now = moves keys c event step old mid keys_are lives.0 h.allowed h.sent s came sent tells stands in
     let later = run_moves keys c (came ++ came_in c event) (sent ++ sent_in c event step) (tells ++ told_in c step.told.reply) events steps mid new
-    (keys_stay event step.told old mid h.does ∙ keys_are) lives.1 run now in
+    (s.keys ∙ keys_are) lives.1 run now in
     subst (λ bs. Stands keys c bs (sent ++ sent_on c (event ∷ events) (step ∷ steps)) (tells ++ told_on c (step ∷ steps)) new) (append_assoc came (came_in c event) (came_on c events))
     (subst (λ bs. Stands keys c ((came ++ came_in c event) ++ came_on c events) bs (tells ++ told_on c (step ∷ steps)) new) (append_assoc sent (sent_in c event step) (sent_on c events steps))
     (subst (λ ts. Stands keys c ((came ++ came_in c event) ++ came_on c events) ((sent ++ sent_in c event step) ++ sent_on c events steps) ts new) (append_assoc tells (told_in c step.told.reply) (told_on c steps)) later))
 
 -- each tenant begins with an empty queue
-new_queue : (keys : List (List ℕ)) (u : ℕ) (slice : Slice) → slice_get (map (λ (key : List ℕ). new_slice) keys) u ≡ Some slice → slice.1 ≡ []
-new_queue [] u slice was = absurd (none_some was)
-new_queue (key ∷ keys) zero slice was = ap (λ (s : Slice). s.1) (sym (some_same was))
-new_queue (key ∷ keys) (suc u) slice was = new_queue keys u slice was
+new_queue : (keys : List (List ℕ)) (u : ℕ) (queue : Queue) → slice_get (map (λ (key : List ℕ). let none : Queue = [] in none) keys) u ≡ Some queue → queue ≡ []
+new_queue [] u queue was = absurd (none_some was)
+new_queue (key ∷ keys) zero queue was = sym (some_same was)
+new_queue (key ∷ keys) (suc u) queue was = new_queue keys u queue was
 
 -- before the first event no connection stands open
 begins : (keys : List (List ℕ)) (c : ℕ) → Stands keys c [] [] [] (new_state keys)
@@ -427,7 +447,7 @@ begins keys c = inr (record {
   left = opening;
   talk = none_came keys c [] [] [] opening refl refl refl refl;
   fresh = λ above. (refl, refl);
-  queued = λ u slice was. ap (λ ws. filter (λ (w : Waiter). w.conn == c) ws) (new_queue keys u slice was);
+  queued = λ u slice was. ap (waiters_of c) (new_queue keys u (waiting_of slice) (slice_parts (world_at u (new_state keys)) (queue_at u (new_state keys)) slice was).1);
 })
 
 -- what waits, as the contract says it

@@ -1,6 +1,6 @@
 -- Places, writes and look-ups in lists.
-use Rattle.std.proofs.Common.{◌≡◌, ◌≢◌, ◌<◌, ℕ, zero, suc, ◌+◌, Bool, List, [], ◌∷◌, length, drop, take, ◌-◌, Some, refl, ap, cond, arith, length-drop}
-use Rattle.std.specs.Prelude.{map, replicate, slice_get, position, not, ◌||◌}
+use Rattle.std.proofs.Common.{◌≡◌, ◌≢◌, ◌<◌, ℕ, zero, suc, ◌+◌, Bool, List, [], ◌∷◌, length, drop, take, ◌-◌, Option, Some, None, refl, ap, cond, arith, length-drop}
+use Rattle.std.specs.Prelude.{map, option_map, replicate, slice_get, position, not, ◌||◌}
 use Rattle.std.specs.List.{prefix_len, list_any}
 use Rattle.std.proofs.Math.ListN.{set}
 use Rattle.std.proofs.Math.Seq.{take-length}
@@ -34,6 +34,11 @@ slice_get-set_other (y ∷ xs) zero (suc j) x ne = refl
 slice_get-set_other (y ∷ xs) (suc i) zero x ne = refl
 slice_get-set_other (y ∷ xs) (suc i) (suc j) x ne = slice_get-set_other xs i j x (λ e. ne (ap suc e))
 
+pub slice_get-map : {X Y : Type 0} (f : X → Y) (xs : List X) (i : ℕ) → slice_get (map f xs) i ≡ option_map f (slice_get xs i)
+slice_get-map f [] i = refl
+slice_get-map f (x ∷ xs) zero = refl
+slice_get-map f (x ∷ xs) (suc i) = slice_get-map f xs i
+
 -- all that is left is taken
 pub take-rest : {X : Type 0} (n : ℕ) (xs : List X) → take (length xs - n) (drop n xs) ≡ drop n xs
 take-rest n xs = rw (← length-drop n xs) (take-length (drop n xs))
@@ -42,3 +47,15 @@ take-rest n xs = rw (← length-drop n xs) (take-length (drop n xs))
 pub map-same : {X Y : Type 0} (y : Y) (xs : List X) → map (λ x. y) xs ≡ replicate (length xs) y
 map-same y [] = refl
 map-same y (x ∷ xs) = ap (λ ys. y ∷ ys) (map-same y xs)
+
+-- none isn't some
+pub none_some : {A : Type 0} {y : A} → ◌≡◌ {A = Option A} None (Some y) → ⊥
+none_some e = cc
+
+pub some_same : {A : Type 0} {x y : A} → ◌≡◌ {A = Option A} (Some x) (Some y) → x ≡ y
+some_same e = cc
+
+-- what a mapped option comes from
+pub option_from : {A B : Type 0} (f : A → B) (o : Option A) (y : B) → option_map f o ≡ Some y → (x : A) × (o ≡ Some x) × (f x ≡ y)
+option_from f None y e = absurd (none_some e)
+option_from f (Some x) y e = (x, refl, some_same e)

@@ -15,14 +15,15 @@ use Rattle.ports_core.specs.declared.event.Event.TheVariants.{Open, Piece, End, 
 use Rattle.ports_core.specs.declared.event.Told.{Told}
 use Rattle.ports_core.specs.declared.event.Tell.{Tell}
 use Rattle.ports_core.specs.declared.event.Refused.{Refused}
-use Rattle.ports_core.specs.declared.tenant.Waiter.{Waiter}
+use Rattle.ports_core.specs.declared.queue.Waiter.{Waiter}
 use Rattle.ports_core.specs.declared.history.Step.{Step}
 use Rattle.ports_core.specs.Keys.{tenant_of}
 use Rattle.ports_core.specs.Lines.{new_line, hears, answered, kept, is_ready, with_pending}
 use Rattle.ports_core.specs.Telling.{at_once}
-use Rattle.ports_core.specs.Taking.{Taken, Nothing, Whole, Refusal, Lost, TakesOff, IsTaken, told_of_tenant, told_at_once, line_behind}
-use Rattle.ports_core.specs.Books.{Book, no_lines, KeepsLines, KeepsOthers, BookHears, BookStep, conn_of, entering, TakesIn, OneListIsTaken}
-use Rattle.ports_core.proofs.StandingLemmas.{none_some, some_same}
+use Rattle.ports_core.specs.Taking.{Taken, Nothing, Whole, Refusal, Lost, TakesOff, IsTaken, told_of_tenant, told_at_once, line_behind, entering}
+use Rattle.ports_core.specs.Opened.{Book, no_lines, KeepsLines, KeepsOthers}
+use Rattle.ports_core.specs.Books.{HearsOn, TellsOn, BookStep, conn_of, TakesIn, OneListIsTaken}
+use Rattle.ports_core.proofs.Lists.{none_some, some_same}
 
 -- a head refusal isn't 503
 refusal_not_failed : (why : HeadFault) → fault_status why ≡ 503 → ⊥
@@ -124,16 +125,16 @@ agree c old was new after same keeps kept_there here d =
     ⊎_elim (λ e. ap new e ∙ here ∙ ap after (sym e)) (λ apart. keeps d apart ∙ same d ∙ sym (kept_there d apart)) (cases_eq d c)
 
 same_hears : (keys : List (List ℕ)) (event : Event) (c : ℕ) (told : Told) (taken other : Taken) (old was new after : Book) → ((d : ℕ) → old d ≡ was d)
-    → BookHears keys event c told taken old new → BookHears keys event c told other was after
+    → HearsOn keys event c told taken old new → HearsOn keys event c told other was after
     → ((t : ℕ) → entering keys c taken t ≡ entering keys c other t) × ((d : ℕ) → new d ≡ after d)
 same_hears keys event c told taken other old was new after same h k =
     let line : k.line ≡ h.line = some_same (sym k.was_open ∙ sym (same c) ∙ h.was_open) in
-    let stands : IsTaken (hears event h.line) other k.stream = subst (λ l. IsTaken (hears event l) other k.stream) line k.stands in
-    let told_same : told_at_once keys c taken ≡ told_at_once keys c other = ap (λ (t : Told). t.reply) (sym h.told_is ∙ k.told_is) in
-    let takes = same_taking keys c (hears event h.line) h.stream k.stream taken other h.stands stands told_same in
+    let stands : IsTaken (hears event h.line) other k.takes.stream = subst (λ l. IsTaken (hears event l) other k.takes.stream) line k.takes.stands in
+    let told_same : told_at_once keys c taken ≡ told_at_once keys c other = sym h.takes.told_is ∙ k.takes.told_is in
+    let takes = same_taking keys c (hears event h.line) h.takes.stream k.takes.stream taken other h.takes.stands stands told_same in
     let after_is : h.after ≡ k.after =
-    h.after_is ∙ takes.line_is ∙ ap (λ l. line_behind keys other (record (hears event l) { stream = k.stream })) (sym line) ∙ sym k.after_is in
-    (takes.enters, agree c old was new after same h.lines k.lines (h.line_is ∙ ap kept after_is ∙ sym k.line_is))
+    h.takes.line_is ∙ takes.line_is ∙ ap (λ l. line_behind keys other (record (hears event l) { stream = k.takes.stream })) (sym line) ∙ sym k.takes.line_is in
+    (takes.enters, agree c old was new after same h.others k.others (h.line_is ∙ ap kept after_is ∙ sym k.line_is))
 
 same_opens : (c : ℕ) (refused : Option Refused) (old was new after : Book) → ((d : ℕ) → old d ≡ was d)
     → MatchOption refused ((new c ≡ Some new_line) × KeepsOthers c old new) (λ why. KeepsLines old new)
@@ -142,12 +143,12 @@ same_opens c None old was new after same h k = agree c old was new after same h.
 same_opens c (Some why) old was new after same h k = λ d. h d ∙ same d ∙ sym (k d)
 
 same_turns : (reply : Option Tell) (old was new after : Book) → ((d : ℕ) → old d ≡ was d)
-    → MatchOption reply (KeepsLines old new) (λ tell. (new tell.conn ≡ option_and_then kept (option_map (answered tell.reply) (old tell.conn))) × KeepsOthers tell.conn old new)
-    → MatchOption reply (KeepsLines was after) (λ tell. (after tell.conn ≡ option_and_then kept (option_map (answered tell.reply) (was tell.conn))) × KeepsOthers tell.conn was after)
+    → MatchOption reply (KeepsLines old new) (λ tell. TellsOn tell old new)
+    → MatchOption reply (KeepsLines was after) (λ tell. TellsOn tell was after)
     → (d : ℕ) → new d ≡ after d
 same_turns None old was new after same h k = λ d. h d ∙ same d ∙ sym (k d)
 same_turns (Some tell) old was new after same h k =
-    agree tell.conn old was new after same h.1 k.1 (h.0 ∙ ap (λ o. option_and_then kept (option_map (answered tell.reply) o)) (same tell.conn) ∙ sym k.0)
+    agree tell.conn old was new after same h.others k.others (h.line_is ∙ ap (λ o. option_and_then kept (option_map (answered tell.reply) o)) (same tell.conn) ∙ sym k.line_is)
 
 same_step : (keys : List (List ℕ)) (event : Event) (told : Told) (taken other : Taken) (old was new after : Book) → ((d : ℕ) → old d ≡ was d)
     → BookStep keys event told taken old new → BookStep keys event told other was after → SameStep keys event taken other new after

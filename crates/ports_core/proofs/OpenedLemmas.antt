@@ -1,14 +1,17 @@
 -- The open connections after a change of one of them.
-use Rattle.std.proofs.Common.{◌≡◌, ◌≢◌, ℕ, true, false, List, Option, Some, subst, arith}
+use Rattle.std.proofs.Common.{◌≡◌, ◌≢◌, ℕ, true, false, List, Option, Some, None, sym, ap, subst, ◌∙◌, arith}
+use Rattle.std.specs.Prelude.{option_and_then}
 use Rattle.std.specs.Ordering.{nat_cmp, is_eq}
 use Rattle.std.proofs.lemmas.Bool.Decides.{nat_tests}
 use Rattle.ports_core.specs.declared.line.Line.{Line}
 use Rattle.ports_core.specs.declared.event.Event.{Event}
+use Rattle.ports_core.specs.declared.event.Told.{Told}
 use Rattle.ports_core.specs.declared.event.Tell.{Tell}
-use Rattle.ports_core.specs.Slices.{Slice}
-use Rattle.ports_core.specs.Lines.{hears}
-use Rattle.ports_core.specs.Taking.{TakesNext}
-use Rattle.ports_core.specs.Opened.{line_in, HearsLine}
+use Rattle.ports_core.specs.Slices.{Queue}
+use Rattle.ports_core.specs.Lines.{hears, kept, closing}
+use Rattle.ports_core.specs.Taking.{Taken, TakesNext, Joins}
+use Rattle.ports_core.specs.Opened.{line_in, book_in}
+use Rattle.ports_core.specs.Books.{HearsOn}
 
 -- another number has another place in the order
 pub is_eq-nat_cmp_other : (c d : ℕ) → d ≢ c → is_eq (nat_cmp c d) ≡ false
@@ -17,20 +20,24 @@ is_eq-nat_cmp_other c d ne = grind (arith, nat_tests)
 pub is_eq-nat_cmp_same : (c : ℕ) → is_eq (nat_cmp c c) ≡ true
 is_eq-nat_cmp_same c = grind (arith, nat_tests)
 
--- what is taken off a connection behind an event
-pub hears_line : (keys : List (List ℕ)) (event : Event) (c : ℕ) (told : Option Tell) (old : List (ℕ × Line)) (slices : List Slice) (new : List (ℕ × Line)) (slices_after : List Slice) (line heard after : Line)
-    → line_in c old ≡ Some line → heard ≡ hears event line → TakesNext keys c heard slices told after slices_after → line_in c new ≡ Some after → ((d : ℕ) → d ≢ c → line_in d new ≡ line_in d old)
-    → HearsLine keys event c told old slices new slices_after
-hears_line keys event c told old slices new slices_after line heard after was_open heard_is takes line_is lines =
-    let all : TakesNext keys c (hears event line) slices told after slices_after = subst (λ h. TakesNext keys c h slices told after slices_after) heard_is takes in
-    record {
-      line = line;
-      was_open = was_open;
-      taken = all.taken;
-      stream = all.stream;
-      stands = all.stands;
-      after = after;
-      settles = all.settles;
-      line_is = line_is;
-      lines = lines;
-    }
+-- what is taken off a connection behind an event, which then closes if it is done
+pub hears_on : (keys : List (List ℕ)) (event : Event) (c : ℕ) (told : Told) (old mid new : List (ℕ × Line)) (queues queues_after : List Queue) (reply : Option Tell) (line heard after : Line)
+    → line_in c old ≡ Some line → heard ≡ hears event line → ((taken : Taken) × TakesNext keys c taken reply heard after × Joins keys c taken queues queues_after)
+    → line_in c mid ≡ Some after → ((d : ℕ) → d ≢ c → line_in d mid ≡ line_in d old)
+    → told.reply ≡ reply → told.refused ≡ None → told.closed ≡ option_and_then (closing c) (line_in c mid)
+    → line_in c new ≡ option_and_then kept (line_in c mid) → ((d : ℕ) → d ≢ c → line_in d new ≡ line_in d mid)
+    → (taken : Taken) × HearsOn keys event c told taken (book_in old) (book_in new) × Joins keys c taken queues queues_after
+hears_on keys event c told old mid new queues queues_after reply line heard after was_open heard_is takes mid_is mid_others reply_is refused closed line_is others = (
+  takes.0,
+  record {
+    line = line;
+    was_open = was_open;
+    after = after;
+    takes = subst (λ r. TakesNext keys c takes.0 r (hears event line) after) (sym reply_is) (subst (λ h. TakesNext keys c takes.0 reply h after) heard_is takes.1);
+    refused = refused;
+    closed = closed ∙ ap (option_and_then (closing c)) mid_is;
+    line_is = line_is ∙ ap (option_and_then kept) mid_is;
+    others = λ d ne. others d ne ∙ mid_others d ne;
+  },
+  takes.2,
+)

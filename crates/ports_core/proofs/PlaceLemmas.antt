@@ -1,5 +1,5 @@
 -- The places in which requests wait: they suffice, and each event keeps what is true of them.
-use Rattle.std.proofs.Common.{◌≡◌, ◌≢◌, ◌<◌, ◌≤◌, ◌+◌, ℕ, zero, suc, Bool, true, false, not, List, [], ◌∷◌, ◌++◌, length, refl, sym, ap, subst, ◌∙◌, arith, eq-eqb, ⊎_elim, Option, Some, None, filter}
+use Rattle.std.proofs.Common.{◌≡◌, ◌≢◌, ◌<◌, ◌≤◌, ◌+◌, ℕ, zero, suc, Bool, true, false, not, List, [], ◌∷◌, ◌++◌, length, refl, sym, ap, subst, ◌∙◌, arith, eq-eqb, ⊎_elim, append-nil, Option, Some, None, filter}
 use Rattle.std.specs.Prelude.{◌==◌, All, MatchBool, Result, Ok, Err, IfOk, is_err, replicate, is_some, is_none, option_map, option_and_then, slice_get, if◌then◌else◌, unwrap_or}
 use Rattle.std.specs.Ordering.{nat_cmp, is_eq}
 use Rattle.std.proofs.Math.ListN.{set}
@@ -11,18 +11,19 @@ use Rattle.ports_http.specs.Incoming.{Incoming}
 use Rattle.ports_core.specs.declared.line.Line.{Line}
 use Rattle.ports_core.specs.declared.event.Event.{Event}
 use Rattle.ports_core.specs.declared.event.Event.TheVariants.{Open, Piece, End, Fault, Wrote, Turn}
-use Rattle.ports_core.specs.declared.event.Tell.{Tell}
-use Rattle.ports_core.specs.declared.tenant.Waiter.{Waiter}
+use Rattle.ports_core.specs.declared.event.Told.{Told}
+use Rattle.ports_core.specs.declared.queue.Waiter.{Waiter}
 use Rattle.ports_core.specs.Keys.{tenant_of}
-use Rattle.ports_core.specs.Slices.{Slice, new_slice, joined, waiting_of}
+use Rattle.ports_core.specs.Slices.{Queue}
 use Rattle.ports_core.specs.Lines.{hears, answered, kept, is_done, is_ready}
-use Rattle.ports_core.specs.Taking.{Taken, Nothing, Whole, Refusal, Lost, TakesOff, IsTaken, line_with, line_behind, slice_with, slice_behind}
-use Rattle.ports_core.specs.Opened.{line_in, OpenAnd, HearsLine}
+use Rattle.ports_core.specs.Taking.{Taken, Nothing, Whole, Refusal, Lost, TakesOff, IsTaken, line_with, line_behind, entering_of, entering, Joins}
+use Rattle.ports_core.specs.Opened.{line_in, book_in, OpenAnd}
+use Rattle.ports_core.specs.Books.{HearsOn}
 use Rattle.ports_core.specs.Places.{HasPlace, count_from, may_wait, may_wait_on, AreSeated}
 use Rattle.ports_core.proofs.Numbers.{other_number}
-use Rattle.ports_core.proofs.Lists.{slice_get-set_same, slice_get-set_other}
+use Rattle.ports_core.proofs.Lists.{slice_get-set_same, slice_get-set_other, none_some, some_same, option_from}
 use Rattle.ports_core.proofs.OpenedLemmas.{is_eq-nat_cmp_other, is_eq-nat_cmp_same}
-use Rattle.ports_core.proofs.StandingLemmas.{none_some, some_same, option_from, waiters_behind}
+use Rattle.ports_core.proofs.QueueLemmas.{waiters_behind}
 
 -- one where a test passes
 abbrev one_if : Bool → ℕ
@@ -130,14 +131,14 @@ total-lt t c line (e ∷ es) at none =
     (cases_eq c e.0)
 
 -- where a connection waits for nothing, each tenant has a place
-pub places_left : (slices : List Slice) (es : List (ℕ × Line)) (c : ℕ) (line : Line) → length es ≤ 16 → AreSeated slices es → line_in c es ≡ Some line → line.waits ≡ None → All HasPlace slices
-places_left slices es c line few seated at none = λ k d within.
-    let fits : (slice : Slice) → slice_get slices k ≡ Some slice → HasPlace slice = λ slice was.
-    (let all = bound k es (waiting_of slice) (λ q. seated k q slice was) in let lt = total-lt k c line es at none in omega (arith, all, lt, few)) in
+pub places_left : (queues : List Queue) (es : List (ℕ × Line)) (c : ℕ) (line : Line) → length es ≤ 16 → AreSeated queues es → line_in c es ≡ Some line → line.waits ≡ None → All HasPlace queues
+places_left queues es c line few seated at none = λ k d within.
+    let fits : (queue : Queue) → slice_get queues k ≡ Some queue → HasPlace queue = λ queue was.
+    (let all = bound k es queue (λ q. seated k q queue was) in let lt = total-lt k c line es at none in omega (arith, all, lt, few)) in
     ⊎_elim
-    (λ found. subst HasPlace (sym (ap (λ o. unwrap_or o d) found.2) ∙ unwrap_or-slice_get slices k d) (fits found.0 found.2))
+    (λ found. subst HasPlace (sym (ap (λ o. unwrap_or o d) found.2) ∙ unwrap_or-slice_get queues k d) (fits found.0 found.2))
     (λ past. absurd (let above = past.0 in omega (arith, above, within)))
-    ((slice_get_cases slices k).1)
+    ((slice_get_cases queues k).1)
 
 -- a connection that isn't open waits for nothing
 shut_waits : (t : ℕ) (o : Option Line) → is_some o ≡ false → may_wait_on t o ≡ 0
@@ -145,11 +146,11 @@ shut_waits t None e = refl
 shut_waits t (Some line) e = absurd (false≢true (sym e))
 
 -- a connection opens
-pub opened_seats : (slices : List Slice) (lines after : List (ℕ × Line)) (n : ℕ) → is_some (line_in n lines) ≡ false → ((d : ℕ) → d ≢ n → line_in d after ≡ line_in d lines) → AreSeated slices lines → AreSeated slices after
-opened_seats slices lines after n shut same seated = λ t c slice was.
+pub opened_seats : (queues : List Queue) (lines after : List (ℕ × Line)) (n : ℕ) → is_some (line_in n lines) ≡ false → ((d : ℕ) → d ≢ n → line_in d after ≡ line_in d lines) → AreSeated queues lines → AreSeated queues after
+opened_seats queues lines after n shut same seated = λ t c queue was.
     ⊎_elim
-    (λ here. let none = ap (λ k. may_wait_on t (line_in k lines)) here ∙ shut_waits t (line_in n lines) shut in let all = seated t c slice was in omega (arith, none, all))
-    (λ ne. subst (λ o. count_from c (waiting_of slice) ≤ may_wait_on t o) (sym (same c ne)) (seated t c slice was))
+    (λ here. let none = ap (λ k. may_wait_on t (line_in k lines)) here ∙ shut_waits t (line_in n lines) shut in let all = seated t c queue was in omega (arith, none, all))
+    (λ ne. subst (λ o. count_from c queue ≤ may_wait_on t o) (sym (same c ne)) (seated t c queue was))
     (cases_eq c n)
 
 pub opened_fresh : (lines after : List (ℕ × Line)) (n : ℕ) → ((d : ℕ) → d ≢ n → line_in d after ≡ line_in d lines) → ((c : ℕ) → n ≤ c → is_some (line_in c lines) ≡ false)
@@ -185,68 +186,75 @@ kept_waits t line =
     ] refl
 
 -- a request that is taken waits in its tenant's queue alone
-joins_seats : (c t : ℕ) (place : Option ℕ) (request : RequestMessage) (slice : Slice) → count_from c (waiting_of slice) ≡ 0 → (waits : Option ℕ) → waits ≡ None
-    → (line : Line) → line.waits ≡ waits → count_from c (waiting_of (slice_with place c request t slice)) ≤ may_wait t (line_with place request.close line).waits
-joins_seats c t None request slice none waits free line is = omega (arith, none)
-joins_seats c t (Some u) request slice none waits free line is =
-    elim (u == t) as (λ b. count_from c (waiting_of (if b then joined (record { conn = c; request = request }) slice else slice)) ≤ one_if b) [
+joins_seats : (c t : ℕ) (place : Option ℕ) (request : RequestMessage) (queue : Queue) → count_from c queue ≡ 0
+    → (line : Line) → line.waits ≡ None → count_from c (queue ++ entering_of place c t request) ≤ may_wait t (line_with place request.close line).waits
+joins_seats c t None request queue none line free = let same = ap (count_from c) (append-nil queue) in omega (arith, none, same)
+joins_seats c t (Some u) request queue none line free =
+    elim (u == t) as (λ b. count_from c (queue ++ (if b then record { conn = c; request = request } ∷ [] else [])) ≤ one_if b) [
       | true ↦
-          let joins = count-joined c (record { conn = c; request = request }) (waiting_of slice) in
+          let joins = count-joined c (record { conn = c; request = request }) queue in
           let own : one_if (c == c) ≡ 1 = ap one_if (eq-eqb c c refl) in
           omega (arith, joins, own, none)
-      | false ↦ omega (arith, none)
+      | false ↦ let same = ap (count_from c) (append-nil queue) in omega (arith, none, same)
     ]
 
-module _ (keys : List (List ℕ)) (c t : ℕ) (line : Line) (slice : Slice) (seated : count_from c (waiting_of slice) ≤ may_wait t line.waits) where
+module _ (keys : List (List ℕ)) (c t : ℕ) (line : Line) (queue : Queue) (seated : count_from c queue ≤ may_wait t line.waits) where
+  -- nothing enters
+  stays_seated : count_from c (queue ++ []) ≤ may_wait t line.waits
+  stays_seated = subst (λ q. count_from c q ≤ may_wait t line.waits) (sym (append-nil queue)) seated
+
   -- what is taken, and what waits then
-  taken_ready : (taken : Taken) (stream : Incoming) → line.waits ≡ None → count_from c (waiting_of (slice_behind keys c taken t slice)) ≤ may_wait t (line_behind keys taken (record line { stream = stream })).waits
-  taken_ready Nothing stream free = seated
+  taken_ready : (taken : Taken) (stream : Incoming) → line.waits ≡ None → count_from c (queue ++ entering keys c taken t) ≤ may_wait t (line_behind keys taken (record line { stream = stream })).waits
+  taken_ready Nothing stream free = stays_seated
   taken_ready (Whole request) stream free =
       let zero_here : may_wait t line.waits ≡ 0 = ap (may_wait t) free in
-      joins_seats c t (tenant_of keys request.key) request slice (omega (arith, seated, zero_here)) None refl (record line { stream = stream }) free
-  taken_ready (Refusal fault) stream free = seated
-  taken_ready (Lost close) stream free = seated
+      joins_seats c t (tenant_of keys request.key) request queue (omega (arith, seated, zero_here)) (record line { stream = stream }) free
+  taken_ready (Refusal fault) stream free = stays_seated
+  taken_ready (Lost close) stream free = stays_seated
 
-  taken_seats : (taken : Taken) (stream : Incoming) → IsTaken line taken stream → count_from c (waiting_of (slice_behind keys c taken t slice)) ≤ may_wait t (line_behind keys taken (record line { stream = stream })).waits
+  taken_seats : (taken : Taken) (stream : Incoming) → IsTaken line taken stream → count_from c (queue ++ entering keys c taken t) ≤ may_wait t (line_behind keys taken (record line { stream = stream })).waits
   taken_seats taken stream stands =
-      let Q : Taken → Type 0 = λ k. count_from c (waiting_of (slice_behind keys c k t slice)) ≤ may_wait t (line_behind keys k (record line { stream = stream })).waits in
+      let Q : Taken → Type 0 = λ k. count_from c (queue ++ entering keys c k t) ≤ may_wait t (line_behind keys k (record line { stream = stream })).waits in
       let P : Bool → Type 0 = λ b. is_ready line ≡ b → MatchBool b (TakesOff line.stream taken stream) ((taken ≡ Nothing) × (stream ≡ line.stream)) → Q taken in
       elim (is_ready line) as P [
         | true ↦ λ ready off. taken_ready taken stream (ready_waits line ready)
-        | false ↦ λ busy off. subst Q (sym off.0) seated
+        | false ↦ λ busy off. subst Q (sym off.0) stays_seated
       ] refl stands
 
--- an event of an open connection, whose line may close then
-module _ (keys : List (List ℕ)) (event : Event) (c : ℕ) (told : Option Tell) (old : List (ℕ × Line)) (slices : List Slice) (mid : List (ℕ × Line)) (slices_after : List Slice) (new : List (ℕ × Line))
-    (h : HearsLine keys event c told old slices mid slices_after)
-    (line_is : line_in c new ≡ option_and_then kept (line_in c mid)) (lines : (d : ℕ) → d ≢ c → line_in d new ≡ line_in d mid) where
-  pub heard_seats : AreSeated slices old → AreSeated slices_after new
-  heard_seats seated = λ t d slice was.
-      let from = option_from (slice_behind keys c h.taken t) (slice_get slices t) slice (sym (h.settles.slices_are t) ∙ was) in
+-- an event of an open connection, which may close then
+module _ (keys : List (List ℕ)) (event : Event) (c : ℕ) (told : Told) (old new : List (ℕ × Line)) (queues queues_after : List Queue)
+    (all : (taken : Taken) × HearsOn keys event c told taken (book_in old) (book_in new) × Joins keys c taken queues queues_after) where
+  pub heard_seats : AreSeated queues old → AreSeated queues_after new
+  heard_seats seated = λ t d queue was.
+      let taken = all.0 in
+      let h = all.1 in
+      let from = option_from (λ (q : Queue). q ++ entering keys c taken t) (slice_get queues t) queue (sym (all.2 t) ∙ was) in
       ⊎_elim
       (λ same.
-      let before : count_from c (waiting_of from.0) ≤ may_wait t (hears event h.line).waits =
-      subst (λ w. count_from c (waiting_of from.0) ≤ may_wait t w) (sym (hears_waits event h.line)) (subst (λ o. count_from c (waiting_of from.0) ≤ may_wait_on t o) h.was_open (seated t c from.0 from.1)) in
-      let after : count_from c (waiting_of (slice_behind keys c h.taken t from.0)) ≤ may_wait t (line_behind keys h.taken (record (hears event h.line) { stream = h.stream })).waits =
-      taken_seats keys c t (hears event h.line) from.0 before h.taken h.stream h.stands in
-      let seats : may_wait_on t (line_in c new) ≡ may_wait t (line_behind keys h.taken (record (hears event h.line) { stream = h.stream })).waits =
-      ap (may_wait_on t) (line_is ∙ ap (option_and_then kept) h.line_is) ∙ kept_waits t h.after ∙ ap (λ (l : Line). may_wait t l.waits) h.settles.line_is in
-      let here : count_from c (waiting_of slice) ≤ may_wait_on t (line_in c new) =
-      subst (λ n. count_from c (waiting_of slice) ≤ n) (sym seats) (subst (λ s. count_from c (waiting_of s) ≤ may_wait t (line_behind keys h.taken (record (hears event h.line) { stream = h.stream })).waits) from.2 after) in
-      subst (λ k. count_from k (waiting_of slice) ≤ may_wait_on t (line_in k new)) (sym same) here)
+      let heard : Line = hears event h.line in
+      let after : Line = line_behind keys taken (record heard { stream = h.takes.stream }) in
+      let before : count_from c from.0 ≤ may_wait t heard.waits =
+      subst (λ w. count_from c from.0 ≤ may_wait t w) (sym (hears_waits event h.line)) (subst (λ o. count_from c from.0 ≤ may_wait_on t o) h.was_open (seated t c from.0 from.1)) in
+      let then_seated : count_from c (from.0 ++ entering keys c taken t) ≤ may_wait t after.waits =
+      taken_seats keys c t heard from.0 before taken h.takes.stream h.takes.stands in
+      let seats : may_wait_on t (line_in c new) ≡ may_wait t after.waits =
+      ap (may_wait_on t) h.line_is ∙ kept_waits t h.after ∙ ap (λ (l : Line). may_wait t l.waits) h.takes.line_is in
+      let here : count_from c queue ≤ may_wait_on t (line_in c new) =
+      subst (λ n. count_from c queue ≤ n) (sym seats) (subst (λ (q : Queue). count_from c q ≤ may_wait t after.waits) from.2 then_seated) in
+      subst (λ k. count_from k queue ≤ may_wait_on t (line_in k new)) (sym same) here)
       (λ ne.
-      let queue : count_from d (waiting_of slice) ≡ count_from d (waiting_of from.0) =
-      ap (λ s. count_from d (waiting_of s)) (sym from.2) ∙ ap length (waiters_behind keys d c h.taken t from.0 (λ e. ne (sym e))) in
-      let line : line_in d old ≡ line_in d new = sym (lines d ne ∙ h.lines d ne) in
-      subst (λ n. n ≤ may_wait_on t (line_in d new)) (sym queue) (subst (λ o. count_from d (waiting_of from.0) ≤ may_wait_on t o) line (seated t d from.0 from.1)))
+      let same_count : count_from d queue ≡ count_from d from.0 =
+      ap (count_from d) (sym from.2) ∙ ap length (waiters_behind keys d c taken t from.0 (λ e. ne (sym e))) in
+      let line : line_in d old ≡ line_in d new = sym (h.others d ne) in
+      subst (λ n. n ≤ may_wait_on t (line_in d new)) (sym same_count) (subst (λ o. count_from d from.0 ≤ may_wait_on t o) line (seated t d from.0 from.1)))
       (cases_eq d c)
 
   pub heard_fresh : (next : ℕ) → ((d : ℕ) → next ≤ d → is_some (line_in d old) ≡ false) → (d : ℕ) → next ≤ d → is_some (line_in d new) ≡ false
   heard_fresh next fresh d above =
-      ap is_some (lines d apart ∙ h.lines d apart) ∙ fresh d above
+      ap is_some ((all.1).others d apart) ∙ fresh d above
     where
       apart : d ≢ c
-      apart same = false≢true (sym (fresh d above) ∙ ap (λ k. is_some (line_in k old)) same ∙ ap is_some h.was_open)
+      apart same = false≢true (sym (fresh d above) ∙ ap (λ k. is_some (line_in k old)) same ∙ ap is_some (all.1).was_open)
 
 -- one request of a connection waits for one tenant
 one_tenant : (t u : ℕ) (waits : Option ℕ) → u ≢ t → 1 ≤ may_wait t waits → may_wait u waits ≡ 0
@@ -270,51 +278,51 @@ is_some-answered reply None e = refl
 is_some-answered reply (Some line) e = absurd (false≢true (sym e))
 
 -- a turn that answers the first request of a tenant
-module _ (t : ℕ) (slices : List Slice) (slice after : Slice) (first : Waiter) (reply : ReplyMessage) (lines new : List (ℕ × Line))
-    (within : t < length slices) (was : slice_get slices t ≡ Some slice) (waited : waiting_of slice ≡ first ∷ waiting_of after)
+module _ (t : ℕ) (queues : List Queue) (queue after : Queue) (first : Waiter) (reply : ReplyMessage) (lines new : List (ℕ × Line))
+    (within : t < length queues) (was : slice_get queues t ≡ Some queue) (waited : queue ≡ first ∷ after)
     (line_is : line_in first.conn new ≡ option_and_then kept (option_map (answered reply) (line_in first.conn lines)))
     (others_are : (d : ℕ) → d ≢ first.conn → line_in d new ≡ line_in d lines) where
-  module _ (seated : AreSeated slices lines) where
-    its_seat : 1 + count_from first.conn (waiting_of after) ≤ may_wait_on t (line_in first.conn lines)
+  module _ (seated : AreSeated queues lines) where
+    its_seat : 1 + count_from first.conn after ≤ may_wait_on t (line_in first.conn lines)
     its_seat =
-        let all = seated t first.conn slice was in
-        let own = ap (count_from first.conn) waited ∙ count-own first (waiting_of after) in
+        let all = seated t first.conn queue was in
+        let own = ap (count_from first.conn) waited ∙ count-own first after in
         omega (arith, all, own)
 
     -- none of that connection's requests is left
-    none_left : (u : ℕ) (s : Slice) → slice_get (set slices t after) u ≡ Some s → count_from first.conn (waiting_of s) ≡ 0
+    none_left : (u : ℕ) (s : Queue) → slice_get (set queues t after) u ≡ Some s → count_from first.conn s ≡ 0
     none_left u s is =
         ⊎_elim
         (λ same.
-        let mine : after ≡ s = some_same (sym (slice_get-set_same slices t after within) ∙ ap (slice_get (set slices t after)) (sym same) ∙ is) in
+        let mine : after ≡ s = some_same (sym (slice_get-set_same queues t after within) ∙ ap (slice_get (set queues t after)) (sym same) ∙ is) in
         let one = may_wait_on-one t (line_in first.conn lines) in
         let seat = its_seat in
-        ap (λ q. count_from first.conn (waiting_of q)) (sym mine) ∙ omega (arith, one, seat))
+        ap (λ q. count_from first.conn q) (sym mine) ∙ omega (arith, one, seat))
         (λ ne.
         let seat = its_seat in
-        let all = seated u first.conn s (sym (slice_get-set_other slices t u after ne) ∙ is) in
+        let all = seated u first.conn s (sym (slice_get-set_other queues t u after ne) ∙ is) in
         let none = one_tenant_on t u (line_in first.conn lines) ne (omega (arith, seat)) in
         omega (arith, all, none))
         (cases_eq u t)
 
     -- those of another connection are at most as many as before
-    no_more : (u d : ℕ) (s : Slice) → slice_get (set slices t after) u ≡ Some s → count_from d (waiting_of s) ≤ may_wait_on u (line_in d lines)
+    no_more : (u d : ℕ) (s : Queue) → slice_get (set queues t after) u ≡ Some s → count_from d s ≤ may_wait_on u (line_in d lines)
     no_more u d s is =
         ⊎_elim
         (λ same.
-        let mine : after ≡ s = some_same (sym (slice_get-set_same slices t after within) ∙ ap (slice_get (set slices t after)) (sym same) ∙ is) in
-        let all = seated t d slice was in
-        let step = ap (count_from d) waited ∙ count-step d first (waiting_of after) in
-        let fewer : count_from d (waiting_of after) ≤ may_wait_on t (line_in d lines) = omega (arith, all, step) in
-        subst (λ k. count_from d (waiting_of s) ≤ may_wait_on k (line_in d lines)) (sym same) (subst (λ q. count_from d (waiting_of q) ≤ may_wait_on t (line_in d lines)) mine fewer))
-        (λ ne. seated u d s (sym (slice_get-set_other slices t u after ne) ∙ is))
+        let mine : after ≡ s = some_same (sym (slice_get-set_same queues t after within) ∙ ap (slice_get (set queues t after)) (sym same) ∙ is) in
+        let all = seated t d queue was in
+        let step = ap (count_from d) waited ∙ count-step d first after in
+        let fewer : count_from d after ≤ may_wait_on t (line_in d lines) = omega (arith, all, step) in
+        subst (λ k. count_from d s ≤ may_wait_on k (line_in d lines)) (sym same) (subst (λ q. count_from d q ≤ may_wait_on t (line_in d lines)) mine fewer))
+        (λ ne. seated u d s (sym (slice_get-set_other queues t u after ne) ∙ is))
         (cases_eq u t)
 
-    pub answered_seats : AreSeated (set slices t after) new
+    pub answered_seats : AreSeated (set queues t after) new
     answered_seats = λ u d s is.
         ⊎_elim
-        (λ same. let none = ap (λ k. count_from k (waiting_of s)) same ∙ none_left u s is in omega (arith, none))
-        (λ ne. subst (λ o. count_from d (waiting_of s) ≤ may_wait_on u o) (sym (others_are d ne)) (no_more u d s is))
+        (λ same. let none = ap (λ k. count_from k s) same ∙ none_left u s is in omega (arith, none))
+        (λ ne. subst (λ o. count_from d s ≤ may_wait_on u o) (sym (others_are d ne)) (no_more u d s is))
         (cases_eq d first.conn)
 
   pub answered_fresh : (next : ℕ) → ((d : ℕ) → next ≤ d → is_some (line_in d lines) ≡ false) → (d : ℕ) → next ≤ d → is_some (line_in d new) ≡ false
@@ -325,12 +333,12 @@ module _ (t : ℕ) (slices : List Slice) (slice after : Slice) (first : Waiter) 
       (cases_eq d first.conn)
 
 -- an open connection that waits for nothing leaves a place in each queue
-pub open_places : (slices lent : List Slice) (es : List (ℕ × Line)) (c : ℕ) (P : Line → Type 0) → lent ≡ slices → length es ≤ 16 → AreSeated slices es → OpenAnd (line_in c es) P
+pub open_places : (queues lent : List Queue) (es : List (ℕ × Line)) (c : ℕ) (P : Line → Type 0) → lent ≡ queues → length es ≤ 16 → AreSeated queues es → OpenAnd (line_in c es) P
     → OpenAnd (line_in c es) (λ line. line.waits ≡ None → All HasPlace lent)
-open_places slices lent es c P same few seated is_open =
+open_places queues lent es c P same few seated is_open =
     elim (line_in c es) as (λ o. line_in c es ≡ o → OpenAnd o P → OpenAnd o (λ line. line.waits ≡ None → All HasPlace lent)) [
       | None ↦ λ at shut. shut
-      | Some line ↦ λ at fits none. subst (λ ss. All HasPlace ss) (sym same) (places_left slices es c line few seated at none)
+      | Some line ↦ λ at fits none. subst (λ ss. All HasPlace ss) (sym same) (places_left queues es c line few seated at none)
     ] refl is_open
 
 -- one more connection at most
@@ -340,15 +348,15 @@ one_more (Ok None) n m fine h = omega (arith, h)
 one_more (Err e) n m fine h = absurd (cc)
 
 -- no connection is open, and nothing waits
-pub begun_seats : (n : ℕ) (slices : List Slice) (es : List (ℕ × Line)) → slices ≡ replicate n new_slice → AreSeated slices es
-begun_seats n slices es is = λ t c slice was.
-    let none : waiting_of slice ≡ [] = empty_in n t slice (sym (ap (λ ss. slice_get ss t) is) ∙ was) in
+pub begun_seats : (n : ℕ) (queues : List Queue) (es : List (ℕ × Line)) → queues ≡ replicate n [] → AreSeated queues es
+begun_seats n queues es is = λ t c queue was.
+    let none : queue ≡ [] = empty_in n t queue (sym (ap (λ qs. slice_get qs t) is) ∙ was) in
     let zero_here = ap (count_from c) none in omega (arith, zero_here)
   where
-    empty_in : (n t : ℕ) (slice : Slice) → slice_get (replicate n new_slice) t ≡ Some slice → waiting_of slice ≡ []
-    empty_in zero t slice was = absurd (none_some was)
-    empty_in (suc n) zero slice was = ap waiting_of (sym (some_same was))
-    empty_in (suc n) (suc t) slice was = empty_in n t slice was
+    empty_in : (n t : ℕ) (queue : Queue) → slice_get (replicate n []) t ≡ Some queue → queue ≡ []
+    empty_in zero t queue was = absurd (none_some was)
+    empty_in (suc n) zero queue was = sym (some_same was)
+    empty_in (suc n) (suc t) queue was = empty_in n t queue was
 
 pub begun_fresh : (es : List (ℕ × Line)) → es ≡ [] → (c : ℕ) → is_some (line_in c es) ≡ false
 begun_fresh es none c = ap (λ ls. is_some (line_in c ls)) none

@@ -18,7 +18,7 @@ use Rattle.ports_plain.specs.Routes.{route_of}
 use Rattle.ports_plain.specs.Target.{path_of}
 use Rattle.ports_plain.specs.Replies.{bad_path}
 use Rattle.ports_plain.specs.Plain.{Asked, put_under, put_file, value_after, valued, variable_at, get_variable, given, answer_on, plain}
-use Rattle.ports_core.specs.Plainly.{is_failure}
+use Rattle.ports_core.specs.Telling.{is_failure}
 
 put_under-fine : (files : FileMap) (body : List ℕ) (name : Result (List ℕ) NameFault) → is_failure (put_under files body name).0.status ≡ false
 put_under-fine files body (Ok name) = refl

@@ -1,53 +1,29 @@
 -- One connection in a run: what each event does to what it asked and was told.
-use Rattle.std.proofs.Common.{◌≡◌, ◌≢◌, ◌<◌, ◌≤◌, ℕ, Bool, true, false, List, [], ◌∷◌, ◌++◌, refl, sym, ap, subst, ◌∙◌, inl, inr, append-nil, arith, eq-eqb, ⊎_elim, Option, Some, None, filter}
-use Rattle.std.specs.Prelude.{◌⊎◌, ◌==◌, map, MatchBool, MatchOption, is_none, option_map, if◌then◌else◌}
+use Rattle.std.proofs.Common.{◌≡◌, ◌≢◌, ◌<◌, ◌≤◌, ℕ, Bool, true, false, List, [], ◌∷◌, ◌++◌, refl, sym, ap, subst, ◌∙◌, inl, inr, append-nil, arith, eq-eqb, ⊎_elim, Option, Some, None}
+use Rattle.std.specs.Prelude.{◌⊎◌, MatchBool, MatchOption, is_none, option_map, if◌then◌else◌}
 use Rattle.std.proofs.lemmas.Bool.{false≢true, cases_Bool, and_parts, MatchBool-at_true}
 use Rattle.std.proofs.lemmas.Bool.Decides.{nat_tests}
-use Rattle.std.proofs.lemmas.List.Elements.{filter-append}
 use Rattle.ports_core.proofs.Numbers.{other_number}
+use Rattle.ports_core.proofs.Lists.{option_from}
+use Rattle.ports_core.proofs.QueueLemmas.{waiters_of, waiters_at, waiters_join}
 use Rattle.ports_http.specs.Messages.{RequestMessage, ReplyMessage}
 use Rattle.ports_http.specs.Streams.{Waits}
 use Rattle.ports_http.specs.Incoming.{Incoming, opening, ended}
 use Rattle.ports_http.specs.Replies.{reply_text, fault_reply, unknown_key, store_failed}
 use Rattle.ports_core.specs.declared.line.Line.{Line}
 use Rattle.ports_core.specs.declared.event.Tell.{Tell}
-use Rattle.ports_core.specs.declared.tenant.Waiter.{Waiter}
 use Rattle.ports_core.specs.Keys.{tenant_of}
-use Rattle.ports_core.specs.Slices.{Slice, joined}
+use Rattle.ports_core.specs.Slices.{Slice, waiting_of, joined}
 use Rattle.ports_core.specs.Lines.{kept, is_done, is_ready, is_empty, with_pending}
 use Rattle.ports_core.specs.Telling.{at_once, in_turn}
-use Rattle.ports_core.specs.Taking.{Taken, Nothing, Whole, Refusal, Lost, TakesOff, IsTaken, told_of_tenant, told_at_once, line_with, line_behind, slice_with, slice_behind}
+use Rattle.ports_core.specs.Taking.{Taken, Nothing, Whole, Refusal, Lost, TakesOff, IsTaken, told_of_tenant, told_at_once, line_with, line_behind, entering_of, entering}
 use Rattle.ports_core.specs.State.{State, slice_of, line_of, next_of}
 use Rattle.ports_core.specs.Conversations.{told_in, TakesSome}
 use Rattle.ports_core.proofs.TalkLemmas.{Talk, talk_waits, talk_told}
 
-pub none_some : {A : Type 0} {y : A} → ◌≡◌ {A = Option A} None (Some y) → ⊥
-none_some e = cc
-
-pub some_same : {A : Type 0} {x y : A} → ◌≡◌ {A = Option A} (Some x) (Some y) → x ≡ y
-some_same e = cc
-
--- what a mapped option comes from
-pub option_from : {A B : Type 0} (f : A → B) (o : Option A) (y : B) → option_map f o ≡ Some y → (x : A) × (o ≡ Some x) × (f x ≡ y)
-option_from f None y e = absurd (none_some e)
-option_from f (Some x) y e = (x, refl, some_same e)
-
--- the requests of a connection among those that wait for a tenant
-abbrev pub waiters_of : ℕ → Slice → List Waiter
-waiters_of c slice = filter (λ (w : Waiter). w.conn == c) slice.1
-
--- the request of a connection that waits for a turn of that tenant
-abbrev pub waiter : ℕ → RequestMessage → Waiter
-waiter c request = record { conn = c; request = request }
-
--- those that wait for a tenant, where the connection's request waits for that one
-abbrev pub waiters_at : ℕ → ℕ → Option ℕ → List RequestMessage → List Waiter
-waiters_at c u None waiting = []
-waiters_at c u (Some t) waiting = if t == u then map (waiter c) waiting else []
-
 -- no queue has other requests of the connection
 abbrev pub Queued : ℕ → State → Option ℕ → List RequestMessage → Type 0
-Queued c state waits waiting = (u : ℕ) (slice : Slice) → slice_of u state ≡ Some slice → waiters_of c slice ≡ waiters_at c u waits waiting
+Queued c state waits waiting = (u : ℕ) (slice : Slice) → slice_of u state ≡ Some slice → waiters_of c (waiting_of slice) ≡ waiters_at c u waits waiting
 
 -- the request that waits, while nothing is pending
 abbrev pub Holds : List (List ℕ) → Option ℕ → List RequestMessage → List ℕ → Bool → Type 0
@@ -151,36 +127,6 @@ idle_behind keys line (Whole request) stream stands ready = absurd (idle_behind_
 idle_behind keys line (Refusal fault) stream stands ready = absurd (reply_waits (with_pending (reply_text (fault_reply fault) true) (record line { stream = stream })) (fault_reply fault) true refl ready)
 idle_behind keys line (Lost close) stream stands ready = absurd (reply_waits (with_pending (reply_text store_failed close) (record line { stream = stream })) store_failed close refl ready)
 
--- the requests of a connection behind what another took
-waiters_with : (c d : ℕ) (place : Option ℕ) (request : RequestMessage) (u : ℕ) (slice : Slice) → d ≢ c → waiters_of c (slice_with place d request u slice) ≡ waiters_of c slice
-waiters_with c d None request u slice apart = refl
-waiters_with c d (Some tenant) request u slice apart =
-    elim (tenant == u) as (λ b. waiters_of c (if b then joined (waiter d request) slice else slice) ≡ waiters_of c slice) [
-      | true ↦
-          filter-append (λ (w : Waiter). w.conn == c) slice.1 (waiter d request ∷ [])
-          ∙ ap (λ b. waiters_of c slice ++ (if b then waiter d request ∷ [] else [])) (other_number d c apart)
-          ∙ append-nil (waiters_of c slice)
-      | false ↦ refl
-    ]
-
-pub waiters_behind : (keys : List (List ℕ)) (c d : ℕ) (taken : Taken) (u : ℕ) (slice : Slice) → d ≢ c → waiters_of c (slice_behind keys d taken u slice) ≡ waiters_of c slice
-waiters_behind keys c d Nothing u slice apart = refl
-waiters_behind keys c d (Whole request) u slice apart = waiters_with c d (tenant_of keys request.key) request u slice apart
-waiters_behind keys c d (Refusal fault) u slice apart = refl
-waiters_behind keys c d (Lost close) u slice apart = refl
-
--- its own request waits where it should
-waiters_join : (c tenant u : ℕ) (request : RequestMessage) (slice : Slice) → waiters_of c slice ≡ []
-    → waiters_of c (slice_with (Some tenant) c request u slice) ≡ waiters_at c u (Some tenant) (request ∷ [])
-waiters_join c tenant u request slice none =
-    elim (tenant == u) as (λ b. waiters_of c (if b then joined (waiter c request) slice else slice) ≡ (if b then waiter c request ∷ [] else [])) [
-      | true ↦
-          filter-append (λ (w : Waiter). w.conn == c) slice.1 (waiter c request ∷ [])
-          ∙ ap (λ ws. ws ++ (if c == c then waiter c request ∷ [] else [])) none
-          ∙ ap (λ b. if b then waiter c request ∷ [] else []) (eq-eqb c c refl)
-      | false ↦ none
-    ]
-
 -- no queue has a request of the connection, whatever was to wait
 none_at : (c u : ℕ) (waits : Option ℕ) (waiting : List RequestMessage) → waits ≡ None → waiters_at c u waits waiting ≡ []
 none_at c u waits waiting none = ap (λ w. waiters_at c u w waiting) none
@@ -199,16 +145,19 @@ over_behind request old new takes =
 
 -- what is taken off a line that isn't lost
 module _ (keys : List (List ℕ)) (c : ℕ) (came sent : List ℕ) (tells : List Tell) (line : Line) (old mid : State) (is : IsLine keys c came sent tells line old) (stream : Incoming) where
+  stay_queued : (slice before : Slice) → joined [] before ≡ slice → waiters_of c (waiting_of slice) ≡ waiters_of c (waiting_of before)
+  stay_queued slice before same = ap (λ (s : Slice). waiters_of c (waiting_of s)) (sym same) ∙ ap (waiters_of c) (append-nil (waiting_of before))
+
   -- nothing is taken
-  takes_nothing : stream ≡ line.stream → ((u : ℕ) → slice_of u mid ≡ option_map (λ (s : Slice). s) (slice_of u old))
+  takes_nothing : stream ≡ line.stream → ((u : ℕ) → slice_of u mid ≡ option_map (joined []) (slice_of u old))
       → IsLine keys c came sent (tells ++ []) (record line { stream = stream }) mid
   takes_nothing same slices = record {
     alive = is.alive;
     waiting = is.waiting;
     talk = subst (λ ts. Talk keys c came sent ts line.pending is.waiting stream) (sym (append-nil tells)) (subst (λ s. Talk keys c came sent tells line.pending is.waiting s) (sym same) is.talk);
     holds = subst (λ (s : Incoming). Holds keys line.waits is.waiting line.pending s.over) (sym same) is.holds;
-    queued = λ u slice was. let from = option_from (λ (s : Slice). s) (slice_of u old) slice (sym (slices u) ∙ was) in
-        ap (waiters_of c) (sym from.2) ∙ is.queued u from.0 from.1;
+    queued = λ u slice was. let from = option_from (joined []) (slice_of u old) slice (sym (slices u) ∙ was) in
+        stay_queued slice from.0 from.2 ∙ is.queued u from.0 from.1;
   }
 
   module _ (ready : is_ready line ≡ true) where
@@ -224,25 +173,25 @@ module _ (keys : List (List ℕ)) (c : ℕ) (came sent : List ℕ) (tells : List
     ready_talk : Talk keys c came sent tells [] [] line.stream
     ready_talk = subst (λ ws. Talk keys c came sent tells [] ws line.stream) ready_waiting (subst (λ p. Talk keys c came sent tells p is.waiting line.stream) ready_pending is.talk)
 
-    ready_queues : (u : ℕ) (slice : Slice) → slice_of u old ≡ Some slice → waiters_of c slice ≡ []
+    ready_queues : (u : ℕ) (slice : Slice) → slice_of u old ≡ Some slice → waiters_of c (waiting_of slice) ≡ []
     ready_queues u slice was = is.queued u slice was ∙ none_at c u line.waits is.waiting ready_waits
 
     -- something was taken and is answered at once
     told_line : (tell : Tell) (pending : List ℕ) → tell.conn ≡ c → Talk keys c came sent (tells ++ tell ∷ []) pending [] stream
-        → ((u : ℕ) → slice_of u mid ≡ option_map (λ (s : Slice). s) (slice_of u old))
+        → ((u : ℕ) → slice_of u mid ≡ option_map (joined []) (slice_of u old))
         → IsLine keys c came sent (tells ++ told_in c (Some tell)) (record line { stream = stream; pending = pending }) mid
     told_line tell pending here talk slices = record {
       alive = is.alive;
       waiting = [];
       talk = subst (λ ts. Talk keys c came sent (tells ++ ts) pending [] stream) (sym (told_here c tell here)) talk;
       holds = subst (λ w. Holds keys w [] pending stream.over) (sym ready_waits) refl;
-      queued = λ u slice was. let from = option_from (λ (s : Slice). s) (slice_of u old) slice (sym (slices u) ∙ was) in
-          ap (waiters_of c) (sym from.2) ∙ ready_queues u from.0 from.1 ∙ sym (none_at c u line.waits [] ready_waits);
+      queued = λ u slice was. let from = option_from (joined []) (slice_of u old) slice (sym (slices u) ∙ was) in
+          stay_queued slice from.0 from.2 ∙ ready_queues u from.0 from.1 ∙ sym (none_at c u line.waits [] ready_waits);
     }
 
     -- a request of that tenant, or of none, is taken
     takes_whole : (place : Option ℕ) (request : RequestMessage) → tenant_of keys request.key ≡ place → TakesSome line.stream (Whole request) stream
-        → ((u : ℕ) → slice_of u mid ≡ option_map (slice_with place c request u) (slice_of u old))
+        → ((u : ℕ) → slice_of u mid ≡ option_map (joined (entering_of place c u request)) (slice_of u old))
         → IsLine keys c came sent (tells ++ told_in c (told_of_tenant c place)) (line_with place request.close (record line { stream = stream })) mid
     takes_whole None request key_is takes slices =
         told_line (at_once c unknown_key) (reply_text unknown_key request.close) refl
@@ -255,13 +204,13 @@ module _ (keys : List (List ℕ)) (c : ℕ) (came sent : List ℕ) (tells : List
       talk = subst (λ p. Talk keys c came sent (tells ++ []) p (request ∷ []) stream) (sym ready_pending)
           (subst (λ ts. Talk keys c came sent ts [] (request ∷ []) stream) (sym (append-nil tells)) (talk_waits keys c came sent tells line.stream stream request takes ready_talk));
       holds = (request, refl, key_is, ready_pending, over_behind request line.stream stream takes);
-      queued = λ u slice was. let from = option_from (slice_with (Some tenant) c request u) (slice_of u old) slice (sym (slices u) ∙ was) in
-          ap (waiters_of c) (sym from.2) ∙ waiters_join c tenant u request from.0 (ready_queues u from.0 from.1);
+      queued = λ u slice was. let from = option_from (joined (entering_of (Some tenant) c u request)) (slice_of u old) slice (sym (slices u) ∙ was) in
+          ap (λ (s : Slice). waiters_of c (waiting_of s)) (sym from.2) ∙ waiters_join c tenant u request (waiting_of from.0) (ready_queues u from.0 from.1);
     }
 
   -- whatever is taken
   takes_ready : (taken : Taken) → is_ready line ≡ true → TakesOff line.stream taken stream
-      → ((u : ℕ) → slice_of u mid ≡ option_map (slice_behind keys c taken u) (slice_of u old))
+      → ((u : ℕ) → slice_of u mid ≡ option_map (joined (entering keys c taken u)) (slice_of u old))
       → IsLine keys c came sent (tells ++ told_in c (told_at_once keys c taken)) (line_behind keys taken (record line { stream = stream })) mid
   takes_ready Nothing ready takes slices = takes_nothing takes.0 slices
   takes_ready (Whole request) ready takes slices = takes_whole ready (tenant_of keys request.key) request refl takes slices
@@ -275,12 +224,12 @@ module _ (keys : List (List ℕ)) (c : ℕ) (came sent : List ℕ) (tells : List
       slices
 
   pub takes : (taken : Taken) → IsTaken line taken stream
-      → ((u : ℕ) → slice_of u mid ≡ option_map (slice_behind keys c taken u) (slice_of u old))
+      → ((u : ℕ) → slice_of u mid ≡ option_map (joined (entering keys c taken u)) (slice_of u old))
       → IsLine keys c came sent (tells ++ told_in c (told_at_once keys c taken)) (line_behind keys taken (record line { stream = stream })) mid
   takes taken stands slices =
       let Q : Taken → Type 0 = λ k. IsLine keys c came sent (tells ++ told_in c (told_at_once keys c k)) (line_behind keys k (record line { stream = stream })) mid in
       let P : Bool → Type 0 = λ b. is_ready line ≡ b → MatchBool b (TakesOff line.stream taken stream) ((taken ≡ Nothing) × (stream ≡ line.stream)) → Q taken in
       elim (is_ready line) as P [
         | true ↦ λ ready off. takes_ready taken ready off slices
-        | false ↦ λ busy off. subst Q (sym off.0) (takes_nothing off.1 (λ u. slices u ∙ ap (λ k. option_map (slice_behind keys c k u) (slice_of u old)) off.0))
+        | false ↦ λ busy off. subst Q (sym off.0) (takes_nothing off.1 (λ u. slices u ∙ ap (λ k. option_map (joined (entering keys c k u)) (slice_of u old)) off.0))
       ] refl stands

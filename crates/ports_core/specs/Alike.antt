@@ -1,15 +1,17 @@
 -- Two runs with the same requests of a tenant.
 use Rattle.std.specs.Prelude.{◌≡◌, ◌⊎◌, ℕ, List, ◌++◌, map}
-use Rattle.ports_http.specs.Messages.{RequestMessage, ReplyMessage}
+use Rattle.ports_http.specs.Messages.{ReplyMessage}
+use Rattle.ports_plain.specs.Plain.{Asked}
 use Rattle.ports_core.specs.declared.event.Event.{Event}
-use Rattle.ports_core.specs.declared.tenant.Waiter.{Waiter}
+use Rattle.ports_core.specs.declared.queue.Waiter.{Waiter}
 use Rattle.ports_core.specs.declared.history.Step.{Step}
+use Rattle.ports_core.specs.Slices.{asked_of}
 use Rattle.ports_core.specs.State.{State, waiting_at}
 use Rattle.ports_core.specs.Plainly.{told_to, answers_of, own_of, IsToldPlainly}
 
--- what was asked, whichever connections asked
-abbrev pub requests_of : List Waiter → List RequestMessage
-requests_of waiters = map (λ waiter. waiter.request) waiters
+-- what was asked of the plain service, by whichever connections and keys
+abbrev pub requests_of : List Waiter → List Asked
+requests_of waiters = map (λ waiter. asked_of waiter.request) waiters
 
 -- what was told to a tenant, other than 503, whichever connections it went to
 abbrev pub replies_to : ℕ → List Step → List ReplyMessage
@@ -24,7 +26,7 @@ abbrev pub AreAlike : {X : Type 0} → List X → List X → Type 0
 AreAlike xs ys = IsFrontOf xs ys ⊎ IsFrontOf ys xs
 
 -- a tenant's own requests in a run
-abbrev pub own_requests : {keys : List (List ℕ)} {t : ℕ} {events : List Event} {steps : List Step} {service : State} → IsToldPlainly keys t events steps service → List RequestMessage
+abbrev pub own_requests : {keys : List (List ℕ)} {t : ℕ} {events : List Event} {steps : List Step} {service : State} → IsToldPlainly keys t events steps service → List Asked
 own_requests {t = t} {steps = steps} told = requests_of (own_of told.taken (told_to t steps))
 
 -- Two tenants, each in a run of its own, are told equal replies as far as both are told, and all of them once

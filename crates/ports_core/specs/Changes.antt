@@ -1,31 +1,35 @@
--- What each event does to the tenants' files and waiting requests, and to no other part of them.
-use Rattle.std.specs.Prelude.{◌≡◌, ◌⊎◌, ℕ, List, ◌∷◌, Some}
-use Rattle.mk_paths.specs.World.{FileMap}
+-- What each event does to the tenants' slices, and to no other part of them.
+use Rattle.std.specs.Prelude.{◌≡◌, ◌≢◌, ◌⊎◌, ℕ, List, ◌∷◌, MatchOption, Some, None, option_map}
 use Rattle.ports_core.specs.declared.event.Event.{Event}
 use Rattle.ports_core.specs.declared.event.Event.TheVariants.{Open, Piece, End, Fault, Wrote, Turn}
 use Rattle.ports_core.specs.declared.event.Told.{Told}
 use Rattle.ports_core.specs.declared.event.Tell.{Tell}
-use Rattle.ports_core.specs.declared.tenant.Waiter.{Waiter}
-use Rattle.ports_core.specs.Slices.{Slice, joined, world_of, waiting_of}
-use Rattle.ports_core.specs.State.{State, slice_of}
-use Rattle.ports_core.specs.Steps.{Answers, KeepsOtherSlices}
+use Rattle.ports_core.specs.declared.queue.Waiter.{Waiter}
+use Rattle.ports_core.specs.Worlds.{World}
+use Rattle.ports_core.specs.Slices.{Slice, joined, world_of, waiting_of, Answers}
+use Rattle.ports_core.specs.Taking.{Taken, Nothing, entering}
+use Rattle.ports_core.specs.State.{State, keys_of, slice_of}
 
--- no file and no queue changes
-abbrev pub KeepsSlices : State → State → Type 0
-KeepsSlices old new = (t : ℕ) → slice_of t new ≡ slice_of t old
+-- no slice but that of one tenant changes
+abbrev pub KeepsOtherSlices : ℕ → State → State → Type 0
+KeepsOtherSlices t old new = (u : ℕ) → u ≢ t → slice_of u new ≡ slice_of u old
 
--- one request is added at the end of one tenant's queue
-pub record OneJoins (old new : State) : Type 0 where
-  pub tenant : ℕ
-  pub waiter : Waiter
-  pub slice : Slice
-  pub was : slice_of tenant old ≡ Some slice
-  pub joins : slice_of tenant new ≡ Some (joined waiter slice)
-  pub others : KeepsOtherSlices tenant old new
+-- nothing is taken or told, and no slice changes
+pub record Rests (told : Told) (taken : Taken) (old new : State) : Type 0 where
+  pub nothing : taken ≡ Nothing
+  pub silent : told.reply ≡ None
+  pub slices : (t : ℕ) → slice_of t new ≡ slice_of t old
 
--- A tenant's first request leaves its queue, and its reply is told: the files become those of the plain
--- service, or stay at a reply of 503.
-pub record FirstLeaves (t : ℕ) (told : Told) (old new : State) : Type 0 where
+-- At most one request is added at the end of one tenant's queue: the one that is taken off the connection, if it
+-- has the tenant's key. What is told is told to no tenant.
+pub record Enters (c : ℕ) (told : Told) (taken : Taken) (old new : State) : Type 0 where
+  pub to_none : MatchOption told.reply (Unit {0}) (λ (tell : Tell). tell.tenant ≡ None)
+  pub slices : (t : ℕ) → slice_of t new ≡ option_map (joined (entering (keys_of old) c taken t)) (slice_of t old)
+
+-- A tenant's first request leaves its queue, and its reply is told: the world becomes that of the plain service,
+-- or stays at a reply of 503.
+pub record FirstLeaves (t : ℕ) (told : Told) (taken : Taken) (old new : State) : Type 0 where
+  pub nothing : taken ≡ Nothing
   pub slice : Slice
   pub was : slice_of t old ≡ Some slice
   pub first : Waiter
@@ -35,16 +39,16 @@ pub record FirstLeaves (t : ℕ) (told : Told) (old new : State) : Type 0 where
   pub told_is : told.reply ≡ Some tell
   pub of_tenant : tell.tenant ≡ Some t
   pub to_asker : tell.conn ≡ first.conn
-  pub world : FileMap
+  pub world : World
   pub answers : Answers (world_of slice) first.request tell.reply world
   pub slice_is : slice_of t new ≡ Some (world, rest)
   pub others : KeepsOtherSlices t old new
 
 -- what an event does to the slices
-abbrev pub ChangesSlices : Event → Told → State → State → Type 0
-ChangesSlices (Open c) told old new = KeepsSlices old new
-ChangesSlices (Piece c bytes) told old new = KeepsSlices old new ⊎ OneJoins old new
-ChangesSlices (End c) told old new = KeepsSlices old new ⊎ OneJoins old new
-ChangesSlices (Fault c) told old new = KeepsSlices old new
-ChangesSlices (Wrote c count) told old new = KeepsSlices old new ⊎ OneJoins old new
-ChangesSlices (Turn t) told old new = KeepsSlices old new ⊎ FirstLeaves t told old new
+abbrev pub ChangesSlices : Event → Told → Taken → State → State → Type 0
+ChangesSlices (Open c) told taken old new = Rests told taken old new
+ChangesSlices (Piece c bytes) told taken old new = Enters c told taken old new
+ChangesSlices (End c) told taken old new = Enters c told taken old new
+ChangesSlices (Fault c) told taken old new = Rests told taken old new
+ChangesSlices (Wrote c count) told taken old new = Enters c told taken old new
+ChangesSlices (Turn t) told taken old new = Rests told taken old new ⊎ FirstLeaves t told taken old new

@@ -1,29 +1,20 @@
 -- What a run from any state does for a tenant, and when two such runs, of two services, must tell two tenants alike.
-use Rattle.std.specs.Prelude.{◌≡◌, ℕ, false, List, [], ◌∷◌, ◌++◌, All, Some}
-use Rattle.mk_paths.specs.World.{FileMap}
+use Rattle.std.specs.Prelude.{◌≡◌, ℕ, false, List, ◌++◌, All, Some}
 use Rattle.ports_core.specs.declared.event.Event.{Event}
 use Rattle.ports_core.specs.declared.event.Tell.{Tell}
-use Rattle.ports_core.specs.declared.tenant.Waiter.{Waiter}
+use Rattle.ports_core.specs.declared.queue.Waiter.{Waiter}
 use Rattle.ports_core.specs.declared.history.Step.{Step}
-use Rattle.ports_core.specs.Slices.{Slice, world_of, waiting_of, plain_answer}
-use Rattle.ports_core.specs.State.{State, keys_of, slice_of, line_of, waiting_at}
+use Rattle.ports_core.specs.Slices.{Slice, world_of, waiting_of}
+use Rattle.ports_core.specs.State.{State, keys_of, slice_of, book_of, waiting_at}
 use Rattle.ports_core.specs.Runs.{Run}
-use Rattle.ports_core.specs.Books.{Book, TakesIn}
-use Rattle.ports_core.specs.Plainly.{is_failure, told_to, answers_of, own_of, plain_run}
+use Rattle.ports_core.specs.Books.{TakesIn}
+use Rattle.ports_core.specs.Telling.{is_failure}
+use Rattle.ports_core.specs.Plainly.{told_to, answers_of, own_of, plain_run, plain_world}
 use Rattle.ports_core.specs.Alike.{requests_of, replies_to, AreAlike}
 
--- the connections of a service
-abbrev pub book_of : State → Book
-book_of state c = line_of c state
-
--- the files of the plain service behind a list of requests
-abbrev pub plain_files : FileMap → List Waiter → FileMap
-plain_files files [] = files
-plain_files files (waiter ∷ waiters) = plain_files (plain_answer files waiter.request).1 waiters
-
 -- A run from any state, to a tenant with that slice: of the requests that waited and those that came, less
--- those answered 503, the first are answered and the others wait. The replies, and the files, are those of
--- the plain service over the files that the tenant had.
+-- those answered 503, the first are answered and the others wait. The replies, and the world, are those of
+-- the plain service over the world that the tenant had.
 pub record IsServedPlainly (t : ℕ) (slice : Slice) (events : List Event) (steps : List Step) (old new : State) : Type 0 where
   pub taken : List Waiter
   pub takes : TakesIn (keys_of old) t (book_of old) events steps taken
@@ -32,9 +23,9 @@ pub record IsServedPlainly (t : ℕ) (slice : Slice) (events : List Event) (step
   pub answered : List Waiter
   pub own : own_of (waiting_of slice ++ taken) (told_to t steps) ≡ answered ++ waiting_of last
   pub replies : answers_of (told_to t steps) ≡ plain_run (world_of slice) answered
-  pub files : world_of last ≡ plain_files (world_of slice) answered
+  pub world : world_of last ≡ plain_world (world_of slice) answered
 
--- the same files, and the same requests wait, whichever connections asked
+-- the same world, and the same requests wait, by whichever connections and keys
 pub record AreEqualSlices (slice other : Slice) : Type 0 where
   pub worlds : world_of slice ≡ world_of other
   pub waiting : requests_of (waiting_of slice) ≡ requests_of (waiting_of other)

@@ -1,4 +1,5 @@
 pub mod Keys
+pub mod Worlds
 pub mod Slices
 pub mod Lines
 pub mod Telling
@@ -6,15 +7,16 @@ pub mod Taking
 pub mod Opened
 pub mod Places
 pub mod State
+pub mod Books
 pub mod Steps
 pub mod Changes
 pub mod Runs
-pub mod Books
 pub mod Plainly
 pub mod Alike
 pub mod Isolation
 pub mod Conversations
 pub mod Replays
 pub mod OutboxView
-pub mod TenantView
+pub mod QueueView
+pub mod WorldsView
 pub mod ServiceView

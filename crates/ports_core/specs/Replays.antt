@@ -27,12 +27,13 @@ ConversesOnEach config events done =
     (c : ℕ) → is_lost_in c events ≡ false → ConversesPlainly (key_texts config.keys.items) c events done.steps.items done.service
 
 -- Why a run ends early: an event may not happen, and the transcript is that of the events before it; or the
--- service can't begin, since its config isn't fit or for want of memory; or there is no memory for the transcript.
+-- service can't begin, since its config isn't fit, its store failed, or for want of memory; or there is no memory
+-- for the transcript.
 abbrev pub EndsEarly : Config → List Event → ReplayFault → Type 0
 EndsEarly config events (NotAllowed index done) =
     IsRun config (take index events) done × TellsPlainly config (take index events) done
     × ConversesOnEach config (take index events) done × Stops events index done.service
 EndsEarly config events (New new.Config) = is_fit config ≡ false
 EndsEarly config events (New new.Memory) = Unit {0}
-EndsEarly config events (New new.Store) = ⊥
+EndsEarly config events (New new.Store) = Unit {0}
 EndsEarly config events Memory = Unit {0}

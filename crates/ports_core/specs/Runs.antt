@@ -4,6 +4,7 @@ use Rattle.ports_core.specs.declared.event.Event.{Event}
 use Rattle.ports_core.specs.declared.event.Event.TheVariants.{Wrote}
 use Rattle.ports_core.specs.declared.history.Step.{Step}
 use Rattle.ports_core.specs.Lines.{count_off}
+use Rattle.ports_core.specs.Telling.{CountsNone, CountsTurns}
 use Rattle.ports_core.specs.State.{State, IsAllowed, pending_at}
 use Rattle.ports_core.specs.Steps.{Does}
 
@@ -12,11 +13,13 @@ abbrev pub sent_by : Event → State → List ℕ
 sent_by (Wrote c count) state = take (count_off count (pending_at c state)) (pending_at c state)
 sent_by event state = []
 
--- an event that may happen happens, and this is told and sent
+-- an event that may happen happens, and this is told and sent. A turn counts no work yet.
 pub record Happens (event : Event) (step : Step) (old new : State) : Type 0 where
   pub allowed : IsAllowed event old
   pub sent : step.sent.items ≡ sent_by event old
   pub does : Does event step.told old new
+  pub counts : CountsTurns event step.told
+  pub so_far : CountsNone step.told
 
 -- these events happen one after another, with these steps
 abbrev pub Run : State → List Event → List Step → State → Type 0

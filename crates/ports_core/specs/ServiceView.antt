@@ -6,14 +6,15 @@ use Rattle.ports_core.specs.Opened.{line_in}
 use Rattle.ports_core.specs.Places.{AreSeated}
 use Rattle.ports_core.specs.State.{State}
 
--- the keys, the slices, the open connections and the next number
+-- the keys, the worlds, the queues, the open connections and the next number
 abbrev pub service_view : Inside → State
-service_view s = (map string_bytes s.keys.items, s.tenants.items, s.lines.entries, s.next)
+service_view s = (map string_bytes s.keys.items, s.worlds, s.queues.items, s.lines.entries, s.next)
 
--- Each tenant has a key; at most 16 connections are open, each with a number below the next; and what waits are
--- requests of open connections, one of each at most. So the places that are kept suffice.
+-- Each key has a world and a queue; at most 16 connections are open, each with a number below the next; and what
+-- waits are requests of open connections, one of each at most. So the places that are kept suffice.
 pub record IsService (s : Inside) : Type 0 where
-  pub keyed : length s.tenants.items ≡ length s.keys.items
+  pub worlds : length s.worlds ≡ length s.keys.items
+  pub queues : length s.queues.items ≡ length s.keys.items
   pub few : length s.lines.entries ≤ 16
   pub fresh : (c : ℕ) → s.next ≤ c → is_some (line_in c s.lines.entries) ≡ false
-  pub seated : AreSeated s.tenants.items s.lines.entries
+  pub seated : AreSeated s.queues.items s.lines.entries

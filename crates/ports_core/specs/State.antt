@@ -3,37 +3,55 @@ use Rattle.std.specs.Prelude.{◌≡◌, ℕ, ◌<◌, ◌-◌, ◌^◌, Bool, �
 use Rattle.ports_core.specs.declared.line.Line.{Line}
 use Rattle.ports_core.specs.declared.event.Event.{Event}
 use Rattle.ports_core.specs.declared.event.Event.TheVariants.{Open, Piece, End, Fault, Wrote, Turn}
-use Rattle.ports_core.specs.Slices.{Slice, new_slice, waiting_of}
+use Rattle.ports_core.specs.Worlds.{World, opening_world}
+use Rattle.ports_core.specs.Slices.{Slice, Queue, sliced}
 use Rattle.ports_core.specs.Lines.{Fits, room_on}
-use Rattle.ports_core.specs.Opened.{line_in, OpenAnd}
+use Rattle.ports_core.specs.Opened.{Book, line_in, OpenAnd}
 
--- the tenants' keys and slices, in the order of the tenants' numbers; the open connections by their
+-- the tenants' keys, worlds and queues, in the order of the tenants' numbers; the open connections by their
 -- numbers; and the number of the next one
 abbrev pub State : Type 0
-State = List (List ℕ) × List Slice × List (ℕ × Line) × ℕ
+State = List (List ℕ) × List World × List Queue × List (ℕ × Line) × ℕ
 
 abbrev pub keys_of : State → List (List ℕ)
 keys_of state = state.0
 
--- the slice of a tenant, where there is one of that number
+abbrev pub worlds_of : State → List World
+worlds_of state = state.1
+
+abbrev pub queues_of : State → List Queue
+queues_of state = state.2
+
+-- the world of a tenant, and the requests that wait for its turns, where there is a tenant of that number
+abbrev pub world_at : ℕ → State → Option World
+world_at t state = slice_get (worlds_of state) t
+
+abbrev pub queue_at : ℕ → State → Option Queue
+queue_at t state = slice_get (queues_of state) t
+
+-- the two together
 abbrev pub slice_of : ℕ → State → Option Slice
-slice_of t state = slice_get state.1 t
+slice_of t state = sliced (world_at t state) (queue_at t state)
 
 -- a connection, where it is open
 abbrev pub line_of : ℕ → State → Option Line
-line_of c state = line_in c state.2
+line_of c state = line_in c state.3
+
+-- the connections of a service
+abbrev pub book_of : State → Book
+book_of state c = line_of c state
 
 -- the number of the next connection
 abbrev pub next_of : State → ℕ
-next_of state = state.3
+next_of state = state.4
 
 -- 16 connections are open, or no number is left for another
 abbrev pub is_full : State → Bool
-is_full state = nat_le 16 (length state.2) || nat_le (2 ^ 64 - 1) (next_of state)
+is_full state = nat_le 16 (length state.3) || nat_le (2 ^ 64 - 1) (next_of state)
 
 -- a service with these keys that has just begun
 abbrev pub new_state : List (List ℕ) → State
-new_state keys = (keys, map (λ key. new_slice) keys, [], 0)
+new_state keys = (keys, map (λ key. opening_world) keys, map (λ key. []) keys, [], 0)
 
 -- An event may happen: a connection that opens has the next number; a tenant that has a turn is there;
 -- and any other event fits its connection, which is open.
@@ -55,4 +73,4 @@ pending_at c state = unwrap_or (option_map (λ line. line.pending) (line_of c st
 
 -- how many requests wait for a tenant's turns
 abbrev pub waiting_at : ℕ → State → ℕ
-waiting_at t state = unwrap_or (option_map (λ slice. length (waiting_of slice)) (slice_of t state)) 0
+waiting_at t state = unwrap_or (option_map length (queue_at t state)) 0

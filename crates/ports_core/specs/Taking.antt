@@ -1,5 +1,5 @@
 -- Taking the next request off a connection.
-use Rattle.std.specs.Prelude.{◌≡◌, ℕ, Bool, true, MatchBool, List, ◌==◌, slice_get, option_map, Option, Some, None, Result, Ok, Err, if◌then◌else◌}
+use Rattle.std.specs.Prelude.{◌≡◌, ℕ, Bool, true, MatchBool, List, [], ◌∷◌, ◌++◌, ◌==◌, slice_get, option_map, Option, Some, None, Result, Ok, Err, if◌then◌else◌}
 use Rattle.ports_http.specs.declared.fault.HeadFault.{HeadFault}
 use Rattle.ports_http.specs.declared.request.TakeError.{TakeError}
 use Rattle.ports_http.specs.declared.request.TakeError.TheVariants.{Memory}
@@ -9,7 +9,8 @@ use Rattle.ports_http.specs.Replies.{reply_text, fault_reply, unknown_key, store
 use Rattle.ports_core.specs.declared.line.Line.{Line}
 use Rattle.ports_core.specs.declared.event.Tell.{Tell}
 use Rattle.ports_core.specs.Keys.{tenant_of}
-use Rattle.ports_core.specs.Slices.{Slice, joined}
+use Rattle.ports_core.specs.declared.queue.Waiter.{Waiter}
+use Rattle.ports_core.specs.Slices.{Queue}
 use Rattle.ports_core.specs.Lines.{is_ready, with_pending}
 use Rattle.ports_core.specs.Telling.{at_once}
 
@@ -65,31 +66,27 @@ line_behind keys (Whole request) line = line_with (tenant_of keys request.key) r
 line_behind keys (Refusal fault) line = with_pending (reply_text (fault_reply fault) true) line
 line_behind keys (Lost close) line = with_pending (reply_text store_failed close) line
 
--- the tenant's slice where a request of some tenant came
-abbrev pub slice_with : Option ℕ → ℕ → RequestMessage → ℕ → Slice → Slice
-slice_with None c request t slice = slice
-slice_with (Some tenant) c request t slice =
-    if tenant == t then joined (record { conn = c; request = request }) slice else slice
+-- a request, if its tenant is this one
+abbrev pub entering_of : Option ℕ → ℕ → ℕ → RequestMessage → List Waiter
+entering_of None c t request = []
+entering_of (Some tenant) c t request = if tenant == t then record { conn = c; request = request } ∷ [] else []
 
--- the tenant's slice behind what was taken off a connection: a request of its key waits behind the others
-abbrev pub slice_behind : List (List ℕ) → ℕ → Taken → ℕ → Slice → Slice
-slice_behind keys c Nothing t slice = slice
-slice_behind keys c (Whole request) t slice = slice_with (tenant_of keys request.key) c request t slice
-slice_behind keys c (Refusal fault) t slice = slice
-slice_behind keys c (Lost close) t slice = slice
+-- the request of a tenant that is among what was taken off a connection
+abbrev pub entering : List (List ℕ) → ℕ → Taken → ℕ → List Waiter
+entering keys c Nothing t = []
+entering keys c (Whole request) t = entering_of (tenant_of keys request.key) c t request
+entering keys c (Refusal fault) t = []
+entering keys c (Lost close) t = []
 
--- What was taken off a connection is told at once or joins a queue: what is told, and the connection
--- and the slices then.
-pub record Settles (keys : List (List ℕ)) (c : ℕ) (taken : Taken) (old : Line) (slices : List Slice)
-    (told : Option Tell) (new : Line) (after : List Slice) : Type 0 where
-  pub told_is : told ≡ told_at_once keys c taken
-  pub line_is : new ≡ line_behind keys taken old
-  pub slices_are : (t : ℕ) → slice_get after t ≡ option_map (slice_behind keys c taken t) (slice_get slices t)
+-- a request of a tenant's key that was taken off a connection waits behind the others of that tenant's queue,
+-- and no other queue changes
+abbrev pub Joins : List (List ℕ) → ℕ → Taken → List Queue → List Queue → Type 0
+Joins keys c taken old new =
+    (t : ℕ) → slice_get new t ≡ option_map (λ (queue : Queue). queue ++ entering keys c taken t) (slice_get old t)
 
--- the same of what stands first on the connection
-pub record TakesNext (keys : List (List ℕ)) (c : ℕ) (old : Line) (slices : List Slice)
-    (told : Option Tell) (new : Line) (after : List Slice) : Type 0 where
-  pub taken : Taken
+-- What stands first on a connection is taken off it: what of it is told at once, and the connection then.
+pub record TakesNext (keys : List (List ℕ)) (c : ℕ) (taken : Taken) (told : Option Tell) (old new : Line) : Type 0 where
   pub stream : Incoming
   pub stands : IsTaken old taken stream
-  pub settles : Settles keys c taken (record old { stream = stream }) slices told new after
+  pub told_is : told ≡ told_at_once keys c taken
+  pub line_is : new ≡ line_behind keys taken (record old { stream = stream })

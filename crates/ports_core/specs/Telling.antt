@@ -1,22 +1,11 @@
 -- What an event tells.
-use Rattle.std.specs.Prelude.{◌≡◌, ℕ, Bool, Option, Some, None, Vec}
+use Rattle.std.specs.Prelude.{◌≡◌, ℕ, Bool, true, ◌==◌, MatchOption, Option, Some, None, Vec}
 use Rattle.ports_http.specs.Replies.{reply_text, IsFixed}
 use Rattle.ports_http.specs.Messages.{ReplyMessage}
+use Rattle.ports_core.specs.declared.event.Event.{Event}
+use Rattle.ports_core.specs.declared.event.Event.TheVariants.{Open, Piece, End, Fault, Wrote, Turn}
 use Rattle.ports_core.specs.declared.event.Told.{Told}
 use Rattle.ports_core.specs.declared.event.Tell.{Tell}
-use Rattle.ports_core.specs.declared.event.Refused.{Refused}
-
--- a reply or none, and a connection that closes or none
-abbrev pub telling : Option Tell → Option ℕ → Told
-telling reply closed = record { reply = reply; refused = None; closed = closed; units = 0; checks = 0 }
-
--- nothing
-abbrev pub quiet : Told
-quiet = telling None None
-
--- a connection wasn't opened
-abbrev pub refusal : Refused → Told
-refusal why = record { reply = None; refused = Some why; closed = None; units = 0; checks = 0 }
 
 -- a reply to a request that entered no queue
 abbrev pub at_once : ℕ → ReplyMessage → Tell
@@ -25,6 +14,24 @@ at_once conn reply = record { tenant = None; conn = conn; reply = reply }
 -- a tenant's reply
 abbrev pub in_turn : ℕ → ℕ → ReplyMessage → Tell
 in_turn tenant conn reply = record { tenant = Some tenant; conn = conn; reply = reply }
+
+-- 503, which is answered where the service failed: it changed nothing
+abbrev pub is_failure : ℕ → Bool
+is_failure status = status == 503
+
+-- no unit of work and no checked answer is counted
+abbrev pub CountsNone : Told → Type 0
+CountsNone told = (told.units ≡ 0) × (told.checks ≡ 0)
+
+-- units and checks are counted in a turn alone, and in none that tells 503
+abbrev pub CountsTurns : Event → Told → Type 0
+CountsTurns (Turn t) told =
+    MatchOption told.reply (Unit {0}) (λ (tell : Tell). is_failure tell.reply.status ≡ true → CountsNone told)
+CountsTurns (Open c) told = CountsNone told
+CountsTurns (Piece c bytes) told = CountsNone told
+CountsTurns (End c) told = CountsNone told
+CountsTurns (Fault c) told = CountsNone told
+CountsTurns (Wrote c count) told = CountsNone told
 
 -- the bytes of a reply, or none for a reply that fits what is reserved
 abbrev pub AreBytesOf : {Z : Type 0} → ReplyMessage → Bool → Option (Vec ℕ Z) → Type 0

@@ -1,6 +1,6 @@
 //! What happens to a service, and what it tells.
-ghost use Rattle.std.specs.Prelude.{◌≡◌, Option, Some, None};
-ghost use Rattle.ports_core.specs.Telling.{quiet};
+ghost use Rattle.std.specs.Prelude.{◌≡◌, Some, None};
+ghost use Rattle.ports_core.specs.Telling.{CountsNone};
 
 use ports_http::Reply;
 
@@ -42,7 +42,8 @@ pub enum Refused {
 }
 
 /// What an event told: at most one reply, the refusal of a connection that was to open, the
-/// connection that closed, and the units of work and the answers checked, both 0 so far.
+/// connection that closed, and the units of work and the answers checked, both 0 in every event but a
+/// turn, and so far in turns too.
 #[derive(Drop)]
 pub struct Told {
     pub reply: Option<Tell>,
@@ -55,14 +56,20 @@ pub struct Told {
 impl Told {
     /// Nothing is told.
     pub(crate) fn nothing() -> Told
-        ensures { result ≡ quiet }
+        ensures reply { result.reply ≡ None }
+        ensures refused { result.refused ≡ None }
+        ensures closed { result.closed ≡ None }
+        ensures counts { CountsNone result }
     {
         Told::of(None, None)
     }
 
     /// A reply is told, or none, and a connection closes, or none.
     pub(crate) fn of(reply: Option<Tell>, closed: Option<u64>) -> Told
-        ensures { result ≡ record { reply = reply; refused = None; closed = closed; units = 0; checks = 0 } }
+        ensures reply { result.reply ≡ reply }
+        ensures refused { result.refused ≡ None }
+        ensures closed { result.closed ≡ closed }
+        ensures counts { CountsNone result }
     {
         Told {
             reply,
@@ -75,7 +82,10 @@ impl Told {
 
     /// A connection isn't opened.
     pub(crate) fn refusal(refused: Refused) -> Told
-        ensures { result ≡ record quiet { refused = Some refused } }
+        ensures reply { result.reply ≡ None }
+        ensures refused { result.refused ≡ Some refused }
+        ensures closed { result.closed ≡ None }
+        ensures counts { CountsNone result }
     {
         Told {
             refused: Some(refused),

@@ -3,11 +3,11 @@ ghost use Rattle.std.specs.Prelude.{◌≡◌, ◌<◌, true, All, length, optio
 ghost use Rattle.ports_core.specs.Keys.{key_texts, tenant_of};
 ghost use Rattle.ports_core.specs.Lines.{is_ready};
 ghost use Rattle.ports_core.specs.Places.{HasPlace};
-ghost use Rattle.ports_core.specs.Taking.{Whole, taken_of, Settles, TakesNext};
+ghost use Rattle.ports_core.specs.Taking.{Taken, Whole, taken_of, told_at_once, line_behind, Joins, TakesNext};
 
 use crate::event::Tell;
 use crate::line::Line;
-use crate::tenant::Tenant;
+use crate::queue::Queue;
 use ports_http::{HeadFault, Reply, Request, TakeError};
 use std::alloc::Global;
 
@@ -17,37 +17,39 @@ use std::alloc::Global;
 pub(crate) fn take_next(
     alloc: Global,
     keys: &[String],
-    tenants: &mut [Tenant],
+    queues: &mut [Queue],
     conn: u64,
     line: &mut Line,
 ) -> Option<Tell>
-    requires keyed { length tenants.old ≡ length keys.now }
-    requires places { is_ready line.old ≡ true → All HasPlace tenants.old }
-    ensures { TakesNext (key_texts keys.now) conn line.old tenants.old result line.new tenants.new }
+    requires keyed { length queues.old ≡ length keys.now }
+    requires places { is_ready line.old ≡ true → All HasPlace queues.old }
+    ensures { (taken : Taken) × TakesNext (key_texts keys.now) conn taken result line.old line.new × Joins (key_texts keys.now) conn taken queues.old queues.new }
 {
     if !line.is_ready() {
         return None;
     }
     let answer = line.stream.next_request(alloc);
-    settle(keys, tenants, conn, line, answer)
+    settle(keys, queues, conn, line, answer)
 }
 
 /// What becomes of what a connection handed out: a fixed reply that says the store failed is told only
 /// where the request itself found no memory.
 fn settle(
     keys: &[String],
-    tenants: &mut [Tenant],
+    queues: &mut [Queue],
     conn: u64,
     line: &mut Line,
     answer: Result<Option<Result<Request, HeadFault>>, TakeError>,
 ) -> Option<Tell>
-    requires keyed { length tenants.old ≡ length keys.now }
-    requires places { All HasPlace tenants.old }
-    ensures { Settles (key_texts keys.now) conn (taken_of answer) line.old tenants.old result line.new tenants.new }
+    requires keyed { length queues.old ≡ length keys.now }
+    requires places { All HasPlace queues.old }
+    ensures told { result ≡ told_at_once (key_texts keys.now) conn (taken_of answer) }
+    ensures line { line.new ≡ line_behind (key_texts keys.now) (taken_of answer) line.old }
+    ensures queues { Joins (key_texts keys.now) conn (taken_of answer) queues.old queues.new }
 {
     match answer {
         Ok(None) => None,
-        Ok(Some(Ok(request))) => admit(keys, tenants, conn, line, request),
+        Ok(Some(Ok(request))) => admit(keys, queues, conn, line, request),
         Ok(Some(Err(fault))) => Some(line.tell(conn, fault.reply(), true)),
         Err(TakeError::Memory { close }) => Some(line.tell(conn, Reply::store_failed(), close)),
     }
@@ -56,21 +58,23 @@ fn settle(
 /// Puts a request in its tenant's queue; one without a known key is refused at once.
 fn admit(
     keys: &[String],
-    tenants: &mut [Tenant],
+    queues: &mut [Queue],
     conn: u64,
     line: &mut Line,
     request: Request,
 ) -> Option<Tell>
-    requires keyed { length tenants.old ≡ length keys.now }
-    requires places { All HasPlace tenants.old }
-    ensures { Settles (key_texts keys.now) conn (Whole request) line.old tenants.old result line.new tenants.new }
+    requires keyed { length queues.old ≡ length keys.now }
+    requires places { All HasPlace queues.old }
+    ensures told { result ≡ told_at_once (key_texts keys.now) conn (Whole request) }
+    ensures line { line.new ≡ line_behind (key_texts keys.now) (Whole request) line.old }
+    ensures queues { Joins (key_texts keys.now) conn (Whole request) queues.old queues.new }
 {
     let close = request.close;
     let Some(place) = place_of(keys, &request.key) else {
         return Some(line.tell(conn, Reply::unknown_key(), close));
     };
-    let tenant = &mut tenants[place];
-    tenant.join(conn, request);
+    let queue = &mut queues[place];
+    queue.join(conn, request);
     line.waits = Some(place);
     None
 }

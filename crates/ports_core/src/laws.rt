@@ -5,6 +5,7 @@ ghost use Rattle.ports_core.specs.declared.event.Told.{Told};
 ghost use Rattle.ports_core.specs.declared.history.Step.{Step};
 ghost use Rattle.ports_core.specs.State.{State, new_state};
 ghost use Rattle.ports_core.specs.Steps.{Does};
+ghost use Rattle.ports_core.specs.Taking.{Taken};
 ghost use Rattle.ports_core.specs.Changes.{ChangesSlices};
 ghost use Rattle.ports_core.specs.Runs.{Run};
 ghost use Rattle.ports_core.specs.Books.{OneListIsTaken};
@@ -12,12 +13,12 @@ ghost use Rattle.ports_core.specs.Plainly.{IsToldPlainly};
 ghost use Rattle.ports_core.specs.Alike.{own_requests, AreToldAlike};
 ghost use Rattle.ports_core.specs.Isolation.{EachRunServesPlainly, EqualSlicesAreToldAlike};
 
-/// What an event does to the tenants' files and waiting requests: the opening or the loss of a
+/// What an event does to the tenants' worlds and waiting requests: the opening or the loss of a
 /// connection changes nothing; bytes that come or are written, or an end, add at most one request at
 /// the end of one queue; a turn of a tenant takes that tenant's first request off its queue, if there
-/// is one, tells its reply to the connection that asked, and changes that tenant's files alone.
+/// is one, tells its reply to the connection that asked, and changes that tenant's world alone.
 pub fn each_event_changes_so_much()
-    ensures { (event : Event) (told : Told) (old new : State) → Does event told old new → ChangesSlices event told old new }
+    ensures { (event : Event) (told : Told) (old new : State) → Does event told old new → (taken : Taken) × ChangesSlices event told taken old new }
 {}
 
 /// In every run of a service from its beginning, whatever events come and whichever tenant's turns,
@@ -34,9 +35,9 @@ pub fn one_list_is_taken()
     ensures { OneListIsTaken }
 {}
 
-/// Where a tenant's own requests in one run are those of a tenant in another run, the two are told
-/// equal replies as far as both are told, and all of them once none of their requests waits. What
-/// others stored, asked or left unread in either run changes nothing.
+/// Where a tenant's own requests in one run, by method, target and body, are those of a tenant in
+/// another run, the two are told equal replies as far as both are told, and all of them once none of
+/// their requests waits. What others stored, asked or left unread in either run changes nothing.
 pub fn equal_requests_are_told_alike()
     ensures { (keys other_keys : List (List ℕ)) (t u : ℕ) (events other_events : List Event) (steps others : List Step) (service other : State)
         → (told : IsToldPlainly keys t events steps service) (told_there : IsToldPlainly other_keys u other_events others other)
@@ -44,16 +45,16 @@ pub fn equal_requests_are_told_alike()
 {}
 
 /// In a run from any state, of the requests of a tenant that waited and those that came, less those
-/// answered 503, the first are answered and the others wait still; the replies, and the tenant's files
-/// then, are those of the plain service over the files that it had.
+/// answered 503, the first are answered and the others wait still; the replies, and the tenant's world
+/// then, are those of the plain service over the world that it had.
 pub fn each_run_serves_plainly()
     ensures { EachRunServesPlainly }
 {}
 
-/// Two services, in any states in which a tenant of the one and a tenant of the other have equal files
+/// Two services, in any states in which a tenant of the one and a tenant of the other have equal worlds
 /// and equal requests waiting: where the same requests come for both, and neither is told 503, the two
 /// are told equal replies as far as both are told. Where nothing of them waits at the end, all their
-/// replies are equal, and their files. What else the services hold changes nothing.
+/// replies are equal, and their worlds. What else the services hold changes nothing.
 pub fn equal_slices_are_told_alike()
     ensures { EqualSlicesAreToldAlike }
 {}

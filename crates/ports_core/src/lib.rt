@@ -1,6 +1,6 @@
 //! The service: connections, the queues of their requests, and the turns that answer them.
 //!
-//! A `Service` holds the files of up to 64 tenants and up to 16 connections. It changes by one event
+//! A `Service` holds the worlds of up to 64 tenants and up to 16 connections. It changes by one event
 //! at a time: bytes that came or were written, the end or the loss of a connection, or a turn of a
 //! tenant, which answers the request that stands first in that tenant's queue. `replay` runs a
 //! whole list of events.
@@ -14,8 +14,9 @@ mod laws;
 mod line;
 mod lines;
 mod outbox;
+mod queue;
 mod service;
-mod tenant;
+mod worlds;
 
 pub use event::{Event, Refused, Tell, Told};
 pub use history::{ReplayFault, Step, Transcript, replay};

@@ -3,13 +3,16 @@ ghost use Rattle.std.specs.Prelude.{◌≡◌, ◌≢◌, ◌≤◌, ◌↔◌, 
 ghost use Rattle.ports_core.specs.Keys.{key_texts};
 ghost use Rattle.ports_core.specs.Lines.{Fits, answered, closes_on, kept, closing};
 ghost use Rattle.ports_core.specs.Telling.{AreBytesOf};
-ghost use Rattle.ports_core.specs.Opened.{line_in, is_line_done, OpenAnd, HearsLine};
+ghost use Rattle.ports_core.specs.Telling.{CountsNone};
+ghost use Rattle.ports_core.specs.Taking.{Taken, Joins};
+ghost use Rattle.ports_core.specs.Opened.{line_in, book_in, is_line_done, OpenAnd};
+ghost use Rattle.ports_core.specs.Books.{HearsOn};
 ghost use Rattle.ports_core.specs.Places.{HasPlace};
 
-use crate::event::{Event, Tell};
+use crate::event::{Event, Told};
 use crate::intake::take_next;
 use crate::line::Line;
-use crate::tenant::Tenant;
+use crate::queue::Queue;
 use ports_http::Reply;
 use std::alloc::Global;
 use std::collections::BTreeMap;
@@ -20,24 +23,28 @@ pub(crate) const MOST_CONNECTIONS: usize = 16;
 /// The open connections, by their numbers.
 pub(crate) type Lines = BTreeMap<u64, Line>;
 
-/// An event of an open connection: what it does to the connection, and what is then taken off it.
+/// An event of an open connection: what it does to the connection, what is then taken off it, and what is
+/// told. The connection closes if it is done.
 pub(crate) fn hear_line(
     alloc: Global,
     keys: &[String],
-    tenants: &mut [Tenant],
+    queues: &mut [Queue],
     lines: &mut Lines,
     conn: u64,
     event: &Event,
-) -> Option<Tell>
-    requires keyed { length tenants.old ≡ length keys.now }
+) -> Told
+    requires keyed { length queues.old ≡ length keys.now }
     requires open { OpenAnd (line_in conn lines.old.entries) (Fits event.now) }
-    requires places { OpenAnd (line_in conn lines.old.entries) (λ line. line.waits ≡ None → All HasPlace tenants.old) }
-    ensures count { length lines.new.entries ≡ length lines.old.entries }
-    ensures hears { HearsLine (key_texts keys.now) event.now conn result lines.old.entries tenants.old lines.new.entries tenants.new }
+    requires places { OpenAnd (line_in conn lines.old.entries) (λ line. line.waits ≡ None → All HasPlace queues.old) }
+    ensures count { length lines.new.entries ≤ length lines.old.entries }
+    ensures hears { (taken : Taken) × HearsOn (key_texts keys.now) event.now conn result taken (book_in lines.old.entries) (book_in lines.new.entries) × Joins (key_texts keys.now) conn taken queues.old queues.new }
+    ensures counts { CountsNone result }
 {
     let line = lines.get_mut(&conn).unwrap();
     line.hear(event);
-    take_next(alloc, keys, tenants, conn, line)
+    let reply = take_next(alloc, keys, queues, conn, line);
+    let closed = close_done(lines, conn);
+    Told::of(reply, closed)
 }
 
 /// Whether a reply on a connection says that it closes: its request was the last of its stream.

@@ -1,13 +1,13 @@
 //! The service, one event at a time.
-ghost use Rattle.std.specs.Prelude.{◌≡◌, ◌<◌, ◌↔◌, false, Bool, IsTrue, IfOk, IsErrOf, length, replicate};
-ghost use Rattle.ports_core.specs.Slices.{new_slice};
+ghost use Rattle.std.specs.Prelude.{◌≡◌, ◌<◌, ◌↔◌, false, Bool, [], IsTrue, IfOk, IsErrOf, length, replicate};
 ghost use Rattle.ports_core.specs.declared.service.NewFault.TheVariants.{Memory};
 
 use crate::event::{Event, Refused, Tell, Told};
 use crate::keys::Config;
 use crate::line::Line;
 use crate::lines::{Lines, MOST_CONNECTIONS, answer_line, close_done, closes, hear_line, may_hear};
-use crate::tenant::{Tenant, Waiter};
+use crate::queue::{Queue, Waiter};
+use crate::worlds::Worlds;
 use ports_plain::Plain;
 use std::alloc::{AllocError, Global};
 use std::collections::BTreeMap;
@@ -18,7 +18,7 @@ use std::marker::Model;
 pub enum NewFault {
     /// A key or a size that is out of its limits, or a key given twice.
     Config,
-    /// The store of the files failed.
+    /// The store of the worlds failed.
     Store,
     /// There was no memory.
     Memory,
@@ -32,14 +32,15 @@ impl From<AllocError> for NewFault {
     }
 }
 
-/// The service. A contract sees the tenants' keys and slices (their files, and the requests that wait),
-/// the open connections by their numbers, and the next number.
+/// The service. A contract sees the tenants' keys, their worlds, the requests that wait, the open
+/// connections by their numbers, and the next number.
 #[derive(Drop)]
 pub struct Service {
     alloc: Global,
     plain: Plain,
     keys: Vec<String>,
-    tenants: Vec<Tenant>,
+    worlds: Worlds,
+    queues: Vec<Queue>,
     lines: Lines,
     next: u64,
 }
@@ -50,9 +51,9 @@ impl Model for Service {
     ghost Value = { State };
 
     ghost use Rattle.std.specs.Coded.{codes};
-    ghost use Rattle.ports_core.specs.Slices.{files_code};
+    ghost use Rattle.ports_core.specs.Worlds.{world_code};
 
-    ghost coded = { Prim.hlevel (codes, files_code) };
+    ghost coded = { Prim.hlevel (codes, world_code) };
 
     ghost use Rattle.ports_core.specs.ServiceView.{service_view, IsService};
 
@@ -66,27 +67,31 @@ impl Service {
     ghost use Rattle.ports_core.specs.Opened.{OpenAnd};
     ghost use Rattle.ports_core.specs.State.{new_state, keys_of, next_of, line_of, room_at, pending_at, waiting_at, IsAllowed};
     ghost use Rattle.ports_core.specs.Lines.{Fits};
+    ghost use Rattle.ports_core.specs.Telling.{CountsNone, CountsTurns};
     ghost use Rattle.ports_core.specs.Steps.{Does, Opens, Hears, Turns};
 
-    /// A service without files and without connections, with places for all requests that can wait.
+    /// A service whose tenants' worlds are as each begins, without connections, with places for all requests
+    /// that can wait.
     ///
-    /// Err: `Config` exactly where the keys and sizes aren't fit; `Memory`.
+    /// Err: `Config` exactly where the keys and sizes aren't fit; `Store`; `Memory`.
     pub fn new(alloc: Global, config: Config) -> Result<Service, NewFault>
         ensures ok { IfOk result (λ service. service ≡ new_state (key_texts config.keys.items)) }
         ensures unfit { IsErrOf result NewFault.Config ↔ (is_fit config ≡ false) }
-        ensures store { ¬ IsErrOf result NewFault.Store }
     {
         if !config.is_fit() {
             return Err(NewFault::Config);
         }
         let Config { keys, .. } = config;
-        let tenants = new_tenants(alloc, keys.len())?;
+        let count = keys.len();
+        let worlds = Worlds::new(alloc, count)?;
+        let queues = new_queues(alloc, count)?;
         let plain = Plain::new(alloc)?;
         Ok(Service {
             alloc,
             plain,
             keys,
-            tenants,
+            worlds,
+            queues,
             lines: BTreeMap::new(alloc),
             next: 0,
         })
@@ -123,8 +128,8 @@ impl Service {
     pub fn waiting(&self, tenant: usize) -> usize
         ensures { result ≡ waiting_at tenant self.now }
     {
-        match self.tenants.get(tenant) {
-            Some(tenant) => tenant.waiting(),
+        match self.queues.get(tenant) {
+            Some(queue) => queue.len(),
             None => 0,
         }
     }
@@ -146,7 +151,9 @@ impl Service {
     /// What happens at an event, and what is told of it.
     pub fn step(&mut self, event: &Event) -> Told
         requires { IsAllowed event.now self.old }
-        ensures { Does event.now result self.old self.new }
+        ensures does { Does event.now result self.old self.new }
+        ensures counts { CountsTurns event.now result }
+        ensures so_far { CountsNone result }
     {
         match event {
             Event::Open(_) => self.open(),
@@ -159,7 +166,8 @@ impl Service {
     }
 
     fn open(&mut self) -> Told
-        ensures { Opens result self.old self.new }
+        ensures opens { Opens result self.old self.new }
+        ensures counts { CountsNone result }
     {
         if self.lines.len() >= MOST_CONNECTIONS || self.next == u64::MAX {
             return Told::refusal(Refused::Connections);
@@ -176,31 +184,26 @@ impl Service {
 
     fn hear(&mut self, conn: u64, event: &Event) -> Told
         requires { OpenAnd (line_of conn self.old) (Fits event.now) }
-        ensures { Hears event.now conn result self.old self.new }
+        ensures hears { Hears event.now conn result self.old self.new }
+        ensures counts { CountsNone result }
     {
-        let tenants = &mut self.tenants;
-        let reply = hear_line(
-            self.alloc,
-            &self.keys,
-            tenants,
-            &mut self.lines,
-            conn,
-            event,
-        );
-        let closed = close_done(&mut self.lines, conn);
-        Told::of(reply, closed)
+        let queues = &mut self.queues;
+        hear_line(self.alloc, &self.keys, queues, &mut self.lines, conn, event)
     }
 
     fn turn(&mut self, tenant: usize) -> Told
         requires { tenant < length (keys_of self.old) }
-        ensures { Turns tenant result self.old self.new }
+        ensures turns { Turns tenant result self.old self.new }
+        ensures counts { CountsNone result }
     {
-        let slice = &mut self.tenants[tenant];
-        let Some(Waiter { conn, request }) = slice.next() else {
+        let queue = &mut self.queues[tenant];
+        let Some(Waiter { conn, request }) = queue.next() else {
             return Told::nothing();
         };
         let close = closes(&self.lines, conn);
-        let (reply, bytes) = slice.answer(self.alloc, &self.plain, request, close);
+        let (reply, bytes) = self
+            .worlds
+            .answer(self.alloc, &self.plain, tenant, request, close);
         answer_line(&mut self.lines, conn, &reply, bytes);
         let closed = close_done(&mut self.lines, conn);
         let tell = Tell {
@@ -212,12 +215,12 @@ impl Service {
     }
 }
 
-fn new_tenants(alloc: Global, count: usize) -> Result<Vec<Tenant>, AllocError>
-    ensures { IfOk result (λ tenants. tenants.items ≡ replicate count new_slice) }
+fn new_queues(alloc: Global, count: usize) -> Result<Vec<Queue>, AllocError>
+    ensures { IfOk result (λ queues. queues.items ≡ replicate count []) }
 {
-    let mut tenants = Vec::with_capacity(alloc, count)?;
+    let mut queues = Vec::with_capacity(alloc, count)?;
     for _ in 0..count {
-        tenants.push(Tenant::new(alloc)?)?;
+        queues.push(Queue::new(alloc)?)?;
     }
-    Ok(tenants)
+    Ok(queues)
 }

@@ -1,48 +1,53 @@
-use Rattle.std.proofs.Common.{◌≢◌, ◌<◌, ◌∷◌, ◌∙◌, ℕ, ap, sym, length, arith, refl, inl, inr}
+use Rattle.std.proofs.Common.{◌≢◌, ◌<◌, ◌∙◌, ℕ, ap, length, arith, refl, inl, inr}
 use Rattle.std.proofs.Math.ListN.{length-set}
 use Rattle.std.proofs.lemmas.Option.{slice_get_read}
 use Rattle.std.specs.Prelude.{option_and_then}
 use Rattle.ports_core.specs.Keys.{key_texts}
 use Rattle.ports_core.specs.Lines.{kept}
 use Rattle.ports_core.proofs.PlaceLemmas.{answered_fresh, answered_seats}
-use Rattle.ports_core.proofs.StepLemmas.{idle, answered_in_turn, within_slices}
+use Rattle.ports_core.proofs.StepLemmas.{idle, answered_in_turn, within_keys}
 use Rattle.ports_core.proofs.service.Service.turn.Goals as goal
 
 -- nothing waits
-pub returns-in_default : goal.returns-in_default
-returns-in_default c =
-    let within : c.args.tenant < length c.self.inside.tenants.items = within_slices c.args.tenant c.args.self.now c.self.inside.keys.items c.self.inside.tenants.items c.self.inside.lines.entries c.self.inside.next c.self.view_is c.self.invariant.keyed c.requires in
+pub returns-in_default-clause-turns : goal.returns-in_default-clause-turns
+returns-in_default-clause-turns c =
+    let within : c.args.tenant < length c.self.inside.queues.items = within_keys c.args.tenant c.args.self.now c.self.inside.keys.items c.self.inside.worlds c.self.inside.queues.items c.self.inside.lines.entries c.self.inside.next c.self.inside.queues.items c.self.view_is c.self.invariant.queues c.requires in
     rw (← c.self.view_is)
-    (inl (idle (key_texts c.self.inside.keys.items) c.self.inside.next c.args.tenant c.nothing.result c.self.inside.tenants.items c.index_mut-slice.result.now c.next.new.self c.self.inside.lines.entries
-    (slice_get_read c.self.inside.tenants.items (length c.self.inside.tenants.items) c.args.tenant c.index_mut-slice.result.now refl within c.index_mut-slice.ensures.value)
-    c.in_default.ensures.none c.in_default.ensures.same c.nothing.ensures))
+    (inl (idle (key_texts c.self.inside.keys.items) c.self.inside.next c.args.tenant c.nothing.result c.self.inside.worlds c.self.inside.queues.items c.index_mut-queue.result.now c.next.new.self c.self.inside.lines.entries
+    (slice_get_read c.self.inside.queues.items (length c.self.inside.queues.items) c.args.tenant c.index_mut-queue.result.now refl within c.index_mut-queue.ensures.value)
+    c.in_default.ensures.none c.in_default.ensures.same c.nothing.ensures.reply c.nothing.ensures.refused c.nothing.ensures.closed))
+
+-- a tenant with a key has a world
+pub answer-reply-requires : goal.answer-reply-requires
+answer-reply-requires c = within_keys c.args.tenant c.args.self.now c.self.inside.keys.items c.self.inside.worlds c.self.inside.queues.items c.self.inside.lines.entries c.self.inside.next c.self.inside.worlds c.self.view_is c.self.invariant.worlds c.requires
 
 -- the first request is answered
-pub returns : goal.returns
-returns c =
-    let within : c.args.tenant < length c.self.inside.tenants.items = within_slices c.args.tenant c.args.self.now c.self.inside.keys.items c.self.inside.tenants.items c.self.inside.lines.entries c.self.inside.next c.self.view_is c.self.invariant.keyed c.requires in
+pub returns-clause-turns : goal.returns-clause-turns
+returns-clause-turns c =
+    let within : c.args.tenant < length c.self.inside.queues.items = within_keys c.args.tenant c.args.self.now c.self.inside.keys.items c.self.inside.worlds c.self.inside.queues.items c.self.inside.lines.entries c.self.inside.next c.self.inside.queues.items c.self.view_is c.self.invariant.queues c.requires in
     rw (← c.self.view_is)
-    (inr (answered_in_turn (key_texts c.self.inside.keys.items) c.self.inside.next c.args.tenant c.of.result c.self.inside.tenants.items c.index_mut-slice.result.now c.next.new.self c.answer-reply.new.self
+    (inr (answered_in_turn (key_texts c.self.inside.keys.items) c.self.inside.next c.args.tenant c.of.result c.self.inside.worlds c.answer-reply.new.self c.self.inside.queues.items c.index_mut-queue.result.now c.next.new.self
     c.in-Some.field-0 c.answer-reply.result.0 c.close_done-closed.result
     c.self.inside.lines.entries c.answer_line.new.lines.entries c.close_done-closed.new.lines.entries
     within
-    (slice_get_read c.self.inside.tenants.items (length c.self.inside.tenants.items) c.args.tenant c.index_mut-slice.result.now refl within c.index_mut-slice.ensures.value)
-    c.in-Some.ensures.some c.next.ensures.world c.answer-reply.ensures.answers c.answer-reply.ensures.waiting
-    c.answer_line.ensures.line c.answer_line.ensures.others c.close_done-closed.ensures.closed c.close_done-closed.ensures.line c.close_done-closed.ensures.others c.of.ensures))
+    (slice_get_read c.self.inside.queues.items (length c.self.inside.queues.items) c.args.tenant c.index_mut-queue.result.now refl within c.index_mut-queue.ensures.value)
+    c.in-Some.ensures.some c.answer-reply.ensures.answers
+    c.answer_line.ensures.line c.answer_line.ensures.others c.close_done-closed.ensures.closed c.close_done-closed.ensures.line c.close_done-closed.ensures.others
+    c.of.ensures.reply c.of.ensures.refused c.of.ensures.closed))
 
 -- the places, then
 pub invariant_of-self-2 : goal.invariant_of-self-2
 invariant_of-self-2 c =
-    let within : c.args.tenant < length c.self.inside.tenants.items = within_slices c.args.tenant c.args.self.now c.self.inside.keys.items c.self.inside.tenants.items c.self.inside.lines.entries c.self.inside.next c.self.view_is c.self.invariant.keyed c.requires in
-    let was = slice_get_read c.self.inside.tenants.items (length c.self.inside.tenants.items) c.args.tenant c.index_mut-slice.result.now refl within c.index_mut-slice.ensures.value in
-    let waited = c.in-Some.ensures.some ∙ ap (λ ws. c.in-Some.field-0 ∷ ws) (sym c.answer-reply.ensures.waiting) in
+    let within : c.args.tenant < length c.self.inside.queues.items = within_keys c.args.tenant c.args.self.now c.self.inside.keys.items c.self.inside.worlds c.self.inside.queues.items c.self.inside.lines.entries c.self.inside.next c.self.inside.queues.items c.self.view_is c.self.invariant.queues c.requires in
+    let was = slice_get_read c.self.inside.queues.items (length c.self.inside.queues.items) c.args.tenant c.index_mut-queue.result.now refl within c.index_mut-queue.ensures.value in
     let line = c.close_done-closed.ensures.line ∙ ap (option_and_then kept) c.answer_line.ensures.line in
     let others = λ (d : ℕ) (ne : d ≢ c.in-Some.field-0.conn). c.close_done-closed.ensures.others d ne ∙ c.answer_line.ensures.others d ne in
     record {
-      keyed = length-set c.self.inside.tenants.items c.args.tenant c.answer-reply.new.self ∙ c.self.invariant.keyed;
+      worlds = c.answer-reply.ensures.count ∙ c.self.invariant.worlds;
+      queues = length-set c.self.inside.queues.items c.args.tenant c.next.new.self ∙ c.self.invariant.queues;
       few = omega (arith, c.self.invariant.few, c.answer_line.ensures.count, c.close_done-closed.ensures.count);
-      fresh = answered_fresh c.args.tenant c.self.inside.tenants.items c.index_mut-slice.result.now c.answer-reply.new.self c.in-Some.field-0 c.answer-reply.result.0 c.self.inside.lines.entries c.close_done-closed.new.lines.entries
-          within was waited line others c.self.inside.next c.self.invariant.fresh;
-      seated = answered_seats c.args.tenant c.self.inside.tenants.items c.index_mut-slice.result.now c.answer-reply.new.self c.in-Some.field-0 c.answer-reply.result.0 c.self.inside.lines.entries c.close_done-closed.new.lines.entries
-          within was waited line others c.self.invariant.seated;
+      fresh = answered_fresh c.args.tenant c.self.inside.queues.items c.index_mut-queue.result.now c.next.new.self c.in-Some.field-0 c.answer-reply.result.0 c.self.inside.lines.entries c.close_done-closed.new.lines.entries
+          within was c.in-Some.ensures.some line others c.self.inside.next c.self.invariant.fresh;
+      seated = answered_seats c.args.tenant c.self.inside.queues.items c.index_mut-queue.result.now c.next.new.self c.in-Some.field-0 c.answer-reply.result.0 c.self.inside.lines.entries c.close_done-closed.new.lines.entries
+          within was c.in-Some.ensures.some line others c.self.invariant.seated;
     }
