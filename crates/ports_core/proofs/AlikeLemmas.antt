@@ -6,7 +6,7 @@ use Rattle.ports_plain.specs.Plain.{Asked, plain}
 use Rattle.ports_core.specs.declared.event.Event.{Event}
 use Rattle.ports_core.specs.declared.queue.Waiter.{Waiter}
 use Rattle.ports_core.specs.declared.history.Step.{Step}
-use Rattle.ports_core.specs.Worlds.{World, opening_world}
+use Rattle.mk_paths.specs.World.{World, opening_world}
 use Rattle.ports_core.specs.Slices.{plain_answer}
 use Rattle.ports_core.specs.State.{State}
 use Rattle.ports_core.specs.Plainly.{told_to, answers_of, own_of, plain_run, IsToldPlainly}

@@ -9,7 +9,7 @@ use Rattle.ports_core.specs.declared.event.Refused.{Refused}
 use Rattle.ports_core.specs.declared.line.Line.{Line}
 use Rattle.ports_core.specs.declared.queue.Waiter.{Waiter}
 use Rattle.ports_core.specs.Keys.{tenant_of}
-use Rattle.ports_core.specs.Worlds.{World}
+use Rattle.mk_paths.specs.World.{World}
 use Rattle.ports_core.specs.Slices.{Slice, Queue, joined, sliced}
 use Rattle.ports_core.specs.Lines.{new_line, hears, is_empty}
 use Rattle.ports_core.specs.Taking.{Taken, Nothing, Whole, Refusal, Lost, TakesOff, told_of_tenant, told_at_once, entering}

@@ -8,7 +8,7 @@ use Rattle.ports_core.specs.declared.event.Event.{Event}
 use Rattle.ports_core.specs.declared.event.Tell.{Tell}
 use Rattle.ports_core.specs.declared.queue.Waiter.{Waiter}
 use Rattle.ports_core.specs.declared.history.Step.{Step}
-use Rattle.ports_core.specs.Worlds.{World}
+use Rattle.mk_paths.specs.World.{World}
 use Rattle.ports_core.specs.Slices.{Slice, Queue, asked_of, plain_answer}
 use Rattle.ports_core.specs.State.{State, world_at, queue_at, waiting_at}
 use Rattle.ports_core.specs.Telling.{is_failure}

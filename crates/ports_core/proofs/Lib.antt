@@ -7,7 +7,6 @@ mod OpenedLemmas
 mod WorldLemmas
 mod StepLemmas
 mod RunLemmas
-mod PlainAnswers
 mod Serving
 mod ChangeLemmas
 mod StepsServe

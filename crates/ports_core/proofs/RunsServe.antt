@@ -4,7 +4,7 @@ use Rattle.std.specs.Prelude.{slice_get, map, option_map, unwrap_or}
 use Rattle.ports_core.specs.declared.event.Event.{Event}
 use Rattle.ports_core.specs.declared.queue.Waiter.{Waiter}
 use Rattle.ports_core.specs.declared.history.Step.{Step}
-use Rattle.ports_core.specs.Worlds.{World, opening_world}
+use Rattle.mk_paths.specs.World.{World, opening_world}
 use Rattle.ports_core.specs.Slices.{Slice, Queue, new_slice, sliced, plain_answer}
 use Rattle.ports_core.specs.State.{State, new_state, keys_of, world_at, queue_at, slice_of, book_of}
 use Rattle.ports_core.specs.Runs.{Run}

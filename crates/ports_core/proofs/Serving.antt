@@ -3,12 +3,12 @@ use Rattle.std.proofs.Common.{◌≡◌, Bool, true, false, List, [], ◌∷◌,
 use Rattle.std.specs.Prelude.{if◌then◌else◌}
 use Rattle.ports_core.specs.declared.event.Tell.{Tell}
 use Rattle.ports_core.specs.declared.queue.Waiter.{Waiter}
-use Rattle.ports_plain.specs.Plain.{Answer}
-use Rattle.ports_core.specs.Worlds.{World}
+use Rattle.ports_plain.specs.Plain.{Served}
+use Rattle.mk_paths.specs.World.{World}
 use Rattle.ports_core.specs.Slices.{Answers, asked_of, plain_answer}
 use Rattle.ports_core.specs.Telling.{is_failure}
 use Rattle.ports_core.specs.Plainly.{answers_of, own_of, plain_run, plain_world}
-use Rattle.ports_core.proofs.PlainAnswers.{plain-fine}
+use Rattle.ports_plain.proofs.NeverFails.{never_503}
 
 -- the replies told answer the first of the requests that wait, one for one; the others wait still
 abbrev pub Serves : World → List Waiter → List Tell → World → List Waiter → Type 0
@@ -24,11 +24,11 @@ told_plainly world [] [] last rest serves = ap (λ f. plain_run f rest) serves.0
 told_plainly world (waiter ∷ waiters) [] last rest serves = ap (λ f. plain_run f rest) serves.0 ∙ ap (plain_run world) serves.1
 told_plainly world [] (tell ∷ tells) last rest serves = absurd serves
 told_plainly world (waiter ∷ waiters) (tell ∷ tells) last rest (mid, conn_is, inl plainly, serves) =
-    let fine : is_failure tell.reply.status ≡ false = sym (ap (λ (a : Answer). is_failure a.0.status) plainly) ∙ plain-fine world (asked_of waiter.request) in
+    let fine : is_failure tell.reply.status ≡ false = sym (ap (λ (a : Served). is_failure a.0.status) plainly) ∙ never_503 world (asked_of waiter.request) in
     let P : Bool → Type 0 = λ b. (if b then answers_of tells else (tell.conn, tell.reply) ∷ answers_of tells) ++ plain_run last rest ≡ plain_run world (if b then own_of waiters tells else waiter ∷ own_of waiters tells) in
     let both : P false =
     ap (λ xs. (tell.conn, tell.reply) ∷ xs) (told_plainly mid waiters tells last rest serves)
-    ∙ ap (λ (a : Answer). (tell.conn, a.0) ∷ plain_run a.1 (own_of waiters tells)) (sym plainly)
+    ∙ ap (λ (a : Served). (tell.conn, a.0) ∷ plain_run a.1 (own_of waiters tells)) (sym plainly)
     ∙ ap (λ c. (c, (plain_answer world waiter.request).0) ∷ plain_run (plain_answer world waiter.request).1 (own_of waiters tells)) conn_is in
     subst P (sym fine) both
 told_plainly world (waiter ∷ waiters) (tell ∷ tells) last rest (mid, conn_is, inr failed, serves) =
@@ -50,16 +50,16 @@ answered_plainly world [] [] last rest serves = record { answered = []; own = sy
 answered_plainly world (waiter ∷ waiters) [] last rest serves = record { answered = []; own = sym serves.1; replies = refl; world_is = serves.0 }
 answered_plainly world [] (tell ∷ tells) last rest serves = absurd serves
 answered_plainly world (waiter ∷ waiters) (tell ∷ tells) last rest (mid, conn_is, inl plainly, serves) =
-    let fine : is_failure tell.reply.status ≡ false = sym (ap (λ (a : Answer). is_failure a.0.status) plainly) ∙ plain-fine world (asked_of waiter.request) in
+    let fine : is_failure tell.reply.status ≡ false = sym (ap (λ (a : Served). is_failure a.0.status) plainly) ∙ never_503 world (asked_of waiter.request) in
     let more = answered_plainly mid waiters tells last rest serves in
     record {
       answered = waiter ∷ more.answered;
       own = ap (λ b. if b then own_of waiters tells else waiter ∷ own_of waiters tells) fine ∙ ap (λ ws. waiter ∷ ws) more.own;
       replies = ap (λ b. if b then answers_of tells else (tell.conn, tell.reply) ∷ answers_of tells) fine
           ∙ ap (λ xs. (tell.conn, tell.reply) ∷ xs) more.replies
-          ∙ ap (λ (a : Answer). (tell.conn, a.0) ∷ plain_run a.1 more.answered) (sym plainly)
+          ∙ ap (λ (a : Served). (tell.conn, a.0) ∷ plain_run a.1 more.answered) (sym plainly)
           ∙ ap (λ c. (c, (plain_answer world waiter.request).0) ∷ plain_run (plain_answer world waiter.request).1 more.answered) conn_is;
-      world_is = more.world_is ∙ ap (λ (a : Answer). plain_world a.1 more.answered) (sym plainly);
+      world_is = more.world_is ∙ ap (λ (a : Served). plain_world a.1 more.answered) (sym plainly);
     }
 answered_plainly world (waiter ∷ waiters) (tell ∷ tells) last rest (mid, conn_is, inr failed, serves) =
     let failure : is_failure tell.reply.status ≡ true = ap (λ r. is_failure r.status) failed.0 in

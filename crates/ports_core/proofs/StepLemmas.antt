@@ -8,7 +8,7 @@ use Rattle.ports_core.specs.declared.line.Line.{Line}
 use Rattle.ports_core.specs.declared.event.Event.{Event}
 use Rattle.ports_core.specs.declared.event.Told.{Told}
 use Rattle.ports_core.specs.declared.queue.Waiter.{Waiter}
-use Rattle.ports_core.specs.Worlds.{World, opening_world}
+use Rattle.mk_paths.specs.World.{World, opening_world}
 use Rattle.ports_core.specs.Slices.{Queue, AnswersFor}
 use Rattle.ports_core.specs.Lines.{new_line, answered, kept, closing}
 use Rattle.ports_core.specs.Telling.{in_turn}

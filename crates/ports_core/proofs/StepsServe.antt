@@ -8,7 +8,7 @@ use Rattle.ports_core.specs.declared.event.Event.TheVariants.{Open, Piece, End, 
 use Rattle.ports_core.specs.declared.event.Told.{Told}
 use Rattle.ports_core.specs.declared.event.Tell.{Tell}
 use Rattle.ports_core.specs.declared.queue.Waiter.{Waiter}
-use Rattle.ports_core.specs.Worlds.{World}
+use Rattle.mk_paths.specs.World.{World}
 use Rattle.ports_core.specs.Slices.{Slice, Answers, joined}
 use Rattle.ports_core.specs.Taking.{Taken, Nothing, entering}
 use Rattle.ports_core.specs.State.{State, keys_of, slice_of}

@@ -1,5 +1,4 @@
 pub mod Keys
-pub mod Worlds
 pub mod Slices
 pub mod Lines
 pub mod Telling
@@ -18,5 +17,4 @@ pub mod Conversations
 pub mod Replays
 pub mod OutboxView
 pub mod QueueView
-pub mod WorldsView
 pub mod ServiceView

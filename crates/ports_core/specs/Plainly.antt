@@ -5,7 +5,7 @@ use Rattle.ports_core.specs.declared.event.Event.{Event}
 use Rattle.ports_core.specs.declared.event.Tell.{Tell}
 use Rattle.ports_core.specs.declared.queue.Waiter.{Waiter}
 use Rattle.ports_core.specs.declared.history.Step.{Step}
-use Rattle.ports_core.specs.Worlds.{World, opening_world}
+use Rattle.mk_paths.specs.World.{World, opening_world}
 use Rattle.ports_core.specs.Slices.{plain_answer}
 use Rattle.ports_core.specs.Telling.{is_failure}
 use Rattle.ports_core.specs.Opened.{no_lines}

@@ -2,9 +2,9 @@
 use Rattle.std.specs.Prelude.{◌≡◌, ◌≢◌, ◌⊎◌, ℕ, List, [], ◌++◌, slice_get, Option, Some, None}
 use Rattle.ports_http.specs.Messages.{RequestMessage, ReplyMessage}
 use Rattle.ports_http.specs.Replies.{store_failed}
-use Rattle.ports_plain.specs.Plain.{Asked, Answer, plain, asked}
+use Rattle.ports_plain.specs.Plain.{Asked, Served, plain, asked}
 use Rattle.ports_core.specs.declared.queue.Waiter.{Waiter}
-use Rattle.ports_core.specs.Worlds.{World, opening_world}
+use Rattle.mk_paths.specs.World.{World, opening_world}
 
 -- the requests that wait, the oldest first; a Waiter is a request and the connection that asked
 abbrev pub Queue : Type 0
@@ -38,7 +38,7 @@ abbrev pub asked_of : RequestMessage → Asked
 asked_of request = asked request.method request.target request.body
 
 -- what the plain service answers to a request over a world, and the world then
-abbrev pub plain_answer : World → RequestMessage → Answer
+abbrev pub plain_answer : World → RequestMessage → Served
 plain_answer world request = plain world (asked_of request)
 
 -- the reply to a request over a world is the plain one, as is the world then; or there was no memory, and the

@@ -16,6 +16,7 @@ mod lines;
 mod outbox;
 mod queue;
 mod service;
+mod world;
 mod worlds;
 
 pub use event::{Event, Refused, Tell, Told};

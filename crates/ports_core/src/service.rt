@@ -51,7 +51,7 @@ impl Model for Service {
     ghost Value = { State };
 
     ghost use Rattle.std.specs.Coded.{codes};
-    ghost use Rattle.ports_core.specs.Worlds.{world_code};
+    ghost use Rattle.mk_paths.specs.World.{world_code};
 
     ghost coded = { Prim.hlevel (codes, world_code) };
 

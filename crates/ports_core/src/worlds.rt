@@ -1,36 +1,33 @@
 //! The tenants' worlds.
-ghost use Rattle.std.specs.Prelude.{◌≡◌, ◌<◌, length, replicate, IfOk, OnErr};
-ghost use Rattle.ports_http.specs.Replies.{reply_text};
-ghost use Rattle.ports_core.specs.Worlds.{opening_world, world_held};
-ghost use Rattle.ports_core.specs.Slices.{plain_answer, Answers, AnswersFor};
+ghost use Rattle.std.specs.Prelude.{◌≡◌, ◌<◌, length, replicate, IfOk};
+ghost use Rattle.mk_paths.specs.World.{opening_world};
+ghost use Rattle.ports_core.specs.Slices.{AnswersFor};
 ghost use Rattle.ports_core.specs.Telling.{AreBytesOf};
 
-use mk_files::MemoryFiles;
-use ports_http::{Reply, Request, write_reply};
-use ports_plain::{Plain, Prepared, Refused};
+use crate::world::TenantWorld;
+use ports_http::{Reply, Request};
+use ports_plain::Plain;
 use std::alloc::{AllocError, Global};
 use std::marker::Model;
 
 /// The world of each tenant, by the tenants' numbers. A contract sees the list of the worlds.
 #[derive(Drop)]
 pub(crate) struct Worlds {
-    worlds: Vec<MemoryFiles>,
+    worlds: Vec<TenantWorld>,
 }
 
 impl Model for Worlds {
     ghost use Rattle.std.specs.Prelude.{List};
-    ghost use Rattle.ports_core.specs.Worlds.{World};
+    ghost use Rattle.mk_paths.specs.World.{World};
 
     ghost Value = { List World };
 
     ghost use Rattle.std.specs.Coded.{codes};
-    ghost use Rattle.ports_core.specs.Worlds.{world_code};
+    ghost use Rattle.mk_paths.specs.World.{world_code};
 
     ghost coded = { Prim.hlevel (codes, world_code) };
 
-    ghost use Rattle.ports_core.specs.WorldsView.{worlds_view};
-
-    ghost view = { worlds_view };
+    ghost view = { λ w. w.worlds.items };
 }
 
 impl Worlds {
@@ -40,7 +37,7 @@ impl Worlds {
     {
         let mut worlds = Vec::with_capacity(alloc, count)?;
         for _ in 0..count {
-            worlds.push(MemoryFiles::new(alloc))?;
+            worlds.push(TenantWorld::new(alloc)?)?;
         }
         Ok(Worlds { worlds })
     }
@@ -62,50 +59,6 @@ impl Worlds {
         ensures count { length self.new ≡ length self.old }
     {
         let world = &mut self.worlds[tenant];
-        answer_over(alloc, plain, world, request, close)
+        world.answer(alloc, plain, request, close)
     }
-}
-
-/// The reply to a request over a world, and its bytes; without memory the fixed one.
-fn answer_over(
-    alloc: Global,
-    plain: &Plain,
-    world: &mut MemoryFiles,
-    request: Request,
-    close: bool,
-) -> (Reply, Option<Vec<u8>>)
-    ensures answers { Answers (world_held world.old) request result.0 (world_held world.new) }
-    ensures bytes { AreBytesOf result.0 close result.1 }
-{
-    match reply_to(alloc, plain, world, request, close) {
-        Ok((reply, bytes)) => (reply, Some(bytes)),
-        Err(_refused) => (Reply::store_failed(), None),
-    }
-}
-
-/// The reply to a request over a world, and its bytes. Err: there was no memory, and the world is unchanged.
-fn reply_to(
-    alloc: Global,
-    plain: &Plain,
-    world: &mut MemoryFiles,
-    request: Request,
-    close: bool,
-) -> Result<(Reply, Vec<u8>), Refused>
-    ensures reply { IfOk result (λ r. plain_answer (world_held world.old) request ≡ (r.0, world_held world.new)) }
-    ensures bytes { IfOk result (λ r. r.1.items ≡ reply_text r.0 close) }
-    ensures err { OnErr result (world_held world.new ≡ world_held world.old) }
-{
-    let Request {
-        method,
-        target,
-        body,
-        ..
-    } = request;
-    let prepared = plain.prepare(alloc, world, method, target.as_str(), body)?;
-    let Prepared { reply, write } = prepared;
-    let bytes = write_reply(alloc, &reply, close)?;
-    if let Some(write) = write {
-        write.carry_out(world)?;
-    }
-    Ok((reply, bytes))
 }

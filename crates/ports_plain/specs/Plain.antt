@@ -115,6 +115,10 @@ answer_on world request None method = told no_route
 unfoldable pub answer : World → Asked → Answer
 answer world request = answer_on world request (route_of (path_of request.target)) request.method
 
+-- a reply, and the world behind it
+abbrev pub Served : Type 0
+Served = ReplyMessage × World
+
 -- The plain service: the reply to a request, and the world behind it.
-abbrev pub plain : World → Asked → ReplyMessage × World
+abbrev pub plain : World → Asked → Served
 plain world request = ((answer world request).0, behind world (answer world request).1)

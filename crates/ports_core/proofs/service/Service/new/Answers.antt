@@ -1,6 +1,6 @@
 use Rattle.std.proofs.Common.{[], ap, ◌∙◌, length, arith}
 use Rattle.std.proofs.lemmas.List.{length-replicate}
-use Rattle.ports_core.specs.Worlds.{opening_world}
+use Rattle.mk_paths.specs.World.{opening_world}
 use Rattle.ports_core.specs.Slices.{Queue}
 use Rattle.ports_core.proofs.PlaceLemmas.{begun_fresh, begun_seats}
 use Rattle.ports_core.proofs.StepLemmas.{new_state_is}
