@@ -18,4 +18,7 @@ mod TalkLemmas
 mod StandingLemmas
 mod PlaceLemmas
 mod ConversingLemmas
+mod LostLemmas
+mod PositionLemmas
+mod RunConverses
 mod OneListLemmas
