@@ -1,11 +1,11 @@
--- Every event, as one connection sees it, and whole runs.
-use Rattle.std.proofs.Common.{◌≡◌, ◌≢◌, ◌<◌, ◌≤◌, ◌-◌, ℕ, zero, suc, Bool, true, false, List, [], ◌∷◌, ◌++◌, length, take, drop, refl, sym, ap, subst, ◌∙◌, inl, inr, append_assoc, append-nil, arith, eq-eqb, ⊎_elim, Option, Some, None, take-append-drop}
-use Rattle.std.specs.Prelude.{◌==◌, ◌||◌, map, option_map, option_and_then, unwrap_or, slice_get, MatchOption, if◌then◌else◌}
+-- Every event, as a connection that isn't lost sees it.
+use Rattle.std.proofs.Common.{◌≡◌, ◌≢◌, ◌<◌, ◌≤◌, ◌-◌, ℕ, zero, suc, Bool, true, false, List, [], ◌∷◌, ◌++◌, length, take, drop, refl, sym, ap, subst, ◌∙◌, inl, inr, append-nil, arith, eq-eqb, ⊎_elim, Option, Some, None, take-append-drop}
+use Rattle.std.specs.Prelude.{◌==◌, map, option_map, option_and_then, unwrap_or, MatchOption, if◌then◌else◌}
 use Rattle.std.specs.Prelude.{Vec}
 use Rattle.std.specs.declared.alloc.Global.{Global}
 use Rattle.std.proofs.lemmas.Bool.{cases_eq}
 use Rattle.std.proofs.lemmas.List.{take_all}
-use Rattle.ports_http.specs.Messages.{RequestMessage}
+use Rattle.ports_http.specs.Messages.{RequestMessage, ReplyMessage}
 use Rattle.ports_http.specs.Limits.{unread_limit}
 use Rattle.ports_http.specs.Incoming.{opening, fed, room_of}
 use Rattle.ports_http.specs.Replies.{reply_text, fault_reply, unknown_key, store_failed}
@@ -22,24 +22,24 @@ use Rattle.ports_core.specs.Slices.{Slice, Queue, waiting_of, joined}
 use Rattle.ports_core.specs.Lines.{new_line, hears, answered, kept, is_ready, room_on, count_off, Fits}
 use Rattle.ports_core.specs.Telling.{at_once, in_turn}
 use Rattle.ports_core.specs.Taking.{Taken, Nothing, Whole, Refusal, Lost, TakesOff, IsTaken, line_behind, told_of_tenant, told_at_once, entering}
-use Rattle.ports_core.specs.State.{State, new_state, keys_of, world_at, queue_at, slice_of, line_of, book_of, next_of, IsAllowed}
+use Rattle.ports_core.specs.State.{State, keys_of, slice_of, line_of, book_of, next_of, IsAllowed}
 use Rattle.ports_core.specs.Changes.{Rests, FirstLeaves, ChangesSlices}
 use Rattle.ports_core.specs.Books.{HearsOn, TellsOn, BookTurns}
-use Rattle.ports_core.specs.Runs.{Run, sent_by}
+use Rattle.ports_core.specs.Runs.{sent_by}
 use Rattle.ports_core.specs.Opened.{OpenAnd, KeepsLines, KeepsOthers}
-use Rattle.ports_core.specs.Conversations.{came_in, came_on, sent_in, sent_on, told_in, told_on, loses, is_lost_in, IsLeft, IsServedOut, WaitsFor, AnswersAsked, ConversesPlainly}
+use Rattle.ports_core.specs.Conversations.{came_in, sent_in, told_in, loses, AnswersAsked}
 use Rattle.ports_core.proofs.Numbers.{other_number}
-use Rattle.ports_core.proofs.TalkLemmas.{Talk, none_came, talk_fed, talk_quiet, talk_sent, talk_answered}
+use Rattle.ports_core.proofs.TalkLemmas.{Talk, talk_fed, talk_quiet, talk_sent, talk_answered}
 use Rattle.ports_core.proofs.Lists.{none_some, some_same, option_from}
 use Rattle.ports_core.proofs.QueueLemmas.{waiters_of, waiter, waiters_at, waiters_behind}
-use Rattle.ports_core.proofs.ChangeLemmas.{IsSeen, seen, slice_parts}
+use Rattle.ports_core.proofs.ChangeLemmas.{IsSeen}
 use Rattle.ports_core.proofs.StandingLemmas.{Queued, Holds, IsLine, Stands, settles, reply_waits, idle_behind, told_here, told_there, takes}
 
-no_length : (bytes : List ℕ) → length bytes ≤ 0 → bytes ≡ []
+pub no_length : (bytes : List ℕ) → length bytes ≤ 0 → bytes ≡ []
 no_length [] e = refl
 no_length (b ∷ bytes) e = absurd (omega arith)
 
-drop_nil : (n : ℕ) → ◌≡◌ {A = List ℕ} (drop n []) []
+pub drop_nil : (n : ℕ) → ◌≡◌ {A = List ℕ} (drop n []) []
 drop_nil zero = refl
 drop_nil (suc n) = refl
 
@@ -49,92 +49,92 @@ holds_on keys None waiting old new over stays holds = holds
 holds_on keys (Some t) waiting old new over stays (request, one, key_is, none, over_is) = (request, one, key_is, stays none, over_is)
 
 -- what an event does to a line before something is taken off it
-module _ (keys : List (List ℕ)) (c : ℕ) (came sent : List ℕ) (tells : List Tell) (line : Line) (state : State) (is : IsLine keys c came sent tells line state) where
+module _ (keys : List (List ℕ)) (Plain : ℕ → Waiter → ReplyMessage → Type 0) (c : ℕ) (came sent : List ℕ) (tells : List Tell) (line : Line) (state : State) (is : IsLine keys Plain c came sent tells line state) where
   fed_none : fed line.stream [] ≡ line.stream
   fed_none = ap (λ u. record line.stream { unread = u }) (append-nil line.stream.unread)
 
   -- bytes come
-  heard_bytes : (bytes : List ℕ) → line.ended ≡ false → length bytes ≤ room_on line → Talk keys c (came ++ bytes) sent tells line.pending is.waiting (fed line.stream bytes)
+  heard_bytes : (bytes : List ℕ) → line.ended ≡ false → length bytes ≤ room_on line → Talk keys Plain c (came ++ bytes) sent tells line.pending is.waiting (fed line.stream bytes)
   heard_bytes bytes goes_on room =
-      elim (line.stream.over) as (λ b. line.stream.over ≡ b → Talk keys c (came ++ bytes) sent tells line.pending is.waiting (fed line.stream bytes)) [
+      elim (line.stream.over) as (λ b. line.stream.over ≡ b → Talk keys Plain c (came ++ bytes) sent tells line.pending is.waiting (fed line.stream bytes)) [
         | true ↦ λ over.
             let no_room : room_on line ≡ 0 =
             ap (λ b. if b then 0 else room_of line.stream) goes_on ∙ ap (λ b. if b then 0 else unread_limit - length line.stream.unread) over in
             let none : bytes ≡ [] = no_length bytes (subst (λ n. length bytes ≤ n) no_room room) in
-            subst (λ bs. Talk keys c (came ++ bs) sent tells line.pending is.waiting (fed line.stream bs)) (sym none)
-            (subst (λ s. Talk keys c (came ++ []) sent tells line.pending is.waiting s) (sym fed_none) (talk_quiet keys c came sent tells line.pending is.waiting line.stream is.talk))
-        | false ↦ λ goes. talk_fed keys c came sent tells line.pending is.waiting line.stream bytes goes is.talk
+            subst (λ bs. Talk keys Plain c (came ++ bs) sent tells line.pending is.waiting (fed line.stream bs)) (sym none)
+            (subst (λ s. Talk keys Plain c (came ++ []) sent tells line.pending is.waiting s) (sym fed_none) (talk_quiet keys Plain c came sent tells line.pending is.waiting line.stream is.talk))
+        | false ↦ λ goes. talk_fed keys Plain c came sent tells line.pending is.waiting line.stream bytes goes is.talk
       ] refl
 
   -- bytes are written
   heard_write : (front back : List ℕ) → front ++ back ≡ line.pending → (line.pending ≡ [] → back ≡ [])
-      → IsLine keys c came (sent ++ front) tells (record line { pending = back }) state
+      → IsLine keys Plain c came (sent ++ front) tells (record line { pending = back }) state
   heard_write front back parts stays = record {
     alive = is.alive;
     waiting = is.waiting;
-    talk = talk_sent keys c came sent tells front back is.waiting line.stream (subst (λ p. Talk keys c came sent tells p is.waiting line.stream) (sym parts) is.talk);
+    talk = talk_sent keys Plain c came sent tells front back is.waiting line.stream (subst (λ p. Talk keys Plain c came sent tells p is.waiting line.stream) (sym parts) is.talk);
     holds = holds_on keys line.waits is.waiting line.pending back line.stream.over stays is.holds;
     queued = is.queued;
   }
 
 -- an event brings and takes so much, and the line is then so
-abbrev IsHeard : List (List ℕ) → ℕ → Event → Step → State → Type 0
-IsHeard keys c event step old = (came sent : List ℕ) (tells : List Tell) (line : Line) → Fits event line → line_of c old ≡ Some line → IsLine keys c came sent tells line old
-    → IsLine keys c (came ++ came_in c event) (sent ++ sent_in c event step) tells (hears event line) old
+abbrev pub IsHeard : List (List ℕ) → (ℕ → Waiter → ReplyMessage → Type 0) → ℕ → Event → Step → State → Type 0
+IsHeard keys Plain c event step old = (came sent : List ℕ) (tells : List Tell) (line : Line) → Fits event line → line_of c old ≡ Some line → IsLine keys Plain c came sent tells line old
+    → IsLine keys Plain c (came ++ came_in c event) (sent ++ sent_in c event step) tells (hears event line) old
 
 here : {X : Type 0} (c : ℕ) (xs : List X) → (if c == c then xs else []) ≡ xs
 here c xs = ap (λ b. if b then xs else []) (eq-eqb c c refl)
 
-module _ (keys : List (List ℕ)) (c : ℕ) (step : Step) (old : State) where
-  nothing_came : (came sent : List ℕ) (tells : List Tell) (line : Line) → IsLine keys c came sent tells line old → IsLine keys c (came ++ []) sent tells line old
-  nothing_came came sent tells line is = subst (λ bs. IsLine keys c bs sent tells line old) (sym (append-nil came)) is
+module _ (keys : List (List ℕ)) (Plain : ℕ → Waiter → ReplyMessage → Type 0) (c : ℕ) (step : Step) (old : State) where
+  nothing_came : (came sent : List ℕ) (tells : List Tell) (line : Line) → IsLine keys Plain c came sent tells line old → IsLine keys Plain c (came ++ []) sent tells line old
+  nothing_came came sent tells line is = subst (λ bs. IsLine keys Plain c bs sent tells line old) (sym (append-nil came)) is
 
-  nothing_sent : (came sent : List ℕ) (tells : List Tell) (line : Line) → IsLine keys c came sent tells line old → IsLine keys c came (sent ++ []) tells line old
-  nothing_sent came sent tells line is = subst (λ bs. IsLine keys c came bs tells line old) (sym (append-nil sent)) is
+  nothing_sent : (came sent : List ℕ) (tells : List Tell) (line : Line) → IsLine keys Plain c came sent tells line old → IsLine keys Plain c came (sent ++ []) tells line old
+  nothing_sent came sent tells line is = subst (λ bs. IsLine keys Plain c came bs tells line old) (sym (append-nil sent)) is
 
-  heard_piece : (bytes : Vec ℕ Global) → IsHeard keys c (Piece c bytes) step old
+  heard_piece : (bytes : Vec ℕ Global) → IsHeard keys Plain c (Piece c bytes) step old
   heard_piece bytes came sent tells line fits at is =
       let after : Line = record line { stream = fed line.stream bytes.items } in
-      let came_is : IsLine keys c (came ++ bytes.items) sent tells after old = record {
+      let came_is : IsLine keys Plain c (came ++ bytes.items) sent tells after old = record {
         alive = is.alive;
         waiting = is.waiting;
-        talk = heard_bytes keys c came sent tells line old is bytes.items fits.0 fits.1;
+        talk = heard_bytes keys Plain c came sent tells line old is bytes.items fits.0 fits.1;
         holds = is.holds;
         queued = is.queued;
       } in
-      nothing_sent (came ++ came_in c (Piece c bytes)) sent tells after (subst (λ bs. IsLine keys c (came ++ bs) sent tells after old) (sym (here c bytes.items)) came_is)
+      nothing_sent (came ++ came_in c (Piece c bytes)) sent tells after (subst (λ bs. IsLine keys Plain c (came ++ bs) sent tells after old) (sym (here c bytes.items)) came_is)
 
-  heard_end : IsHeard keys c (End c) step old
+  heard_end : IsHeard keys Plain c (End c) step old
   heard_end came sent tells line fits at is =
       let after : Line = record line { ended = true } in
-      let same : IsLine keys c came sent tells after old = record { alive = is.alive; waiting = is.waiting; talk = is.talk; holds = is.holds; queued = is.queued } in
+      let same : IsLine keys Plain c came sent tells after old = record { alive = is.alive; waiting = is.waiting; talk = is.talk; holds = is.holds; queued = is.queued } in
       nothing_came came (sent ++ []) tells after (nothing_sent came sent tells after same)
 
   -- the bytes that are written are those that were pending first
-  sent_first : (count : Option ℕ) (line : Line) → line_of c old ≡ Some line → step.sent.items ≡ sent_by (Wrote c count) old
+  pub sent_first : (count : Option ℕ) (line : Line) → line_of c old ≡ Some line → step.sent.items ≡ sent_by (Wrote c count) old
       → sent_in c (Wrote c count) step ≡ take (count_off count line.pending) line.pending
   sent_first count line at sent_is =
       here c step.sent.items ∙ sent_is
       ∙ ap (λ (o : Option Line). let bytes = unwrap_or (option_map (λ (l : Line). l.pending) o) [] in take (count_off count bytes) bytes) at
 
-  heard_wrote : (count : Option ℕ) → step.sent.items ≡ sent_by (Wrote c count) old → IsHeard keys c (Wrote c count) step old
+  heard_wrote : (count : Option ℕ) → step.sent.items ≡ sent_by (Wrote c count) old → IsHeard keys Plain c (Wrote c count) step old
   heard_wrote None sent_is came sent tells line fits at is =
       let all : take (length line.pending) line.pending ≡ line.pending = take_all (length line.pending) line.pending (omega arith) in
       let front : sent_in c (Wrote c None) step ≡ line.pending = sent_first None line at sent_is ∙ all in
       let after : Line = record line { pending = [] } in
       nothing_came came (sent ++ sent_in c (Wrote c None) step) tells after
-      (subst (λ bs. IsLine keys c came (sent ++ bs) tells after old) (sym front) (heard_write keys c came sent tells line old is line.pending [] (append-nil line.pending) (λ none. refl)))
+      (subst (λ bs. IsLine keys Plain c came (sent ++ bs) tells after old) (sym front) (heard_write keys Plain c came sent tells line old is line.pending [] (append-nil line.pending) (λ none. refl)))
   heard_wrote (Some count) sent_is came sent tells line fits at is =
       let front : sent_in c (Wrote c (Some count)) step ≡ take count line.pending = sent_first (Some count) line at sent_is in
       let after : Line = record line { pending = drop count line.pending } in
       nothing_came came (sent ++ sent_in c (Wrote c (Some count)) step) tells after
-      (subst (λ bs. IsLine keys c came (sent ++ bs) tells after old) (sym front)
-      (heard_write keys c came sent tells line old is (take count line.pending) (drop count line.pending) (take-append-drop count line.pending) (λ none. ap (drop count) none ∙ drop_nil count)))
+      (subst (λ bs. IsLine keys Plain c came (sent ++ bs) tells after old) (sym front)
+      (heard_write keys Plain c came sent tells line old is (take count line.pending) (drop count line.pending) (take-append-drop count line.pending) (λ none. ap (drop count) none ∙ drop_nil count)))
 
 -- what an event does to what was asked and told on the connection
-abbrev pub Moves : List (List ℕ) → ℕ → Event → Step → State → State → Type 0
-Moves keys c event step old mid = (came sent : List ℕ) (tells : List Tell) → Stands keys c came sent tells old
-    → Stands keys c (came ++ came_in c event) (sent ++ sent_in c event step) (tells ++ told_in c step.told.reply) mid
+abbrev pub Moves : List (List ℕ) → (ℕ → Waiter → ReplyMessage → Type 0) → ℕ → Event → Step → State → State → Type 0
+Moves keys Plain c event step old mid = (came sent : List ℕ) (tells : List Tell) → Stands keys Plain c came sent tells old
+    → Stands keys Plain c (came ++ came_in c event) (sent ++ sent_in c event step) (tells ++ told_in c step.told.reply) mid
 
 -- nothing happens to the connection
 pub record Untouched (c : ℕ) (event : Event) (step : Step) (old mid : State) : Type 0 where
@@ -145,11 +145,11 @@ pub record Untouched (c : ℕ) (event : Event) (step : Step) (old mid : State) :
   pub next : next_of old ≤ next_of mid
   pub queues : (u : ℕ) (slice : Slice) → slice_of u mid ≡ Some slice → (before : Slice) × (slice_of u old ≡ Some before) × (waiters_of c (waiting_of slice) ≡ waiters_of c (waiting_of before))
 
-module _ (keys : List (List ℕ)) (c : ℕ) (event : Event) (step : Step) (old mid : State) where
+module _ (keys : List (List ℕ)) (Plain : ℕ → Waiter → ReplyMessage → Type 0) (c : ℕ) (event : Event) (step : Step) (old mid : State) where
   queued_on : (h : Untouched c event step old mid) (waits : Option ℕ) (waiting : List RequestMessage) → Queued c old waits waiting → Queued c mid waits waiting
   queued_on h waits waiting queued u slice was = let before = h.queues u slice was in before.2 ∙ queued u before.0 before.1
 
-  stands_on : Untouched c event step old mid → (came sent : List ℕ) (tells : List Tell) → Stands keys c came sent tells old → Stands keys c came sent tells mid
+  stands_on : Untouched c event step old mid → (came sent : List ℕ) (tells : List Tell) → Stands keys Plain c came sent tells old → Stands keys Plain c came sent tells mid
   stands_on h came sent tells (inl is) = inl (record {
     line = is.line;
     at = h.line ∙ is.at;
@@ -171,14 +171,14 @@ module _ (keys : List (List ℕ)) (c : ℕ) (event : Event) (step : Step) (old m
     queued = queued_on h None [] is.queued;
   })
 
-  untouched : Untouched c event step old mid → Moves keys c event step old mid
+  untouched : Untouched c event step old mid → Moves keys Plain c event step old mid
   untouched h came sent tells stands =
-      subst (λ bs. Stands keys c bs (sent ++ sent_in c event step) (tells ++ told_in c step.told.reply) mid) (sym (ap (λ bs. came ++ bs) h.came ∙ append-nil came))
-      (subst (λ bs. Stands keys c came bs (tells ++ told_in c step.told.reply) mid) (sym (ap (λ bs. sent ++ bs) h.sent ∙ append-nil sent))
-      (subst (λ ts. Stands keys c came sent ts mid) (sym (ap (λ ts. tells ++ ts) h.told ∙ append-nil tells)) (stands_on h came sent tells stands)))
+      subst (λ bs. Stands keys Plain c bs (sent ++ sent_in c event step) (tells ++ told_in c step.told.reply) mid) (sym (ap (λ bs. came ++ bs) h.came ∙ append-nil came))
+      (subst (λ bs. Stands keys Plain c came bs (tells ++ told_in c step.told.reply) mid) (sym (ap (λ bs. sent ++ bs) h.sent ∙ append-nil sent))
+      (subst (λ ts. Stands keys Plain c came sent ts mid) (sym (ap (λ ts. tells ++ ts) h.told ∙ append-nil tells)) (stands_on h came sent tells stands)))
 
 -- where nothing is taken, nothing enters
-none_enters : (keys : List (List ℕ)) (d : ℕ) (told : Told) (taken : Taken) (old mid : State) → Rests told taken old mid → (u : ℕ) → slice_of u mid ≡ option_map (joined (entering keys d taken u)) (slice_of u old)
+pub none_enters : (keys : List (List ℕ)) (d : ℕ) (told : Told) (taken : Taken) (old mid : State) → Rests told taken old mid → (u : ℕ) → slice_of u mid ≡ option_map (joined (entering keys d taken u)) (slice_of u old)
 none_enters keys d told taken old mid rests u =
     rests.slices u ∙ as_it_was (slice_of u old) ∙ ap (λ k. option_map (joined (entering keys d k u)) (slice_of u old)) (sym rests.nothing)
   where
@@ -187,31 +187,31 @@ none_enters keys d told taken old mid rests u =
     as_it_was (Some slice) = ap (λ (ws : List Waiter). let s : Slice = (slice.0, ws) in Some s) (sym (append-nil slice.1))
 
 -- queues that stay as they were
-same_queues : (c : ℕ) (old mid : State) → ((u : ℕ) → slice_of u mid ≡ slice_of u old) → (u : ℕ) (slice : Slice) → slice_of u mid ≡ Some slice
+pub same_queues : (c : ℕ) (old mid : State) → ((u : ℕ) → slice_of u mid ≡ slice_of u old) → (u : ℕ) (slice : Slice) → slice_of u mid ≡ Some slice
     → (before : Slice) × (slice_of u old ≡ Some before) × (waiters_of c (waiting_of slice) ≡ waiters_of c (waiting_of before))
 same_queues c old mid slices u slice was = (slice, sym (slices u) ∙ was, refl)
 
 -- the connection itself hears something
-hears_moves : (keys : List (List ℕ)) (c : ℕ) (event : Event) (step : Step) (taken : Taken) (old mid : State) → keys_of old ≡ keys → OpenAnd (line_of c old) (Fits event) → IsHeard keys c event step old
+hears_moves : (keys : List (List ℕ)) (Plain : ℕ → Waiter → ReplyMessage → Type 0) (c : ℕ) (event : Event) (step : Step) (taken : Taken) (old mid : State) → keys_of old ≡ keys → OpenAnd (line_of c old) (Fits event) → IsHeard keys Plain c event step old
     → HearsOn (keys_of old) event c step.told taken (book_of old) (book_of mid) → ((u : ℕ) → slice_of u mid ≡ option_map (joined (entering (keys_of old) c taken u)) (slice_of u old)) → next_of old ≤ next_of mid
-    → Moves keys c event step old mid
-hears_moves keys c event step taken old mid keys_are allowed heard h enters next came sent tells (inr is) = absurd (none_some (sym is.at ∙ h.was_open))
-hears_moves keys c event step taken old mid keys_are allowed heard h enters next came sent tells (inl is) =
+    → Moves keys Plain c event step old mid
+hears_moves keys Plain c event step taken old mid keys_are allowed heard h enters next came sent tells (inr is) = absurd (none_some (sym is.at ∙ h.was_open))
+hears_moves keys Plain c event step taken old mid keys_are allowed heard h enters next came sent tells (inl is) =
     let line_is : h.line ≡ is.line = some_same (sym h.was_open ∙ is.at) in
     let fits : Fits event is.line = subst (λ (o : Option Line). OpenAnd o (Fits event)) is.at allowed in
     let now = heard came sent tells is.line fits is.at is.is_line in
     let stream = h.takes.stream in
     let stands = subst (λ l. IsTaken (hears event l) taken stream) line_is h.takes.stands in
     let slices = λ (u : ℕ). enters u ∙ ap (λ ks. option_map (joined (entering ks c taken u)) (slice_of u old)) keys_are in
-    let took = takes keys c (came ++ came_in c event) (sent ++ sent_in c event step) tells (hears event is.line) old mid now stream taken stands slices in
+    let took = takes keys Plain c (came ++ came_in c event) (sent ++ sent_in c event step) tells (hears event is.line) old mid now stream taken stands slices in
     let after_is : line_behind keys taken (record (hears event is.line) { stream = stream }) ≡ h.after =
     sym (h.takes.line_is ∙ ap (λ ks. line_behind ks taken (record (hears event h.line) { stream = stream })) keys_are ∙ ap (λ l. line_behind keys taken (record (hears event l) { stream = stream })) line_is) in
     let told_is : told_in c (told_at_once keys c taken) ≡ told_in c step.told.reply =
     ap (told_in c) (sym (h.takes.told_is ∙ ap (λ ks. told_at_once ks c taken) keys_are)) in
-    settles keys c (came ++ came_in c event) (sent ++ sent_in c event step) (tells ++ told_in c step.told.reply) h.after mid h.line_is (omega (arith, next, is.below))
+    settles keys Plain c (came ++ came_in c event) (sent ++ sent_in c event step) (tells ++ told_in c step.told.reply) h.after mid h.line_is (omega (arith, next, is.below))
     (λ came_some. subst (λ l. is_ready l ≡ true → TakesOff l.stream Nothing l.stream) after_is (idle_behind keys (hears event is.line) taken stream stands))
-    (subst (λ ts. IsLine keys c (came ++ came_in c event) (sent ++ sent_in c event step) (tells ++ ts) h.after mid) told_is
-    (subst (λ l. IsLine keys c (came ++ came_in c event) (sent ++ sent_in c event step) (tells ++ told_in c (told_at_once keys c taken)) l mid) after_is took))
+    (subst (λ ts. IsLine keys Plain c (came ++ came_in c event) (sent ++ sent_in c event step) (tells ++ ts) h.after mid) told_is
+    (subst (λ l. IsLine keys Plain c (came ++ came_in c event) (sent ++ sent_in c event step) (tells ++ told_in c (told_at_once keys c taken)) l mid) after_is took))
 
 -- what is told at once goes to the connection that asked
 told_of : (c d : ℕ) (place : Option ℕ) → d ≢ c → told_in c (told_of_tenant d place) ≡ []
@@ -225,7 +225,7 @@ told_by keys c d (Refusal fault) apart = told_there c (at_once d (fault_reply fa
 told_by keys c d (Lost close) apart = told_there c (at_once d store_failed) apart
 
 -- another connection hears something
-hears_untouched : (c d : ℕ) (event : Event) (step : Step) (taken : Taken) (old mid : State) → d ≢ c → came_in c event ≡ [] → sent_in c event step ≡ []
+pub hears_untouched : (c d : ℕ) (event : Event) (step : Step) (taken : Taken) (old mid : State) → d ≢ c → came_in c event ≡ [] → sent_in c event step ≡ []
     → HearsOn (keys_of old) event d step.told taken (book_of old) (book_of mid) → ((u : ℕ) → slice_of u mid ≡ option_map (joined (entering (keys_of old) d taken u)) (slice_of u old)) → next_of old ≤ next_of mid
     → Untouched c event step old mid
 hears_untouched c d event step taken old mid apart no_bytes none_sent h enters next = record {
@@ -240,7 +240,7 @@ hears_untouched c d event step taken old mid apart no_bytes none_sent h enters n
 }
 
 -- no line and no slice changes, and nothing is told
-rests_untouched : (c : ℕ) (event : Event) (step : Step) (taken : Taken) (old mid : State) → came_in c event ≡ [] → sent_in c event step ≡ []
+pub rests_untouched : (c : ℕ) (event : Event) (step : Step) (taken : Taken) (old mid : State) → came_in c event ≡ [] → sent_in c event step ≡ []
     → Rests step.told taken old mid → line_of c mid ≡ line_of c old → next_of old ≤ next_of mid → Untouched c event step old mid
 rests_untouched c event step taken old mid no_bytes none_sent rests line next = record {
   came = no_bytes;
@@ -252,13 +252,13 @@ rests_untouched c event step taken old mid no_bytes none_sent rests line next = 
 }
 
 -- the connection itself opens
-opened : (keys : List (List ℕ)) (c d : ℕ) (step : Step) (taken : Taken) (old mid : State) → c ≡ d → d ≡ next_of old → d < next_of mid → line_of d mid ≡ Some new_line → Rests step.told taken old mid → Moves keys c (Open d) step old mid
-opened keys c d step taken old mid here is_next below line_is rests came sent tells (inl is) = absurd (omega (arith, is.below, is_next, here))
-opened keys c d step taken old mid here is_next below line_is rests came sent tells (inr is) =
+opened : (keys : List (List ℕ)) (Plain : ℕ → Waiter → ReplyMessage → Type 0) (c d : ℕ) (step : Step) (taken : Taken) (old mid : State) → c ≡ d → d ≡ next_of old → d < next_of mid → line_of d mid ≡ Some new_line → Rests step.told taken old mid → Moves keys Plain c (Open d) step old mid
+opened keys Plain c d step taken old mid here is_next below line_is rests came sent tells (inl is) = absurd (omega (arith, is.below, is_next, here))
+opened keys Plain c d step taken old mid here is_next below line_is rests came sent tells (inr is) =
     let fresh = is.fresh (omega (arith, is_next, here)) in
-    let talk : Talk keys c came sent tells [] [] opening = subst (λ s. Talk keys c came sent tells [] [] s) fresh.0 is.talk in
+    let talk : Talk keys Plain c came sent tells [] [] opening = subst (λ s. Talk keys Plain c came sent tells [] [] s) fresh.0 is.talk in
     let told : told_in c step.told.reply ≡ [] = ap (told_in c) rests.silent in
-    let stands : Stands keys c came sent tells mid = inl (record {
+    let stands : Stands keys Plain c came sent tells mid = inl (record {
       line = new_line;
       at = ap (λ n. line_of n mid) here ∙ line_is;
       below = omega (arith, below, here);
@@ -271,35 +271,38 @@ opened keys c d step taken old mid here is_next below line_is rests came sent te
         queued = λ u slice was. is.queued u slice (sym (rests.slices u) ∙ was);
       };
     }) in
-    subst (λ bs. Stands keys c bs (sent ++ []) (tells ++ told_in c step.told.reply) mid) (sym (append-nil came))
-    (subst (λ bs. Stands keys c came bs (tells ++ told_in c step.told.reply) mid) (sym (append-nil sent))
-    (subst (λ ts. Stands keys c came sent ts mid) (sym (ap (λ ts. tells ++ ts) told ∙ append-nil tells)) stands))
+    subst (λ bs. Stands keys Plain c bs (sent ++ []) (tells ++ told_in c step.told.reply) mid) (sym (append-nil came))
+    (subst (λ bs. Stands keys Plain c came bs (tells ++ told_in c step.told.reply) mid) (sym (append-nil sent))
+    (subst (λ ts. Stands keys Plain c came sent ts mid) (sym (ap (λ ts. tells ++ ts) told ∙ append-nil tells)) stands))
 
 -- a connection opens
-opens_move : (keys : List (List ℕ)) (c d : ℕ) (step : Step) (old mid : State) → IsSeen (Open d) step.told old mid → Moves keys c (Open d) step old mid
-opens_move keys c d step old mid s =
+opens_move : (keys : List (List ℕ)) (Plain : ℕ → Waiter → ReplyMessage → Type 0) (c d : ℕ) (step : Step) (old mid : State) → IsSeen (Open d) step.told old mid → Moves keys Plain c (Open d) step old mid
+opens_move keys Plain c d step old mid s =
     let P : Option Refused → Type 0 = λ refused. MatchOption refused ((line_of d mid ≡ Some new_line) × KeepsOthers d (book_of old) (book_of mid)) (λ why. KeepsLines (book_of old) (book_of mid)) in
-    elim (step.told.refused) as (λ refused. step.told.refused ≡ refused → P refused → Moves keys c (Open d) step old mid) [
+    elim (step.told.refused) as (λ refused. step.told.refused ≡ refused → P refused → Moves keys Plain c (Open d) step old mid) [
       | None ↦ λ none book. ⊎_elim
-          (λ here. opened keys c d step s.taken old mid here s.numbers.0 (s.numbers.1 none) book.0 s.changes)
-          (λ apart. untouched keys c (Open d) step old mid (rests_untouched c (Open d) step s.taken old mid refl refl s.changes (book.1 c apart) s.next))
+          (λ here. opened keys Plain c d step s.taken old mid here s.numbers.0 (s.numbers.1 none) book.0 s.changes)
+          (λ apart. untouched keys Plain c (Open d) step old mid (rests_untouched c (Open d) step s.taken old mid refl refl s.changes (book.1 c apart) s.next))
           (cases_eq c d)
-      | Some why ↦ λ some book. untouched keys c (Open d) step old mid (rests_untouched c (Open d) step s.taken old mid refl refl s.changes (book c) s.next)
+      | Some why ↦ λ some book. untouched keys Plain c (Open d) step old mid (rests_untouched c (Open d) step s.taken old mid refl refl s.changes (book c) s.next)
     ] refl s.books.1
 
-some_not_none : {X : Type 0} {x : X} {xs : List X} → x ∷ xs ≡ [] → ⊥
+pub some_not_none : {X : Type 0} {x : X} {xs : List X} → x ∷ xs ≡ [] → ⊥
 some_not_none e = cc
 
-rest_none : {X : Type 0} (x y : X) (ys : List X) → x ∷ [] ≡ y ∷ ys → ys ≡ []
+pub first_same : {X : Type 0} (x y : X) (ys : List X) → x ∷ [] ≡ y ∷ ys → x ≡ y
+first_same x y ys e = cc
+
+pub rest_none : {X : Type 0} (x y : X) (ys : List X) → x ∷ [] ≡ y ∷ ys → ys ≡ []
 rest_none x y ys e = cc
 
 -- the first of a queue stands first among the connection's, if it is one of them
-first_in_queue : (c : ℕ) (queue : Queue) (first : Waiter) (rest : List Waiter) → queue ≡ first ∷ rest → first.conn ≡ c → first ∷ waiters_of c rest ≡ waiters_of c queue
+pub first_in_queue : (c : ℕ) (queue : Queue) (first : Waiter) (rest : List Waiter) → queue ≡ first ∷ rest → first.conn ≡ c → first ∷ waiters_of c rest ≡ waiters_of c queue
 first_in_queue c queue first rest waited here =
     ap (λ b. if b then first ∷ waiters_of c rest else waiters_of c rest) (sym (eq-eqb first.conn c here)) ∙ ap (waiters_of c) (sym waited)
 
 -- a turn that answers another connection
-answered_there : (c t : ℕ) (step : Step) (taken : Taken) (old mid : State) (h : FirstLeaves t step.told taken old mid) → TellsOn h.tell (book_of old) (book_of mid) → next_of old ≤ next_of mid
+pub answered_there : (c t : ℕ) (step : Step) (taken : Taken) (old mid : State) (h : FirstLeaves t step.told taken old mid) → TellsOn h.tell (book_of old) (book_of mid) → next_of old ≤ next_of mid
     → h.first.conn ≢ c → Untouched c (Turn t) step old mid
 answered_there c t step taken old mid h tells next apart = record {
   came = refl;
@@ -319,19 +322,28 @@ answered_there c t step taken old mid h tells next apart = record {
 }
 
 -- the first waiter of a queue is the connection's, so its request waits there, alone
-first_waits : (c t : ℕ) (waits : Option ℕ) (waiting : List RequestMessage) (first : Waiter) (rest : List Waiter) → first ∷ rest ≡ waiters_at c t waits waiting
+pub first_waits : (c t : ℕ) (waits : Option ℕ) (waiting : List RequestMessage) (first : Waiter) (rest : List Waiter) → first ∷ rest ≡ waiters_at c t waits waiting
     → (waits ≡ Some t) × (map (waiter c) waiting ≡ first ∷ rest)
 first_waits c t None waiting first rest e = absurd (some_not_none e)
 first_waits c t (Some u) waiting first rest e =
     ⊎_elim (λ same. (ap Some same, sym (e ∙ ap (λ b. if b then map (waiter c) waiting else []) (eq-eqb u t same))))
     (λ apart. absurd (some_not_none (e ∙ ap (λ b. if b then map (waiter c) waiting else []) (other_number u t apart)))) (cases_eq u t)
 
+-- the request that waited, alone, is answered plainly
+pub answers_in_turn : (keys : List (List ℕ)) (Plain : ℕ → Waiter → ReplyMessage → Type 0) (c t : ℕ) (request : RequestMessage) (first : Waiter) (rest : List Waiter) (reply : ReplyMessage) → tenant_of keys request.key ≡ Some t
+    → waiter c request ∷ [] ≡ first ∷ waiters_of c rest → Plain t first reply → AnswersAsked keys Plain c (Whole request) (in_turn t c reply)
+answers_in_turn keys Plain c t request first rest reply key_is alone plain =
+    let tell : Tell = in_turn t c reply in
+    let same : waiter c request ≡ first = first_same (waiter c request) first (waiters_of c rest) alone in
+    subst (λ (o : Option ℕ). MatchOption o (tell ≡ at_once c unknown_key) (λ tenant. (tell ≡ in_turn tenant c tell.reply) × Plain tenant (waiter c request) tell.reply)) (sym key_is)
+    (refl, subst (λ w. Plain t w reply) (sym same) plain)
+
 -- a turn that answers the connection's request
-answered_here : (keys : List (List ℕ)) (c t : ℕ) (step : Step) (taken : Taken) (old mid : State) (h : FirstLeaves t step.told taken old mid) → TellsOn h.tell (book_of old) (book_of mid) → next_of old ≤ next_of mid
-    → h.first.conn ≡ c → Moves keys c (Turn t) step old mid
-answered_here keys c t step taken old mid h book next here came sent tells (inr is) =
+answered_here : (keys : List (List ℕ)) (Plain : ℕ → Waiter → ReplyMessage → Type 0) (c t : ℕ) (step : Step) (taken : Taken) (old mid : State) (h : FirstLeaves t step.told taken old mid) → TellsOn h.tell (book_of old) (book_of mid) → next_of old ≤ next_of mid
+    → Plain t h.first h.tell.reply → h.first.conn ≡ c → Moves keys Plain c (Turn t) step old mid
+answered_here keys Plain c t step taken old mid h book next plain here came sent tells (inr is) =
     absurd (some_not_none (first_in_queue c (waiting_of h.slice) h.first h.rest h.waited here ∙ is.queued t h.slice h.was))
-answered_here keys c t step taken old mid h book next here came sent tells (inl is) =
+answered_here keys Plain c t step taken old mid h book next plain here came sent tells (inl is) =
     let line = is.line in
     let reply = h.tell.reply in
     let conn_is : h.tell.conn ≡ c = h.to_asker ∙ here in
@@ -342,19 +354,18 @@ answered_here keys c t step taken old mid h book next here came sent tells (inl 
     let tell : Tell = in_turn t c reply in
     let tell_is : h.tell ≡ tell =
     ap (λ p. let x : Tell = record { tenant = p; conn = h.tell.conn; reply = reply } in x) h.of_tenant ∙ ap (λ d. let x : Tell = record { tenant = Some t; conn = d; reply = reply } in x) conn_is in
-    let answers : AnswersAsked keys c (Whole request) tell =
-    subst (λ (o : Option ℕ). MatchOption o (tell ≡ at_once c unknown_key) (λ tenant. tell ≡ in_turn tenant c tell.reply)) (sym holds.2) refl in
-    let talk : Talk keys c came sent tells [] (request ∷ []) line.stream =
-    subst (λ ws. Talk keys c came sent tells [] ws line.stream) holds.1 (subst (λ p. Talk keys c came sent tells p is.is_line.waiting line.stream) holds.3 is.is_line.talk) in
+    let answers : AnswersAsked keys Plain c (Whole request) tell = answers_in_turn keys Plain c t request h.first h.rest reply holds.2 (ap (map (waiter c)) (sym holds.1) ∙ first.1) plain in
+    let talk : Talk keys Plain c came sent tells [] (request ∷ []) line.stream =
+    subst (λ ws. Talk keys Plain c came sent tells [] ws line.stream) holds.1 (subst (λ p. Talk keys Plain c came sent tells p is.is_line.waiting line.stream) holds.3 is.is_line.talk) in
     let after : Line = answered reply line in
     let pending : after.pending ≡ reply_text reply request.close =
     ap (λ b. if b then line.pending else reply_text reply line.stream.over) is.is_line.alive ∙ ap (reply_text reply) holds.4 in
     let told : told_in c step.told.reply ≡ tell ∷ [] =
     ap (told_in c) h.told_is ∙ ap (λ (x : Tell). told_in c (Some x)) tell_is ∙ told_here c tell refl in
-    let is_line : IsLine keys c came sent (tells ++ tell ∷ []) after mid = record {
+    let is_line : IsLine keys Plain c came sent (tells ++ tell ∷ []) after mid = record {
       alive = is.is_line.alive;
       waiting = [];
-      talk = subst (λ p. Talk keys c came sent (tells ++ tell ∷ []) p [] line.stream) (sym pending) (talk_answered keys c came sent tells line.stream request tell answers talk);
+      talk = subst (λ p. Talk keys Plain c came sent (tells ++ tell ∷ []) p [] line.stream) (sym pending) (talk_answered keys Plain c came sent tells line.stream request tell answers talk);
       holds = refl;
       queued = λ u slice was.
           ⊎_elim (λ same.
@@ -366,121 +377,48 @@ answered_here keys c t step taken old mid h book next here came sent tells (inl 
     let at : line_of c mid ≡ kept after =
     ap (λ d. line_of d mid) (sym conn_is) ∙ book.line_is ∙ ap (λ d. option_and_then kept (option_map (answered reply) (line_of d old))) conn_is
     ∙ ap (λ (o : Option Line). option_and_then kept (option_map (answered reply) o)) is.at in
-    let stands : Stands keys c came sent (tells ++ tell ∷ []) mid = settles keys c came sent (tells ++ tell ∷ []) after mid at (omega (arith, next, is.below))
+    let stands : Stands keys Plain c came sent (tells ++ tell ∷ []) mid = settles keys Plain c came sent (tells ++ tell ∷ []) after mid at (omega (arith, next, is.below))
     (λ some ready. absurd (reply_waits after reply request.close pending ready)) is_line in
-    subst (λ bs. Stands keys c bs (sent ++ []) (tells ++ told_in c step.told.reply) mid) (sym (append-nil came))
-    (subst (λ bs. Stands keys c came bs (tells ++ told_in c step.told.reply) mid) (sym (append-nil sent))
-    (subst (λ ts. Stands keys c came sent (tells ++ ts) mid) (sym told) stands))
+    subst (λ bs. Stands keys Plain c bs (sent ++ []) (tells ++ told_in c step.told.reply) mid) (sym (append-nil came))
+    (subst (λ bs. Stands keys Plain c came bs (tells ++ told_in c step.told.reply) mid) (sym (append-nil sent))
+    (subst (λ ts. Stands keys Plain c came sent (tells ++ ts) mid) (sym told) stands))
+
+-- the reply that a turn tells is plain
+abbrev pub EachIsPlain : (ℕ → Waiter → ReplyMessage → Type 0) → Event → Step → State → State → Type 0
+EachIsPlain Plain event step old mid = (t : ℕ) (taken : Taken) (h : FirstLeaves t step.told taken old mid) → event ≡ Turn t → Plain t h.first h.tell.reply
 
 -- a turn of a tenant
-turns_move : (keys : List (List ℕ)) (c t : ℕ) (step : Step) (taken : Taken) (old mid : State) → ChangesSlices (Turn t) step.told taken old mid → BookTurns step.told (book_of old) (book_of mid) → next_of old ≤ next_of mid
-    → Moves keys c (Turn t) step old mid
-turns_move keys c t step taken old mid (inl rests) book next =
+turns_move : (keys : List (List ℕ)) (Plain : ℕ → Waiter → ReplyMessage → Type 0) (c t : ℕ) (step : Step) (taken : Taken) (old mid : State) → ChangesSlices (Turn t) step.told taken old mid → BookTurns step.told (book_of old) (book_of mid) → next_of old ≤ next_of mid → EachIsPlain Plain (Turn t) step old mid
+    → Moves keys Plain c (Turn t) step old mid
+turns_move keys Plain c t step taken old mid (inl rests) book next plain =
     let lines : KeepsLines (book_of old) (book_of mid) =
     subst (λ (reply : Option Tell). MatchOption reply (KeepsLines (book_of old) (book_of mid)) (λ tell. TellsOn tell (book_of old) (book_of mid))) rests.silent book in
-    untouched keys c (Turn t) step old mid (rests_untouched c (Turn t) step taken old mid refl refl rests (lines c) next)
-turns_move keys c t step taken old mid (inr h) book next =
+    untouched keys Plain c (Turn t) step old mid (rests_untouched c (Turn t) step taken old mid refl refl rests (lines c) next)
+turns_move keys Plain c t step taken old mid (inr h) book next plain =
     let tells : TellsOn h.tell (book_of old) (book_of mid) =
     subst (λ (reply : Option Tell). MatchOption reply (KeepsLines (book_of old) (book_of mid)) (λ tell. TellsOn tell (book_of old) (book_of mid))) h.told_is book in
-    ⊎_elim (λ here. answered_here keys c t step taken old mid h tells next here) (λ apart. untouched keys c (Turn t) step old mid (answered_there c t step taken old mid h tells next apart)) (cases_eq h.first.conn c)
+    ⊎_elim (λ here. answered_here keys Plain c t step taken old mid h tells next (plain t taken h refl) here) (λ apart. untouched keys Plain c (Turn t) step old mid (answered_there c t step taken old mid h tells next apart)) (cases_eq h.first.conn c)
 
 -- an event of an open connection, this one or another
-heard_move : (keys : List (List ℕ)) (c d : ℕ) (event : Event) (step : Step) (taken : Taken) (old mid : State) → keys_of old ≡ keys → OpenAnd (line_of d old) (Fits event) → IsHeard keys d event step old
+heard_move : (keys : List (List ℕ)) (Plain : ℕ → Waiter → ReplyMessage → Type 0) (c d : ℕ) (event : Event) (step : Step) (taken : Taken) (old mid : State) → keys_of old ≡ keys → OpenAnd (line_of d old) (Fits event) → IsHeard keys Plain d event step old
     → (d ≢ c → came_in c event ≡ []) → (d ≢ c → sent_in c event step ≡ [])
     → HearsOn (keys_of old) event d step.told taken (book_of old) (book_of mid) → ((u : ℕ) → slice_of u mid ≡ option_map (joined (entering (keys_of old) d taken u)) (slice_of u old)) → next_of old ≤ next_of mid
-    → Moves keys c event step old mid
-heard_move keys c d event step taken old mid keys_are allowed heard no_bytes none_sent h enters next =
-    ⊎_elim (λ same. subst (λ n. Moves keys n event step old mid) same (hears_moves keys d event step taken old mid keys_are allowed heard h enters next))
-    (λ apart. untouched keys c event step old mid (hears_untouched c d event step taken old mid apart (no_bytes apart) (none_sent apart) h enters next))
+    → Moves keys Plain c event step old mid
+heard_move keys Plain c d event step taken old mid keys_are allowed heard no_bytes none_sent h enters next =
+    ⊎_elim (λ same. subst (λ n. Moves keys Plain n event step old mid) same (hears_moves keys Plain d event step taken old mid keys_are allowed heard h enters next))
+    (λ apart. untouched keys Plain c event step old mid (hears_untouched c d event step taken old mid apart (no_bytes apart) (none_sent apart) h enters next))
     (cases_eq d c)
 
 -- any event that is allowed
-moves : (keys : List (List ℕ)) (c : ℕ) (event : Event) (step : Step) (old mid : State) → keys_of old ≡ keys → loses c event ≡ false → IsAllowed event old → step.sent.items ≡ sent_by event old → IsSeen event step.told old mid
-    → Moves keys c event step old mid
-moves keys c (Open d) step old mid keys_are alive allowed sent s = opens_move keys c d step old mid s
-moves keys c (Turn t) step old mid keys_are alive allowed sent s = turns_move keys c t step s.taken old mid s.changes s.books.1 s.next
-moves keys c (Piece d bytes) step old mid keys_are alive allowed sent s =
-    heard_move keys c d (Piece d bytes) step s.taken old mid keys_are allowed (heard_piece keys d step old bytes) (λ apart. ap (λ b. if b then bytes.items else []) (other_number d c apart)) (λ apart. refl) s.books s.changes.slices s.next
-moves keys c (End d) step old mid keys_are alive allowed sent s =
-    heard_move keys c d (End d) step s.taken old mid keys_are allowed (heard_end keys d step old) (λ apart. refl) (λ apart. refl) s.books s.changes.slices s.next
-moves keys c (Fault d) step old mid keys_are alive allowed sent s =
-    untouched keys c (Fault d) step old mid (hears_untouched c d (Fault d) step s.taken old mid (λ same. let lost : (d == c) ≡ true = eq-eqb d c same in cc) refl refl s.books (none_enters (keys_of old) d step.told s.taken old mid s.changes) s.next)
-moves keys c (Wrote d count) step old mid keys_are alive allowed sent s =
-    heard_move keys c d (Wrote d count) step s.taken old mid keys_are allowed (heard_wrote keys d step old count sent) (λ apart. refl) (λ apart. ap (λ b. if b then step.sent.items else []) (other_number d c apart)) s.books s.changes.slices s.next
-
-or_false : (a b : Bool) → (a || b) ≡ false → (a ≡ false) × (b ≡ false)
-or_false false false e = (refl, refl)
-or_false false true e = absurd (cc)
-or_false true false e = absurd (cc)
-or_false true true e = absurd (cc)
-
--- a whole run, from where the connection stood
-run_moves : (keys : List (List ℕ)) (c : ℕ) (came sent : List ℕ) (tells : List Tell) (events : List Event) (steps : List Step) (old new : State) → keys_of old ≡ keys → is_lost_in c events ≡ false
-    → Run old events steps new → Stands keys c came sent tells old → Stands keys c (came ++ came_on c events) (sent ++ sent_on c events steps) (tells ++ told_on c steps) new
-run_moves keys c came sent tells [] [] old new keys_are alive same stands =
-    subst (λ (s : State). Stands keys c (came ++ []) (sent ++ []) (tells ++ []) s) (sym same)
-    (subst (λ bs. Stands keys c bs (sent ++ []) (tells ++ []) old) (sym (append-nil came))
-    (subst (λ bs. Stands keys c came bs (tells ++ []) old) (sym (append-nil sent))
-    (subst (λ ts. Stands keys c came sent ts old) (sym (append-nil tells)) stands)))
-run_moves keys c came sent tells [] (step ∷ steps) old new keys_are alive run stands = absurd run
-run_moves keys c came sent tells (event ∷ events) [] old new keys_are alive run stands = absurd run
-run_moves keys c came sent tells (event ∷ events) (step ∷ steps) old new keys_are alive (mid, h, run) stands =
-    let lives = or_false (loses c event) (is_lost_in c events) alive in
-    let s = seen event step.told old mid h.allowed h.does in
-    let now = moves keys c event step old mid keys_are lives.0 h.allowed h.sent s came sent tells stands in
-    let later = run_moves keys c (came ++ came_in c event) (sent ++ sent_in c event step) (tells ++ told_in c step.told.reply) events steps mid new
-    (s.keys ∙ keys_are) lives.1 run now in
-    subst (λ bs. Stands keys c bs (sent ++ sent_on c (event ∷ events) (step ∷ steps)) (tells ++ told_on c (step ∷ steps)) new) (append_assoc came (came_in c event) (came_on c events))
-    (subst (λ bs. Stands keys c ((came ++ came_in c event) ++ came_on c events) bs (tells ++ told_on c (step ∷ steps)) new) (append_assoc sent (sent_in c event step) (sent_on c events steps))
-    (subst (λ ts. Stands keys c ((came ++ came_in c event) ++ came_on c events) ((sent ++ sent_in c event step) ++ sent_on c events steps) ts new) (append_assoc tells (told_in c step.told.reply) (told_on c steps)) later))
-
--- each tenant begins with an empty queue
-new_queue : (keys : List (List ℕ)) (u : ℕ) (queue : Queue) → slice_get (map (λ (key : List ℕ). let none : Queue = [] in none) keys) u ≡ Some queue → queue ≡ []
-new_queue [] u queue was = absurd (none_some was)
-new_queue (key ∷ keys) zero queue was = sym (some_same was)
-new_queue (key ∷ keys) (suc u) queue was = new_queue keys u queue was
-
--- before the first event no connection stands open
-begins : (keys : List (List ℕ)) (c : ℕ) → Stands keys c [] [] [] (new_state keys)
-begins keys c = inr (record {
-  at = refl;
-  left = opening;
-  talk = none_came keys c [] [] [] opening refl refl refl refl;
-  fresh = λ above. (refl, refl);
-  queued = λ u slice was. ap (waiters_of c) (new_queue keys u (waiting_of slice) (slice_parts (world_at u (new_state keys)) (queue_at u (new_state keys)) slice was).1);
-})
-
--- what waits, as the contract says it
-waits_for : (keys : List (List ℕ)) (waits : Option ℕ) (waiting : List RequestMessage) (pending : List ℕ) (over : Bool) → Holds keys waits waiting pending over → WaitsFor keys waits waiting
-waits_for keys None waiting pending over holds = holds
-waits_for keys (Some t) waiting pending over (request, one, key_is, none, over_is) = (request, one, key_is)
-
--- where the connection stands at the end, as the contract says it
-converses : (keys : List (List ℕ)) (c : ℕ) (events : List Event) (steps : List Step) (service : State) → Stands keys c (came_on c events) (sent_on c events steps) (told_on c steps) service
-    → ConversesPlainly keys c events steps service
-converses keys c events steps service (inl is) = record {
-  exchanges = is.is_line.talk.exchanges;
-  told = is.is_line.talk.told;
-  bytes = ap (λ (o : Option Line). sent_on c events steps ++ unwrap_or (option_map (λ (l : Line). l.pending) o) []) is.at ∙ is.is_line.talk.bytes;
-  waiting = is.is_line.waiting;
-  left = is.line.stream;
-  cut = is.is_line.talk.cut;
-  served = λ some. subst IsServedOut (sym is.at) (is.idle some);
-  stays = subst (λ (o : Option Line). IsLeft keys o is.is_line.waiting is.line.stream) (sym is.at) (refl, waits_for keys is.line.waits is.is_line.waiting is.line.pending is.line.stream.over is.is_line.holds);
-}
-converses keys c events steps service (inr is) = record {
-  exchanges = is.talk.exchanges;
-  told = is.talk.told;
-  bytes = ap (λ (o : Option Line). sent_on c events steps ++ unwrap_or (option_map (λ (l : Line). l.pending) o) []) is.at ∙ is.talk.bytes;
-  waiting = [];
-  left = is.left;
-  cut = is.talk.cut;
-  served = λ some. subst IsServedOut (sym is.at) tt;
-  stays = subst (λ (o : Option Line). IsLeft keys o [] is.left) (sym is.at) refl;
-}
-
--- in a run from the beginning, each connection that isn't lost converses plainly
-pub run_converses : (keys : List (List ℕ)) (events : List Event) (steps : List Step) (service : State) (c : ℕ) → is_lost_in c events ≡ false → Run (new_state keys) events steps service
-    → ConversesPlainly keys c events steps service
-run_converses keys events steps service c alive run =
-    converses keys c events steps service (run_moves keys c [] [] [] events steps (new_state keys) service refl alive run (begins keys c))
+pub moves : (keys : List (List ℕ)) (Plain : ℕ → Waiter → ReplyMessage → Type 0) (c : ℕ) (event : Event) (step : Step) (old mid : State) → keys_of old ≡ keys → loses c event ≡ false → IsAllowed event old → step.sent.items ≡ sent_by event old → IsSeen event step.told old mid → EachIsPlain Plain event step old mid
+    → Moves keys Plain c event step old mid
+moves keys Plain c (Open d) step old mid keys_are alive allowed sent s plain = opens_move keys Plain c d step old mid s
+moves keys Plain c (Turn t) step old mid keys_are alive allowed sent s plain = turns_move keys Plain c t step s.taken old mid s.changes s.books.1 s.next plain
+moves keys Plain c (Piece d bytes) step old mid keys_are alive allowed sent s plain =
+    heard_move keys Plain c d (Piece d bytes) step s.taken old mid keys_are allowed (heard_piece keys Plain d step old bytes) (λ apart. ap (λ b. if b then bytes.items else []) (other_number d c apart)) (λ apart. refl) s.books s.changes.slices s.next
+moves keys Plain c (End d) step old mid keys_are alive allowed sent s plain =
+    heard_move keys Plain c d (End d) step s.taken old mid keys_are allowed (heard_end keys Plain d step old) (λ apart. refl) (λ apart. refl) s.books s.changes.slices s.next
+moves keys Plain c (Fault d) step old mid keys_are alive allowed sent s plain =
+    untouched keys Plain c (Fault d) step old mid (hears_untouched c d (Fault d) step s.taken old mid (λ same. let lost : (d == c) ≡ true = eq-eqb d c same in cc) refl refl s.books (none_enters (keys_of old) d step.told s.taken old mid s.changes) s.next)
+moves keys Plain c (Wrote d count) step old mid keys_are alive allowed sent s plain =
+    heard_move keys Plain c d (Wrote d count) step s.taken old mid keys_are allowed (heard_wrote keys Plain d step old count sent) (λ apart. refl) (λ apart. ap (λ b. if b then step.sent.items else []) (other_number d c apart)) s.books s.changes.slices s.next

@@ -17,4 +17,7 @@ mod TalkLemmas
 mod StandingLemmas
 mod PlaceLemmas
 mod ConversingLemmas
+mod LostLemmas
+mod PositionLemmas
+mod RunConverses
 mod OneListLemmas

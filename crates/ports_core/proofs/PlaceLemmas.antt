@@ -158,7 +158,7 @@ pub opened_fresh : (lines after : List (ℕ × Line)) (n : ℕ) → ((d : ℕ) �
 opened_fresh lines after n same fresh c above = ap is_some (same c (λ e. absurd (omega (arith, e, above)))) ∙ fresh c (omega (arith, above))
 
 -- an event leaves what its connection waits for
-hears_waits : (event : Event) (line : Line) → (hears event line).waits ≡ line.waits
+pub hears_waits : (event : Event) (line : Line) → (hears event line).waits ≡ line.waits
 hears_waits (Open c) line = refl
 hears_waits (Piece c bytes) line = refl
 hears_waits (End c) line = refl
@@ -167,7 +167,7 @@ hears_waits (Wrote c None) line = refl
 hears_waits (Wrote c (Some count)) line = refl
 hears_waits (Turn t) line = refl
 
-none_waits : (waits : Option ℕ) → is_none waits ≡ true → waits ≡ None
+pub none_waits : (waits : Option ℕ) → is_none waits ≡ true → waits ≡ None
 none_waits None e = refl
 none_waits (Some t) e = absurd (cc)
 

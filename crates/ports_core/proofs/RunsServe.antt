@@ -1,5 +1,5 @@
 -- A whole run, as a tenant and the book see it.
-use Rattle.std.proofs.Common.{◌≡◌, ◌<◌, ℕ, zero, suc, List, [], ◌∷◌, ◌++◌, length, Option, Some, refl, sym, ap, subst, ◌∙◌, append-nil, arith}
+use Rattle.std.proofs.Common.{◌≡◌, ◌<◌, ℕ, zero, suc, List, [], ◌∷◌, ◌++◌, length, Option, Some, refl, sym, ap, subst, ◌∙◌, append_assoc, append-nil, arith}
 use Rattle.std.specs.Prelude.{slice_get, map, option_map, unwrap_or}
 use Rattle.ports_core.specs.declared.event.Event.{Event}
 use Rattle.ports_core.specs.declared.queue.Waiter.{Waiter}
@@ -23,6 +23,7 @@ pub record IsServedIn (t : ℕ) (events : List Event) (steps : List Step) (old n
   pub last : Slice
   pub last_is : slice_of t new ≡ Some last
   pub serves : Serves slice.0 (slice.1 ++ taken) (told_to t steps) last.0 last.1
+  pub takes_on : (later : List Event) (later_steps : List Step) (more : List Waiter) → TakesIn (keys_of old) t (book_of new) later later_steps more → TakesIn (keys_of old) t (book_of old) (events ++ later) (steps ++ later_steps) (taken ++ more)
 
 pub run_serves : (t : ℕ) (events : List Event) (steps : List Step) (old new : State) (slice : Slice) → Run old events steps new → slice_of t old ≡ Some slice → IsServedIn t events steps old new slice
 run_serves t [] [] old new slice same was = record {
@@ -31,6 +32,7 @@ run_serves t [] [] old new slice same was = record {
   last = slice;
   last_is = ap (slice_of t) same ∙ was;
   serves = (refl, sym (append-nil slice.1));
+  takes_on = λ later later_steps more takes. subst (λ (s : State). TakesIn (keys_of old) t (book_of s) later later_steps more) same takes;
 }
 run_serves t [] (step ∷ steps) old new slice run was = absurd run
 run_serves t (event ∷ events) [] old new slice run was = absurd run
@@ -44,6 +46,15 @@ run_serves t (event ∷ events) (step ∷ steps) old new slice run was =
       last = more.last;
       last_is = more.last_is;
       serves = one.serves more.taken (told_to t steps) more.last.0 more.last.1 more.serves;
+      takes_on = λ later later_steps further takes. (
+        event_seen.taken,
+        book_of run.0,
+        more.taken ++ further,
+        event_seen.books,
+        append_assoc (entering (keys_of old) (conn_of event) event_seen.taken t) more.taken further,
+        subst (λ ks. TakesIn ks t (book_of run.0) (events ++ later) (steps ++ later_steps) (more.taken ++ further)) event_seen.keys
+            (more.takes_on later later_steps further (subst (λ ks. TakesIn ks t (book_of new) later later_steps further) (sym event_seen.keys) takes)),
+      );
     }
 
 -- each tenant begins with a new slice

@@ -3,6 +3,7 @@ use Rattle.std.proofs.Common.{◌≡◌, Bool, true, false, List, [], ◌∷◌,
 use Rattle.std.specs.Prelude.{if◌then◌else◌}
 use Rattle.ports_core.specs.declared.event.Tell.{Tell}
 use Rattle.ports_core.specs.declared.queue.Waiter.{Waiter}
+use Rattle.ports_http.specs.Messages.{RequestMessage, ReplyMessage}
 use Rattle.ports_plain.specs.Plain.{Served}
 use Rattle.mk_paths.specs.World.{World}
 use Rattle.ports_core.specs.Slices.{Answers, asked_of, plain_answer}
@@ -17,6 +18,10 @@ Serves world [] (tell ∷ tells) last rest = ⊥
 Serves world (waiter ∷ waiters) (tell ∷ tells) last rest =
     (mid : World) × (tell.conn ≡ waiter.conn) × Answers world waiter.request tell.reply mid × Serves mid waiters tells last rest
 
+-- the plain service fails nothing
+pub answer-fine : (world : World) (request : RequestMessage) (reply : ReplyMessage) (after : World) → plain_answer world request ≡ (reply, after) → is_failure reply.status ≡ false
+answer-fine world request reply after plainly = sym (ap (λ (a : Served). is_failure a.0.status) plainly) ∙ never_503 world (asked_of request)
+
 -- What was told, and what the plain service would tell to those that wait, is what it would tell to the own list.
 pub told_plainly : (world : World) (waiters : List Waiter) (tells : List Tell) (last : World) (rest : List Waiter) → Serves world waiters tells last rest
     → answers_of tells ++ plain_run last rest ≡ plain_run world (own_of waiters tells)
@@ -24,7 +29,7 @@ told_plainly world [] [] last rest serves = ap (λ f. plain_run f rest) serves.0
 told_plainly world (waiter ∷ waiters) [] last rest serves = ap (λ f. plain_run f rest) serves.0 ∙ ap (plain_run world) serves.1
 told_plainly world [] (tell ∷ tells) last rest serves = absurd serves
 told_plainly world (waiter ∷ waiters) (tell ∷ tells) last rest (mid, conn_is, inl plainly, serves) =
-    let fine : is_failure tell.reply.status ≡ false = sym (ap (λ (a : Served). is_failure a.0.status) plainly) ∙ never_503 world (asked_of waiter.request) in
+    let fine : is_failure tell.reply.status ≡ false = answer-fine world waiter.request tell.reply mid plainly in
     let P : Bool → Type 0 = λ b. (if b then answers_of tells else (tell.conn, tell.reply) ∷ answers_of tells) ++ plain_run last rest ≡ plain_run world (if b then own_of waiters tells else waiter ∷ own_of waiters tells) in
     let both : P false =
     ap (λ xs. (tell.conn, tell.reply) ∷ xs) (told_plainly mid waiters tells last rest serves)
@@ -41,20 +46,22 @@ told_plainly world (waiter ∷ waiters) (tell ∷ tells) last rest (mid, conn_is
 pub record IsAnsweredPlainly (world : World) (waiters : List Waiter) (tells : List Tell) (last : World) (rest : List Waiter) : Type 0 where
   pub answered : List Waiter
   pub own : own_of waiters tells ≡ answered ++ rest
+  pub own_on : (more : List Waiter) (later : List Tell) → own_of (waiters ++ more) (tells ++ later) ≡ answered ++ own_of (rest ++ more) later
   pub replies : answers_of tells ≡ plain_run world answered
   pub world_is : last ≡ plain_world world answered
 
 pub answered_plainly : (world : World) (waiters : List Waiter) (tells : List Tell) (last : World) (rest : List Waiter) → Serves world waiters tells last rest
     → IsAnsweredPlainly world waiters tells last rest
-answered_plainly world [] [] last rest serves = record { answered = []; own = sym serves.1; replies = refl; world_is = serves.0 }
-answered_plainly world (waiter ∷ waiters) [] last rest serves = record { answered = []; own = sym serves.1; replies = refl; world_is = serves.0 }
+answered_plainly world [] [] last rest serves = record { answered = []; own = sym serves.1; own_on = λ more later. ap (λ ws. own_of (ws ++ more) later) (sym serves.1); replies = refl; world_is = serves.0 }
+answered_plainly world (waiter ∷ waiters) [] last rest serves = record { answered = []; own = sym serves.1; own_on = λ more later. ap (λ ws. own_of (ws ++ more) later) (sym serves.1); replies = refl; world_is = serves.0 }
 answered_plainly world [] (tell ∷ tells) last rest serves = absurd serves
 answered_plainly world (waiter ∷ waiters) (tell ∷ tells) last rest (mid, conn_is, inl plainly, serves) =
-    let fine : is_failure tell.reply.status ≡ false = sym (ap (λ (a : Served). is_failure a.0.status) plainly) ∙ never_503 world (asked_of waiter.request) in
+    let fine : is_failure tell.reply.status ≡ false = answer-fine world waiter.request tell.reply mid plainly in
     let more = answered_plainly mid waiters tells last rest serves in
     record {
       answered = waiter ∷ more.answered;
       own = ap (λ b. if b then own_of waiters tells else waiter ∷ own_of waiters tells) fine ∙ ap (λ ws. waiter ∷ ws) more.own;
+      own_on = λ further later. ap (λ b. if b then own_of (waiters ++ further) (tells ++ later) else waiter ∷ own_of (waiters ++ further) (tells ++ later)) fine ∙ ap (λ ws. waiter ∷ ws) (more.own_on further later);
       replies = ap (λ b. if b then answers_of tells else (tell.conn, tell.reply) ∷ answers_of tells) fine
           ∙ ap (λ xs. (tell.conn, tell.reply) ∷ xs) more.replies
           ∙ ap (λ (a : Served). (tell.conn, a.0) ∷ plain_run a.1 more.answered) (sym plainly)
@@ -67,6 +74,7 @@ answered_plainly world (waiter ∷ waiters) (tell ∷ tells) last rest (mid, con
     record {
       answered = more.answered;
       own = ap (λ b. if b then own_of waiters tells else waiter ∷ own_of waiters tells) failure ∙ more.own;
+      own_on = λ further later. ap (λ b. if b then own_of (waiters ++ further) (tells ++ later) else waiter ∷ own_of (waiters ++ further) (tells ++ later)) failure ∙ more.own_on further later;
       replies = ap (λ b. if b then answers_of tells else (tell.conn, tell.reply) ∷ answers_of tells) failure ∙ more.replies ∙ ap (λ f. plain_run f more.answered) failed.1;
       world_is = more.world_is ∙ ap (λ f. plain_world f more.answered) failed.1;
     }

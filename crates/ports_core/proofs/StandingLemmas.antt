@@ -5,13 +5,14 @@ use Rattle.std.proofs.lemmas.Bool.{false≢true, cases_Bool, and_parts, MatchBoo
 use Rattle.std.proofs.lemmas.Bool.Decides.{nat_tests}
 use Rattle.ports_core.proofs.Numbers.{other_number}
 use Rattle.ports_core.proofs.Lists.{option_from}
-use Rattle.ports_core.proofs.QueueLemmas.{waiters_of, waiters_at, waiters_join}
+use Rattle.ports_core.proofs.QueueLemmas.{waiters_of, waiter, waiters_at, waiters_join}
 use Rattle.ports_http.specs.Messages.{RequestMessage, ReplyMessage}
 use Rattle.ports_http.specs.Streams.{Waits}
 use Rattle.ports_http.specs.Incoming.{Incoming, opening, ended}
 use Rattle.ports_http.specs.Replies.{reply_text, fault_reply, unknown_key, store_failed}
 use Rattle.ports_core.specs.declared.line.Line.{Line}
 use Rattle.ports_core.specs.declared.event.Tell.{Tell}
+use Rattle.ports_core.specs.declared.queue.Waiter.{Waiter}
 use Rattle.ports_core.specs.Keys.{tenant_of}
 use Rattle.ports_core.specs.Slices.{Slice, waiting_of, joined}
 use Rattle.ports_core.specs.Lines.{kept, is_done, is_ready, is_empty, with_pending}
@@ -32,10 +33,10 @@ Holds keys (Some t) waiting pending over =
     (request : RequestMessage) × (waiting ≡ request ∷ []) × (tenant_of keys request.key ≡ Some t) × (pending ≡ []) × (over ≡ request.close)
 
 -- a line that isn't lost, and what was asked and told on it
-pub record IsLine (keys : List (List ℕ)) (c : ℕ) (came sent : List ℕ) (tells : List Tell) (line : Line) (state : State) : Type 0 where
+pub record IsLine (keys : List (List ℕ)) (Plain : ℕ → Waiter → ReplyMessage → Type 0) (c : ℕ) (came sent : List ℕ) (tells : List Tell) (line : Line) (state : State) : Type 0 where
   pub alive : line.lost ≡ false
   pub waiting : List RequestMessage
-  pub talk : Talk keys c came sent tells line.pending waiting line.stream
+  pub talk : Talk keys Plain c came sent tells line.pending waiting line.stream
   pub holds : Holds keys line.waits waiting line.pending line.stream.over
   pub queued : Queued c state line.waits waiting
 
@@ -44,24 +45,24 @@ abbrev pub IsIdle : List ℕ → Line → Type 0
 IsIdle came line = came ≢ [] → is_ready line ≡ true → TakesOff line.stream Nothing line.stream
 
 -- the connection is open
-pub record StandsOpen (keys : List (List ℕ)) (c : ℕ) (came sent : List ℕ) (tells : List Tell) (state : State) : Type 0 where
+pub record StandsOpen (keys : List (List ℕ)) (Plain : ℕ → Waiter → ReplyMessage → Type 0) (c : ℕ) (came sent : List ℕ) (tells : List Tell) (state : State) : Type 0 where
   pub line : Line
   pub at : line_of c state ≡ Some line
   pub below : c < next_of state
   pub idle : IsIdle came line
-  pub is_line : IsLine keys c came sent tells line state
+  pub is_line : IsLine keys Plain c came sent tells line state
 
 -- the connection isn't open yet, or no more
-pub record StandsShut (keys : List (List ℕ)) (c : ℕ) (came sent : List ℕ) (tells : List Tell) (state : State) : Type 0 where
+pub record StandsShut (keys : List (List ℕ)) (Plain : ℕ → Waiter → ReplyMessage → Type 0) (c : ℕ) (came sent : List ℕ) (tells : List Tell) (state : State) : Type 0 where
   pub at : line_of c state ≡ None
   pub left : Incoming
-  pub talk : Talk keys c came sent tells [] [] left
+  pub talk : Talk keys Plain c came sent tells [] [] left
   pub fresh : next_of state ≤ c → (left ≡ opening) × (came ≡ [])
   pub queued : Queued c state None []
 
 -- a connection that isn't lost
-abbrev pub Stands : List (List ℕ) → ℕ → List ℕ → List ℕ → List Tell → State → Type 0
-Stands keys c came sent tells state = StandsOpen keys c came sent tells state ⊎ StandsShut keys c came sent tells state
+abbrev pub Stands : List (List ℕ) → (ℕ → Waiter → ReplyMessage → Type 0) → ℕ → List ℕ → List ℕ → List Tell → State → Type 0
+Stands keys Plain c came sent tells state = StandsOpen keys Plain c came sent tells state ⊎ StandsShut keys Plain c came sent tells state
 
 no_bytes : (bytes : List ℕ) → is_empty bytes ≡ true → bytes ≡ []
 no_bytes [] e = refl
@@ -72,10 +73,10 @@ none_waits None e = refl
 none_waits (Some t) e = absurd (cc)
 
 -- a line that is done closes, and any other stays open
-pub settles : (keys : List (List ℕ)) (c : ℕ) (came sent : List ℕ) (tells : List Tell) (after : Line) (state : State)
-    → line_of c state ≡ kept after → c < next_of state → IsIdle came after → IsLine keys c came sent tells after state → Stands keys c came sent tells state
-settles keys c came sent tells after state at below idle is =
-    let P : Bool → Type 0 = λ b. is_done after ≡ b → line_of c state ≡ (if b then None else Some after) → Stands keys c came sent tells state in
+pub settles : (keys : List (List ℕ)) (Plain : ℕ → Waiter → ReplyMessage → Type 0) (c : ℕ) (came sent : List ℕ) (tells : List Tell) (after : Line) (state : State)
+    → line_of c state ≡ kept after → c < next_of state → IsIdle came after → IsLine keys Plain c came sent tells after state → Stands keys Plain c came sent tells state
+settles keys Plain c came sent tells after state at below idle is =
+    let P : Bool → Type 0 = λ b. is_done after ≡ b → line_of c state ≡ (if b then None else Some after) → Stands keys Plain c came sent tells state in
     elim (is_done after) as P [
       | true ↦ λ done none.
           let front = (and_parts _ _ done).0 in
@@ -85,7 +86,7 @@ settles keys c came sent tells after state at below idle is =
           inr (record {
             at = none;
             left = after.stream;
-            talk = subst (λ ws. Talk keys c came sent tells [] ws after.stream) waiting (subst (λ p. Talk keys c came sent tells p is.waiting after.stream) pending is.talk);
+            talk = subst (λ ws. Talk keys Plain c came sent tells [] ws after.stream) waiting (subst (λ p. Talk keys Plain c came sent tells p is.waiting after.stream) pending is.talk);
             fresh = λ above. absurd (omega (arith, below, above));
             queued = λ u slice was. is.queued u slice was ∙ ap (λ w. waiters_at c u w is.waiting) waits;
           })
@@ -144,17 +145,17 @@ over_behind request old new takes =
     ∙ elim (request.close) as (λ b. (if b then ended else record { unread = takes.rest; over = false }).over ≡ b) [ true ↦ refl | false ↦ refl ]
 
 -- what is taken off a line that isn't lost
-module _ (keys : List (List ℕ)) (c : ℕ) (came sent : List ℕ) (tells : List Tell) (line : Line) (old mid : State) (is : IsLine keys c came sent tells line old) (stream : Incoming) where
+module _ (keys : List (List ℕ)) (Plain : ℕ → Waiter → ReplyMessage → Type 0) (c : ℕ) (came sent : List ℕ) (tells : List Tell) (line : Line) (old mid : State) (is : IsLine keys Plain c came sent tells line old) (stream : Incoming) where
   stay_queued : (slice before : Slice) → joined [] before ≡ slice → waiters_of c (waiting_of slice) ≡ waiters_of c (waiting_of before)
   stay_queued slice before same = ap (λ (s : Slice). waiters_of c (waiting_of s)) (sym same) ∙ ap (waiters_of c) (append-nil (waiting_of before))
 
   -- nothing is taken
   takes_nothing : stream ≡ line.stream → ((u : ℕ) → slice_of u mid ≡ option_map (joined []) (slice_of u old))
-      → IsLine keys c came sent (tells ++ []) (record line { stream = stream }) mid
+      → IsLine keys Plain c came sent (tells ++ []) (record line { stream = stream }) mid
   takes_nothing same slices = record {
     alive = is.alive;
     waiting = is.waiting;
-    talk = subst (λ ts. Talk keys c came sent ts line.pending is.waiting stream) (sym (append-nil tells)) (subst (λ s. Talk keys c came sent tells line.pending is.waiting s) (sym same) is.talk);
+    talk = subst (λ ts. Talk keys Plain c came sent ts line.pending is.waiting stream) (sym (append-nil tells)) (subst (λ s. Talk keys Plain c came sent tells line.pending is.waiting s) (sym same) is.talk);
     holds = subst (λ (s : Incoming). Holds keys line.waits is.waiting line.pending s.over) (sym same) is.holds;
     queued = λ u slice was. let from = option_from (joined []) (slice_of u old) slice (sym (slices u) ∙ was) in
         stay_queued slice from.0 from.2 ∙ is.queued u from.0 from.1;
@@ -170,20 +171,20 @@ module _ (keys : List (List ℕ)) (c : ℕ) (came sent : List ℕ) (tells : List
     ready_waiting : is.waiting ≡ []
     ready_waiting = subst (λ w. Holds keys w is.waiting line.pending line.stream.over) ready_waits is.holds
 
-    ready_talk : Talk keys c came sent tells [] [] line.stream
-    ready_talk = subst (λ ws. Talk keys c came sent tells [] ws line.stream) ready_waiting (subst (λ p. Talk keys c came sent tells p is.waiting line.stream) ready_pending is.talk)
+    ready_talk : Talk keys Plain c came sent tells [] [] line.stream
+    ready_talk = subst (λ ws. Talk keys Plain c came sent tells [] ws line.stream) ready_waiting (subst (λ p. Talk keys Plain c came sent tells p is.waiting line.stream) ready_pending is.talk)
 
     ready_queues : (u : ℕ) (slice : Slice) → slice_of u old ≡ Some slice → waiters_of c (waiting_of slice) ≡ []
     ready_queues u slice was = is.queued u slice was ∙ none_at c u line.waits is.waiting ready_waits
 
     -- something was taken and is answered at once
-    told_line : (tell : Tell) (pending : List ℕ) → tell.conn ≡ c → Talk keys c came sent (tells ++ tell ∷ []) pending [] stream
+    told_line : (tell : Tell) (pending : List ℕ) → tell.conn ≡ c → Talk keys Plain c came sent (tells ++ tell ∷ []) pending [] stream
         → ((u : ℕ) → slice_of u mid ≡ option_map (joined []) (slice_of u old))
-        → IsLine keys c came sent (tells ++ told_in c (Some tell)) (record line { stream = stream; pending = pending }) mid
+        → IsLine keys Plain c came sent (tells ++ told_in c (Some tell)) (record line { stream = stream; pending = pending }) mid
     told_line tell pending here talk slices = record {
       alive = is.alive;
       waiting = [];
-      talk = subst (λ ts. Talk keys c came sent (tells ++ ts) pending [] stream) (sym (told_here c tell here)) talk;
+      talk = subst (λ ts. Talk keys Plain c came sent (tells ++ ts) pending [] stream) (sym (told_here c tell here)) talk;
       holds = subst (λ w. Holds keys w [] pending stream.over) (sym ready_waits) refl;
       queued = λ u slice was. let from = option_from (joined []) (slice_of u old) slice (sym (slices u) ∙ was) in
           stay_queued slice from.0 from.2 ∙ ready_queues u from.0 from.1 ∙ sym (none_at c u line.waits [] ready_waits);
@@ -192,17 +193,17 @@ module _ (keys : List (List ℕ)) (c : ℕ) (came sent : List ℕ) (tells : List
     -- a request of that tenant, or of none, is taken
     takes_whole : (place : Option ℕ) (request : RequestMessage) → tenant_of keys request.key ≡ place → TakesSome line.stream (Whole request) stream
         → ((u : ℕ) → slice_of u mid ≡ option_map (joined (entering_of place c u request)) (slice_of u old))
-        → IsLine keys c came sent (tells ++ told_in c (told_of_tenant c place)) (line_with place request.close (record line { stream = stream })) mid
+        → IsLine keys Plain c came sent (tells ++ told_in c (told_of_tenant c place)) (line_with place request.close (record line { stream = stream })) mid
     takes_whole None request key_is takes slices =
         told_line (at_once c unknown_key) (reply_text unknown_key request.close) refl
-        (talk_told keys c came sent tells line.stream stream (Whole request) (at_once c unknown_key) takes
-        (subst (λ (o : Option ℕ). MatchOption o (at_once c unknown_key ≡ at_once c unknown_key) (λ tenant. at_once c unknown_key ≡ in_turn tenant c unknown_key)) (sym key_is) refl) ready_talk)
+        (talk_told keys Plain c came sent tells line.stream stream (Whole request) (at_once c unknown_key) takes
+        (subst (λ (o : Option ℕ). MatchOption o (at_once c unknown_key ≡ at_once c unknown_key) (λ tenant. (at_once c unknown_key ≡ in_turn tenant c unknown_key) × Plain tenant (waiter c request) unknown_key)) (sym key_is) refl) ready_talk)
         slices
     takes_whole (Some tenant) request key_is takes slices = record {
       alive = is.alive;
       waiting = request ∷ [];
-      talk = subst (λ p. Talk keys c came sent (tells ++ []) p (request ∷ []) stream) (sym ready_pending)
-          (subst (λ ts. Talk keys c came sent ts [] (request ∷ []) stream) (sym (append-nil tells)) (talk_waits keys c came sent tells line.stream stream request takes ready_talk));
+      talk = subst (λ p. Talk keys Plain c came sent (tells ++ []) p (request ∷ []) stream) (sym ready_pending)
+          (subst (λ ts. Talk keys Plain c came sent ts [] (request ∷ []) stream) (sym (append-nil tells)) (talk_waits keys Plain c came sent tells line.stream stream request takes ready_talk));
       holds = (request, refl, key_is, ready_pending, over_behind request line.stream stream takes);
       queued = λ u slice was. let from = option_from (joined (entering_of (Some tenant) c u request)) (slice_of u old) slice (sym (slices u) ∙ was) in
           ap (λ (s : Slice). waiters_of c (waiting_of s)) (sym from.2) ∙ waiters_join c tenant u request (waiting_of from.0) (ready_queues u from.0 from.1);
@@ -211,23 +212,23 @@ module _ (keys : List (List ℕ)) (c : ℕ) (came sent : List ℕ) (tells : List
   -- whatever is taken
   takes_ready : (taken : Taken) → is_ready line ≡ true → TakesOff line.stream taken stream
       → ((u : ℕ) → slice_of u mid ≡ option_map (joined (entering keys c taken u)) (slice_of u old))
-      → IsLine keys c came sent (tells ++ told_in c (told_at_once keys c taken)) (line_behind keys taken (record line { stream = stream })) mid
+      → IsLine keys Plain c came sent (tells ++ told_in c (told_at_once keys c taken)) (line_behind keys taken (record line { stream = stream })) mid
   takes_ready Nothing ready takes slices = takes_nothing takes.0 slices
   takes_ready (Whole request) ready takes slices = takes_whole ready (tenant_of keys request.key) request refl takes slices
   takes_ready (Refusal fault) ready takes slices =
       told_line ready (at_once c (fault_reply fault)) (reply_text (fault_reply fault) true) refl
-      (talk_told keys c came sent tells line.stream stream (Refusal fault) (at_once c (fault_reply fault)) takes refl (ready_talk ready))
+      (talk_told keys Plain c came sent tells line.stream stream (Refusal fault) (at_once c (fault_reply fault)) takes refl (ready_talk ready))
       slices
   takes_ready (Lost close) ready takes slices =
       told_line ready (at_once c store_failed) (reply_text store_failed close) refl
-      (talk_told keys c came sent tells line.stream stream (Lost close) (at_once c store_failed) takes refl (ready_talk ready))
+      (talk_told keys Plain c came sent tells line.stream stream (Lost close) (at_once c store_failed) takes refl (ready_talk ready))
       slices
 
   pub takes : (taken : Taken) → IsTaken line taken stream
       → ((u : ℕ) → slice_of u mid ≡ option_map (joined (entering keys c taken u)) (slice_of u old))
-      → IsLine keys c came sent (tells ++ told_in c (told_at_once keys c taken)) (line_behind keys taken (record line { stream = stream })) mid
+      → IsLine keys Plain c came sent (tells ++ told_in c (told_at_once keys c taken)) (line_behind keys taken (record line { stream = stream })) mid
   takes taken stands slices =
-      let Q : Taken → Type 0 = λ k. IsLine keys c came sent (tells ++ told_in c (told_at_once keys c k)) (line_behind keys k (record line { stream = stream })) mid in
+      let Q : Taken → Type 0 = λ k. IsLine keys Plain c came sent (tells ++ told_in c (told_at_once keys c k)) (line_behind keys k (record line { stream = stream })) mid in
       let P : Bool → Type 0 = λ b. is_ready line ≡ b → MatchBool b (TakesOff line.stream taken stream) ((taken ≡ Nothing) × (stream ≡ line.stream)) → Q taken in
       elim (is_ready line) as P [
         | true ↦ λ ready off. takes_ready taken ready off slices

@@ -8,7 +8,9 @@ use Rattle.ports_http.specs.Incoming.{Incoming, opening, ended, fed, Removes}
 use Rattle.ports_http.specs.Replies.{reply_text}
 use Rattle.ports_http.proofs.StreamLaws.{request_stays}
 use Rattle.ports_core.specs.declared.event.Tell.{Tell}
+use Rattle.ports_core.specs.declared.queue.Waiter.{Waiter}
 use Rattle.ports_core.specs.Taking.{Taken, Nothing, Whole, Refusal, Lost}
+use Rattle.ports_core.specs.Alike.{IsFrontOf}
 use Rattle.ports_core.specs.Conversations.{Exchange, AnswersAsked, AreExchanges, TakesSome, TakesAll, closes_behind, written}
 
 -- a stream from which something is taken is not over
@@ -52,12 +54,12 @@ all_more [] old mid new taken same takes = (new, subst (λ (s : Incoming). Takes
 all_more (first ∷ takens) old mid new taken (next, takes_first, rest) takes = (next, takes_first, all_more takens next mid new taken rest takes)
 
 -- one more reply
-exchanges_more : (keys : List (List ℕ)) (c : ℕ) (exchanges : List Exchange) (tells : List Tell) (asked : Taken) (tell : Tell)
-    → AreExchanges keys c exchanges tells → AnswersAsked keys c asked tell → AreExchanges keys c (exchanges ++ record { asked = asked; reply = tell.reply } ∷ []) (tells ++ tell ∷ [])
-exchanges_more keys c [] [] asked tell told answers = (refl, answers, tt)
-exchanges_more keys c [] (t ∷ tells) asked tell told answers = absurd told
-exchanges_more keys c (e ∷ exchanges) [] asked tell told answers = absurd told
-exchanges_more keys c (e ∷ exchanges) (t ∷ tells) asked tell told answers = (told.0, told.1, exchanges_more keys c exchanges tells asked tell told.2 answers)
+exchanges_more : (keys : List (List ℕ)) (Plain : ℕ → Waiter → ReplyMessage → Type 0) (c : ℕ) (exchanges : List Exchange) (tells : List Tell) (asked : Taken) (tell : Tell)
+    → AreExchanges keys Plain c exchanges tells → AnswersAsked keys Plain c asked tell → AreExchanges keys Plain c (exchanges ++ record { asked = asked; reply = tell.reply } ∷ []) (tells ++ tell ∷ [])
+exchanges_more keys Plain c [] [] asked tell told answers = (refl, answers, tt)
+exchanges_more keys Plain c [] (t ∷ tells) asked tell told answers = absurd told
+exchanges_more keys Plain c (e ∷ exchanges) [] asked tell told answers = absurd told
+exchanges_more keys Plain c (e ∷ exchanges) (t ∷ tells) asked tell told answers = (told.0, told.1, exchanges_more keys Plain c exchanges tells asked tell told.2 answers)
 
 -- what was taken off a connection for these exchanges, and what of it waits
 abbrev pub asks : List Exchange → List RequestMessage → List Taken
@@ -70,24 +72,24 @@ map-more (e ∷ exchanges) asked reply = ap (λ ts. e.asked ∷ ts) (map-more ex
 
 -- the bytes that came, the bytes that were sent, the replies that were told, the bytes that are pending, the
 -- request that waits, and what is left of the stream
-pub record Talk (keys : List (List ℕ)) (c : ℕ) (came sent : List ℕ) (tells : List Tell) (pending : List ℕ) (waiting : List RequestMessage) (left : Incoming) : Type 0 where
+pub record Talk (keys : List (List ℕ)) (Plain : ℕ → Waiter → ReplyMessage → Type 0) (c : ℕ) (came sent : List ℕ) (tells : List Tell) (pending : List ℕ) (waiting : List RequestMessage) (left : Incoming) : Type 0 where
   pub exchanges : List Exchange
-  pub told : AreExchanges keys c exchanges tells
+  pub told : AreExchanges keys Plain c exchanges tells
   pub bytes : sent ++ pending ≡ flat_map written exchanges
   pub cut : TakesAll (fed opening came) (asks exchanges waiting) left
 
-module _ (keys : List (List ℕ)) (c : ℕ) (came sent : List ℕ) (tells : List Tell) where
-  pub none_came : (left : Incoming) → left ≡ opening → came ≡ [] → sent ≡ [] → tells ≡ [] → Talk keys c came sent tells [] [] left
+module _ (keys : List (List ℕ)) (Plain : ℕ → Waiter → ReplyMessage → Type 0) (c : ℕ) (came sent : List ℕ) (tells : List Tell) where
+  pub none_came : (left : Incoming) → left ≡ opening → came ≡ [] → sent ≡ [] → tells ≡ [] → Talk keys Plain c came sent tells [] [] left
   none_came left is no_bytes none_sent none_told = record {
     exchanges = [];
-    told = subst (λ ts. AreExchanges keys c [] ts) (sym none_told) tt;
+    told = subst (λ ts. AreExchanges keys Plain c [] ts) (sym none_told) tt;
     bytes = ap (λ bs. bs ++ []) none_sent;
     cut = is ∙ ap (λ bs. fed opening bs) (sym no_bytes);
   }
 
   -- bytes come, unless the stream is over
   pub talk_fed : (pending : List ℕ) (waiting : List RequestMessage) (left : Incoming) (more : List ℕ) → left.over ≡ false
-      → Talk keys c came sent tells pending waiting left → Talk keys c (came ++ more) sent tells pending waiting (fed left more)
+      → Talk keys Plain c came sent tells pending waiting left → Talk keys Plain c (came ++ more) sent tells pending waiting (fed left more)
   talk_fed pending waiting left more open_end talk = record {
     exchanges = talk.exchanges;
     told = talk.told;
@@ -96,12 +98,12 @@ module _ (keys : List (List ℕ)) (c : ℕ) (came sent : List ℕ) (tells : List
   }
 
   pub talk_quiet : (pending : List ℕ) (waiting : List RequestMessage) (left : Incoming)
-      → Talk keys c came sent tells pending waiting left → Talk keys c (came ++ []) sent tells pending waiting left
-  talk_quiet pending waiting left talk = subst (λ bs. Talk keys c bs sent tells pending waiting left) (sym (append-nil came)) talk
+      → Talk keys Plain c came sent tells pending waiting left → Talk keys Plain c (came ++ []) sent tells pending waiting left
+  talk_quiet pending waiting left talk = subst (λ bs. Talk keys Plain c bs sent tells pending waiting left) (sym (append-nil came)) talk
 
   -- bytes are sent
   pub talk_sent : (front back : List ℕ) (waiting : List RequestMessage) (left : Incoming)
-      → Talk keys c came sent tells (front ++ back) waiting left → Talk keys c came (sent ++ front) tells back waiting left
+      → Talk keys Plain c came sent tells (front ++ back) waiting left → Talk keys Plain c came (sent ++ front) tells back waiting left
   talk_sent front back waiting left talk = record {
     exchanges = talk.exchanges;
     told = talk.told;
@@ -111,7 +113,7 @@ module _ (keys : List (List ℕ)) (c : ℕ) (came sent : List ℕ) (tells : List
 
   -- a request is taken, and waits
   pub talk_waits : (left new : Incoming) (request : RequestMessage) → TakesSome left (Whole request) new
-      → Talk keys c came sent tells [] [] left → Talk keys c came sent tells [] (request ∷ []) new
+      → Talk keys Plain c came sent tells [] [] left → Talk keys Plain c came sent tells [] (request ∷ []) new
   talk_waits left new request takes talk = record {
     exchanges = talk.exchanges;
     told = talk.told;
@@ -128,22 +130,49 @@ module _ (keys : List (List ℕ)) (c : ℕ) (came sent : List ℕ) (tells : List
       ∙ sym (flat_map-append written exchanges (record { asked = asked; reply = reply } ∷ []))
 
   -- the request that waited is answered
-  pub talk_answered : (left : Incoming) (request : RequestMessage) (tell : Tell) → AnswersAsked keys c (Whole request) tell
-      → Talk keys c came sent tells [] (request ∷ []) left → Talk keys c came sent (tells ++ tell ∷ []) (reply_text tell.reply request.close) [] left
+  pub talk_answered : (left : Incoming) (request : RequestMessage) (tell : Tell) → AnswersAsked keys Plain c (Whole request) tell
+      → Talk keys Plain c came sent tells [] (request ∷ []) left → Talk keys Plain c came sent (tells ++ tell ∷ []) (reply_text tell.reply request.close) [] left
   talk_answered left request tell answers talk = record {
     exchanges = talk.exchanges ++ record { asked = Whole request; reply = tell.reply } ∷ [];
-    told = exchanges_more keys c talk.exchanges tells (Whole request) tell talk.told answers;
+    told = exchanges_more keys Plain c talk.exchanges tells (Whole request) tell talk.told answers;
     bytes = bytes_more talk.exchanges (Whole request) tell.reply talk.bytes;
     cut = subst (λ ts. TakesAll (fed opening came) ts left) (sym (append-nil _ ∙ map-more talk.exchanges (Whole request) tell.reply)) talk.cut;
   }
 
   -- something is taken and answered at once
-  pub talk_told : (left new : Incoming) (asked : Taken) (tell : Tell) → TakesSome left asked new → AnswersAsked keys c asked tell
-      → Talk keys c came sent tells [] [] left → Talk keys c came sent (tells ++ tell ∷ []) (reply_text tell.reply (closes_behind asked)) [] new
+  pub talk_told : (left new : Incoming) (asked : Taken) (tell : Tell) → TakesSome left asked new → AnswersAsked keys Plain c asked tell
+      → Talk keys Plain c came sent tells [] [] left → Talk keys Plain c came sent (tells ++ tell ∷ []) (reply_text tell.reply (closes_behind asked)) [] new
   talk_told left new asked tell takes answers talk = record {
     exchanges = talk.exchanges ++ record { asked = asked; reply = tell.reply } ∷ [];
-    told = exchanges_more keys c talk.exchanges tells asked tell talk.told answers;
+    told = exchanges_more keys Plain c talk.exchanges tells asked tell talk.told answers;
     bytes = bytes_more talk.exchanges asked tell.reply talk.bytes;
     cut = subst (λ ts. TakesAll (fed opening came) ts new) (ap (λ ts. ts ++ asked ∷ []) (append-nil (map (λ (exchange : Exchange). exchange.asked) talk.exchanges)) ∙ sym (append-nil _ ∙ map-more talk.exchanges asked tell.reply))
         (all_more (asks talk.exchanges []) (fed opening came) left new asked talk.cut takes);
   }
+
+-- what was asked and told on a lost connection, of which a front was sent
+pub record LostTalk (keys : List (List ℕ)) (Plain : ℕ → Waiter → ReplyMessage → Type 0) (c : ℕ) (came sent : List ℕ) (tells : List Tell) (waiting : List RequestMessage) (left : Incoming) : Type 0 where
+  pub exchanges : List Exchange
+  pub told : AreExchanges keys Plain c exchanges tells
+  pub front : IsFrontOf sent (flat_map written exchanges)
+  pub cut : TakesAll (fed opening came) (asks exchanges waiting) left
+
+module _ (keys : List (List ℕ)) (Plain : ℕ → Waiter → ReplyMessage → Type 0) (c : ℕ) (came sent : List ℕ) (tells : List Tell) where
+  -- the connection is lost
+  pub talk_lost : (pending : List ℕ) (waiting : List RequestMessage) (left : Incoming) → Talk keys Plain c came sent tells pending waiting left → LostTalk keys Plain c came sent tells waiting left
+  talk_lost pending waiting left talk = record { exchanges = talk.exchanges; told = talk.told; front = (pending, talk.bytes); cut = talk.cut }
+
+  -- the request that waited is answered, and nothing is written
+  pub lost_answered : (left : Incoming) (request : RequestMessage) (tell : Tell) → AnswersAsked keys Plain c (Whole request) tell
+      → LostTalk keys Plain c came sent tells (request ∷ []) left → LostTalk keys Plain c came sent (tells ++ tell ∷ []) [] left
+  lost_answered left request tell answers talk =
+      let exchange : Exchange = record { asked = Whole request; reply = tell.reply } in
+      record {
+        exchanges = talk.exchanges ++ exchange ∷ [];
+        told = exchanges_more keys Plain c talk.exchanges tells (Whole request) tell talk.told answers;
+        front = (
+          talk.front.0 ++ flat_map written (exchange ∷ []),
+          sym (append_assoc sent talk.front.0 (flat_map written (exchange ∷ []))) ∙ ap (λ bs. bs ++ flat_map written (exchange ∷ [])) talk.front.1 ∙ sym (flat_map-append written talk.exchanges (exchange ∷ [])),
+        );
+        cut = subst (λ ts. TakesAll (fed opening came) ts left) (sym (append-nil _ ∙ map-more talk.exchanges (Whole request) tell.reply)) talk.cut;
+      }

@@ -10,7 +10,7 @@ use Rattle.ports_core.specs.Keys.{is_fit, key_texts}
 use Rattle.ports_core.specs.State.{new_state}
 use Rattle.ports_core.specs.Runs.{Run, Stops}
 use Rattle.ports_core.specs.Plainly.{IsToldPlainly}
-use Rattle.ports_core.specs.Conversations.{is_lost_in, ConversesPlainly}
+use Rattle.ports_core.specs.Conversations.{ConversesPlainly}
 
 -- the steps are those of the events, from a service that has just begun, and the service is as they leave it
 abbrev pub IsRun : Config → List Event → Transcript → Type 0
@@ -21,10 +21,10 @@ abbrev pub TellsPlainly : Config → List Event → Transcript → Type 0
 TellsPlainly config events done =
     (t : ℕ) → t < length config.keys.items → IsToldPlainly (key_texts config.keys.items) t events done.steps.items done.service
 
--- each connection that isn't lost is told, in bytes, the replies to what its stream asks, in order
+-- each connection is told, in bytes, the replies to what its stream asks, in order, as far as it isn't lost
 abbrev pub ConversesOnEach : Config → List Event → Transcript → Type 0
 ConversesOnEach config events done =
-    (c : ℕ) → is_lost_in c events ≡ false → ConversesPlainly (key_texts config.keys.items) c events done.steps.items done.service
+    (c : ℕ) → ConversesPlainly (key_texts config.keys.items) c events done.steps.items done.service
 
 -- Why a run ends early: an event may not happen, and the transcript is that of the events before it; or the
 -- service can't begin, since its config isn't fit, its store failed, or for want of memory; or there is no memory

@@ -63,9 +63,9 @@ impl<T: Drop> From<AllocFailed<T>> for ReplayFault {
 /// Runs the events over a service that begins with the config.
 ///
 /// The replies told to a tenant, other than 503, are, in order, those of a plain service that has only
-/// this tenant's requests, less those that still wait at the end. What is written to a connection that
-/// isn't lost, and what is pending, is the replies to what its stream asks, in order, however the
-/// stream came in pieces.
+/// this tenant's requests, less those that still wait at the end. What is written to a connection, and
+/// what is pending, is the replies to what its stream asks, in order, however the stream came in pieces;
+/// of a connection that was lost, what was written before is a front of them, and nothing more is.
 ///
 /// Ok: the transcript. Err: `NotAllowed` at the first event that isn't allowed, `New` where the service
 /// can't begin, `Memory` where there is none for the transcript.

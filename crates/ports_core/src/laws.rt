@@ -11,6 +11,7 @@ ghost use Rattle.ports_core.specs.Runs.{Run};
 ghost use Rattle.ports_core.specs.Books.{OneListIsTaken};
 ghost use Rattle.ports_core.specs.Plainly.{IsToldPlainly};
 ghost use Rattle.ports_core.specs.Alike.{own_requests, AreToldAlike};
+ghost use Rattle.ports_core.specs.Conversations.{EachConnectionConverses};
 ghost use Rattle.ports_core.specs.Isolation.{EachRunServesPlainly, EqualSlicesAreToldAlike};
 
 /// What an event does to the tenants' worlds and waiting requests: the opening or the loss of a
@@ -27,6 +28,13 @@ pub fn each_event_changes_so_much()
 pub fn each_tenant_is_told_plainly()
     ensures { (keys : List (List ℕ)) (events : List Event) (steps : List Step) (service : State) (t : ℕ)
         → t < length keys → Run (new_state keys) events steps service → IsToldPlainly keys t events steps service }
+{}
+
+/// In every run of a service from its beginning, what a connection's stream asks is answered one for one
+/// and in order by the replies told to it, each the plain one, at once or 503, and what is written is these
+/// replies. Of a connection that was lost, what was written before is a front of them, and nothing more is.
+pub fn each_connection_converses()
+    ensures { EachConnectionConverses }
 {}
 
 /// The requests of a tenant that a run takes off its connections are one list: it is read off the

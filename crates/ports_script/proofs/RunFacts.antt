@@ -92,5 +92,5 @@ unread config streams fault.Memory fit h k = (fit, k)
 -- no service began, though the config is fit
 pub unbegun : (config : Config) (streams : Streams) (events : List Event) (why : NewFault) → is_fit config ≡ true → EndsEarly config events (New why) → Keeps streams.held streams.holds → Ends config streams (new_failure why)
 unbegun config streams events new.Config fit h k = absurd (true≢false (sym fit ∙ h))
-unbegun config streams events new.Store fit h k = absurd h
+unbegun config streams events new.Store fit h k = (fit, k)
 unbegun config streams events new.Memory fit h k = (fit, k)

@@ -90,7 +90,7 @@ FailsToWrite config streams =
     × AppendsFront streams.held streams.holds (transcript (numbered script) done.steps.items)
 
 -- why a run ends early. Keys are looked at before the script is read; but for an event that isn't allowed, and an
--- output that fails, nothing is printed. There is no store that could fail.
+-- output that fails, nothing is printed.
 abbrev pub Ends : Config → Streams → Failure → Type 0
 Ends config streams BadKey =
     (is_fit config ≡ false) × Keeps streams.unread streams.left × Keeps streams.held streams.holds
@@ -99,7 +99,7 @@ Ends config streams (BadEvent line) =
     × Keeps streams.held streams.holds
 Ends config streams (NotAllowed line) = (is_fit config ≡ true) × StopsAt config streams line
 Ends config streams CannotWrite = (is_fit config ≡ true) × FailsToWrite config streams
-Ends config streams StoreFailed = ⊥
+Ends config streams StoreFailed = (is_fit config ≡ true) × Keeps streams.held streams.holds
 Ends config streams OutOfMemory = (is_fit config ≡ true) × Keeps streams.held streams.holds
 
 -- what is said of a failure on standard error

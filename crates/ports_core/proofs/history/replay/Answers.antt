@@ -5,7 +5,7 @@ use Rattle.ports_core.specs.Keys.{key_texts}
 use Rattle.ports_core.specs.State.{new_state}
 use Rattle.ports_core.proofs.KeyLemmas.{length_texts}
 use Rattle.ports_core.proofs.RunsServe.{run_plainly}
-use Rattle.ports_core.proofs.ConversingLemmas.{run_converses}
+use Rattle.ports_core.proofs.RunConverses.{run_converses}
 use Rattle.ports_core.proofs.RunLemmas.{run_next, run_none, run_all}
 use Rattle.ports_core.proofs.history.replay.Goals as goal
 
@@ -17,7 +17,7 @@ pub returns-then-not-allows-clause-err : goal.returns-then-not-allows-clause-err
 returns-then-not-allows-clause-err c = (
   c.loop-index.invariant,
   λ t within. run_plainly (key_texts c.args.config.keys.items) _ _ _ t (omega (arith, length_texts c.args.config.keys.items, within)) c.loop-index.invariant,
-  λ d alive. run_converses (key_texts c.args.config.keys.items) _ _ _ d alive c.loop-index.invariant,
+  λ d. run_converses (key_texts c.args.config.keys.items) _ _ _ d c.loop-index.invariant,
   (
     c.index-events-index.result,
     slice_get_read c.args.events.now (length c.args.events.now) c.loop-index.index c.index-events-index.result refl c.loop-index-test.true c.index-events-index.is,
@@ -42,6 +42,6 @@ returns-clause-plainly c = λ t within.
     (run_all (new_state (key_texts c.args.config.keys.items)) c.loop-index.service c.args.events.now c.loop-index.index c.loop-index.steps.items c.loop-index-test.false c.loop-index.invariant)
 
 pub returns-clause-converses : goal.returns-clause-converses
-returns-clause-converses c = λ d alive.
-    run_converses (key_texts c.args.config.keys.items) c.args.events.now c.loop-index.steps.items c.loop-index.service d alive
+returns-clause-converses c = λ d.
+    run_converses (key_texts c.args.config.keys.items) c.args.events.now c.loop-index.steps.items c.loop-index.service d
     (run_all (new_state (key_texts c.args.config.keys.items)) c.loop-index.service c.args.events.now c.loop-index.index c.loop-index.steps.items c.loop-index-test.false c.loop-index.invariant)

@@ -1,0 +1,170 @@
+-- Each connection in a whole run.
+use Rattle.std.proofs.Common.{◌≡◌, ℕ, zero, suc, Bool, true, false, List, [], ◌∷◌, ◌++◌, refl, sym, ap, subst, ◌∙◌, inl, inr, append_assoc, append-nil, ⊎_elim, Option, Some, None}
+use Rattle.std.specs.Prelude.{◌||◌, not, map, MatchBool, option_map, unwrap_or, slice_get}
+use Rattle.std.specs.List.{flat_map}
+use Rattle.std.proofs.lemmas.Bool.{cases_eq, false≢true, and_parts}
+use Rattle.ports_http.specs.Messages.{RequestMessage, ReplyMessage}
+use Rattle.ports_http.specs.Incoming.{Incoming, opening}
+use Rattle.ports_core.specs.declared.line.Line.{Line}
+use Rattle.ports_core.specs.declared.event.Event.{Event}
+use Rattle.ports_core.specs.declared.event.Event.TheVariants.{Open, Piece, End, Fault, Wrote, Turn}
+use Rattle.ports_core.specs.declared.event.Tell.{Tell}
+use Rattle.ports_core.specs.declared.queue.Waiter.{Waiter}
+use Rattle.ports_core.specs.declared.history.Step.{Step}
+use Rattle.ports_core.specs.Slices.{Queue, waiting_of}
+use Rattle.ports_core.specs.State.{State, new_state, keys_of, world_at, queue_at, line_of, pending_at}
+use Rattle.ports_core.specs.Runs.{Run}
+use Rattle.ports_core.specs.Conversations.{came_in, came_on, sent_in, sent_on, told_in, told_on, loses, is_lost_in, written, IsLeft, IsServedOut, WaitsFor, IsPlainOr503, AreWritten, ConversesPlainly, EachConnectionConverses}
+use Rattle.ports_core.proofs.Numbers.{other_number}
+use Rattle.ports_core.proofs.Lists.{none_some, some_same}
+use Rattle.ports_core.proofs.QueueLemmas.{waiters_of}
+use Rattle.ports_core.proofs.ChangeLemmas.{IsSeen, seen, slice_parts}
+use Rattle.ports_core.proofs.TalkLemmas.{none_came}
+use Rattle.ports_core.proofs.StandingLemmas.{Stands}
+use Rattle.ports_core.proofs.ConversingLemmas.{moves}
+use Rattle.ports_core.proofs.LostLemmas.{LostAt, StandsLost, LostMoves, lost_moves, is_lost, waits_for}
+use Rattle.ports_core.proofs.PositionLemmas.{EachPlain, each_plain}
+
+-- where a connection stands, lost or not
+abbrev StandsSo : Bool → List (List ℕ) → (ℕ → Waiter → ReplyMessage → Type 0) → ℕ → List ℕ → List ℕ → List Tell → State → Type 0
+StandsSo lost keys Plain c came sent tells state = MatchBool lost (StandsLost keys Plain c came sent tells state) (Stands keys Plain c came sent tells state)
+
+-- no event of this kind is another's
+only_fault : (keys : List (List ℕ)) (Plain : ℕ → Waiter → ReplyMessage → Type 0) (c : ℕ) (event : Event) (step : Step) (old mid : State) (came sent : List ℕ) (tells : List Tell) → loses c event ≡ true → IsSeen event step.told old mid
+    → Stands keys Plain c came sent tells old → StandsLost keys Plain c (came ++ came_in c event) (sent ++ sent_in c event step) (tells ++ told_in c step.told.reply) mid
+only_fault keys Plain c (Open d) step old mid came sent tells lost s stands = absurd (false≢true lost)
+only_fault keys Plain c (Piece d bytes) step old mid came sent tells lost s stands = absurd (false≢true lost)
+only_fault keys Plain c (End d) step old mid came sent tells lost s stands = absurd (false≢true lost)
+only_fault keys Plain c (Fault d) step old mid came sent tells lost s stands =
+    ⊎_elim
+    (λ (same : d ≡ c). is_lost keys Plain c step old mid came sent tells (subst (λ n. IsSeen (Fault n) step.told old mid) same s) stands)
+    (λ apart. absurd (false≢true (sym (other_number d c apart) ∙ lost)))
+    (cases_eq d c)
+only_fault keys Plain c (Wrote d count) step old mid came sent tells lost s stands = absurd (false≢true lost)
+only_fault keys Plain c (Turn t) step old mid came sent tells lost s stands = absurd (false≢true lost)
+
+or-same : (a b c : Bool) → ((a || b) || c) ≡ (a || (b || c))
+or-same true b c = refl
+or-same false b c = refl
+
+-- one event
+moves_so : (was_lost : Bool) (keys : List (List ℕ)) (Plain : ℕ → Waiter → ReplyMessage → Type 0) (c : ℕ) (event : Event) (step : Step) (old mid : State) (came sent : List ℕ) (tells : List Tell)
+    → (Stands keys Plain c came sent tells old → loses c event ≡ false → Stands keys Plain c (came ++ came_in c event) (sent ++ sent_in c event step) (tells ++ told_in c step.told.reply) mid)
+    → LostMoves keys Plain c event step old mid → IsSeen event step.told old mid
+    → StandsSo was_lost keys Plain c came sent tells old → StandsSo (was_lost || loses c event) keys Plain c (came ++ came_in c event) (sent ++ sent_in c event step) (tells ++ told_in c step.told.reply) mid
+moves_so true keys Plain c event step old mid came sent tells alive lost s stands = lost came sent tells stands
+moves_so false keys Plain c event step old mid came sent tells alive lost s stands =
+    elim (loses c event) as (λ b. loses c event ≡ b → StandsSo b keys Plain c (came ++ came_in c event) (sent ++ sent_in c event step) (tells ++ told_in c step.told.reply) mid) [
+      | true ↦ λ now. only_fault keys Plain c event step old mid came sent tells now s stands
+      | false ↦ λ goes. alive stands goes
+    ] refl
+
+-- a whole run, from where the connection stood
+run_moves : (lost : Bool) (keys : List (List ℕ)) (Plain : ℕ → Waiter → ReplyMessage → Type 0) (c : ℕ) (came sent : List ℕ) (tells : List Tell) (events : List Event) (steps : List Step) (old new : State) → keys_of old ≡ keys
+    → (run : Run old events steps new) → EachPlain Plain events steps old new run → StandsSo lost keys Plain c came sent tells old
+    → StandsSo (lost || is_lost_in c events) keys Plain c (came ++ came_on c events) (sent ++ sent_on c events steps) (tells ++ told_on c steps) new
+run_moves lost keys Plain c came sent tells [] [] old new keys_are same plain stands =
+    subst (λ b. StandsSo b keys Plain c (came ++ []) (sent ++ []) (tells ++ []) new) (or_nothing lost)
+    (subst (λ (s : State). StandsSo lost keys Plain c (came ++ []) (sent ++ []) (tells ++ []) s) (sym same)
+    (subst (λ bs. StandsSo lost keys Plain c bs (sent ++ []) (tells ++ []) old) (sym (append-nil came))
+    (subst (λ bs. StandsSo lost keys Plain c came bs (tells ++ []) old) (sym (append-nil sent))
+    (subst (λ ts. StandsSo lost keys Plain c came sent ts old) (sym (append-nil tells)) stands))))
+  where
+    or_nothing : (b : Bool) → b ≡ (b || false)
+    or_nothing true = refl
+    or_nothing false = refl
+run_moves lost keys Plain c came sent tells [] (step ∷ steps) old new keys_are run plain stands = absurd run
+run_moves lost keys Plain c came sent tells (event ∷ events) [] old new keys_are run plain stands = absurd run
+run_moves lost keys Plain c came sent tells (event ∷ events) (step ∷ steps) old new keys_are run plain stands =
+    let mid = run.0 in
+    let h = run.1 in
+    let s = seen event step.told old mid h.allowed h.does in
+    let now = moves_so lost keys Plain c event step old mid came sent tells
+    (λ was goes. moves keys Plain c event step old mid keys_are goes h.allowed h.sent s plain.0 came sent tells was)
+    (lost_moves keys Plain c event step old mid h.allowed h.sent s plain.0) s stands in
+    let later = run_moves (lost || loses c event) keys Plain c (came ++ came_in c event) (sent ++ sent_in c event step) (tells ++ told_in c step.told.reply) events steps mid new
+    (s.keys ∙ keys_are) run.2 plain.1 now in
+    subst (λ b. StandsSo b keys Plain c (came ++ came_on c (event ∷ events)) (sent ++ sent_on c (event ∷ events) (step ∷ steps)) (tells ++ told_on c (step ∷ steps)) new) (or-same lost (loses c event) (is_lost_in c events))
+    (subst (λ bs. StandsSo ((lost || loses c event) || is_lost_in c events) keys Plain c bs (sent ++ sent_on c (event ∷ events) (step ∷ steps)) (tells ++ told_on c (step ∷ steps)) new) (append_assoc came (came_in c event) (came_on c events))
+    (subst (λ bs. StandsSo ((lost || loses c event) || is_lost_in c events) keys Plain c ((came ++ came_in c event) ++ came_on c events) bs (tells ++ told_on c (step ∷ steps)) new) (append_assoc sent (sent_in c event step) (sent_on c events steps))
+    (subst (λ ts. StandsSo ((lost || loses c event) || is_lost_in c events) keys Plain c ((came ++ came_in c event) ++ came_on c events) ((sent ++ sent_in c event step) ++ sent_on c events steps) ts new) (append_assoc tells (told_in c step.told.reply) (told_on c steps)) later)))
+
+-- each tenant begins with an empty queue
+new_queue : (keys : List (List ℕ)) (u : ℕ) (queue : Queue) → slice_get (map (λ (key : List ℕ). let none : Queue = [] in none) keys) u ≡ Some queue → queue ≡ []
+new_queue [] u queue was = absurd (none_some was)
+new_queue (key ∷ keys) zero queue was = sym (some_same was)
+new_queue (key ∷ keys) (suc u) queue was = new_queue keys u queue was
+
+-- before the first event no connection stands open
+begins : (keys : List (List ℕ)) (Plain : ℕ → Waiter → ReplyMessage → Type 0) (c : ℕ) → Stands keys Plain c [] [] [] (new_state keys)
+begins keys Plain c = inr (record {
+  at = refl;
+  left = opening;
+  talk = none_came keys Plain c [] [] [] opening refl refl refl refl;
+  fresh = λ above. (refl, refl);
+  queued = λ u slice was. ap (waiters_of c) (new_queue keys u (waiting_of slice) (slice_parts (world_at u (new_state keys)) (queue_at u (new_state keys)) slice was).1);
+})
+
+module _ (keys : List (List ℕ)) (c : ℕ) (events : List Event) (steps : List Step) (service : State) where
+  -- these bytes are written, and the connection isn't lost
+  written_all : is_lost_in c events ≡ false → (sent pending bytes : List ℕ) → sent ++ pending ≡ bytes → AreWritten (is_lost_in c events) sent pending bytes
+  written_all alive sent pending bytes all = subst (λ b. AreWritten b sent pending bytes) (sym alive) all
+
+  -- where the connection stands at the end, as the contract says it
+  alive_converses : is_lost_in c events ≡ false → Stands keys (IsPlainOr503 keys events steps) c (came_on c events) (sent_on c events steps) (told_on c steps) service → ConversesPlainly keys c events steps service
+  alive_converses alive (inl is) = record {
+    exchanges = is.is_line.talk.exchanges;
+    told = is.is_line.talk.told;
+    bytes = written_all alive _ _ _ (ap (λ (o : Option Line). sent_on c events steps ++ unwrap_or (option_map (λ (l : Line). l.pending) o) []) is.at ∙ is.is_line.talk.bytes);
+    waiting = is.is_line.waiting;
+    left = is.line.stream;
+    cut = is.is_line.talk.cut;
+    served = λ some. subst IsServedOut (sym is.at) (is.idle some);
+    stays = subst (λ (o : Option Line). IsLeft keys o is.is_line.waiting is.line.stream) (sym is.at) (λ here. refl, waits_for keys is.line.waits is.is_line.waiting is.line.pending is.line.stream.over is.is_line.holds);
+  }
+  alive_converses alive (inr is) = record {
+    exchanges = is.talk.exchanges;
+    told = is.talk.told;
+    bytes = written_all alive _ _ _ (ap (λ (o : Option Line). sent_on c events steps ++ unwrap_or (option_map (λ (l : Line). l.pending) o) []) is.at ∙ is.talk.bytes);
+    waiting = [];
+    left = is.left;
+    cut = is.talk.cut;
+    served = λ some. subst IsServedOut (sym is.at) tt;
+    stays = subst (λ (o : Option Line). IsLeft keys o [] is.left) (sym is.at) refl;
+  }
+
+  -- nothing is pending on a lost connection
+  lost_pending : (o : Option Line) (waits : Option ℕ) → LostAt o waits → unwrap_or (option_map (λ (l : Line). l.pending) o) [] ≡ []
+  lost_pending None waits at = refl
+  lost_pending (Some line) waits at = at.0.pending
+
+  -- nor is it ready
+  lost_served : (o : Option Line) (waits : Option ℕ) → LostAt o waits → IsServedOut o
+  lost_served None waits at = tt
+  lost_served (Some line) waits at = λ ready. absurd (false≢true (let lost = (and_parts _ _ ready).1 in sym (ap not at.0.lost) ∙ lost))
+
+  lost_left : (o : Option Line) (waits : Option ℕ) (waiting : List RequestMessage) (left : Incoming) → LostAt o waits → WaitsFor keys waits waiting → IsLeft keys o waiting left
+  lost_left None waits waiting left at request = subst (λ w. WaitsFor keys w waiting) at request
+  lost_left (Some line) waits waiting left at request = (λ here. absurd (false≢true (sym here ∙ at.0.lost)), subst (λ w. WaitsFor keys w waiting) (sym at.1) request)
+
+  lost_converses : is_lost_in c events ≡ true → StandsLost keys (IsPlainOr503 keys events steps) c (came_on c events) (sent_on c events steps) (told_on c steps) service → ConversesPlainly keys c events steps service
+  lost_converses lost is = record {
+    exchanges = is.talk.exchanges;
+    told = is.talk.told;
+    bytes = subst (λ b. AreWritten b (sent_on c events steps) (pending_at c service) (flat_map written is.talk.exchanges)) (sym lost) (is.talk.front, lost_pending (line_of c service) is.waits is.at);
+    waiting = is.waiting;
+    left = is.left;
+    cut = is.talk.cut;
+    served = λ some. lost_served (line_of c service) is.waits is.at;
+    stays = lost_left (line_of c service) is.waits is.waiting is.left is.at is.request;
+  }
+
+-- in a run from the beginning, each connection converses plainly
+pub run_converses : EachConnectionConverses
+run_converses keys events steps service c run =
+    let stands : StandsSo (is_lost_in c events) keys (IsPlainOr503 keys events steps) c (came_on c events) (sent_on c events steps) (told_on c steps) service =
+    run_moves false keys (IsPlainOr503 keys events steps) c [] [] [] events steps (new_state keys) service refl run (each_plain keys [] events [] steps (new_state keys) service refl run) (begins keys (IsPlainOr503 keys events steps) c) in
+    elim (is_lost_in c events) as (λ b. is_lost_in c events ≡ b → StandsSo b keys (IsPlainOr503 keys events steps) c (came_on c events) (sent_on c events steps) (told_on c steps) service → ConversesPlainly keys c events steps service) [
+      | true ↦ λ lost at. lost_converses keys c events steps service lost at
+      | false ↦ λ alive at. alive_converses keys c events steps service alive at
+    ] refl stands
