@@ -41,15 +41,15 @@ pub record IsLine (keys : List (List ℕ)) (Plain : ℕ → Waiter → ReplyMess
   pub queued : Queued c state line.waits waiting
 
 -- once bytes came, nothing more stands first on a line for which nothing waits and nothing is pending
-abbrev pub IsIdle : List ℕ → Line → Type 0
-IsIdle came line = came ≢ [] → is_ready line ≡ true → TakesOff line.stream Nothing line.stream
+abbrev pub HasNoMore : List ℕ → Line → Type 0
+HasNoMore came line = came ≢ [] → is_ready line ≡ true → TakesOff line.stream Nothing line.stream
 
 -- the connection is open
 pub record StandsOpen (keys : List (List ℕ)) (Plain : ℕ → Waiter → ReplyMessage → Type 0) (c : ℕ) (came sent : List ℕ) (tells : List Tell) (state : State) : Type 0 where
   pub line : Line
   pub at : line_of c state ≡ Some line
   pub below : c < next_of state
-  pub idle : IsIdle came line
+  pub idle : HasNoMore came line
   pub is_line : IsLine keys Plain c came sent tells line state
 
 -- the connection isn't open yet, or no more
@@ -74,7 +74,7 @@ none_waits (Some t) e = absurd (cc)
 
 -- a line that is done closes, and any other stays open
 pub settles : (keys : List (List ℕ)) (Plain : ℕ → Waiter → ReplyMessage → Type 0) (c : ℕ) (came sent : List ℕ) (tells : List Tell) (after : Line) (state : State)
-    → line_of c state ≡ kept after → c < next_of state → IsIdle came after → IsLine keys Plain c came sent tells after state → Stands keys Plain c came sent tells state
+    → line_of c state ≡ kept after → c < next_of state → HasNoMore came after → IsLine keys Plain c came sent tells after state → Stands keys Plain c came sent tells state
 settles keys Plain c came sent tells after state at below idle is =
     let P : Bool → Type 0 = λ b. is_done after ≡ b → line_of c state ≡ (if b then None else Some after) → Stands keys Plain c came sent tells state in
     elim (is_done after) as P [
