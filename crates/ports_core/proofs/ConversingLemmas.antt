@@ -27,7 +27,7 @@ use Rattle.ports_core.specs.Changes.{Rests, FirstLeaves, ChangesSlices}
 use Rattle.ports_core.specs.Books.{HearsOn, TellsOn, BookTurns}
 use Rattle.ports_core.specs.Runs.{sent_by}
 use Rattle.ports_core.specs.Opened.{OpenAnd, KeepsLines, KeepsOthers}
-use Rattle.ports_core.specs.Conversations.{came_in, sent_in, told_in, loses, AnswersAsked}
+use Rattle.ports_core.specs.Conversations.{came_in, sent_in, told_in, loses, IsAnsweredOn}
 use Rattle.ports_core.proofs.Numbers.{other_number}
 use Rattle.ports_core.proofs.TalkLemmas.{Talk, talk_fed, talk_quiet, talk_sent, talk_answered}
 use Rattle.ports_core.proofs.Lists.{none_some, some_same, option_from}
@@ -331,12 +331,12 @@ first_waits c t (Some u) waiting first rest e =
 
 -- the request that waited, alone, is answered plainly
 pub answers_in_turn : (keys : List (List ℕ)) (Plain : ℕ → Waiter → ReplyMessage → Type 0) (c t : ℕ) (request : RequestMessage) (first : Waiter) (rest : List Waiter) (reply : ReplyMessage) → tenant_of keys request.key ≡ Some t
-    → waiter c request ∷ [] ≡ first ∷ waiters_of c rest → Plain t first reply → AnswersAsked keys Plain c (Whole request) (in_turn t c reply)
+    → waiter c request ∷ [] ≡ first ∷ waiters_of c rest → Plain t first reply → IsAnsweredOn keys Plain c (record { request = request; tell = in_turn t c reply })
 answers_in_turn keys Plain c t request first rest reply key_is alone plain =
     let tell : Tell = in_turn t c reply in
     let same : waiter c request ≡ first = first_same (waiter c request) first (waiters_of c rest) alone in
-    subst (λ (o : Option ℕ). MatchOption o (tell ≡ at_once c unknown_key) (λ tenant. (tell ≡ in_turn tenant c tell.reply) × Plain tenant (waiter c request) tell.reply)) (sym key_is)
-    (refl, subst (λ w. Plain t w reply) (sym same) plain)
+    inr (subst (λ (o : Option ℕ). MatchOption o (tell ≡ at_once c unknown_key) (λ tenant. (tell ≡ in_turn tenant c tell.reply) × Plain tenant (waiter c request) tell.reply)) (sym key_is)
+    (refl, subst (λ w. Plain t w reply) (sym same) plain))
 
 -- a turn that answers the connection's request
 answered_here : (keys : List (List ℕ)) (Plain : ℕ → Waiter → ReplyMessage → Type 0) (c t : ℕ) (step : Step) (taken : Taken) (old mid : State) (h : FirstLeaves t step.told taken old mid) → TellsOn h.tell (book_of old) (book_of mid) → next_of old ≤ next_of mid
@@ -354,7 +354,7 @@ answered_here keys Plain c t step taken old mid h book next plain here came sent
     let tell : Tell = in_turn t c reply in
     let tell_is : h.tell ≡ tell =
     ap (λ p. let x : Tell = record { tenant = p; conn = h.tell.conn; reply = reply } in x) h.of_tenant ∙ ap (λ d. let x : Tell = record { tenant = Some t; conn = d; reply = reply } in x) conn_is in
-    let answers : AnswersAsked keys Plain c (Whole request) tell = answers_in_turn keys Plain c t request h.first h.rest reply holds.2 (ap (map (waiter c)) (sym holds.1) ∙ first.1) plain in
+    let answers : IsAnsweredOn keys Plain c (record { request = request; tell = tell }) = answers_in_turn keys Plain c t request h.first h.rest reply holds.2 (ap (map (waiter c)) (sym holds.1) ∙ first.1) plain in
     let talk : Talk keys Plain c came sent tells [] (request ∷ []) line.stream =
     subst (λ ws. Talk keys Plain c came sent tells [] ws line.stream) holds.1 (subst (λ p. Talk keys Plain c came sent tells p is.is_line.waiting line.stream) holds.3 is.is_line.talk) in
     let after : Line = answered reply line in

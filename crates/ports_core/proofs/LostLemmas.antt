@@ -6,7 +6,7 @@ use Rattle.std.specs.declared.alloc.Global.{Global}
 use Rattle.std.proofs.lemmas.Bool.{cases_eq, and_parts}
 use Rattle.ports_http.specs.Messages.{RequestMessage, ReplyMessage}
 use Rattle.ports_http.specs.Limits.{unread_limit}
-use Rattle.ports_http.specs.Incoming.{Incoming, room_of}
+use Rattle.ports_http.specs.Incoming.{room_of}
 use Rattle.ports_http.specs.Replies.{reply_text}
 use Rattle.ports_core.specs.declared.line.Line.{Line}
 use Rattle.ports_core.specs.declared.event.Event.{Event}
@@ -50,8 +50,7 @@ pub record StandsLost (keys : List (List ℕ)) (Plain : ℕ → Waiter → Reply
   pub below : c < next_of state
   pub waits : Option ℕ
   pub waiting : List RequestMessage
-  pub left : Incoming
-  pub talk : LostTalk keys Plain c came sent tells waiting left
+  pub talk : LostTalk keys Plain c came sent tells waiting
   pub request : WaitsFor keys waits waiting
   pub at : LostAt (line_of c state) waits
   pub queued : Queued c state waits waiting
@@ -120,7 +119,6 @@ module _ (keys : List (List ℕ)) (Plain : ℕ → Waiter → ReplyMessage → T
     below = omega (arith, is.below, h.next);
     waits = is.waits;
     waiting = is.waiting;
-    left = is.left;
     talk = is.talk;
     request = is.request;
     at = subst (λ (o : Option Line). LostAt o is.waits) (sym h.line) is.at;
@@ -143,7 +141,6 @@ module _ (keys : List (List ℕ)) (Plain : ℕ → Waiter → ReplyMessage → T
         below = omega (arith, is.below, next);
         waits = is.waits;
         waiting = is.waiting;
-        left = is.left;
         talk = is.talk;
         request = is.request;
         at = subst (λ w. LostAt (line_of c mid) w) (hears_waits event h.line ∙ at.1) kept_at;
@@ -174,7 +171,6 @@ is_lost keys Plain c step old mid came sent tells s (inl is) =
       below = let next = s.next in omega (arith, is.below, next);
       waits = is.line.waits;
       waiting = is.is_line.waiting;
-      left = is.line.stream;
       talk = talk_lost keys Plain c came sent tells is.line.pending is.is_line.waiting is.line.stream is.is_line.talk;
       request = waits_for keys is.line.waits is.is_line.waiting is.line.pending is.line.stream.over is.is_line.holds;
       at = lost_kept heard (line_of c mid) (h.line_is ∙ ap kept none.2) lost;
@@ -205,15 +201,14 @@ lost_turn keys Plain c t step taken old mid came sent tells h book next plain he
     let tell_is : h.tell ≡ tell =
     ap (λ p. let x : Tell = record { tenant = p; conn = h.tell.conn; reply = reply } in x) h.of_tenant ∙ ap (λ d. let x : Tell = record { tenant = Some t; conn = d; reply = reply } in x) conn_is in
     let told : told_in c step.told.reply ≡ tell ∷ [] = ap (told_in c) h.told_is ∙ ap (λ (x : Tell). told_in c (Some x)) tell_is ∙ told_here c tell refl in
-    let talk : LostTalk keys Plain c came sent tells (request ∷ []) is.left = subst (λ ws. LostTalk keys Plain c came sent tells ws is.left) holds.1 is.talk in
+    let talk : LostTalk keys Plain c came sent tells (request ∷ []) = subst (λ ws. LostTalk keys Plain c came sent tells ws) holds.1 is.talk in
     let line_is : line_of c mid ≡ option_and_then kept (option_map (answered reply) (line_of c old)) =
     ap (λ d. line_of d mid) (sym conn_is) ∙ book.line_is ∙ ap (λ d. option_and_then kept (option_map (answered reply) (line_of d old))) conn_is in
     let stands : StandsLost keys Plain c came sent (tells ++ tell ∷ []) mid = record {
       below = omega (arith, is.below, next);
       waits = None;
       waiting = [];
-      left = is.left;
-      talk = lost_answered keys Plain c came sent tells is.left request tell (answers_in_turn keys Plain c t request h.first h.rest reply holds.2 one plain) talk;
+      talk = lost_answered keys Plain c came sent tells request tell (answers_in_turn keys Plain c t request h.first h.rest reply holds.2 one plain) talk;
       request = refl;
       at = lost_answers (line_of c old) (line_of c mid) is.waits reply is.at line_is;
       queued = λ u slice was.

@@ -4,7 +4,8 @@ use Rattle.std.specs.Prelude.{◌||◌, not, map, MatchBool, option_map, unwrap_
 use Rattle.std.specs.List.{flat_map}
 use Rattle.std.proofs.lemmas.Bool.{cases_eq, false≢true, and_parts}
 use Rattle.ports_http.specs.Messages.{RequestMessage, ReplyMessage}
-use Rattle.ports_http.specs.Incoming.{Incoming, opening}
+use Rattle.ports_http.specs.Streams as streams
+use Rattle.ports_http.specs.Incoming.{opening}
 use Rattle.ports_core.specs.declared.line.Line.{Line}
 use Rattle.ports_core.specs.declared.event.Event.{Event}
 use Rattle.ports_core.specs.declared.event.Event.TheVariants.{Open, Piece, End, Fault, Wrote, Turn}
@@ -14,7 +15,7 @@ use Rattle.ports_core.specs.declared.history.Step.{Step}
 use Rattle.ports_core.specs.Slices.{Queue, waiting_of}
 use Rattle.ports_core.specs.State.{State, new_state, keys_of, world_at, queue_at, line_of, pending_at}
 use Rattle.ports_core.specs.Runs.{Run}
-use Rattle.ports_core.specs.Conversations.{came_in, came_on, sent_in, sent_on, told_in, told_on, loses, is_lost_in, written, IsLeft, IsServedOut, WaitsFor, IsPlainOr503, AreWritten, ConversesPlainly, EachConnectionConverses}
+use Rattle.ports_core.specs.Conversations.{came_in, came_on, sent_in, sent_on, told_in, told_on, loses, is_lost_in, written, refusal_written, IsLeft, IsServedOut, WaitsFor, IsPlainOr503, AreWritten, ConversesPlainly, EachConnectionConverses}
 use Rattle.ports_core.proofs.Numbers.{other_number}
 use Rattle.ports_core.proofs.Lists.{none_some, some_same}
 use Rattle.ports_core.proofs.QueueLemmas.{waiters_of}
@@ -114,23 +115,25 @@ module _ (keys : List (List ℕ)) (c : ℕ) (events : List Event) (steps : List 
   alive_converses : is_lost_in c events ≡ false → Stands keys (IsPlainOr503 keys events steps) c (came_on c events) (sent_on c events steps) (told_on c steps) service → ConversesPlainly keys c events steps service
   alive_converses alive (inl is) = record {
     exchanges = is.is_line.talk.exchanges;
+    end = is.is_line.talk.end;
     told = is.is_line.talk.told;
+    answers = is.is_line.talk.answers;
     bytes = written_all alive _ _ _ (ap (λ (o : Option Line). sent_on c events steps ++ unwrap_or (option_map (λ (l : Line). l.pending) o) []) is.at ∙ is.is_line.talk.bytes);
-    waiting = is.is_line.waiting;
-    left = is.line.stream;
+    waits = is.is_line.waiting;
     cut = is.is_line.talk.cut;
     served = λ some. subst IsServedOut (sym is.at) (is.idle some);
-    stays = subst (λ (o : Option Line). IsLeft keys o is.is_line.waiting is.line.stream) (sym is.at) (λ here. refl, waits_for keys is.line.waits is.is_line.waiting is.line.pending is.line.stream.over is.is_line.holds);
+    stays = subst (λ (o : Option Line). IsLeft keys o is.is_line.waiting is.is_line.talk.end) (sym is.at) (λ here. is.is_line.talk.left_is, waits_for keys is.line.waits is.is_line.waiting is.line.pending is.line.stream.over is.is_line.holds);
   }
   alive_converses alive (inr is) = record {
     exchanges = is.talk.exchanges;
+    end = is.talk.end;
     told = is.talk.told;
+    answers = is.talk.answers;
     bytes = written_all alive _ _ _ (ap (λ (o : Option Line). sent_on c events steps ++ unwrap_or (option_map (λ (l : Line). l.pending) o) []) is.at ∙ is.talk.bytes);
-    waiting = [];
-    left = is.left;
+    waits = [];
     cut = is.talk.cut;
     served = λ some. subst IsServedOut (sym is.at) tt;
-    stays = subst (λ (o : Option Line). IsLeft keys o [] is.left) (sym is.at) refl;
+    stays = subst (λ (o : Option Line). IsLeft keys o [] is.talk.end) (sym is.at) refl;
   }
 
   -- nothing is pending on a lost connection
@@ -143,20 +146,21 @@ module _ (keys : List (List ℕ)) (c : ℕ) (events : List Event) (steps : List 
   lost_served None waits at = tt
   lost_served (Some line) waits at = λ ready. absurd (false≢true (let lost = (and_parts _ _ ready).1 in sym (ap not at.0.lost) ∙ lost))
 
-  lost_left : (o : Option Line) (waits : Option ℕ) (waiting : List RequestMessage) (left : Incoming) → LostAt o waits → WaitsFor keys waits waiting → IsLeft keys o waiting left
-  lost_left None waits waiting left at request = subst (λ w. WaitsFor keys w waiting) at request
-  lost_left (Some line) waits waiting left at request = (λ here. absurd (false≢true (sym here ∙ at.0.lost)), subst (λ w. WaitsFor keys w waiting) (sym at.1) request)
+  lost_left : (o : Option Line) (waits : Option ℕ) (waiting : List RequestMessage) (end : streams.End) → LostAt o waits → WaitsFor keys waits waiting → IsLeft keys o waiting end
+  lost_left None waits waiting end at request = subst (λ w. WaitsFor keys w waiting) at request
+  lost_left (Some line) waits waiting end at request = (λ here. absurd (false≢true (sym here ∙ at.0.lost)), subst (λ w. WaitsFor keys w waiting) (sym at.1) request)
 
   lost_converses : is_lost_in c events ≡ true → StandsLost keys (IsPlainOr503 keys events steps) c (came_on c events) (sent_on c events steps) (told_on c steps) service → ConversesPlainly keys c events steps service
   lost_converses lost is = record {
     exchanges = is.talk.exchanges;
+    end = is.talk.end;
     told = is.talk.told;
-    bytes = subst (λ b. AreWritten b (sent_on c events steps) (pending_at c service) (flat_map written is.talk.exchanges)) (sym lost) (is.talk.front, lost_pending (line_of c service) is.waits is.at);
-    waiting = is.waiting;
-    left = is.left;
+    answers = is.talk.answers;
+    bytes = subst (λ b. AreWritten b (sent_on c events steps) (pending_at c service) (flat_map written is.talk.exchanges ++ refusal_written is.talk.end)) (sym lost) (is.talk.front, lost_pending (line_of c service) is.waits is.at);
+    waits = is.waiting;
     cut = is.talk.cut;
     served = λ some. lost_served (line_of c service) is.waits is.at;
-    stays = lost_left (line_of c service) is.waits is.waiting is.left is.at is.request;
+    stays = lost_left (line_of c service) is.waits is.waiting is.talk.end is.at is.request;
   }
 
 -- in a run from the beginning, each connection converses plainly

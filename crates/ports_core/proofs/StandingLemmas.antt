@@ -8,7 +8,7 @@ use Rattle.ports_core.proofs.Lists.{option_from}
 use Rattle.ports_core.proofs.QueueLemmas.{waiters_of, waiter, waiters_at, waiters_join}
 use Rattle.ports_http.specs.Messages.{RequestMessage, ReplyMessage}
 use Rattle.ports_http.specs.Streams.{Waits}
-use Rattle.ports_http.specs.Incoming.{Incoming, opening, ended}
+use Rattle.ports_http.specs.Incoming.{Incoming, opening, ended, Removes}
 use Rattle.ports_http.specs.Replies.{reply_text, fault_reply, unknown_key, store_failed}
 use Rattle.ports_core.specs.declared.line.Line.{Line}
 use Rattle.ports_core.specs.declared.event.Tell.{Tell}
@@ -19,8 +19,8 @@ use Rattle.ports_core.specs.Lines.{kept, is_done, is_ready, is_empty, with_pendi
 use Rattle.ports_core.specs.Telling.{at_once, in_turn}
 use Rattle.ports_core.specs.Taking.{Taken, Nothing, Whole, Refusal, Lost, TakesOff, IsTaken, told_of_tenant, told_at_once, line_with, line_behind, entering_of, entering}
 use Rattle.ports_core.specs.State.{State, slice_of, line_of, next_of}
-use Rattle.ports_core.specs.Conversations.{told_in, TakesSome}
-use Rattle.ports_core.proofs.TalkLemmas.{Talk, talk_waits, talk_told}
+use Rattle.ports_core.specs.Conversations.{told_in}
+use Rattle.ports_core.proofs.TalkLemmas.{Talk, talk_waits, talk_told, talk_refused}
 
 -- no queue has other requests of the connection
 abbrev pub Queued : ℕ → State → Option ℕ → List RequestMessage → Type 0
@@ -41,15 +41,15 @@ pub record IsLine (keys : List (List ℕ)) (Plain : ℕ → Waiter → ReplyMess
   pub queued : Queued c state line.waits waiting
 
 -- once bytes came, nothing more stands first on a line for which nothing waits and nothing is pending
-abbrev pub IsIdle : List ℕ → Line → Type 0
-IsIdle came line = came ≢ [] → is_ready line ≡ true → TakesOff line.stream Nothing line.stream
+abbrev pub HasNoMore : List ℕ → Line → Type 0
+HasNoMore came line = came ≢ [] → is_ready line ≡ true → TakesOff line.stream Nothing line.stream
 
 -- the connection is open
 pub record StandsOpen (keys : List (List ℕ)) (Plain : ℕ → Waiter → ReplyMessage → Type 0) (c : ℕ) (came sent : List ℕ) (tells : List Tell) (state : State) : Type 0 where
   pub line : Line
   pub at : line_of c state ≡ Some line
   pub below : c < next_of state
-  pub idle : IsIdle came line
+  pub idle : HasNoMore came line
   pub is_line : IsLine keys Plain c came sent tells line state
 
 -- the connection isn't open yet, or no more
@@ -74,7 +74,7 @@ none_waits (Some t) e = absurd (cc)
 
 -- a line that is done closes, and any other stays open
 pub settles : (keys : List (List ℕ)) (Plain : ℕ → Waiter → ReplyMessage → Type 0) (c : ℕ) (came sent : List ℕ) (tells : List Tell) (after : Line) (state : State)
-    → line_of c state ≡ kept after → c < next_of state → IsIdle came after → IsLine keys Plain c came sent tells after state → Stands keys Plain c came sent tells state
+    → line_of c state ≡ kept after → c < next_of state → HasNoMore came after → IsLine keys Plain c came sent tells after state → Stands keys Plain c came sent tells state
 settles keys Plain c came sent tells after state at below idle is =
     let P : Bool → Type 0 = λ b. is_done after ≡ b → line_of c state ≡ (if b then None else Some after) → Stands keys Plain c came sent tells state in
     elim (is_done after) as P [
@@ -139,7 +139,7 @@ pub told_there : (c : ℕ) (tell : Tell) → tell.conn ≢ c → told_in c (Some
 told_there c tell there = ap (λ b. if b then tell ∷ [] else []) (other_number tell.conn c there)
 
 -- a stream is over behind a request that closes
-over_behind : (request : RequestMessage) (old new : Incoming) → TakesSome old (Whole request) new → new.over ≡ request.close
+over_behind : (request : RequestMessage) (old new : Incoming) → Removes old request new → new.over ≡ request.close
 over_behind request old new takes =
     ap (λ (s : Incoming). s.over) takes.after
     ∙ elim (request.close) as (λ b. (if b then ended else record { unread = takes.rest; over = false }).over ≡ b) [ true ↦ refl | false ↦ refl ]
@@ -191,13 +191,13 @@ module _ (keys : List (List ℕ)) (Plain : ℕ → Waiter → ReplyMessage → T
     }
 
     -- a request of that tenant, or of none, is taken
-    takes_whole : (place : Option ℕ) (request : RequestMessage) → tenant_of keys request.key ≡ place → TakesSome line.stream (Whole request) stream
+    takes_whole : (place : Option ℕ) (request : RequestMessage) → tenant_of keys request.key ≡ place → Removes line.stream request stream
         → ((u : ℕ) → slice_of u mid ≡ option_map (joined (entering_of place c u request)) (slice_of u old))
         → IsLine keys Plain c came sent (tells ++ told_in c (told_of_tenant c place)) (line_with place request.close (record line { stream = stream })) mid
     takes_whole None request key_is takes slices =
         told_line (at_once c unknown_key) (reply_text unknown_key request.close) refl
-        (talk_told keys Plain c came sent tells line.stream stream (Whole request) (at_once c unknown_key) takes
-        (subst (λ (o : Option ℕ). MatchOption o (at_once c unknown_key ≡ at_once c unknown_key) (λ tenant. (at_once c unknown_key ≡ in_turn tenant c unknown_key) × Plain tenant (waiter c request) unknown_key)) (sym key_is) refl) ready_talk)
+        (talk_told keys Plain c came sent tells line.stream stream request (at_once c unknown_key) takes
+        (inr (subst (λ (o : Option ℕ). MatchOption o (at_once c unknown_key ≡ at_once c unknown_key) (λ tenant. (at_once c unknown_key ≡ in_turn tenant c unknown_key) × Plain tenant (waiter c request) unknown_key)) (sym key_is) refl)) ready_talk)
         slices
     takes_whole (Some tenant) request key_is takes slices = record {
       alive = is.alive;
@@ -217,11 +217,12 @@ module _ (keys : List (List ℕ)) (Plain : ℕ → Waiter → ReplyMessage → T
   takes_ready (Whole request) ready takes slices = takes_whole ready (tenant_of keys request.key) request refl takes slices
   takes_ready (Refusal fault) ready takes slices =
       told_line ready (at_once c (fault_reply fault)) (reply_text (fault_reply fault) true) refl
-      (talk_told keys Plain c came sent tells line.stream stream (Refusal fault) (at_once c (fault_reply fault)) takes refl (ready_talk ready))
+      (talk_refused keys Plain c came sent tells line.stream stream fault takes.0 takes.1 takes.2 (ready_talk ready))
       slices
   takes_ready (Lost close) ready takes slices =
       told_line ready (at_once c store_failed) (reply_text store_failed close) refl
-      (talk_told keys Plain c came sent tells line.stream stream (Lost close) (at_once c store_failed) takes refl (ready_talk ready))
+      (subst (λ k. Talk keys Plain c came sent (tells ++ at_once c store_failed ∷ []) (reply_text store_failed k) [] stream) takes.2
+      (talk_told keys Plain c came sent tells line.stream stream takes.0 (at_once c store_failed) takes.1 (inl refl) (ready_talk ready)))
       slices
 
   pub takes : (taken : Taken) → IsTaken line taken stream

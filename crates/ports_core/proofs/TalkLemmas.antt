@@ -1,178 +1,275 @@
 -- What one connection asked and was told, as far as a run has come.
-use Rattle.std.proofs.Common.{◌≡◌, ℕ, Bool, true, false, List, [], ◌∷◌, ◌++◌, refl, sym, ap, subst, ◌∙◌, append_assoc, append-nil}
+use Rattle.std.proofs.Common.{◌≡◌, ◌≢◌, ℕ, true, false, List, [], ◌∷◌, ◌++◌, refl, sym, ap, subst, ◌∙◌, append_assoc, append-nil}
 use Rattle.std.specs.Prelude.{map, if◌then◌else◌}
 use Rattle.std.specs.List.{flat_map}
+use Rattle.std.proofs.lemmas.Bool.{false≢true}
 use Rattle.std.proofs.lemmas.Grind.{flat_map-append}
+use Rattle.ports_http.specs.declared.fault.HeadFault.{HeadFault}
 use Rattle.ports_http.specs.Messages.{RequestMessage, ReplyMessage}
-use Rattle.ports_http.specs.Incoming.{Incoming, opening, ended, fed, Removes}
-use Rattle.ports_http.specs.Replies.{reply_text}
-use Rattle.ports_http.proofs.StreamLaws.{request_stays}
+use Rattle.ports_http.specs.Streams.{End, waiting, refused, closed, Begins, Refuses, RequestAt}
+use Rattle.ports_http.specs.Incoming.{Incoming, opening, ended, fed, behind, Removes}
+use Rattle.ports_http.specs.Replies.{reply_text, fault_reply}
+use Rattle.ports_http.proofs.StreamLaws.{requests_stay, next_request, cuts_on, closes_behind}
 use Rattle.ports_core.specs.declared.event.Tell.{Tell}
 use Rattle.ports_core.specs.declared.queue.Waiter.{Waiter}
-use Rattle.ports_core.specs.Taking.{Taken, Nothing, Whole, Refusal, Lost}
-use Rattle.ports_core.specs.Alike.{IsFrontOf}
-use Rattle.ports_core.specs.Conversations.{Exchange, AnswersAsked, AreExchanges, TakesSome, TakesAll, closes_behind, written}
+use Rattle.ports_core.specs.Telling.{at_once}
+use Rattle.ports_core.specs.Plainly.{IsFrontOf}
+use Rattle.ports_core.specs.Conversations.{Exchange, written, refusal_told, refusal_written, left_of, IsCutTo, IsAnsweredOn, AreAnsweredOn}
 
--- a stream from which something is taken is not over
-begun : (old : Incoming) (taken : Taken) (new : Incoming) → TakesSome old taken new → old.over ≡ false
-begun old Nothing new takes = absurd takes
-begun old (Whole request) new takes = takes.begun
-begun old (Refusal fault) new takes = takes.0
-begun old (Lost close) new takes = takes.1.begun
+-- the requests of these exchanges
+abbrev pub requests_in : List Exchange → List RequestMessage
+requests_in exchanges = map (λ (exchange : Exchange). exchange.request) exchanges
 
-begun_before : (takens : List Taken) (old new : Incoming) → TakesAll old takens new → new.over ≡ false → old.over ≡ false
-begun_before [] old new takes open_end = ap (λ (s : Incoming). s.over) (sym takes) ∙ open_end
-begun_before (taken ∷ more) old new takes open_end = begun old taken takes.0 takes.1
+-- their replies
+abbrev pub tells_in : List Exchange → List Tell
+tells_in exchanges = map (λ (exchange : Exchange). exchange.tell) exchanges
 
--- a request that doesn't close is taken off with more behind
-removes_fed : (old : Incoming) (request : RequestMessage) (new : Incoming) (more : List ℕ) → new.over ≡ false → Removes old request new → Removes (fed old more) request (fed new more)
-removes_fed old request new more open_end removes =
-    let P : Bool → Type 0 = λ b. new ≡ (if b then ended else record { unread = removes.rest; over = false }) → fed new more ≡ (if b then ended else record { unread = removes.rest ++ more; over = false }) in
-    let goes_on : P false = λ is. ap (λ (s : Incoming). fed s more) is in
-    let closing : P true = λ is. absurd (let over : new.over ≡ true = ap (λ (s : Incoming). s.over) is in cc) in
-    record {
-      begun = removes.begun;
-      rest = removes.rest ++ more;
-      stands = request_stays old.unread request removes.rest more removes.stands;
-      after = elim (request.close) as P [ true ↦ closing | false ↦ goes_on ] removes.after;
-    }
+requests-more : (exchanges : List Exchange) (exchange : Exchange) → requests_in (exchanges ++ exchange ∷ []) ≡ requests_in exchanges ++ exchange.request ∷ []
+requests-more [] exchange = refl
+requests-more (e ∷ exchanges) exchange = ap (λ rs. e.request ∷ rs) (requests-more exchanges exchange)
 
-takes_fed : (old : Incoming) (taken : Taken) (new : Incoming) (more : List ℕ) → new.over ≡ false → TakesSome old taken new → TakesSome (fed old more) taken (fed new more)
-takes_fed old Nothing new more open_end takes = takes
-takes_fed old (Whole request) new more open_end takes = removes_fed old request new more open_end takes
-takes_fed old (Refusal fault) new more open_end takes = absurd (let over : new.over ≡ true = ap (λ (s : Incoming). s.over) takes.2 in cc)
-takes_fed old (Lost close) new more open_end takes = (takes.0, removes_fed old takes.0 new more open_end takes.1, takes.2)
+tells-more : (exchanges : List Exchange) (exchange : Exchange) → tells_in (exchanges ++ exchange ∷ []) ≡ tells_in exchanges ++ exchange.tell ∷ []
+tells-more [] exchange = refl
+tells-more (e ∷ exchanges) exchange = ap (λ ts. e.tell ∷ ts) (tells-more exchanges exchange)
 
-all_fed : (takens : List Taken) (old new : Incoming) (more : List ℕ) → new.over ≡ false → TakesAll old takens new → TakesAll (fed old more) takens (fed new more)
-all_fed [] old new more open_end takes = ap (λ (s : Incoming). fed s more) takes
-all_fed (taken ∷ takens) old new more open_end takes =
-    (fed takes.0 more, takes_fed old taken takes.0 more (begun_before takens takes.0 new takes.2 open_end) takes.1, all_fed takens takes.0 new more open_end takes.2)
+answers-more : (keys : List (List ℕ)) (Plain : ℕ → Waiter → ReplyMessage → Type 0) (c : ℕ) (exchanges : List Exchange) (exchange : Exchange)
+    → AreAnsweredOn keys Plain c exchanges → IsAnsweredOn keys Plain c exchange → AreAnsweredOn keys Plain c (exchanges ++ exchange ∷ [])
+answers-more keys Plain c [] exchange all one = (one, tt)
+answers-more keys Plain c (e ∷ exchanges) exchange all one = (all.0, answers-more keys Plain c exchanges exchange all.1 one)
 
--- one more is taken off
-all_more : (takens : List Taken) (old mid new : Incoming) (taken : Taken) → TakesAll old takens mid → TakesSome mid taken new → TakesAll old (takens ++ taken ∷ []) new
-all_more [] old mid new taken same takes = (new, subst (λ (s : Incoming). TakesSome s taken new) same takes, refl)
-all_more (first ∷ takens) old mid new taken (next, takes_first, rest) takes = (next, takes_first, all_more takens next mid new taken rest takes)
+-- no head refusal ended the stream
+pub record IsUnrefused (c : ℕ) (end : End) : Type 0 where
+  pub told : refusal_told c end ≡ []
+  pub written_is : refusal_written end ≡ []
 
--- one more reply
-exchanges_more : (keys : List (List ℕ)) (Plain : ℕ → Waiter → ReplyMessage → Type 0) (c : ℕ) (exchanges : List Exchange) (tells : List Tell) (asked : Taken) (tell : Tell)
-    → AreExchanges keys Plain c exchanges tells → AnswersAsked keys Plain c asked tell → AreExchanges keys Plain c (exchanges ++ record { asked = asked; reply = tell.reply } ∷ []) (tells ++ tell ∷ [])
-exchanges_more keys Plain c [] [] asked tell told answers = (refl, answers, tt)
-exchanges_more keys Plain c [] (t ∷ tells) asked tell told answers = absurd told
-exchanges_more keys Plain c (e ∷ exchanges) [] asked tell told answers = absurd told
-exchanges_more keys Plain c (e ∷ exchanges) (t ∷ tells) asked tell told answers = (told.0, told.1, exchanges_more keys Plain c exchanges tells asked tell told.2 answers)
+-- a stream that isn't over goes on
+goes_on : (end : End) (left : Incoming) → left ≡ left_of end → left.over ≡ false → end ≡ waiting left.unread
+goes_on (waiting unread) left is open_end = ap (λ (s : Incoming). waiting s.unread) (sym is)
+goes_on (refused fault) left is open_end = absurd (false≢true (sym open_end ∙ ap (λ (s : Incoming). s.over) is))
+goes_on closed left is open_end = absurd (false≢true (sym open_end ∙ ap (λ (s : Incoming). s.over) is))
 
--- what was taken off a connection for these exchanges, and what of it waits
-abbrev pub asks : List Exchange → List RequestMessage → List Taken
-asks exchanges waiting = map (λ (exchange : Exchange). exchange.asked) exchanges ++ map Whole waiting
+-- a request is taken off a stream that goes on
+pub record NextCut (c : ℕ) (came : List ℕ) (requests : List RequestMessage) (request : RequestMessage) (left : Incoming) : Type 0 where
+  pub end : End
+  pub left_is : left ≡ left_of end
+  pub cut : IsCutTo came (requests ++ request ∷ []) end
+  pub unrefused : IsUnrefused c end
 
-map-more : (exchanges : List Exchange) (asked : Taken) (reply : ReplyMessage)
-    → map (λ (exchange : Exchange). exchange.asked) (exchanges ++ record { asked = asked; reply = reply } ∷ []) ≡ map (λ (exchange : Exchange). exchange.asked) exchanges ++ asked ∷ []
-map-more [] asked reply = refl
-map-more (e ∷ exchanges) asked reply = ap (λ ts. e.asked ∷ ts) (map-more exchanges asked reply)
+next_cut : (c : ℕ) (came : List ℕ) (requests : List RequestMessage) (unread : List ℕ) (request : RequestMessage) (rest : List ℕ) → Begins came requests unread → RequestAt unread request rest
+    → NextCut c came requests request (behind request rest)
+next_cut c came requests unread request rest begins stands =
+    elim (request.close) as (λ b. request.close ≡ b → NextCut c came requests request (if b then ended else record { unread = rest; over = false })) [
+      | true ↦ λ closing. record {
+        end = closed;
+        left_is = refl;
+        cut = cuts_on came requests unread (request ∷ []) closed begins (rest, stands, closes_behind rest request.close closing);
+        unrefused = record { told = refl; written_is = refl };
+      }
+      | false ↦ λ stays. record {
+        end = waiting rest;
+        left_is = refl;
+        cut = next_request came requests unread request rest begins stands stays;
+        unrefused = record { told = refl; written_is = refl };
+      }
+    ] refl
 
 -- the bytes that came, the bytes that were sent, the replies that were told, the bytes that are pending, the
 -- request that waits, and what is left of the stream
-pub record Talk (keys : List (List ℕ)) (Plain : ℕ → Waiter → ReplyMessage → Type 0) (c : ℕ) (came sent : List ℕ) (tells : List Tell) (pending : List ℕ) (waiting : List RequestMessage) (left : Incoming) : Type 0 where
+pub record Talk (keys : List (List ℕ)) (Plain : ℕ → Waiter → ReplyMessage → Type 0) (c : ℕ) (came sent : List ℕ) (tells : List Tell) (pending : List ℕ) (waits : List RequestMessage) (left : Incoming) : Type 0 where
   pub exchanges : List Exchange
-  pub told : AreExchanges keys Plain c exchanges tells
-  pub bytes : sent ++ pending ≡ flat_map written exchanges
-  pub cut : TakesAll (fed opening came) (asks exchanges waiting) left
+  pub end : End
+  pub left_is : left ≡ left_of end
+  pub cut : IsCutTo came (requests_in exchanges ++ waits) end
+  pub told : tells ≡ tells_in exchanges ++ refusal_told c end
+  pub answers : AreAnsweredOn keys Plain c exchanges
+  pub bytes : sent ++ pending ≡ flat_map written exchanges ++ refusal_written end
+  pub still : waits ≢ [] → IsUnrefused c end
+
+some_waits : (request : RequestMessage) → request ∷ [] ≢ []
+some_waits request e = cc
+
+-- one more reply in the bytes
+bytes-more : (exchanges : List Exchange) (exchange : Exchange) (end : End) → refusal_written end ≡ [] → (flat_map written exchanges ++ refusal_written end) ++ written exchange ≡ flat_map written (exchanges ++ exchange ∷ []) ++ refusal_written end
+bytes-more exchanges exchange end none =
+    ap (λ bs. bs ++ written exchange) (ap (λ bs. flat_map written exchanges ++ bs) none ∙ append-nil (flat_map written exchanges))
+    ∙ ap (λ bs. flat_map written exchanges ++ bs) (sym (append-nil (written exchange)))
+    ∙ sym (flat_map-append written exchanges (exchange ∷ []))
+    ∙ sym (ap (λ bs. flat_map written (exchanges ++ exchange ∷ []) ++ bs) none ∙ append-nil (flat_map written (exchanges ++ exchange ∷ [])))
+
+-- and among what was told
+told-more : (c : ℕ) (exchanges : List Exchange) (exchange : Exchange) (end : End) (tells : List Tell) → refusal_told c end ≡ [] → tells ≡ tells_in exchanges ++ refusal_told c end
+    → tells ++ exchange.tell ∷ [] ≡ tells_in (exchanges ++ exchange ∷ []) ++ refusal_told c end
+told-more c exchanges exchange end tells none told =
+    ap (λ ts. ts ++ exchange.tell ∷ []) (told ∙ ap (λ ts. tells_in exchanges ++ ts) none ∙ append-nil (tells_in exchanges))
+    ∙ sym (tells-more exchanges exchange)
+    ∙ sym (ap (λ ts. tells_in (exchanges ++ exchange ∷ []) ++ ts) none ∙ append-nil (tells_in (exchanges ++ exchange ∷ [])))
 
 module _ (keys : List (List ℕ)) (Plain : ℕ → Waiter → ReplyMessage → Type 0) (c : ℕ) (came sent : List ℕ) (tells : List Tell) where
   pub none_came : (left : Incoming) → left ≡ opening → came ≡ [] → sent ≡ [] → tells ≡ [] → Talk keys Plain c came sent tells [] [] left
   none_came left is no_bytes none_sent none_told = record {
     exchanges = [];
-    told = subst (λ ts. AreExchanges keys Plain c [] ts) (sym none_told) tt;
+    end = waiting [];
+    left_is = is;
+    cut = no_bytes;
+    told = none_told;
+    answers = tt;
     bytes = ap (λ bs. bs ++ []) none_sent;
-    cut = is ∙ ap (λ bs. fed opening bs) (sym no_bytes);
+    still = λ some. record { told = refl; written_is = refl };
   }
+
+  -- where the stream isn't over, it goes on behind the requests
+  module _ (pending : List ℕ) (waits : List RequestMessage) (left : Incoming) (talk : Talk keys Plain c came sent tells pending waits left) (open_end : left.over ≡ false) where
+    end_is : talk.end ≡ waiting left.unread
+    end_is = goes_on talk.end left talk.left_is open_end
+
+    begins : Begins came (requests_in talk.exchanges ++ waits) left.unread
+    begins = subst (λ e. IsCutTo came (requests_in talk.exchanges ++ waits) e) end_is talk.cut
+
+    told_open : tells ≡ tells_in talk.exchanges
+    told_open = talk.told ∙ ap (λ e. tells_in talk.exchanges ++ refusal_told c e) end_is ∙ append-nil (tells_in talk.exchanges)
+
+    bytes_open : sent ++ pending ≡ flat_map written talk.exchanges
+    bytes_open = talk.bytes ∙ ap (λ e. flat_map written talk.exchanges ++ refusal_written e) end_is ∙ append-nil (flat_map written talk.exchanges)
+
+    -- the same before another end
+    ends_told : (end : End) → IsUnrefused c end → tells ≡ tells_in talk.exchanges ++ refusal_told c end
+    ends_told end none = told_open ∙ sym (ap (λ ts. tells_in talk.exchanges ++ ts) none.told ∙ append-nil (tells_in talk.exchanges))
+
+    ends_bytes : (end : End) → IsUnrefused c end → sent ++ pending ≡ flat_map written talk.exchanges ++ refusal_written end
+    ends_bytes end none = bytes_open ∙ sym (ap (λ bs. flat_map written talk.exchanges ++ bs) none.written_is ∙ append-nil (flat_map written talk.exchanges))
 
   -- bytes come, unless the stream is over
-  pub talk_fed : (pending : List ℕ) (waiting : List RequestMessage) (left : Incoming) (more : List ℕ) → left.over ≡ false
-      → Talk keys Plain c came sent tells pending waiting left → Talk keys Plain c (came ++ more) sent tells pending waiting (fed left more)
-  talk_fed pending waiting left more open_end talk = record {
-    exchanges = talk.exchanges;
-    told = talk.told;
-    bytes = talk.bytes;
-    cut = all_fed (asks talk.exchanges waiting) (fed opening came) left more open_end talk.cut;
-  }
+  pub talk_fed : (pending : List ℕ) (waits : List RequestMessage) (left : Incoming) (more : List ℕ) → left.over ≡ false
+      → Talk keys Plain c came sent tells pending waits left → Talk keys Plain c (came ++ more) sent tells pending waits (fed left more)
+  talk_fed pending waits left more open_end talk =
+      let none : IsUnrefused c (waiting (left.unread ++ more)) = record { told = refl; written_is = refl } in
+      record {
+        exchanges = talk.exchanges;
+        end = waiting (left.unread ++ more);
+        left_is = ap (λ b. let s : Incoming = record { unread = left.unread ++ more; over = b } in s) open_end;
+        cut = requests_stay came (requests_in talk.exchanges ++ waits) left.unread more (begins pending waits left talk open_end);
+        told = ends_told pending waits left talk open_end (waiting (left.unread ++ more)) none;
+        answers = talk.answers;
+        bytes = ends_bytes pending waits left talk open_end (waiting (left.unread ++ more)) none;
+        still = λ some. none;
+      }
 
-  pub talk_quiet : (pending : List ℕ) (waiting : List RequestMessage) (left : Incoming)
-      → Talk keys Plain c came sent tells pending waiting left → Talk keys Plain c (came ++ []) sent tells pending waiting left
-  talk_quiet pending waiting left talk = subst (λ bs. Talk keys Plain c bs sent tells pending waiting left) (sym (append-nil came)) talk
+  pub talk_quiet : (pending : List ℕ) (waits : List RequestMessage) (left : Incoming)
+      → Talk keys Plain c came sent tells pending waits left → Talk keys Plain c (came ++ []) sent tells pending waits left
+  talk_quiet pending waits left talk = subst (λ bs. Talk keys Plain c bs sent tells pending waits left) (sym (append-nil came)) talk
 
   -- bytes are sent
-  pub talk_sent : (front back : List ℕ) (waiting : List RequestMessage) (left : Incoming)
-      → Talk keys Plain c came sent tells (front ++ back) waiting left → Talk keys Plain c came (sent ++ front) tells back waiting left
-  talk_sent front back waiting left talk = record {
+  pub talk_sent : (front back : List ℕ) (waits : List RequestMessage) (left : Incoming)
+      → Talk keys Plain c came sent tells (front ++ back) waits left → Talk keys Plain c came (sent ++ front) tells back waits left
+  talk_sent front back waits left talk = record {
     exchanges = talk.exchanges;
-    told = talk.told;
-    bytes = append_assoc sent front back ∙ talk.bytes;
+    end = talk.end;
+    left_is = talk.left_is;
     cut = talk.cut;
+    told = talk.told;
+    answers = talk.answers;
+    bytes = append_assoc sent front back ∙ talk.bytes;
+    still = talk.still;
   }
+
+  -- where nothing waits, a request is taken off the stream
+  module _ (pending : List ℕ) (left new : Incoming) (request : RequestMessage) (takes : Removes left request new) (talk : Talk keys Plain c came sent tells pending [] left) where
+    cut_next : NextCut c came (requests_in talk.exchanges) request (behind request takes.rest)
+    cut_next =
+        next_cut c came (requests_in talk.exchanges) left.unread request takes.rest
+        (subst (λ rs. Begins came rs left.unread) (append-nil (requests_in talk.exchanges)) (begins pending [] left talk takes.begun)) takes.stands
 
   -- a request is taken, and waits
-  pub talk_waits : (left new : Incoming) (request : RequestMessage) → TakesSome left (Whole request) new
+  pub talk_waits : (left new : Incoming) (request : RequestMessage) → Removes left request new
       → Talk keys Plain c came sent tells [] [] left → Talk keys Plain c came sent tells [] (request ∷ []) new
-  talk_waits left new request takes talk = record {
-    exchanges = talk.exchanges;
-    told = talk.told;
-    bytes = talk.bytes;
-    cut = subst (λ ts. TakesAll (fed opening came) ts new) (ap (λ ts. ts ++ Whole request ∷ []) (append-nil (map (λ (exchange : Exchange). exchange.asked) talk.exchanges)))
-        (all_more (asks talk.exchanges []) (fed opening came) left new (Whole request) talk.cut takes);
-  }
-
-  bytes_more : (exchanges : List Exchange) (asked : Taken) (reply : ReplyMessage) → sent ++ [] ≡ flat_map written exchanges
-      → sent ++ reply_text reply (closes_behind asked) ≡ flat_map written (exchanges ++ record { asked = asked; reply = reply } ∷ [])
-  bytes_more exchanges asked reply is =
-      ap (λ bs. bs ++ reply_text reply (closes_behind asked)) (sym (append-nil sent) ∙ is)
-      ∙ ap (λ bs. flat_map written exchanges ++ bs) (sym (append-nil (reply_text reply (closes_behind asked))))
-      ∙ sym (flat_map-append written exchanges (record { asked = asked; reply = reply } ∷ []))
+  talk_waits left new request takes talk =
+      let next = cut_next [] left new request takes talk in
+      record {
+        exchanges = talk.exchanges;
+        end = next.end;
+        left_is = takes.after ∙ next.left_is;
+        cut = next.cut;
+        told = ends_told [] [] left talk takes.begun next.end next.unrefused;
+        answers = talk.answers;
+        bytes = ends_bytes [] [] left talk takes.begun next.end next.unrefused;
+        still = λ some. next.unrefused;
+      }
 
   -- the request that waited is answered
-  pub talk_answered : (left : Incoming) (request : RequestMessage) (tell : Tell) → AnswersAsked keys Plain c (Whole request) tell
+  pub talk_answered : (left : Incoming) (request : RequestMessage) (tell : Tell) → IsAnsweredOn keys Plain c (record { request = request; tell = tell })
       → Talk keys Plain c came sent tells [] (request ∷ []) left → Talk keys Plain c came sent (tells ++ tell ∷ []) (reply_text tell.reply request.close) [] left
-  talk_answered left request tell answers talk = record {
-    exchanges = talk.exchanges ++ record { asked = Whole request; reply = tell.reply } ∷ [];
-    told = exchanges_more keys Plain c talk.exchanges tells (Whole request) tell talk.told answers;
-    bytes = bytes_more talk.exchanges (Whole request) tell.reply talk.bytes;
-    cut = subst (λ ts. TakesAll (fed opening came) ts left) (sym (append-nil _ ∙ map-more talk.exchanges (Whole request) tell.reply)) talk.cut;
-  }
+  talk_answered left request tell answers talk =
+      let exchange : Exchange = record { request = request; tell = tell } in
+      let none = talk.still (some_waits request) in
+      record {
+        exchanges = talk.exchanges ++ exchange ∷ [];
+        end = talk.end;
+        left_is = talk.left_is;
+        cut = subst (λ rs. IsCutTo came rs talk.end) (sym (append-nil _ ∙ requests-more talk.exchanges exchange)) talk.cut;
+        told = told-more c talk.exchanges exchange talk.end tells none.told talk.told;
+        answers = answers-more keys Plain c talk.exchanges exchange talk.answers answers;
+        bytes = ap (λ bs. bs ++ written exchange) (sym (append-nil sent) ∙ talk.bytes) ∙ bytes-more talk.exchanges exchange talk.end none.written_is;
+        still = λ some. none;
+      }
 
-  -- something is taken and answered at once
-  pub talk_told : (left new : Incoming) (asked : Taken) (tell : Tell) → TakesSome left asked new → AnswersAsked keys Plain c asked tell
-      → Talk keys Plain c came sent tells [] [] left → Talk keys Plain c came sent (tells ++ tell ∷ []) (reply_text tell.reply (closes_behind asked)) [] new
-  talk_told left new asked tell takes answers talk = record {
-    exchanges = talk.exchanges ++ record { asked = asked; reply = tell.reply } ∷ [];
-    told = exchanges_more keys Plain c talk.exchanges tells asked tell talk.told answers;
-    bytes = bytes_more talk.exchanges asked tell.reply talk.bytes;
-    cut = subst (λ ts. TakesAll (fed opening came) ts new) (ap (λ ts. ts ++ asked ∷ []) (append-nil (map (λ (exchange : Exchange). exchange.asked) talk.exchanges)) ∙ sym (append-nil _ ∙ map-more talk.exchanges asked tell.reply))
-        (all_more (asks talk.exchanges []) (fed opening came) left new asked talk.cut takes);
+  -- a request is taken and answered at once
+  pub talk_told : (left new : Incoming) (request : RequestMessage) (tell : Tell) → Removes left request new → IsAnsweredOn keys Plain c (record { request = request; tell = tell })
+      → Talk keys Plain c came sent tells [] [] left → Talk keys Plain c came sent (tells ++ tell ∷ []) (reply_text tell.reply request.close) [] new
+  talk_told left new request tell takes answers talk = talk_answered new request tell answers (talk_waits left new request takes talk)
+
+  -- a head refusal is taken and told at once
+  pub talk_refused : (left new : Incoming) (fault : HeadFault) → left.over ≡ false → Refuses left.unread fault → new ≡ ended
+      → Talk keys Plain c came sent tells [] [] left → Talk keys Plain c came sent (tells ++ at_once c (fault_reply fault) ∷ []) (reply_text (fault_reply fault) true) [] new
+  talk_refused left new fault open_end refuses is talk = record {
+    exchanges = talk.exchanges;
+    end = refused fault;
+    left_is = is;
+    cut = subst (λ rs. IsCutTo came rs (refused fault)) (append-nil (requests_in talk.exchanges ++ []))
+        (cuts_on came (requests_in talk.exchanges ++ []) left.unread [] (refused fault) (begins [] [] left talk open_end) refuses);
+    told = ap (λ ts. ts ++ at_once c (fault_reply fault) ∷ []) (told_open [] [] left talk open_end);
+    answers = talk.answers;
+    bytes = ap (λ bs. bs ++ reply_text (fault_reply fault) true) (sym (append-nil sent) ∙ bytes_open [] [] left talk open_end);
+    still = λ some. absurd (some refl);
   }
 
 -- what was asked and told on a lost connection, of which a front was sent
-pub record LostTalk (keys : List (List ℕ)) (Plain : ℕ → Waiter → ReplyMessage → Type 0) (c : ℕ) (came sent : List ℕ) (tells : List Tell) (waiting : List RequestMessage) (left : Incoming) : Type 0 where
+pub record LostTalk (keys : List (List ℕ)) (Plain : ℕ → Waiter → ReplyMessage → Type 0) (c : ℕ) (came sent : List ℕ) (tells : List Tell) (waits : List RequestMessage) : Type 0 where
   pub exchanges : List Exchange
-  pub told : AreExchanges keys Plain c exchanges tells
-  pub front : IsFrontOf sent (flat_map written exchanges)
-  pub cut : TakesAll (fed opening came) (asks exchanges waiting) left
+  pub end : End
+  pub cut : IsCutTo came (requests_in exchanges ++ waits) end
+  pub told : tells ≡ tells_in exchanges ++ refusal_told c end
+  pub answers : AreAnsweredOn keys Plain c exchanges
+  pub front : IsFrontOf sent (flat_map written exchanges ++ refusal_written end)
+  pub still : waits ≢ [] → IsUnrefused c end
 
 module _ (keys : List (List ℕ)) (Plain : ℕ → Waiter → ReplyMessage → Type 0) (c : ℕ) (came sent : List ℕ) (tells : List Tell) where
   -- the connection is lost
-  pub talk_lost : (pending : List ℕ) (waiting : List RequestMessage) (left : Incoming) → Talk keys Plain c came sent tells pending waiting left → LostTalk keys Plain c came sent tells waiting left
-  talk_lost pending waiting left talk = record { exchanges = talk.exchanges; told = talk.told; front = (pending, talk.bytes); cut = talk.cut }
+  pub talk_lost : (pending : List ℕ) (waits : List RequestMessage) (left : Incoming) → Talk keys Plain c came sent tells pending waits left → LostTalk keys Plain c came sent tells waits
+  talk_lost pending waits left talk = record {
+    exchanges = talk.exchanges;
+    end = talk.end;
+    cut = talk.cut;
+    told = talk.told;
+    answers = talk.answers;
+    front = (pending, talk.bytes);
+    still = talk.still;
+  }
 
   -- the request that waited is answered, and nothing is written
-  pub lost_answered : (left : Incoming) (request : RequestMessage) (tell : Tell) → AnswersAsked keys Plain c (Whole request) tell
-      → LostTalk keys Plain c came sent tells (request ∷ []) left → LostTalk keys Plain c came sent (tells ++ tell ∷ []) [] left
-  lost_answered left request tell answers talk =
-      let exchange : Exchange = record { asked = Whole request; reply = tell.reply } in
+  pub lost_answered : (request : RequestMessage) (tell : Tell) → IsAnsweredOn keys Plain c (record { request = request; tell = tell })
+      → LostTalk keys Plain c came sent tells (request ∷ []) → LostTalk keys Plain c came sent (tells ++ tell ∷ []) []
+  lost_answered request tell answers talk =
+      let exchange : Exchange = record { request = request; tell = tell } in
+      let none = talk.still (some_waits request) in
       record {
         exchanges = talk.exchanges ++ exchange ∷ [];
-        told = exchanges_more keys Plain c talk.exchanges tells (Whole request) tell talk.told answers;
+        end = talk.end;
+        cut = subst (λ rs. IsCutTo came rs talk.end) (sym (append-nil _ ∙ requests-more talk.exchanges exchange)) talk.cut;
+        told = told-more c talk.exchanges exchange talk.end tells none.told talk.told;
+        answers = answers-more keys Plain c talk.exchanges exchange talk.answers answers;
         front = (
-          talk.front.0 ++ flat_map written (exchange ∷ []),
-          sym (append_assoc sent talk.front.0 (flat_map written (exchange ∷ []))) ∙ ap (λ bs. bs ++ flat_map written (exchange ∷ [])) talk.front.1 ∙ sym (flat_map-append written talk.exchanges (exchange ∷ [])),
+          talk.front.0 ++ written exchange,
+          sym (append_assoc sent talk.front.0 (written exchange)) ∙ ap (λ bs. bs ++ written exchange) talk.front.1 ∙ bytes-more talk.exchanges exchange talk.end none.written_is,
         );
-        cut = subst (λ ts. TakesAll (fed opening came) ts left) (sym (append-nil _ ∙ map-more talk.exchanges (Whole request) tell.reply)) talk.cut;
+        still = λ some. none;
       }

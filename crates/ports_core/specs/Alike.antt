@@ -1,5 +1,5 @@
 -- Two runs with the same requests of a tenant.
-use Rattle.std.specs.Prelude.{◌≡◌, ◌⊎◌, ℕ, List, ◌++◌, map}
+use Rattle.std.specs.Prelude.{◌≡◌, ◌⊎◌, ℕ, List, map}
 use Rattle.ports_http.specs.Messages.{ReplyMessage}
 use Rattle.ports_plain.specs.Plain.{Asked}
 use Rattle.ports_core.specs.declared.event.Event.{Event}
@@ -7,7 +7,7 @@ use Rattle.ports_core.specs.declared.queue.Waiter.{Waiter}
 use Rattle.ports_core.specs.declared.history.Step.{Step}
 use Rattle.ports_core.specs.Slices.{asked_of}
 use Rattle.ports_core.specs.State.{State, waiting_at}
-use Rattle.ports_core.specs.Plainly.{told_to, answers_of, own_of, IsToldPlainly}
+use Rattle.ports_core.specs.Plainly.{IsFrontOf, told_to, answers_of, own_of, IsToldPlainly}
 
 -- what was asked of the plain service, by whichever connections and keys
 abbrev pub requests_of : List Waiter → List Asked
@@ -16,10 +16,6 @@ requests_of waiters = map (λ waiter. asked_of waiter.request) waiters
 -- what was told to a tenant, other than 503, whichever connections it went to
 abbrev pub replies_to : ℕ → List Step → List ReplyMessage
 replies_to t steps = map (λ answer. answer.1) (answers_of (told_to t steps))
-
--- one list begins the other
-abbrev pub IsFrontOf : {X : Type 0} → List X → List X → Type 0
-IsFrontOf {X} xs ys = (more : List X) × (xs ++ more ≡ ys)
 
 -- two lists are equal as far as both go
 abbrev pub AreAlike : {X : Type 0} → List X → List X → Type 0

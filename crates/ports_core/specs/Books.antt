@@ -1,5 +1,5 @@
 -- Book-keeping: which requests a run takes off its connections. It is read off the events and what was told,
--- and never looks at a file or at a queue.
+-- and never looks at a world or at a queue.
 use Rattle.std.specs.Prelude.{◌≡◌, ℕ, List, [], ◌∷◌, ◌++◌, MatchOption, Some, None, option_map, option_and_then}
 use Rattle.ports_core.specs.declared.line.Line.{Line}
 use Rattle.ports_core.specs.declared.event.Event.{Event}

@@ -52,6 +52,10 @@ abbrev pub plain_world : World → List Waiter → World
 plain_world world [] = world
 plain_world world (waiter ∷ waiters) = plain_world (plain_answer world waiter.request).1 waiters
 
+-- one list begins the other
+abbrev pub IsFrontOf : {X : Type 0} → List X → List X → Type 0
+IsFrontOf {X} xs ys = (more : List X) × (xs ++ more ≡ ys)
+
 -- The replies told to a tenant in a run, other than 503, are, in order, those that the plain service gives to
 -- the tenant's own list from the opening world, less the last ones: as many as requests of the tenant still wait.
 pub record IsToldPlainly (keys : List (List ℕ)) (t : ℕ) (events : List Event) (steps : List Step) (service : State) : Type 0 where
