@@ -1,8 +1,9 @@
 #!/usr/bin/env bash
 # Shows how the time of the text layers grows: for each case of the program text_speed, the seconds for
 # sizes n, 2n and 4n. Each line should be about twice the one before. The size is the number of
-# references, of dollars, of brackets, of the letters of a word, of words, or of blocks. Openings that
-# nothing closes are refused at the 65th, however many there are.
+# references, of dollars, of brackets, of the letters of a word, of words, of blocks, or of the signs or
+# operands of a condition. Openings that nothing closes are refused at the 65th, however many there are, and
+# so are `!` and parentheses.
 set -eu
 top=$(cd "$(dirname "$0")/.." && pwd)
 (cd "$top/crates/text_speed" && rt run >/dev/null)
@@ -35,3 +36,6 @@ sizes substitute 8000
 sizes words 8000
 sizes blocks 100000
 sizes openings 200000
+sizes bangs 60000
+sizes parentheses 30000
+sizes operands 21845

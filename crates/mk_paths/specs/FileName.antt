@@ -1,6 +1,6 @@
 -- What file a name stands for: names of files in ports trees, as in /ports/editors/vim/Makefile (ports(7)).
 use Rattle.std.specs.Prelude.{◌≡◌, ℕ, ◌-◌, ◌==◌, nat_le, ◌&&◌, ◌||◌, if◌then◌else◌, Bool, List, [], ◌∷◌, ◌++◌, length, take, Option, Some, None, Result, Ok, Err, option_and_then, codes, slice_index}
-use Rattle.std.specs.List.{slice_split, flat_map, list_all}
+use Rattle.std.specs.List.{slice_split, flat_map, list_all, before_last}
 use Rattle.std.specs.Str.{bytes_eq}
 use Rattle.mk_paths.specs.declared.file_name.NameFault.{NameFault}
 use Rattle.mk_paths.specs.declared.file_name.NameFault.TheVariants.{BadName, Above}
@@ -49,6 +49,10 @@ resolved text = if slice_index text 0 == slash && list_all is_plain text then na
 -- the name of a file that a makefile in a directory means: an absolute name stands as it is
 abbrev pub name_under : List ℕ → List ℕ → List ℕ
 name_under directory file = if slice_index file 0 == slash then file else directory ++ slash ∷ file
+
+-- the directory that a file with this name is in
+abbrev pub directory_of : List ℕ → List ℕ
+directory_of name = before_last (λ byte. byte == slash) name
 
 -- a name that is its own resolved name
 pub record IsResolved (name : List ℕ) : Type 0 where

@@ -2,7 +2,7 @@
 ghost use Rattle.std.specs.Prelude.{◌≡◌, IfOk, IsErrOf, option_map, [], if◌then◌else◌};
 ghost use Rattle.std.specs.List.{list_all};
 ghost use Rattle.std.specs.String.{string_bytes};
-ghost use Rattle.mk_paths.specs.FileName.{resolved, IsResolved, name_under, is_plain, kept_parts, with_part, joined};
+ghost use Rattle.mk_paths.specs.FileName.{resolved, IsResolved, name_under, directory_of, is_plain, kept_parts, with_part, joined};
 ghost use Rattle.text_cuts.specs.Cuts.{now_all};
 ghost use Rattle.mk_paths.specs.declared.file_name.NameFault.TheVariants.{Memory};
 
@@ -101,6 +101,17 @@ impl Name {
         ensures resolved { IsResolved self.now }
     {
         self.text.as_str()
+    }
+
+    /// The directory that the file is in: what stands before the last slash of its name.
+    pub fn directory(&self) -> &str
+        ensures { result.now ≡ directory_of self.now }
+    {
+        let text = self.as_str();
+        match text.rfind('/') {
+            Some(end) => &text[..end],
+            None => "",
+        }
     }
 
     /// The resolved name as a text of its own.

@@ -2,14 +2,19 @@
 ghost use Rattle.std.specs.Prelude.{◌≡◌, if◌then◌else◌};
 
 use mk_ast::{ParseError, parse};
+use mk_base::{Budget, Stop, UNITS};
+use mk_cond::truth;
+use mk_env::Env;
+use mk_files::MemoryFiles;
 use mk_glob::glob;
 use mk_mods::{Modifier, Mods, ModsFault, apply};
+use mk_paths::Name;
 use mk_ref::{PiecesFault, pieces};
 use mk_text::TextFault;
 use std::alloc::{AllocError, Global};
 
 /// The cases, in the order in which they are run.
-pub const CASES: [&str; 9] = [
+pub const CASES: [&str; 12] = [
     "references",
     "dollars",
     "runs",
@@ -19,6 +24,9 @@ pub const CASES: [&str; 9] = [
     "words",
     "blocks",
     "openings",
+    "bangs",
+    "parentheses",
+    "operands",
 ];
 
 /// What came of a case: a count or a length. The error is want of memory.
@@ -32,6 +40,9 @@ pub fn outcome(alloc: Global, case: &str, size: usize) -> Result<usize, AllocErr
         "substitute" => modified(alloc, "S/aaab/c/g", repeated(alloc, "a", size)?.as_str()),
         "blocks" => parsed(alloc, repeated(alloc, ".if 1\n.endif\n", size)?.as_str()),
         "openings" => parsed(alloc, repeated(alloc, ".if 1\n", size)?.as_str()),
+        "bangs" => judged(alloc, repeated(alloc, "!", size)?.as_str()),
+        "parentheses" => judged(alloc, repeated(alloc, "(", size)?.as_str()),
+        "operands" => judged(alloc, repeated(alloc, "a||", size)?.as_str()),
         _ => modified(alloc, "U", repeated(alloc, "a ", size)?.as_str()),
     }
 }
@@ -123,5 +134,30 @@ fn parsed(alloc: Global, makefile: &str) -> Result<usize, AllocError> {
         Ok(makefile) => Ok(makefile.nodes.len()),
         Err(ParseError::Fault(fault)) => Ok(fault.line as usize),
         Err(ParseError::Memory) => Err(AllocError),
+    }
+}
+
+/// 1 where a condition holds whose last operand is 1, 0 where it doesn't, and 2 where it is at fault.
+fn judged(alloc: Global, operands: &str) -> Result<usize, AllocError> {
+    let mut text = String::from_str(alloc, "if ")?;
+    text.push_str(operands)?;
+    text.push('1')?;
+    let Ok(makefile) = Name::read(alloc, "/ports/a/Makefile") else {
+        return Err(AllocError);
+    };
+    let (variables, mut files) = (Env::new(alloc), MemoryFiles::new(alloc));
+    let mut budget = Budget::new(UNITS);
+    let held = truth(
+        alloc,
+        &variables,
+        text.as_str(),
+        &makefile,
+        &mut files,
+        &mut budget,
+    );
+    match held {
+        Ok(held) => Ok(as_number(held)),
+        Err(Stop::Fault(_)) => Ok(2),
+        Err(_) => Err(AllocError),
     }
 }

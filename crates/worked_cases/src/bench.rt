@@ -105,11 +105,20 @@ impl Bench {
             "modify on" | "modify on within" => {
                 evaluation::modified(alloc, &self.variables, given)
             }
+<<<<<<< HEAD
             "ask has after" => evaluation::ask_has_told(alloc, &mut self.world.files, given),
             "ask read after" => evaluation::ask_read_told(alloc, &mut self.world.files, given),
+=======
+            "truth" | "truth within after" => {
+                conditions::truth_told(alloc, &self.variables, &mut self.world, given)
+            }
+            "ask has after" => evaluation::ask_has_told(alloc, &mut self.world, given),
+            "ask read after" => evaluation::ask_read_told(alloc, &mut self.world, given),
+>>>>>>> 0a5e8b4700bcbf746ac2feb1e99cb90700509194
             "get" => evaluation::text_of_variable(alloc, &self.variables, given),
             "get from copy" => evaluation::text_of_variable(alloc, &self.copy, given),
             "name" | "name under" => evaluation::name_of(alloc, given),
+            "directory of" => evaluation::directory_of(alloc, given),
             "search path" => evaluation::trees_of(alloc, given),
             "standard search path" => evaluation::standard_trees(alloc),
             "remove" => evaluation::remove(alloc, &mut self.world.files, given),

@@ -1,9 +1,14 @@
-//! The trees of conditions.
+//! The trees of conditions, and whether they hold.
 use crate::answer::{Answer, Trouble};
-use crate::line::as_text;
+use crate::line::{as_number, as_text};
 use cond_grammar::{
     Call, Comparison, Condition, ConditionError, Conjunction, Side, Term, read_condition,
 };
+use mk_base::{Budget, Stop, UNITS};
+use mk_cond::truth;
+use mk_env::Env;
+use mk_files::MemoryFiles;
+use mk_paths::Name;
 use mk_text::Span;
 use std::alloc::{AllocError, Global};
 use std::fmt::Write;
@@ -34,6 +39,49 @@ pub fn conjunctions(alloc: Global, given: &[Vec<u8>]) -> Result<Answer, Trouble>
     if let Ok(condition) = read_condition(alloc, as_text(text)?) {
         answer.number((condition.more.len() as u64).saturating_add(1))?;
     }
+    Ok(answer)
+}
+
+/// The makefile in which conditions stand.
+const MAKEFILE: &str = "/ports/a/b/Makefile";
+
+/// `truth TEXT`: whether the condition holds under its directive, or the kind of its fault; then the units
+/// spent and the questions counted. `truth TEXT within LIMIT after N`: the same with so many units, where so
+/// many questions were counted before.
+pub fn truth_told(
+    alloc: Global,
+    variables: &Env,
+    world: &mut MemoryFiles,
+    given: &[Vec<u8>],
+) -> Result<Answer, Trouble> {
+    let (text, limit, count) = match given {
+        [text] => (text, UNITS, 0),
+        [text, limit, count] => (text, as_number(limit)?, as_number(count)?),
+        _ => return Err(Trouble::NoCase),
+    };
+    let mut budget = Budget::new(limit);
+    for _ in 0..count {
+        budget.ask().map_err(|_| Trouble::NoCase)?;
+    }
+    let Ok(makefile) = Name::read(alloc, MAKEFILE) else {
+        return Err(Trouble::Memory);
+    };
+    let told = truth(
+        alloc,
+        variables,
+        as_text(text)?,
+        &makefile,
+        world,
+        &mut budget,
+    );
+    let mut answer = match told {
+        Ok(held) => Answer::of_choice(alloc, held, "true", "false")?,
+        Err(Stop::Fault(kind)) => Answer::of_word(alloc, format!(in alloc; "{kind:?}")?.as_str())?,
+        Err(Stop::Store) => Answer::of_word(alloc, "Store")?,
+        Err(Stop::Memory) => return Err(Trouble::Memory),
+    };
+    answer.number(budget.spent())?;
+    answer.number(budget.questions())?;
     Ok(answer)
 }
 

@@ -190,6 +190,15 @@ pub fn name_of(alloc: Global, given: &[Vec<u8>]) -> Result<Answer, Trouble> {
     }
 }
 
+/// `directory of NAME`: the directory that a file is in.
+pub fn directory_of(alloc: Global, given: &[Vec<u8>]) -> Result<Answer, Trouble> {
+    let [name] = given else {
+        return Err(Trouble::NoCase);
+    };
+    let name = given_name(alloc, name)?;
+    Answer::of_text(alloc, name.directory())
+}
+
 /// `search path TEXT`: its trees, or `BadPath`.
 pub fn trees_of(alloc: Global, given: &[Vec<u8>]) -> Result<Answer, Trouble> {
     let [text] = given else {

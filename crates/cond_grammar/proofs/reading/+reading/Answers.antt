@@ -3,10 +3,10 @@ use Rattle.std.proofs.lemmas.List.{map-append}
 use Rattle.cond_grammar.specs.declared.tokens.Token.{Token}
 use Rattle.cond_grammar.specs.Trees.{Negated, Grouped}
 use Rattle.cond_grammar.specs.Reading.{Reader, behind_or, behind_and, closed, turned, grouped, read_not, read_and, operands}
-use Rattle.cond_grammar.specs.Views.{found, left_behind, term_tree, condition_tree, conjunction_tree}
+use Rattle.cond_grammar.specs.Views.{found, left_behind, term_tree, condition_tree, conjunction_tree, tree-not, tree-group}
 use Rattle.cond_grammar.proofs.Chains.{continued, continued-ends, continued-more, continued-refused, Shrinks, TakesSome}
 use Rattle.cond_grammar.proofs.Sound.{and-takes, or-takes, not-shrinks, and-shrinks}
-use Rattle.cond_grammar.proofs.Levels.{negated-zero, grouped-zero, negated-below, grouped-below, tree-not, tree-group}
+use Rattle.cond_grammar.proofs.Levels.{negated-zero, grouped-zero, negated-below, grouped-below}
 use Rattle.cond_grammar.proofs.reading.+reading.Goals as goal
 
 -- each turn leaves fewer tokens

@@ -1,0 +1,5 @@
+pub mod Forms
+pub mod Numbers
+pub mod Leaves
+pub mod Truths
+pub mod Truth

@@ -1,0 +1,102 @@
+//! Comparisons in conditions.
+ghost use Rattle.std.specs.Prelude.{◌≡◌};
+ghost use Rattle.mk_base.specs.Meter.{IsLater, Meter};
+ghost use Rattle.mk_base.specs.Stopping.{Gives, GivesOnly, NeverStore};
+ghost use Rattle.cond_grammar.specs.Placed.{IsSideIn};
+ghost use Rattle.mk_cond.specs.Leaves as leaves;
+
+use crate::numbers::{number_of, numbers_compare};
+use cond_grammar::{Comparison, Side};
+use mk_base::{Budget, FaultKind, Stop};
+use mk_env::{Env, expand};
+use std::alloc::Global;
+
+/// Whether two sides of a condition, expanded from the left, compare so.
+pub(crate) fn compared(
+    alloc: Global,
+    variables: &Env,
+    text: &str,
+    one: Side,
+    comparison: Comparison,
+    other: Side,
+    budget: &mut Budget,
+) -> Result<bool, Stop<FaultKind>>
+    requires one_in { IsSideIn text.now one }
+    requires other_in { IsSideIn text.now other }
+    ensures store { NeverStore result }
+    ensures later { IsLater budget.old budget.new }
+    ensures gives { Gives (λ held. held) result budget.new (leaves.compared variables.now text.now one comparison other budget.old) }
+{
+    let left = expand(alloc, variables, side_source(text, one), budget)?;
+    let right = expand(alloc, variables, side_source(text, other), budget)?;
+    let (left, right) = (left.as_str(), right.as_str());
+    match sides_compare(
+        comparison,
+        side_number(one, left),
+        side_number(other, right),
+        left,
+        right,
+    ) {
+        Some(held) => Ok(held),
+        None => Err(Stop::Fault(FaultKind::Condition)),
+    }
+}
+
+/// The text of a side, as it is written.
+fn side_source(text: &str, side: Side) -> &str
+    requires { IsSideIn text.now side }
+    ensures { result.now ≡ leaves.side_source text.now side }
+{
+    match side {
+        Side::Quoted(span) => span.of(text),
+        Side::Bare(span) => span.of(text),
+    }
+}
+
+/// The number that an expanded side is.
+fn side_number(side: Side, found: &str) -> Option<i64>
+    ensures { result ≡ leaves.side_number side found.now }
+{
+    match side {
+        Side::Quoted(_) => None,
+        Side::Bare(_) => number_or_zero(found.as_bytes()),
+    }
+}
+
+/// The number that a text is; no text is 0.
+fn number_or_zero(text: &[u8]) -> Option<i64>
+    ensures { result ≡ leaves.number_or_zero text.now }
+{
+    if text.is_empty() {
+        Some(0)
+    } else {
+        number_of(text)
+    }
+}
+
+/// Whether two sides compare so: as numbers where both are, and else as texts.
+fn sides_compare(
+    comparison: Comparison,
+    one: Option<i64>,
+    other: Option<i64>,
+    left: &str,
+    right: &str,
+) -> Option<bool>
+    ensures { result ≡ leaves.sides_compare comparison one other left.now right.now }
+{
+    match (one, other) {
+        (Some(one), Some(other)) => Some(numbers_compare(comparison, one, other)),
+        _ => texts_compare(comparison, left, right),
+    }
+}
+
+/// Whether two texts compare so; they have no order.
+fn texts_compare(comparison: Comparison, left: &str, right: &str) -> Option<bool>
+    ensures { result ≡ leaves.texts_compare comparison left.now right.now }
+{
+    match comparison {
+        Comparison::Equal => Some(left == right),
+        Comparison::Unequal => Some(left != right),
+        _ => None,
+    }
+}

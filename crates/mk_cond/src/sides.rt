@@ -1,0 +1,120 @@
+//! Sides of conditions that stand alone.
+ghost use Rattle.std.specs.Prelude.{◌≡◌, IfOk, IfErr};
+ghost use Rattle.mk_base.specs.Meter.{IsLater};
+ghost use Rattle.mk_base.specs.Stopping.{Gives, NeverStore};
+ghost use Rattle.std.specs.List.{list_any};
+ghost use Rattle.mk_files.specs.Asking.{account};
+ghost use Rattle.mk_files.specs.Looking.{Asked, LeavesAtStop};
+ghost use Rattle.cond_grammar.specs.Placed.{IsSideIn};
+ghost use Rattle.mk_cond.specs.Leaves as leaves;
+ghost use Rattle.mk_cond.specs.Leaves.{among, is_reference_piece};
+
+use crate::calls::call_truth;
+use crate::numbers::{isnt_zero, number_of};
+use crate::setting::Setting;
+use cond_grammar::Side;
+use mk_base::{Budget, FaultKind, Stop};
+use mk_env::{Env, expand};
+use mk_paths::Names;
+use mk_ref::{Piece, PiecesFault, pieces};
+use std::alloc::{AllocError, Global};
+
+/// Whether a side that stands alone holds.
+pub(crate) fn side_truth<F: Names>(
+    alloc: Global,
+    setting: Setting<'_>,
+    side: Side,
+    files: &mut F,
+    budget: &mut Budget,
+) -> Result<bool, Stop<FaultKind>>
+    requires { IsSideIn setting.text.now side }
+    ensures gives { Gives (λ held. held) result (account budget.new (F.shelf files.new)) (leaves.alone (among setting.entry (F.shelf files.old).files) side (account budget.old (F.shelf files.old))) }
+    ensures asked { IfOk result (λ held. Asked (F.shelf files.old) (F.shelf files.new)) }
+    ensures stops { IfErr result (LeavesAtStop F.fails_with (F.shelf files.old) (F.shelf files.new)) }
+    ensures later { IsLater budget.old budget.new }
+{
+    match side {
+        Side::Quoted(span) => has_text(alloc, setting.variables, span.of(setting.text), budget),
+        Side::Bare(span) => word_truth(alloc, setting, span.of(setting.text), files, budget),
+    }
+}
+
+/// Whether a word that stands alone holds.
+fn word_truth<F: Names>(
+    alloc: Global,
+    setting: Setting<'_>,
+    word: &str,
+    files: &mut F,
+    budget: &mut Budget,
+) -> Result<bool, Stop<FaultKind>>
+    ensures gives { Gives (λ held. held) result (account budget.new (F.shelf files.new)) (leaves.bare (among setting.entry (F.shelf files.old).files) word.now (account budget.old (F.shelf files.old))) }
+    ensures asked { IfOk result (λ held. Asked (F.shelf files.old) (F.shelf files.new)) }
+    ensures stops { IfErr result (LeavesAtStop F.fails_with (F.shelf files.old) (F.shelf files.new)) }
+    ensures later { IsLater budget.old budget.new }
+{
+    if has_reference(alloc, word)? {
+        return has_true(alloc, setting.variables, word, budget);
+    }
+    match number_of(word.as_bytes()) {
+        None => call_truth(alloc, setting, setting.word, word, files, budget),
+        number => Ok(isnt_zero(number)),
+    }
+}
+
+/// Whether a text, expanded, isn't empty.
+fn has_text(
+    alloc: Global,
+    variables: &Env,
+    source: &str,
+    budget: &mut Budget,
+) -> Result<bool, Stop<FaultKind>>
+    ensures store { NeverStore result }
+    ensures later { IsLater budget.old budget.new }
+    ensures gives { Gives (λ held. held) result budget.new (leaves.has_text variables.now source.now budget.old) }
+{
+    let found = expand(alloc, variables, source, budget)?;
+    Ok(!found.is_empty())
+}
+
+/// Whether a text, expanded, is neither empty nor the number 0.
+fn has_true(
+    alloc: Global,
+    variables: &Env,
+    source: &str,
+    budget: &mut Budget,
+) -> Result<bool, Stop<FaultKind>>
+    ensures store { NeverStore result }
+    ensures later { IsLater budget.old budget.new }
+    ensures gives { Gives (λ held. held) result budget.new (leaves.has_true variables.now source.now budget.old) }
+{
+    let found = expand(alloc, variables, source, budget)?;
+    Ok(is_true(found.as_bytes()))
+}
+
+/// Whether a text is neither empty nor the number 0.
+fn is_true(text: &[u8]) -> bool
+    ensures { result ≡ leaves.is_true text.now }
+{
+    !text.is_empty() && isnt_zero(number_of(text))
+}
+
+/// Whether a reference stands in a text.
+#[tactic(auto, unfolding(crate::specs::Leaves::has_reference))]
+fn has_reference(alloc: Global, text: &str) -> Result<bool, AllocError>
+    ensures { IfOk result (λ found. found ≡ leaves.has_reference text.now) }
+{
+    match pieces(alloc, text) {
+        Ok(found) => Ok(refers(found.as_slice())),
+        Err(PiecesFault::Unclosed { at: _ }) => Ok(true),
+        Err(PiecesFault::Memory) => Err(AllocError),
+    }
+}
+
+/// Whether one of these pieces is a reference.
+fn refers(pieces: &[Piece]) -> bool
+    ensures { result ≡ list_any is_reference_piece pieces.now }
+{
+    pieces
+        .iter()
+        .any(|piece| matches!(piece, Piece::Reference(_)))
+}

@@ -1,0 +1,112 @@
+//! The truth of the tree of a condition.
+ghost use Rattle.std.specs.Prelude.{All, IfOk, IfErr};
+ghost use Rattle.mk_base.specs.Meter.{IsLater};
+ghost use Rattle.mk_base.specs.Stopping.{Gives};
+ghost use Rattle.mk_files.specs.Asking.{account};
+ghost use Rattle.mk_files.specs.Looking.{Asked, LeavesAtStop};
+ghost use Rattle.cond_grammar.specs.Placed.{IsTokenIn};
+ghost use Rattle.cond_grammar.specs.Trees.{or_tokens, and_tokens, not_tokens};
+ghost use Rattle.cond_grammar.specs.Views.{condition_tree, conjunction_tree, term_tree};
+ghost use Rattle.mk_cond.specs.Leaves.{among};
+ghost use Rattle.mk_cond.specs.Truths.{or_truth, and_truth, not_truth};
+
+use crate::calls::call_truth;
+use crate::comparing::compared;
+use crate::setting::Setting;
+use crate::sides::side_truth;
+use cond_grammar::{Condition, Conjunction, Term};
+use mk_base::{Budget, FaultKind, Stop};
+use mk_paths::Names;
+use std::alloc::Global;
+
+/// Whether a condition holds: one of its conjunctions does.
+#[cycle(truth)]
+pub(crate) fn condition_truth<F: Names>(
+    alloc: Global,
+    setting: Setting<'_>,
+    condition: &Condition,
+    files: &mut F,
+    budget: &mut Budget,
+) -> Result<bool, Stop<FaultKind>>
+    requires { All (IsTokenIn setting.text.now) (or_tokens (condition_tree condition.now)) }
+    ensures gives { Gives (λ held. held) result (account budget.new (F.shelf files.new)) (or_truth (among setting.entry (F.shelf files.old).files) (condition_tree condition.now) (account budget.old (F.shelf files.old))) }
+    ensures asked { IfOk result (λ held. Asked (F.shelf files.old) (F.shelf files.new)) }
+    ensures stops { IfErr result (LeavesAtStop F.fails_with (F.shelf files.old) (F.shelf files.new)) }
+    ensures later { IsLater budget.old budget.new }
+{
+    let mut held = conjunction_truth(alloc, setting, &condition.first, files, budget)?;
+    for conjunction in &condition.more {
+        if held {
+            return Ok(true);
+        }
+        held = conjunction_truth(alloc, setting, conjunction, files, budget)?;
+    }
+    Ok(held)
+}
+
+/// Whether a conjunction holds: all its terms do.
+#[cycle(truth)]
+fn conjunction_truth<F: Names>(
+    alloc: Global,
+    setting: Setting<'_>,
+    conjunction: &Conjunction,
+    files: &mut F,
+    budget: &mut Budget,
+) -> Result<bool, Stop<FaultKind>>
+    requires { All (IsTokenIn setting.text.now) (and_tokens (conjunction_tree conjunction.now)) }
+    ensures gives { Gives (λ held. held) result (account budget.new (F.shelf files.new)) (and_truth (among setting.entry (F.shelf files.old).files) (conjunction_tree conjunction.now) (account budget.old (F.shelf files.old))) }
+    ensures asked { IfOk result (λ held. Asked (F.shelf files.old) (F.shelf files.new)) }
+    ensures stops { IfErr result (LeavesAtStop F.fails_with (F.shelf files.old) (F.shelf files.new)) }
+    ensures later { IsLater budget.old budget.new }
+{
+    let mut held = term_truth(alloc, setting, &conjunction.first, files, budget)?;
+    for term in &conjunction.more {
+        if !held {
+            return Ok(false);
+        }
+        held = term_truth(alloc, setting, term, files, budget)?;
+    }
+    Ok(held)
+}
+
+/// Whether a term holds.
+#[cycle(truth)]
+fn term_truth<F: Names>(
+    alloc: Global,
+    setting: Setting<'_>,
+    term: &Term,
+    files: &mut F,
+    budget: &mut Budget,
+) -> Result<bool, Stop<FaultKind>>
+    requires { All (IsTokenIn setting.text.now) (not_tokens (term_tree term.now)) }
+    ensures gives { Gives (λ held. held) result (account budget.new (F.shelf files.new)) (not_truth (among setting.entry (F.shelf files.old).files) (term_tree term.now) (account budget.old (F.shelf files.old))) }
+    ensures asked { IfOk result (λ held. Asked (F.shelf files.old) (F.shelf files.new)) }
+    ensures stops { IfErr result (LeavesAtStop F.fails_with (F.shelf files.old) (F.shelf files.new)) }
+    ensures later { IsLater budget.old budget.new }
+{
+    match term {
+        Term::Not(turned) => {
+            let held = term_truth(alloc, setting, turned, files, budget)?;
+            Ok(!held)
+        }
+        Term::Group(condition) => condition_truth(alloc, setting, condition, files, budget),
+        Term::Call(call, argument) => call_truth(
+            alloc,
+            setting,
+            *call,
+            argument.of(setting.text),
+            files,
+            budget,
+        ),
+        Term::Compare(one, comparison, other) => compared(
+            alloc,
+            setting.variables,
+            setting.text,
+            *one,
+            *comparison,
+            *other,
+            budget,
+        ),
+        Term::Side(side) => side_truth(alloc, setting, *side, files, budget),
+    }
+}
