@@ -1,6 +1,0 @@
-//! The service over a wire: clients are accepted, read and written, and each tenant has its turn, round by round.
-#![tactic(auto)]
-
-mod wire;
-
-pub use wire::{Outcome, Wire};
