@@ -2,7 +2,7 @@
 use crate::answer::{Answer, Trouble};
 use crate::evaluation::{self, MAKEFILE};
 use crate::line::as_text;
-use crate::{conditions, packages, service, streams, texts, trees};
+use crate::{conditions, loops, packages, service, streams, texts, trees};
 use mk_env::Env;
 use mk_files::{Content, MemoryFiles};
 use mk_paths::Name;
@@ -102,6 +102,13 @@ impl Bench {
             }
             "modify on" | "modify on within" => {
                 evaluation::modified(alloc, &self.variables, given)
+            }
+            "turns of on" | "turns of on within" => loops::turns_of(alloc, &self.variables, given),
+            "put words into" | "put words into of" => {
+                loops::put_words_told(alloc, &self.variables, false, given)
+            }
+            "put words within into of" => {
+                loops::put_words_told(alloc, &self.variables, true, given)
             }
             "ask has after" => evaluation::ask_has_told(alloc, &mut self.world, given),
             "ask read after" => evaluation::ask_read_told(alloc, &mut self.world, given),
