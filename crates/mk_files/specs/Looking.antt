@@ -7,11 +7,7 @@ use Rattle.mk_base.specs.declared.stopping.Stop.TheVariants as stops
 use Rattle.mk_base.specs.Stopping.{NeverStore}
 use Rattle.mk_paths.specs.declared.asking.FilesFault.{FilesFault}
 use Rattle.mk_paths.specs.declared.asking.FilesFault.TheVariants as faults
-<<<<<<< HEAD
-use Rattle.mk_paths.specs.Shelf.{Contents, Shelf, noted, failed}
-=======
 use Rattle.mk_paths.specs.Shelf.{Contents, Question, Shelf, noted, failed}
->>>>>>> 0a5e8b4700bcbf746ac2feb1e99cb90700509194
 
 -- the world after a look at a file: the question and its answer are in the log, if there is one
 abbrev pub looked : Shelf → List ℕ → Shelf

@@ -114,7 +114,7 @@ before_none_by true first units more is h = cc
 before_none_by false first units more is h = ap (λ l. first ∷ l) (h is)
 
 -- the same where no colon stands among them
-before-none : (units more : List TextUnit) → behind_colon units ≡ None → before_colon (units ++ more) ≡ units ++ before_colon more
+pub before-none : (units more : List TextUnit) → behind_colon units ≡ None → before_colon (units ++ more) ≡ units ++ before_colon more
 before-none [] more is = refl
 before-none (first ∷ units) more is = before_none_by (is_colon first) first units more is (before-none units more)
 
@@ -124,7 +124,7 @@ behind_none_by : (test : Bool) (units more : List TextUnit) → cond test (Some 
 behind_none_by true units more is h = cc
 behind_none_by false units more is h = h is
 
-behind-none : (units more : List TextUnit) → behind_colon units ≡ None → behind_colon (units ++ more) ≡ behind_colon more
+pub behind-none : (units more : List TextUnit) → behind_colon units ≡ None → behind_colon (units ++ more) ≡ behind_colon more
 behind-none [] more is = refl
 behind-none (first ∷ units) more is = behind_none_by (is_colon first) units more is (behind-none units more)
 

@@ -6,7 +6,7 @@ use Rattle.std.specs.Char.{is_ascii_alphabetic}
 use Rattle.mk_ref.specs.declared.opening.Opening.{Opening}
 use Rattle.mk_ref.specs.declared.opening.Opening.TheVariants.{Doubled, Letter, Marked}
 use Rattle.mk_ref.specs.Units.{TextUnit, Byte, Reference, source, sources, is_colon, before_colon, behind_colon, opening_behind, opening_of, marked_reference, marked_first, unit_by, unit_before, with_more, read_up_to, up_to_mark, first_unit, cut_on, cut, left_of}
-use Rattle.mk_ref.specs.Laws.{AreMarks, HasWholeParts}
+use Rattle.mk_ref.specs.Laws.{AreMarks, HasWholeParts, AreCutAlone}
 use Rattle.mk_ref.proofs.UnitSteps.{Reader, IsUnitOf, opens_with, unit_whole, read_faithful, up_to_faithful, read_any, up_to-nil, up_to-cons, first_whole, first-nil, second_of, cut-next, cut_all}
 
 -- what may stand behind a unit in the place of what stood there: nothing, or what begins with the same byte
@@ -218,6 +218,14 @@ alone_whole (unit ∷ units) h =
     subst (λ l. first_unit (source unit ++ l) ≡ Some (unit, l)) (append-nil (sources units)) h.0 in
     ap (λ x. x.1) (cut-next (source unit ++ sources units) ∙ ap (cut_on cut (source unit ++ sources units)) first) ∙ alone_whole units h.1
 
+-- units that are read alone are those that their text is cut into
+alone_cut : (units : List TextUnit) → ReadBefore units [] → cut (sources units) ≡ (units, [])
+alone_cut [] h = cut-next [] ∙ ap (cut_on cut []) first-nil
+alone_cut (unit ∷ units) h =
+    let first : first_unit (source unit ++ sources units) ≡ Some (unit, sources units) =
+    subst (λ l. first_unit (source unit ++ l) ≡ Some (unit, l)) (append-nil (sources units)) h.0 in
+    cut-next (source unit ++ sources units) ∙ ap (cut_on cut (source unit ++ sources units)) first ∙ ap (unit_before unit) (alone_cut units h.1)
+
 front_by : (test : Bool) (unit : TextUnit) (units : List TextUnit) → (more : List TextUnit) × (units ≡ before_colon units ++ more)
     → (more : List TextUnit) × (unit ∷ units ≡ cond test [] (unit ∷ before_colon units) ++ more)
 front_by true unit units h = (unit ∷ units, refl)
@@ -272,3 +280,27 @@ first_parts text = parts_whole (opening_of text) text refl
 
 pub units-whole : (text : List ℕ) → All HasWholeParts (cut text).0
 units-whole text = cut_all HasWholeParts first_parts text
+
+read_all : (units : List TextUnit) (rest : List ℕ) → ReadBefore units rest → ReadBefore units []
+read_all units rest h = read_front units [] rest (subst (λ l. ReadBefore l rest) (sym (append-nil units)) h)
+
+cut_modifiers : (rest : List ℕ) (found : Option (List TextUnit)) → IfSome found (λ units. ReadBefore units rest) → IfSome found (λ units. cut (sources units) ≡ (units, []))
+cut_modifiers rest None h = tt
+cut_modifiers rest (Some units) h = alone_cut units (read_all units rest h)
+
+cut_inside : (rest : List ℕ) (units : List TextUnit) → ReadBefore units rest → AreCutAlone units
+cut_inside rest units h =
+    let front = front_of units in
+    record {
+      inside = alone_cut units (read_all units rest h);
+      name = alone_cut (before_colon units) (read_front (before_colon units) front.0 rest (subst (λ l. ReadBefore l rest) front.1 h));
+      modifiers = cut_modifiers rest (behind_colon units) (behind_read units rest h);
+    }
+
+cut_read : (mark : ℕ) (read : Option (List TextUnit × List ℕ)) → IfSome read (λ x. ReadBefore x.0 (mark ∷ x.1)) → IfSome read (λ x. AreCutAlone x.0)
+cut_read mark None h = tt
+cut_read mark (Some x) h = cut_inside (mark ∷ x.1) x.0 h
+
+-- what is read inside a reference is cut the same where it stands alone
+pub inside-alone : (mark : ℕ) (text : List ℕ) → IfSome (up_to_mark mark text) (λ x. AreCutAlone x.0)
+inside-alone mark text = cut_read mark (up_to_mark mark text) (read_before (length text) mark text (omega arith))

@@ -18,7 +18,7 @@ use Rattle.mk_ref.proofs.UnitSteps.{IsFront, Opens, opens_with}
 use Rattle.mk_ref.proofs.ScanSteps.{first-opening, first-marked}
 use Rattle.mk_ref.proofs.InsideSteps.{written_as}
 
-letter_below : (letter : ℕ) → is_ascii_alphabetic letter ≡ true → letter < 128
+pub letter_below : (letter : ℕ) → is_ascii_alphabetic letter ≡ true → letter < 128
 letter_below letter is = grind (arith, nat_tests)
 
 -- the two bytes of an opening are ASCII characters
@@ -50,7 +50,7 @@ pub record MayCut (text : List ℕ) (at : ℕ) : Type 0 where
   pub one : IsCharBoundary text (at + 1)
   pub two : IsCharBoundary text (at + 2)
 
-may_cut : (text : List ℕ) (at : ℕ) (opening : Opening) → IsUtf8 text → at + 2 ≤ length text → opening_of (drop at text) ≡ Some opening → MayCut text at
+pub may_cut : (text : List ℕ) (at : ℕ) (opening : Opening) → IsUtf8 text → at + 2 ≤ length text → opening_of (drop at text) ≡ Some opening → MayCut text at
 may_cut text at opening utf8 room is =
     let near : at < length text = omega arith in
     let second : at + 1 < length text = omega arith in

@@ -4,7 +4,7 @@ use Rattle.std.specs.Char.{is_ascii_alphabetic}
 use Rattle.std.specs.List.{flat_map, list_any}
 use Rattle.mk_ref.specs.Outside.{outside}
 use Rattle.mk_ref.specs.Pieces.{units_in, pieces_of}
-use Rattle.mk_ref.specs.Units.{TextUnit, Byte, Pair, Reference, sources, with_more, cut_on, up_to_mark, first_unit, cut, units_of, left_of}
+use Rattle.mk_ref.specs.Units.{TextUnit, Byte, Pair, Reference, sources, before_colon, behind_colon, with_more, cut_on, up_to_mark, first_unit, cut, units_of, left_of}
 
 -- the units of a text and what is left, put together, are the text
 abbrev pub UnitsAreText : Type 0
@@ -53,6 +53,16 @@ HasWholeParts (Reference written name modifiers) = (left_of name ≡ []) × IfSo
 -- the name and the modifiers of each reference of a text are cut alone with nothing left
 abbrev pub PartsAreWhole : Type 0
 PartsAreWhole = (text : List ℕ) → All HasWholeParts (units_of text)
+
+-- what stands inside a reference, its name and its modifiers, cut alone, have the units that are read of them where they stand
+pub record AreCutAlone (units : List TextUnit) : Type 0 where
+  pub inside : cut (sources units) ≡ (units, [])
+  pub name : cut (sources (before_colon units)) ≡ (before_colon units, [])
+  pub modifiers : IfSome (behind_colon units) (λ more. cut (sources more) ≡ (more, []))
+
+-- so it is with what stands inside each reference
+abbrev pub InsidesAreCutAlone : Type 0
+InsidesAreCutAlone = (mark : ℕ) (text : List ℕ) → IfSome (up_to_mark mark text) (λ read. AreCutAlone read.0)
 
 -- pieces are made of the units that they are the pieces of
 abbrev pub PiecesAreUnits : Type 0

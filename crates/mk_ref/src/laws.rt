@@ -1,5 +1,5 @@
 //! What holds of every text. Each function does nothing: its clause is the law.
-ghost use Rattle.mk_ref.specs.Laws.{UnitsAreText, ReferencesArePutTogether, CutGoesOn, ReadGoesOn, PartsAreWhole, PiecesAreUnits, DollarsAlonePartTexts, OutsideStandsInPlace};
+ghost use Rattle.mk_ref.specs.Laws.{UnitsAreText, ReferencesArePutTogether, CutGoesOn, ReadGoesOn, PartsAreWhole, InsidesAreCutAlone, PiecesAreUnits, DollarsAlonePartTexts, OutsideStandsInPlace};
 
 /// The units of a text and what is left of it, put together, are the text.
 pub fn units_are_text()
@@ -24,6 +24,12 @@ pub fn read_goes_on()
 /// Inside a reference every reference ends: its name and its modifiers, cut alone, leave nothing.
 pub fn parts_are_whole()
     ensures { PartsAreWhole }
+{}
+
+/// What stands inside a reference, its name and its modifiers, cut alone, have the units that are read
+/// of them where they stand.
+pub fn insides_are_cut_alone()
+    ensures { InsidesAreCutAlone }
 {}
 
 /// The pieces of units are made of just these units: nothing is lost where bytes are put together.

@@ -4,7 +4,7 @@ ghost use Rattle.mk_ref.specs.Units.{opening_of};
 
 /// What a `$` makes with the byte behind it.
 #[derive(Clone, Copy, Debug)]
-pub(crate) enum Opening {
+pub enum Opening {
     /// `$$`.
     Doubled,
     /// `$` and an ASCII letter: a whole reference.
@@ -15,7 +15,7 @@ pub(crate) enum Opening {
 
 /// What the `$` at this index makes with the byte behind it; `None` where another byte stands there,
 /// and where the `$` stands for itself.
-pub(crate) fn opening_at(bytes: &[u8], at: usize) -> Option<Opening>
+pub fn opening_at(bytes: &[u8], at: usize) -> Option<Opening>
     requires { at < length bytes.now }
     ensures opening { result ≡ opening_of (drop at bytes.now) }
     ensures inside { OnSome result (at + 2 ≤ length bytes.now) }

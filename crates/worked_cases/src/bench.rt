@@ -3,7 +3,7 @@ use crate::answer::{Answer, Trouble};
 use crate::evaluation::{self, MAKEFILE};
 use crate::line::as_text;
 use crate::world::World;
-use crate::{conditions, packages, service, streams, texts, trees};
+use crate::{conditions, loops, packages, service, streams, texts, trees};
 use mk_env::Env;
 use mk_files::Content;
 use mk_paths::Name;
@@ -105,16 +105,18 @@ impl Bench {
             "modify on" | "modify on within" => {
                 evaluation::modified(alloc, &self.variables, given)
             }
-<<<<<<< HEAD
+            "truth" | "truth within after" => {
+                conditions::truth_told(alloc, &self.variables, &mut self.world.files, given)
+            }
+            "turns of on" | "turns of on within" => loops::turns_of(alloc, &self.variables, given),
+            "put words into" | "put words into of" => {
+                loops::put_words_told(alloc, &self.variables, false, given)
+            }
+            "put words within into of" => {
+                loops::put_words_told(alloc, &self.variables, true, given)
+            }
             "ask has after" => evaluation::ask_has_told(alloc, &mut self.world.files, given),
             "ask read after" => evaluation::ask_read_told(alloc, &mut self.world.files, given),
-=======
-            "truth" | "truth within after" => {
-                conditions::truth_told(alloc, &self.variables, &mut self.world, given)
-            }
-            "ask has after" => evaluation::ask_has_told(alloc, &mut self.world, given),
-            "ask read after" => evaluation::ask_read_told(alloc, &mut self.world, given),
->>>>>>> 0a5e8b4700bcbf746ac2feb1e99cb90700509194
             "get" => evaluation::text_of_variable(alloc, &self.variables, given),
             "get from copy" => evaluation::text_of_variable(alloc, &self.copy, given),
             "name" | "name under" => evaluation::name_of(alloc, given),

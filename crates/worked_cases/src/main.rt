@@ -9,6 +9,7 @@ mod cases;
 mod conditions;
 mod evaluation;
 mod line;
+mod loops;
 mod packages;
 mod service;
 mod streams;

@@ -1,0 +1,38 @@
+use Rattle.std.proofs.Common.{All, refl, sym, subst, ◌∙◌, arith}
+use Rattle.std.specs.Str.{IsCharBoundary}
+use Rattle.std.proofs.lemmas.Str.{IsCharBoundary-start}
+use Rattle.std.proofs.lemmas.List.Elements.{All-nil}
+use Rattle.mk_base.specs.Stopping.{Gives}
+use Rattle.mk_ref.specs.Units.{units_of}
+use Rattle.mk_loop.specs.Scopes.{words_in}
+use Rattle.mk_loop.specs.Places.{Outermost, HasAsciiMark, text_of}
+use Rattle.mk_loop.proofs.WholeLine.{stands-first, goes-first, goes-last}
+use Rattle.mk_loop.proofs.putting.put_words.Goals as goal
+
+pub loop-alloc-init : goal.loop-alloc-init
+loop-alloc-init c =
+    let line = c.args.line.now in
+    let pass = c.new-pass.result in
+    let new = c.new-pass.ensures in
+    record {
+      later = record { limit = refl; spent = omega arith; questions = omega arith };
+      placed = record {
+        text = c.utf8.line;
+        ordered = omega (arith, new.copied, new.at);
+        within = omega (arith, new.at);
+        starts = subst (IsCharBoundary line) (sym new.copied) (IsCharBoundary-start line c.utf8.line);
+        marks = subst (All HasAsciiMark) (sym new.around) (All-nil HasAsciiMark);
+        untouched = λ _. new.joined;
+      };
+      left = Outermost (units_of line);
+      stands = stands-first line pass c.in_ok-check_closed.ensures.whole new.around new.at;
+      goes = goes-first (words_in c.args.words) c.args.variables.now line pass c.args.budget.now c.in_ok-check_closed.ensures.whole new.joined new.copied new.at;
+    }
+
+pub returns-clause-gives : goal.returns-clause-gives
+returns-clause-gives c =
+    let line = c.args.line.now in
+    let invariant = c.loop-alloc.invariant in
+    subst (λ outcome. Gives (text_of line) c.finished.result c.loop-alloc.budget outcome)
+    (sym (invariant.goes ∙ goes-last (words_in c.args.words) c.args.variables.now line c.loop-alloc.pass invariant.left c.loop-alloc.budget (omega arith) invariant.stands))
+    (c.finished.ensures.gives c.loop-alloc.budget)

@@ -1,0 +1,92 @@
+//! What is joined of a text into which words are put.
+ghost use Rattle.std.specs.Prelude.{◌≡◌, string_bytes, IfOk};
+ghost use Rattle.mk_base.specs.Meter.{Meter};
+ghost use Rattle.mk_base.specs.Stopping.{Gives, NeverStore};
+ghost use Rattle.mk_loop.specs.Putting.{nothing, doubled, as_written, with_word, finished};
+ghost use Rattle.mk_loop.specs.Joinings.{so_far};
+
+use mk_base::{FaultKind, Stop};
+use mk_text::{TEXT_LIMIT, TextFault, add_text};
+use std::alloc::{AllocError, Global};
+
+/// What is joined of a text so far.
+#[derive(Debug, Drop)]
+pub(crate) struct Joined {
+    text: String,
+    /// Whether a word was put in.
+    replaced: bool,
+}
+
+impl Joined {
+    /// Nothing of a text. It takes no memory.
+    pub(crate) fn new(alloc: Global) -> Joined
+        ensures { so_far result ≡ nothing }
+    {
+        Joined {
+            text: String::new(alloc),
+            replaced: false,
+        }
+    }
+
+    /// More of the text, as it is written.
+    pub(crate) fn as_written(self, text: &str) -> Result<Joined, AllocError>
+        ensures { IfOk result (λ joined. so_far joined ≡ as_written (so_far self) text.now) }
+    {
+        let Joined {
+            text: joined,
+            replaced,
+        } = self;
+        let mut joined = joined;
+        joined.push_str(text)?;
+        Ok(Joined {
+            text: joined,
+            replaced,
+        })
+    }
+
+    /// A word put in.
+    pub(crate) fn with_word(self, alloc: Global, word: &str) -> Result<Joined, Stop<FaultKind>>
+        ensures store { NeverStore result }
+        ensures gives { (m : Meter) → Gives so_far result m (with_word (so_far self) word.now m) }
+    {
+        let word = doubled(alloc, word)?;
+        let mut text = self.text;
+        match add_text(&mut text, word.as_str()) {
+            Ok(()) => Ok(Joined {
+                text,
+                replaced: true,
+            }),
+            Err(TextFault::Length) => Err(Stop::Fault(FaultKind::Length)),
+            Err(TextFault::Memory) => Err(Stop::Memory),
+        }
+    }
+
+    /// The text at its end.
+    pub(crate) fn finished(self) -> Result<String, Stop<FaultKind>>
+        ensures store { NeverStore result }
+        ensures gives { (m : Meter) → Gives string_bytes result m (finished (so_far self) m) }
+    {
+        if self.replaced && self.text.len() > TEXT_LIMIT {
+            return Err(Stop::Fault(FaultKind::Length));
+        }
+        Ok(self.text)
+    }
+}
+
+/// The text with each dollar doubled.
+fn doubled(alloc: Global, text: &str) -> Result<String, AllocError>
+    ensures { IfOk result (λ made. string_bytes made ≡ doubled text.now) }
+{
+    let bytes = text.as_bytes();
+    let mut made = String::new(alloc);
+    let mut copied = 0;
+    for at in 0..bytes.len() {
+        if bytes[at] == b'$' {
+            made.push_str(&text[copied..at + 1])?;
+            // What follows begins with this dollar, once more.
+            copied = at;
+        }
+    }
+    made.push_str(&text[copied..])?;
+    Ok(made)
+}

@@ -1,0 +1,27 @@
+//! Names of references.
+ghost use Rattle.std.specs.Prelude.{◌≤◌, ◌<◌, length};
+ghost use Rattle.mk_loop.specs.Places.{EndsName};
+
+use mk_ref::{Opening, opening_at};
+
+/// The index of the colon or the mark behind the name of the reference whose inside begins at `start`
+/// and is closed by `closing`; `None` where a reference stands in the name.
+pub(crate) fn name_end(bytes: &[u8], start: usize, closing: u8) -> Option<usize>
+    requires start { start ≤ length bytes.now }
+    requires ascii { closing < 128 }
+    ensures { EndsName bytes.now start closing result }
+{
+    let mut at = start;
+    while at < bytes.len() {
+        if bytes[at] == closing || bytes[at] == b':' {
+            return Some(at);
+        }
+        match opening_at(bytes, at) {
+            None => at += 1,
+            Some(Opening::Doubled) => at += 2,
+            Some(Opening::Letter) => return None,
+            Some(Opening::Marked(_)) => return None,
+        }
+    }
+    None
+}

@@ -1,0 +1,101 @@
+//! Loops: their headers, and lines with words put in.
+use crate::answer::{Answer, Trouble};
+use crate::line::{as_number, as_text};
+use mk_base::{Budget, FaultKind, Stop, UNITS};
+use mk_env::Env;
+use mk_loop::{Scope, Turns, put_words, read_header};
+use std::alloc::Global;
+
+/// `turns of HEADER on LINE`: the line with the words of each turn put in, with the units spent; of a
+/// fault its kind. A number behind `within` is the limit of the budget.
+pub fn turns_of(alloc: Global, variables: &Env, given: &[Vec<u8>]) -> Result<Answer, Trouble> {
+    let (limit, header, line) = match given {
+        [header, line] => (UNITS, header, line),
+        [header, line, limit] => (as_number(limit)?, header, line),
+        _ => return Err(Trouble::NoCase),
+    };
+    let line = as_text(line)?;
+    let mut budget = Budget::new(limit);
+    let mut answer = Answer::new(alloc);
+    match read_header(alloc, variables, as_text(header)?, &mut budget) {
+        Ok(turns) => {
+            for index in 0..turns.count() {
+                let scope = Scope::Turn(turns.turn(index), &Scope::Outside);
+                let outcome = put_words(alloc, variables, scope, line, &mut budget);
+                add_outcome(alloc, &mut answer, outcome)?;
+            }
+        }
+        Err(stop) => add_stop(alloc, &mut answer, stop)?,
+    }
+    answer.number(budget.spent())?;
+    Ok(answer)
+}
+
+fn add_outcome(
+    alloc: Global,
+    answer: &mut Answer,
+    outcome: Result<Option<String>, Stop<FaultKind>>,
+) -> Result<(), Trouble> {
+    match outcome {
+        Ok(Some(text)) => answer.text(text.as_bytes()),
+        Ok(None) => answer.word("unchanged"),
+        Err(stop) => add_stop(alloc, answer, stop),
+    }
+}
+
+fn add_stop(alloc: Global, answer: &mut Answer, stop: Stop<FaultKind>) -> Result<(), Trouble> {
+    match stop {
+        Stop::Fault(kind) => answer.word(format!(in alloc; "{kind:?}")?.as_str()),
+        Stop::Store => answer.word("Store"),
+        Stop::Memory => Err(Trouble::Memory),
+    }
+}
+
+/// `put words into LINE of HEADER..`: a line with the words of the first turn of each of these loops,
+/// the innermost last, put in, or `unchanged`; and the units spent. Of a fault its kind. A number
+/// behind `within` is the limit of the budget.
+pub fn put_words_told(
+    alloc: Global,
+    variables: &Env,
+    limited: bool,
+    given: &[Vec<u8>],
+) -> Result<Answer, Trouble> {
+    let (limit, given) = match given {
+        [limit, more @ ..] if limited => (as_number(limit)?, more),
+        _ => (UNITS, given),
+    };
+    let [line, headers @ ..] = given else {
+        return Err(Trouble::NoCase);
+    };
+    let mut budget = Budget::new(limit);
+    let line = as_text(line)?;
+    let outcome = match headers {
+        [] => put_words(alloc, variables, Scope::Outside, line, &mut budget),
+        [first] => {
+            let outer = turns(alloc, variables, first)?;
+            let scope = Scope::Turn(outer.turn(0), &Scope::Outside);
+            put_words(alloc, variables, scope, line, &mut budget)
+        }
+        [first, second] => {
+            let outer = turns(alloc, variables, first)?;
+            let inner = turns(alloc, variables, second)?;
+            let around = Scope::Turn(outer.turn(0), &Scope::Outside);
+            let scope = Scope::Turn(inner.turn(0), &around);
+            put_words(alloc, variables, scope, line, &mut budget)
+        }
+        _ => return Err(Trouble::NoCase),
+    };
+    let mut answer = Answer::new(alloc);
+    add_outcome(alloc, &mut answer, outcome)?;
+    answer.number(budget.spent())?;
+    Ok(answer)
+}
+
+/// The turns of a loop, one at least.
+fn turns<'a>(alloc: Global, variables: &Env, header: &'a [u8]) -> Result<Turns<'a>, Trouble> {
+    let mut budget = Budget::new(UNITS);
+    match read_header(alloc, variables, as_text(header)?, &mut budget) {
+        Ok(turns) if turns.count() > 0 => Ok(turns),
+        _ => Err(Trouble::NoCase),
+    }
+}
