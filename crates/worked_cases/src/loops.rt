@@ -1,4 +1,7 @@
 //! Loops: their headers, and lines with words put in.
+ghost use Rattle.std.specs.Prelude.{◌<◌, length, IfOk};
+ghost use Rattle.mk_loop.specs.Scopes.{turns_in};
+
 use crate::answer::{Answer, Trouble};
 use crate::line::{as_number, as_text};
 use mk_base::{Budget, FaultKind, Stop, UNITS};
@@ -92,7 +95,9 @@ pub fn put_words_told(
 }
 
 /// The turns of a loop, one at least.
-fn turns<'a>(alloc: Global, variables: &Env, header: &'a [u8]) -> Result<Turns<'a>, Trouble> {
+fn turns<'a>(alloc: Global, variables: &Env, header: &'a [u8]) -> Result<Turns<'a>, Trouble>
+    ensures { IfOk result (λ turns. 0 < length (turns_in turns)) }
+{
     let mut budget = Budget::new(UNITS);
     match read_header(alloc, variables, as_text(header)?, &mut budget) {
         Ok(turns) if turns.count() > 0 => Ok(turns),
