@@ -1,0 +1,4 @@
+pub mod Holdings
+pub mod Tables
+pub mod Refusing
+pub mod Accounts
