@@ -2,3 +2,4 @@ pub mod Holdings
 pub mod Tables
 pub mod Refusing
 pub mod Accounts
+pub mod TenantWorld

@@ -6,7 +6,9 @@ mod faults;
 mod opening;
 mod reading;
 mod store;
+mod tenant_files;
 mod writing;
 
 pub use faults::PutFault;
 pub use store::TenantStore;
+pub use tenant_files::TenantFiles;

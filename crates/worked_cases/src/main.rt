@@ -11,6 +11,7 @@ mod evaluation;
 mod line;
 mod packages;
 mod service;
+mod stores;
 mod streams;
 mod texts;
 mod trees;
