@@ -3,12 +3,13 @@ use crate::answer::{Answer, Trouble};
 use crate::evaluation::{self, MAKEFILE};
 use crate::line::as_text;
 use crate::world::World;
-use crate::{conditions, loops, packages, service, streams, texts, trees};
+use crate::{conditions, loops, packages, service, stores, streams, texts, trees};
 use mk_env::Env;
 use mk_files::Content;
 use mk_paths::Name;
 use ports_http::Method;
 use std::alloc::{AllocError, Global};
+use tenant_store::TenantStore;
 
 /// What lines without `=>` set up for those behind them.
 #[derive(Drop)]
@@ -18,6 +19,7 @@ pub struct Bench {
     /// A copy of the variables, as they were when it was made.
     copy: Env,
     world: World,
+    store: Option<TenantStore>,
 }
 
 impl Bench {
@@ -27,6 +29,7 @@ impl Bench {
             variables: Env::new(alloc),
             copy: Env::new(alloc),
             world: World::new(alloc)?,
+            store: None,
         })
     }
 
@@ -38,6 +41,7 @@ impl Bench {
             "no files" => self.world = World::new(self.alloc)?,
             "put" => evaluation::put(self.alloc, &mut self.world.files, given)?,
             "makefile" => self.put_makefile(given)?,
+            "empty store" => self.store = Some(stores::empty(self.alloc)?),
             _ => self.change_variables(call, given)?,
         }
         Ok(())
@@ -89,7 +93,15 @@ impl Bench {
             "print" => streams::printed_steps(alloc, given),
             "open and end" => service::open_and_end(alloc, given),
             "after at" => service::after(alloc, given),
+            _ if call.starts_with("store ") => self.answer_of_store(call, given),
             _ => self.answer_of_evaluation(call, given),
+        }
+    }
+
+    fn answer_of_store(&mut self, call: &str, given: &[Vec<u8>]) -> Result<Answer, Trouble> {
+        match &mut self.store {
+            Some(store) => stores::answer(self.alloc, store, call, given),
+            None => Err(Trouble::NoCase),
         }
     }
 

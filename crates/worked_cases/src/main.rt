@@ -12,6 +12,7 @@ mod line;
 mod loops;
 mod packages;
 mod service;
+mod stores;
 mod streams;
 mod texts;
 mod trees;

@@ -1,0 +1,232 @@
+-- What holds of the store between its calls goes on to hold.
+use Rattle.std.proofs.Common.{◌≡◌, ◌≢◌, ◌⊎◌, inl, inr, ℕ, ◌+◌, ◌<◌, ◌≤◌, Bool, true, false, eqb, List, Option, None, Some, length, codes, string_bytes, IsTrue, Result, Ok, Err, IfOk, OnErr, OnOk, refl, sym, ap, subst, ◌∙◌, arith}
+use Rattle.std.specs.Prelude.{option_map, unwrap_or}
+use Rattle.std.specs.Option.{option_map_or}
+use Rattle.std.specs.FinMap as finite
+use Rattle.std.proofs.lemmas.Bool.{cases_Bool}
+use Rattle.std.proofs.lemmas.Bool.Decides.{nat_tests}
+use Rattle.mk_paths.specs.World.{FileMap}
+use Rattle.mk_paths.specs.SearchPath.{standard_trees, trees_of}
+use Rattle.sqlite.specs.Effect.{Database}
+use Rattle.sqlite.specs.State.{State}
+use Rattle.tenant_store.specs.Holdings.{File, Account, Holdings, files_in, files_of, path_of, account_in, bytes_of, files_with, bytes_with, IsOver, ChangesFiles, ChangesPath}
+use Rattle.tenant_store.specs.Tables.{IsKept, IsCounted, IsFormed, Stays, Makes, held_in, holdings_in, accounts_after, files_after, Suits}
+use Rattle.std.specs.Borrow.{Bor}
+use Rattle.tenant_store.specs.Accounts.{shown_account, IsAccountOf}
+use Rattle.tenant_store.specs.declared.reading.Account.{Account as Kept}
+use Rattle.tenant_store.specs.declared.writing.Change.{Change}
+use Rattle.tenant_store.specs.declared.writing.Change.TheVariants.{Add, Replace, Remove}
+use Rattle.tenant_store.proofs.Worlds.{len-insert_with, bytes_of-insert, len-remove_there, bytes_of-remove, within_bytes, remove_absent}
+use Rattle.sqlite.specs.declared.error.Error.{Error}
+use Rattle.tenant_store.proofs.Finding.{tenant_is}
+use Rattle.tenant_store.proofs.Remapping.{account_own, account_other, add_own, add_other, replace_own, replace_other, remove_own, remove_other}
+
+pub still_held : (old new : State) → Stays old new → held_in new ≡ held_in old
+still_held old new h = ap (λ (d : Database). holdings_in d.trees) h.now
+
+pub still_kept : (old new : State) → IsKept old → Stays old new → IsKept new
+still_kept old new kept h = record {
+  settled = record { autocommit = h.mode ∙ kept.settled.autocommit; committed = h.committed ∙ kept.settled.committed ∙ sym h.now };
+  formed = subst IsFormed (sym h.now) kept.formed;
+  counted = subst IsCounted (sym (still_held old new h)) kept.counted;
+}
+
+differs : (a b : ℕ) → eqb a b ≡ false → a ≢ b
+differs a b e = grind (arith, nat_tests)
+
+-- the holdings in which one tenant has these files and this account
+abbrev pub changed : Holdings → List File → Account → Holdings
+changed old files account = record { files = files; accounts = accounts_after account old.accounts }
+
+module _ (old : Holdings) (files : List File) (account : Account) (m : FileMap) (own : files_in account.tenant files ≡ m) (others : (other : ℕ) → other ≢ account.tenant → files_in other files ≡ files_of other old) where
+  pub still_counted : account.files ≡ finite.len m → account.bytes ≡ bytes_of m → IsCounted old → IsCounted (changed old files account)
+  still_counted fs bs counted = record {
+    files = λ t. elim (cases_Bool (eqb t account.tenant)) [
+      | inl is ↦
+          let same = tenant_is t account.tenant is in
+          subst (λ n. option_map_or (λ a. a.files) (account_in n (accounts_after account old.accounts)) 0 ≡ finite.len (files_in n files)) (sym same)
+          (ap (λ o. option_map_or (λ a. a.files) o 0) (account_own account old.accounts) ∙ fs ∙ ap finite.len (sym own))
+      | inr other ↦
+          let apart = differs t account.tenant other in
+          ap (λ o. option_map_or (λ a. a.files) o 0) (account_other t account old.accounts apart) ∙ counted.files t ∙ ap finite.len (sym (others t apart))
+    ];
+    bytes = λ t. elim (cases_Bool (eqb t account.tenant)) [
+      | inl is ↦
+          let same = tenant_is t account.tenant is in
+          subst (λ n. option_map_or (λ a. a.bytes) (account_in n (accounts_after account old.accounts)) 0 ≡ bytes_of (files_in n files)) (sym same)
+          (ap (λ o. option_map_or (λ a. a.bytes) o 0) (account_own account old.accounts) ∙ bs ∙ ap bytes_of (sym own))
+      | inr other ↦
+          let apart = differs t account.tenant other in
+          ap (λ o. option_map_or (λ a. a.bytes) o 0) (account_other t account old.accounts apart) ∙ counted.bytes t ∙ ap bytes_of (sym (others t apart))
+    ];
+  }
+
+pub own_path : (old : Holdings) (files : List File) (account : Account) → path_of account.tenant (changed old files account) ≡ account.trees
+own_path old files account = ap (λ o. unwrap_or (option_map (λ a. a.trees) o) standard_trees) (account_own account old.accounts)
+
+pub other_path : (old : Holdings) (files : List File) (account : Account) (other : ℕ) → other ≢ account.tenant → path_of other (changed old files account) ≡ path_of other old
+other_path old files account other apart = ap (λ o. unwrap_or (option_map (λ a. a.trees) o) standard_trees) (account_other other account old.accounts apart)
+
+-- an account that keeps its tenant's path leaves every path
+pub same_paths : (old : Holdings) (files : List File) (account : Account) → account.trees ≡ path_of account.tenant old → (t : ℕ) → path_of t (changed old files account) ≡ path_of t old
+same_paths old files account keeps t = elim (cases_Bool (eqb t account.tenant)) [
+  | inl is ↦ subst (λ n. path_of n (changed old files account) ≡ path_of n old) (sym (tenant_is t account.tenant is)) (own_path old files account ∙ keeps)
+  | inr other ↦ other_path old files account t (differs t account.tenant other)
+]
+
+pub made_kept : (new : State) (held : Holdings) → Makes new held → IsCounted held → IsKept new
+made_kept new held h counted = record { settled = h.settled; formed = h.formed; counted = subst IsCounted (sym h.made) counted }
+
+pub stays_then : (a b c : State) → Stays a b → Stays b c → Stays a c
+stays_then a b c p q = record { now = q.now ∙ p.now; committed = q.committed ∙ p.committed; mode = q.mode ∙ p.mode }
+
+-- ---- the account of a tenant
+
+pub account_is : (tenant : ℕ) (held : Holdings) (kept : Kept) → IsCounted held → Some (shown_account tenant kept) ≡ account_in tenant held.accounts → IsAccountOf tenant held kept
+account_is tenant held kept counted is = record {
+  files = ap (λ o. option_map_or (λ a. a.files) o 0) is ∙ counted.files tenant;
+  bytes = ap (λ o. option_map_or (λ a. a.bytes) o 0) is ∙ counted.bytes tenant;
+  path = ap (λ o. unwrap_or (option_map (λ a. a.trees) o) standard_trees) is;
+}
+
+pub no_account_is : (tenant : ℕ) (held : Holdings) (kept : Kept) → IsCounted held → None ≡ account_in tenant held.accounts → kept.files ≡ 0 → kept.bytes ≡ 0 → string_bytes kept.path ≡ codes "/ports:/mystuff" → IsAccountOf tenant held kept
+no_account_is tenant held kept counted is f b p = record {
+  files = f ∙ ap (λ o. option_map_or (λ a. a.files) o 0) is ∙ counted.files tenant;
+  bytes = b ∙ ap (λ o. option_map_or (λ a. a.bytes) o 0) is ∙ counted.bytes tenant;
+  path = ap trees_of p ∙ ap (λ o. unwrap_or (option_map (λ a. a.trees) o) standard_trees) is;
+}
+
+-- ---- a file is stored
+
+abbrev stored : Bor (List ℕ) → Bor (List ℕ) → Option ℕ → Change
+stored n c old = option_map_or (λ _. Replace n c) old (Add n c)
+
+there_was : (o : Option (List ℕ)) (k : ℕ) → Some k ≡ option_map length o → (was : List ℕ) × (o ≡ Some was)
+there_was None k e = absurd cc
+there_was (Some was) k e = (was, refl)
+
+none_was : (o : Option (List ℕ)) → None ≡ option_map length o → o ≡ None
+none_was None e = refl
+none_was (Some was) e = absurd cc
+
+pub put_suits : (tenant : ℕ) (n c : Bor (List ℕ)) (files : List File) (old : Option ℕ) → old ≡ option_map length (finite.get (files_in tenant files) n.now) → Suits tenant (stored n c old) files
+put_suits tenant n c files None e = none_was _ e
+put_suits tenant n c files (Some k) e = tt
+
+put_files : (tenant : ℕ) (n c : Bor (List ℕ)) (files : List File) (old : Option ℕ) → old ≡ option_map length (finite.get (files_in tenant files) n.now)
+    → (files_in tenant (files_after tenant (stored n c old) files) ≡ finite.insert (files_in tenant files) n.now c.now) × ((other : ℕ) → other ≢ tenant → files_in other (files_after tenant (stored n c old) files) ≡ files_in other files)
+put_files tenant n c files None e = (add_own tenant n.now c.now files (none_was _ e), λ other apart. add_other other tenant n.now c.now files apart)
+put_files tenant n c files (Some k) e = let was = there_was _ k e in (replace_own tenant n.now c.now files was.0 was.1, λ other apart. replace_other tenant n.now c.now other files apart)
+
+-- what is held once a change of the files and the account is made
+module _ (old : State) (new : State) (tenant : ℕ) (files : List File) (kept : Kept) (m : FileMap) (was : IsKept old) (made : Makes new (changed (held_in old) files (shown_account tenant kept)))
+    (own : files_in tenant files ≡ m) (others : (other : ℕ) → other ≢ tenant → files_in other files ≡ files_of other (held_in old)) (fs : kept.files ≡ finite.len m) (bs : kept.bytes ≡ bytes_of m) where
+  pub change_kept : IsKept new
+  change_kept = made_kept new _ made (still_counted (held_in old) files (shown_account tenant kept) m own others fs bs was.counted)
+
+  pub change_files : trees_of (string_bytes kept.path) ≡ path_of tenant (held_in old) → ChangesFiles (held_in old) (held_in new) tenant m
+  change_files path = subst (λ h. ChangesFiles (held_in old) h tenant m) (sym made.made) (record {
+    own = own;
+    others = others;
+    paths = same_paths (held_in old) files (shown_account tenant kept) path;
+  })
+
+pub put_makes : (old new : State) (tenant : ℕ) (n c : Bor (List ℕ)) (length_was : Option ℕ) (kept : Kept) → IsKept old → length_was ≡ option_map length (finite.get (files_of tenant (held_in old)) n.now)
+    → kept.files ≡ files_with (finite.len (files_of tenant (held_in old))) length_was → kept.bytes ≡ bytes_with (bytes_of (files_of tenant (held_in old))) length_was (length c.now) → trees_of (string_bytes kept.path) ≡ path_of tenant (held_in old)
+    → Makes new (changed (held_in old) (files_after tenant (stored n c length_was) (held_in old).files) (shown_account tenant kept))
+    → IsKept new × ChangesFiles (held_in old) (held_in new) tenant (finite.insert (files_of tenant (held_in old)) n.now c.now)
+put_makes old new tenant n c length_was kept was is fs bs path made =
+    let files = files_after tenant (stored n c length_was) (held_in old).files in
+    let m = files_of tenant (held_in old) in
+    let to = finite.insert m n.now c.now in
+    let maps = put_files tenant n c (held_in old).files length_was is in
+    let count : kept.files ≡ finite.len to = fs ∙ ap (files_with (finite.len m)) is ∙ sym (len-insert_with m n.now c.now) in
+    let sum : kept.bytes ≡ bytes_of to = bs ∙ ap (λ o. bytes_with (bytes_of m) o (length c.now)) is ∙ sym (bytes_of-insert m n.now c.now) in
+    (change_kept old new tenant files kept to was made maps.0 maps.1 count sum, change_files old new tenant files kept to was made maps.0 maps.1 count sum path)
+
+-- the limits, of the map that would be
+pub over_is : (m : FileMap) (name content : List ℕ) (files bytes : ℕ) (old : Option ℕ) → old ≡ option_map length (finite.get m name) → files ≡ finite.len m → bytes ≡ bytes_of m
+    → (2000 < files_with files old) ⊎ (8388608 < bytes_with bytes old (length content)) → IsOver (finite.insert m name content)
+over_is m name content files bytes old is fs bs (inl more) = inl (subst (λ n. 2000 < n) (ap (λ f. files_with f old) fs ∙ ap (files_with (finite.len m)) is ∙ sym (len-insert_with m name content)) more)
+over_is m name content files bytes old is fs bs (inr more) =
+    inr (subst (λ n. 8388608 < n) (ap (λ b. bytes_with b old (length content)) bs ∙ ap (λ o. bytes_with (bytes_of m) o (length content)) is ∙ sym (bytes_of-insert m name content)) more)
+
+pub within_is : (m : FileMap) (name content : List ℕ) (old : Option ℕ) (files bytes f b : ℕ) → old ≡ option_map length (finite.get m name) → files ≡ finite.len m → bytes ≡ bytes_of m
+    → f ≡ files_with files old → b ≡ bytes_with bytes old (length content) → f ≤ 2000 → b ≤ 8388608 → ¬ IsOver (finite.insert m name content)
+within_is m name content old files bytes f b is fs bs fe be low few (inl more) =
+    let e : f ≡ finite.len (finite.insert m name content) = fe ∙ ap (λ f. files_with f old) fs ∙ ap (files_with (finite.len m)) is ∙ sym (len-insert_with m name content) in omega arith
+within_is m name content old files bytes f b is fs bs fe be low few (inr more) =
+    let e : b ≡ bytes_of (finite.insert m name content) = be ∙ ap (λ b. bytes_with b old (length content)) bs ∙ ap (λ o. bytes_with (bytes_of m) o (length content)) is ∙ sym (bytes_of-insert m name content) in omega arith
+
+-- ---- a file is taken away
+
+same_some : {X : Type 0} {a b : X} → Some a ≡ Some b → a ≡ b
+same_some e = cc
+
+pub take_makes : (old new : State) (tenant : ℕ) (n : Bor (List ℕ)) (k : ℕ) (kept : Kept) → IsKept old → Some k ≡ option_map length (finite.get (files_of tenant (held_in old)) n.now)
+    → kept.files + 1 ≡ finite.len (files_of tenant (held_in old)) → kept.bytes + k ≡ bytes_of (files_of tenant (held_in old)) → trees_of (string_bytes kept.path) ≡ path_of tenant (held_in old)
+    → Makes new (changed (held_in old) (files_after tenant (Remove n) (held_in old).files) (shown_account tenant kept))
+    → IsKept new × ChangesFiles (held_in old) (held_in new) tenant (finite.remove (files_of tenant (held_in old)) n.now)
+take_makes old new tenant n k kept was is fs bs path made =
+    let files = files_after tenant (Remove n) (held_in old).files in
+    let m = files_of tenant (held_in old) in
+    let to = finite.remove m n.now in
+    let there = there_was _ k is in
+    let size : Some k ≡ Some (length there.0) = is ∙ ap (option_map length) there.1 in
+    let k_is : k ≡ length there.0 = same_some size in
+    let less = len-remove_there m n.now there.0 there.1 in
+    let lighter = bytes_of-remove m n.now there.0 there.1 in
+    let count : kept.files ≡ finite.len to = omega arith in
+    let sum : kept.bytes ≡ bytes_of to = omega arith in
+    let own = remove_own tenant n.now (held_in old).files in
+    let others = λ (other : ℕ) (apart : other ≢ tenant). remove_other tenant n.now other (held_in old).files apart in
+    (change_kept old new tenant files kept to was made own others count sum, change_files old new tenant files kept to was made own others count sum path)
+
+-- a file that is there counts
+pub has_one : (m : FileMap) (name : List ℕ) (k : ℕ) → Some k ≡ option_map length (finite.get m name) → 1 ≤ finite.len m
+has_one m name k is = let there = there_was _ k is in let less = len-remove_there m name there.0 there.1 in omega arith
+
+pub has_bytes : (m : FileMap) (name : List ℕ) (k : ℕ) → Some k ≡ option_map length (finite.get m name) → k ≤ bytes_of m
+has_bytes m name k is = subst (λ o. unwrap_or o 0 ≤ bytes_of m) (sym is) (within_bytes m name)
+
+-- ---- a path is set
+
+pub path_makes : (old new : State) (tenant : ℕ) (kept : Kept) (path : List (List ℕ)) → IsKept old → kept.files ≡ finite.len (files_of tenant (held_in old)) → kept.bytes ≡ bytes_of (files_of tenant (held_in old)) → trees_of (string_bytes kept.path) ≡ path
+    → Makes new (changed (held_in old) (held_in old).files (shown_account tenant kept)) → IsKept new × ChangesPath (held_in old) (held_in new) tenant path
+path_makes old new tenant kept path was fs bs is made = (
+  change_kept old new tenant (held_in old).files kept (files_of tenant (held_in old)) was made refl (λ other apart. refl) fs bs,
+  subst (λ h. ChangesPath (held_in old) h tenant path) (sym made.made) (record {
+    own = own_path (held_in old) (held_in old).files (shown_account tenant kept) ∙ is;
+    others = λ other apart. other_path (held_in old) (held_in old).files (shown_account tenant kept) other apart;
+    files = λ any. refl;
+  }),
+)
+
+-- ---- however a call ends
+
+pub put_kept : (P Q : Type 0) (r : Result Bool Error) (old new : State) → IsKept old → IfOk r (λ fits. IsTrue fits → IsKept new × P) → IfOk r (λ fits. fits ≡ false → Q × Stays old new) → OnErr r (Stays old new) → IsKept new
+put_kept P Q (Ok true) old new kept done full err = (done refl).0
+put_kept P Q (Ok false) old new kept done full err = still_kept old new kept (full refl).1
+put_kept P Q (Err e) old new kept done full err = still_kept old new kept err
+
+pub take_kept : (P : Type 0) (r : Result Bool Error) (old new : State) → IsKept old → IfOk r (λ there. IsTrue there → IsKept new × P) → IfOk r (λ there. there ≡ false → Stays old new) → OnErr r (Stays old new) → IsKept new
+take_kept P (Ok true) old new kept removed absent err = (removed refl).0
+take_kept P (Ok false) old new kept removed absent err = still_kept old new kept (absent refl)
+take_kept P (Err e) old new kept removed absent err = still_kept old new kept err
+
+pub set_kept : {A : Type 0} (P : Type 0) (r : Result A Error) (old new : State) → IsKept old → OnOk r (IsKept new × P) → OnErr r (Stays old new) → IsKept new
+set_kept P (Ok a) old new kept ok err = ok.0
+set_kept P (Err e) old new kept ok err = still_kept old new kept err
+
+-- what was taken away is gone, and where nothing was nothing has changed
+pub takes : (there : Bool) (old new : State) (tenant : ℕ) (name : List ℕ) → there ≡ finite.contains_key (files_of tenant (held_in old)) name
+    → (IsTrue there → IsKept new × ChangesFiles (held_in old) (held_in new) tenant (finite.remove (files_of tenant (held_in old)) name)) → (there ≡ false → Stays old new)
+    → ChangesFiles (held_in old) (held_in new) tenant (finite.remove (files_of tenant (held_in old)) name)
+takes true old new tenant name is removed absent = (removed refl).1
+takes false old new tenant name is removed absent =
+    let same = still_held old new (absent refl) in
+    record {
+      own = ap (files_of tenant) same ∙ sym (remove_absent (files_of tenant (held_in old)) name (sym is));
+      others = λ other apart. ap (files_of other) same;
+      paths = λ any. ap (path_of any) same;
+    }

@@ -1,0 +1,11 @@
+pub mod Answering
+pub mod Finding
+pub mod Fixed
+pub mod Rows
+pub mod Statements
+pub mod Making
+pub mod Creating
+pub mod Worlds
+pub mod Remapping
+pub mod Keeping
+pub mod Paths

@@ -1,0 +1,91 @@
+-- What the store of all tenants holds: each tenant's files and search path.
+use Rattle.std.specs.Option.{option_map_or}
+use Rattle.std.specs.Prelude.{◌≡◌, ◌⊎◌, ◌≢◌, ℕ, ◌+◌, ◌-◌, ◌<◌, ◌==◌, List, [], map, filter, find, length, sum_by, Option, option_map, unwrap_or, refl}
+use Rattle.std.specs.Coded.{Coded, code_by, coded×, coded_list, coded_ℕ}
+use Rattle.std.specs.FinMap as finite
+use Rattle.mk_paths.specs.World.{FileMap}
+use Rattle.mk_paths.specs.SearchPath.{standard_trees}
+
+-- a file of a tenant
+pub record File : Type 0 where
+  pub tenant : ℕ
+  pub name : List ℕ
+  pub content : List ℕ
+
+-- what is kept of a tenant beside its files: how many they are, the sum of their contents in bytes, and the trees of its search path
+pub record Account : Type 0 where
+  pub tenant : ℕ
+  pub files : ℕ
+  pub bytes : ℕ
+  pub trees : List (List ℕ)
+
+-- all files, and the account of each tenant that has one
+pub record Holdings : Type 0 where
+  pub files : List File
+  pub accounts : List Account
+
+abbrev file_code : Coded File
+file_code =
+    code_by (ℕ × (List ℕ × List ℕ)) (coded× coded_ℕ (coded× (coded_list coded_ℕ) (coded_list coded_ℕ))) (λ f. (f.tenant, (f.name, f.content)))
+    (λ p. record { tenant = p.0; name = p.1.0; content = p.1.1 }) (λ _. refl)
+
+abbrev account_code : Coded Account
+account_code =
+    code_by (ℕ × (ℕ × (ℕ × List (List ℕ)))) (coded× coded_ℕ (coded× coded_ℕ (coded× coded_ℕ (coded_list (coded_list coded_ℕ))))) (λ a. (a.tenant, (a.files, (a.bytes, a.trees))))
+    (λ p. record { tenant = p.0; files = p.1.0; bytes = p.1.1.0; trees = p.1.1.1 }) (λ _. refl)
+
+-- holdings are stored as the pair of their parts
+abbrev pub holdings_code : Coded Holdings
+holdings_code =
+    code_by (List File × List Account) (coded× (coded_list file_code) (coded_list account_code)) (λ h. (h.files, h.accounts)) (λ p. record { files = p.0; accounts = p.1 }) (λ _. refl)
+
+-- no file, and no account
+abbrev pub nothing : Holdings
+nothing = record { files = []; accounts = [] }
+
+-- the files of a tenant, with their names
+abbrev pub named_files : ℕ → List File → List (List ℕ × List ℕ)
+named_files tenant files = map (λ f. (f.name, f.content)) (filter (λ f. f.tenant == tenant) files)
+
+-- the files of a tenant, as a map
+abbrev pub files_in : ℕ → List File → FileMap
+files_in tenant files = finite.from_entries (named_files tenant files)
+
+abbrev pub files_of : ℕ → Holdings → FileMap
+files_of tenant held = files_in tenant held.files
+
+-- the account of a tenant, if it has one
+abbrev pub account_in : ℕ → List Account → Option Account
+account_in tenant accounts = find (λ a. a.tenant == tenant) accounts
+
+-- the trees of a tenant's search path: at first the standard ones
+abbrev pub path_of : ℕ → Holdings → List (List ℕ)
+path_of tenant held = unwrap_or (option_map (λ a. a.trees) (account_in tenant held.accounts)) standard_trees
+
+-- the bytes of all contents together
+abbrev pub bytes_of : FileMap → ℕ
+bytes_of files = sum_by length (finite.values files)
+
+-- more than a tenant may have: 2,000 files, or 8,388,608 bytes
+abbrev pub IsOver : FileMap → Type 0
+IsOver files = (2000 < finite.len files) ⊎ (8388608 < bytes_of files)
+
+-- everything is as it was, but that the files of this tenant are these
+pub record ChangesFiles (old new : Holdings) (tenant : ℕ) (files : FileMap) : Type 0 where
+  pub own : files_of tenant new ≡ files
+  pub others : (other : ℕ) → other ≢ tenant → files_of other new ≡ files_of other old
+  pub paths : (any : ℕ) → path_of any new ≡ path_of any old
+
+-- everything is as it was, but that this tenant's search path is this
+pub record ChangesPath (old new : Holdings) (tenant : ℕ) (path : List (List ℕ)) : Type 0 where
+  pub own : path_of tenant new ≡ path
+  pub others : (other : ℕ) → other ≢ tenant → path_of other new ≡ path_of other old
+  pub files : (any : ℕ) → files_of any new ≡ files_of any old
+
+-- how many files a tenant has that had so many, once one is stored in place of another or of none
+abbrev pub files_with : ℕ → Option ℕ → ℕ
+files_with files old = option_map_or (λ _. files) old (files + 1)
+
+-- how many bytes its contents have then
+abbrev pub bytes_with : ℕ → Option ℕ → ℕ → ℕ
+bytes_with bytes old length = bytes - unwrap_or old 0 + length

@@ -1,0 +1,5 @@
+pub mod Holdings
+pub mod Tables
+pub mod Refusing
+pub mod Accounts
+pub mod TenantWorld

@@ -1,0 +1,182 @@
+// What the calls of the store do over its statements.
+ghost use Rattle.std.specs.Prelude.{◌≡◌, ◌≤◌, ◌<◌, ◌⊎◌, false, IfOk, IfSome, IfNone, OnOk, OnErr, IsTrue, map, ◌++◌, length, option_map, unwrap_or, string_bytes};
+ghost use Rattle.std.specs.Option.{option_map_or};
+ghost use Rattle.std.specs.FinMap.{get, insert, remove, contains_key};
+ghost use Rattle.mk_paths.specs.SearchPath.{trees_of, colon};
+ghost use Rattle.text_cuts.specs.Laws.{behind_marks};
+ghost use Rattle.sqlite.specs.Held.{state};
+ghost use Rattle.sqlite.specs.Steps.{over_memory};
+ghost use Rattle.tenant_store.specs.Holdings.{files_of, files_with, bytes_with, IsOver, ChangesFiles, ChangesPath};
+ghost use Rattle.tenant_store.specs.Accounts.{IsAccountOf};
+ghost use Rattle.tenant_store.specs.Tables.{IsKept, Stays, held_in};
+
+use crate::reading::{Account, account_of, content_of};
+use crate::writing::{Change, write};
+use mk_paths::SearchPath;
+use sqlite::{Connection, Error, MemStore};
+use std::alloc::{AllocError, Global};
+
+/// The most files of a tenant.
+const MOST_FILES: usize = 2000;
+
+/// The most bytes that the contents of a tenant's files have together.
+const MOST_BYTES: usize = 8_388_608;
+
+// How many files and bytes a tenant has once a file of this length is stored in place of one of the old length,
+// or of none; `None` where that is more than a tenant may have.
+fn usage_with(files: u32, bytes: u32, old: Option<usize>, length: usize) -> Option<(u32, u32)>
+    requires { unwrap_or old 0 ≤ bytes }
+    ensures fits { IfSome result (λ usage. (usage.0 ≡ files_with files old) × (usage.1 ≡ bytes_with bytes old length) × (usage.0 ≤ 2000) × (usage.1 ≤ 8388608)) }
+    ensures over { IfNone result ((2000 < files_with files old) ⊎ (8388608 < bytes_with bytes old length)) }
+{
+    if length > MOST_BYTES {
+        return None;
+    }
+    let (files, left) = match old {
+        Some(old) => (files as usize, bytes as usize - old),
+        None => (files as usize + 1, bytes as usize),
+    };
+    if files > MOST_FILES || left + length > MOST_BYTES {
+        return None;
+    }
+    Some((files as u32, (left + length) as u32))
+}
+
+/// The account of a tenant, or that of one with no file and the standard path.
+pub(crate) fn account_or_new(
+    conn: &mut Connection<MemStore>,
+    alloc: Global,
+    tenant: u32,
+) -> Result<Account, Error>
+    requires { IsKept (state over_memory conn.old) }
+    ensures account { IfOk result (IsAccountOf tenant (held_in (state over_memory conn.old))) }
+    ensures stays { Stays (state over_memory conn.old) (state over_memory conn.new) }
+{
+    match account_of(conn, tenant)? {
+        Some(account) => Ok(account),
+        None => Ok(Account {
+            files: 0,
+            bytes: 0,
+            path: String::from_str(alloc, "/ports:/mystuff")?,
+        }),
+    }
+}
+
+// The length of a tenant's file, if it is there, and the tenant's account.
+fn look_up(
+    conn: &mut Connection<MemStore>,
+    alloc: Global,
+    tenant: u32,
+    name: &str,
+) -> Result<(Option<usize>, Account), Error>
+    requires { IsKept (state over_memory conn.old) }
+    ensures length { IfOk result (λ seen. seen.0 ≡ option_map length (get (files_of tenant (held_in (state over_memory conn.old))) name.now)) }
+    ensures account { IfOk result (λ seen. IsAccountOf tenant (held_in (state over_memory conn.old)) seen.1) }
+    ensures stays { Stays (state over_memory conn.old) (state over_memory conn.new) }
+{
+    let old = content_of(conn, tenant, name)?;
+    let account = account_or_new(conn, alloc, tenant)?;
+    match old {
+        Some(bytes) => Ok((Some(bytes.len()), account)),
+        None => Ok((None, account)),
+    }
+}
+
+/// Stores a file of a tenant, new or in place of the one of its name, and tells whether it fits.
+pub(crate) fn put(
+    conn: &mut Connection<MemStore>,
+    alloc: Global,
+    tenant: u32,
+    name: &str,
+    content: &[u8],
+) -> Result<bool, Error>
+    requires { IsKept (state over_memory conn.old) }
+    ensures stored { IfOk result (λ fits. IsTrue fits → IsKept (state over_memory conn.new) × ChangesFiles (held_in (state over_memory conn.old)) (held_in (state over_memory conn.new)) tenant (insert (files_of tenant (held_in (state over_memory conn.old))) name.now content.now)) }
+    ensures fits { IfOk result (λ fits. IsTrue fits → ¬ IsOver (insert (files_of tenant (held_in (state over_memory conn.old))) name.now content.now)) }
+    ensures full { IfOk result (λ fits. fits ≡ false → IsOver (insert (files_of tenant (held_in (state over_memory conn.old))) name.now content.now) × Stays (state over_memory conn.old) (state over_memory conn.new)) }
+    ensures err { OnErr result (Stays (state over_memory conn.old) (state over_memory conn.new)) }
+{
+    let (old, account) = look_up(conn, alloc, tenant, name)?;
+    let Some((files, bytes)) = usage_with(account.files, account.bytes, old, content.len()) else {
+        return Ok(false);
+    };
+    let next = Account {
+        files,
+        bytes,
+        path: account.path,
+    };
+    write(conn, tenant, stored_as(old, name, content), &next)?;
+    Ok(true)
+}
+
+// The change that stores a file, where one of the old length is there or none.
+fn stored_as<'x>(old: Option<usize>, name: &'x str, content: &'x [u8]) -> Change<'x>
+    ensures { result ≡ option_map_or (λ _. Change.Replace name.entry content.entry) old (Change.Add name.entry content.entry) }
+{
+    match old {
+        Some(_) => Change::Replace(name, content),
+        None => Change::Add(name, content),
+    }
+}
+
+/// Takes a file of a tenant away, and tells whether it was there.
+pub(crate) fn take(
+    conn: &mut Connection<MemStore>,
+    alloc: Global,
+    tenant: u32,
+    name: &str,
+) -> Result<bool, Error>
+    requires { IsKept (state over_memory conn.old) }
+    ensures was_there { IfOk result (λ there. there ≡ contains_key (files_of tenant (held_in (state over_memory conn.old))) name.now) }
+    ensures removed { IfOk result (λ there. IsTrue there → IsKept (state over_memory conn.new) × ChangesFiles (held_in (state over_memory conn.old)) (held_in (state over_memory conn.new)) tenant (remove (files_of tenant (held_in (state over_memory conn.old))) name.now)) }
+    ensures absent { IfOk result (λ there. there ≡ false → Stays (state over_memory conn.old) (state over_memory conn.new)) }
+    ensures err { OnErr result (Stays (state over_memory conn.old) (state over_memory conn.new)) }
+{
+    let (old, account) = look_up(conn, alloc, tenant, name)?;
+    let Some(length) = old else {
+        return Ok(false);
+    };
+    let next = account.without(length);
+    write(conn, tenant, Change::Remove(name), &next)?;
+    Ok(true)
+}
+
+/// Gives a tenant this search path.
+pub(crate) fn set(
+    conn: &mut Connection<MemStore>,
+    alloc: Global,
+    tenant: u32,
+    path: &SearchPath,
+) -> Result<(), Error>
+    requires { IsKept (state over_memory conn.old) }
+    ensures path { OnOk result (IsKept (state over_memory conn.new) × ChangesPath (held_in (state over_memory conn.old)) (held_in (state over_memory conn.new)) tenant path.now) }
+    ensures err { OnErr result (Stays (state over_memory conn.old) (state over_memory conn.new)) }
+{
+    let account = account_or_new(conn, alloc, tenant)?;
+    let next = Account {
+        files: account.files,
+        bytes: account.bytes,
+        path: path_text(alloc, path)?,
+    };
+    write(conn, tenant, Change::Keep, &next)
+}
+
+// The trees of a search path, with colons between.
+fn path_text(alloc: Global, path: &SearchPath) -> Result<String, AllocError>
+    ensures { IfOk result (λ text. trees_of (string_bytes text) ≡ path.now) }
+{
+    let trees = path.trees();
+    joined(alloc, trees[0].as_str(), &trees[1..])
+}
+
+// The first text, and each other behind a colon.
+fn joined(alloc: Global, first: &str, more: &[String]) -> Result<String, AllocError>
+    ensures { IfOk result (λ text. string_bytes text ≡ first.now ++ behind_marks colon (map string_bytes more.now)) }
+{
+    let mut text = String::from_str(alloc, first)?;
+    for tree in more {
+        text.push_str(":")?;
+        text.push_str(tree.as_str())?;
+    }
+    Ok(text)
+}

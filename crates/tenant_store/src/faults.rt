@@ -1,0 +1,39 @@
+// Why a call of the store is refused.
+ghost use Rattle.std.specs.Prelude.{◌≡◌};
+ghost use Rattle.tenant_store.specs.declared.faults.PutFault.TheVariants as puts;
+
+use mk_paths::FilesFault;
+use sqlite::{Error, ErrorCode};
+
+/// Why a file was not stored. Nothing has changed then.
+#[derive(Clone, Copy, Debug, PartialEq, Eq)]
+pub enum PutFault {
+    /// The tenant would have more than 2,000 files, or more than 8,388,608 bytes of contents.
+    Full,
+    /// The database refused a statement.
+    Store,
+    /// No memory was left.
+    Memory,
+}
+
+impl From<FilesFault> for PutFault {
+    ghost use Rattle.std.specs.Prelude.{◌≡◌};
+    ghost use Rattle.tenant_store.specs.Refusing.{put_fault};
+
+    ghost from_gives = { λ fault result. result ≡ put_fault fault };
+
+    fn from(fault: FilesFault) -> PutFault {
+        match fault {
+            FilesFault::Store => PutFault::Store,
+            FilesFault::Memory => PutFault::Memory,
+        }
+    }
+}
+
+/// The fault of a statement: want of memory, or whatever else the database refused.
+pub(crate) fn fault_of(error: &Error) -> FilesFault {
+    match error {
+        Error::SqliteFailure(ErrorCode::OutOfMemory) => FilesFault::Memory,
+        _ => FilesFault::Store,
+    }
+}

@@ -1,0 +1,14 @@
+//! The files and the search path of each tenant, in one database in memory.
+#![tactic(auto)]
+
+mod changing;
+mod faults;
+mod opening;
+mod reading;
+mod store;
+mod tenant_files;
+mod writing;
+
+pub use faults::PutFault;
+pub use store::TenantStore;
+pub use tenant_files::TenantFiles;

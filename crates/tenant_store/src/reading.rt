@@ -1,0 +1,105 @@
+// The statements that read.
+ghost use Rattle.std.specs.Prelude.{◌≡◌, ◌+◌, ◌≤◌, ℕ, IfOk, option_map};
+ghost use Rattle.std.specs.FinMap.{get};
+ghost use Rattle.sqlite.specs.Held.{state};
+ghost use Rattle.sqlite.specs.Steps.{over_memory};
+ghost use Rattle.tenant_store.specs.Holdings.{files_of, account_in};
+ghost use Rattle.tenant_store.specs.Tables.{IsFormed, IsSettled, Stays, Shows, IsContent, IsAccount, held_in};
+ghost use Rattle.tenant_store.specs.Accounts.{shown_account};
+
+use sqlite::{Connection, Error, MemStore, Row, params};
+
+/// The account of a tenant: how many files it has, the sum of their contents in bytes, and its search path.
+#[derive(Debug, Drop)]
+pub(crate) struct Account {
+    pub(crate) files: u32,
+    pub(crate) bytes: u32,
+    pub(crate) path: String,
+}
+
+fn content_rows(conn: &mut Connection<MemStore>, tenant: u32, name: &str) -> Result<Vec<Row>, Error>
+    requires settled { IsSettled (state over_memory conn.old) }
+    requires formed { IsFormed (state over_memory conn.old).now }
+    ensures rows { IfOk result (λ rows. Shows IsContent rows.items (get (files_of tenant (held_in (state over_memory conn.old))) name.now)) }
+    ensures stays { Stays (state over_memory conn.old) (state over_memory conn.new) }
+{
+    conn.query_all(
+        "SELECT content FROM file WHERE tenant = ?1 AND name = ?2",
+        params![tenant, name],
+    )
+}
+
+impl Account {
+    /// The same with one file fewer, of this length.
+    pub(crate) fn without(self, length: usize) -> Account
+        requires files { 1 ≤ self.files }
+        requires bytes { length ≤ self.bytes }
+        ensures files { result.files + 1 ≡ self.files }
+        ensures bytes { result.bytes + length ≡ self.bytes }
+        ensures path { result.path ≡ self.path }
+    {
+        let Account { files, bytes, path } = self;
+        Account {
+            files: files - 1,
+            bytes: bytes - length as u32,
+            path,
+        }
+    }
+}
+
+/// The content of a tenant's file, if it is there.
+pub(crate) fn content_of(
+    conn: &mut Connection<MemStore>,
+    tenant: u32,
+    name: &str,
+) -> Result<Option<Vec<u8>>, Error>
+    requires settled { IsSettled (state over_memory conn.old) }
+    requires formed { IsFormed (state over_memory conn.old).now }
+    ensures content { IfOk result (λ found. option_map (λ bytes. bytes.items) found ≡ get (files_of tenant (held_in (state over_memory conn.old))) name.now) }
+    ensures stays { Stays (state over_memory conn.old) (state over_memory conn.new) }
+{
+    let rows = content_rows(conn, tenant, name)?;
+    match rows.first() {
+        None => Ok(None),
+        Some(row) => Ok(Some(row.get(0)?)),
+    }
+}
+
+fn account_rows(conn: &mut Connection<MemStore>, tenant: u32) -> Result<Vec<Row>, Error>
+    requires settled { IsSettled (state over_memory conn.old) }
+    requires formed { IsFormed (state over_memory conn.old).now }
+    ensures rows { IfOk result (λ rows. Shows (IsAccount tenant) rows.items (account_in tenant (held_in (state over_memory conn.old)).accounts)) }
+    ensures stays { Stays (state over_memory conn.old) (state over_memory conn.new) }
+{
+    conn.query_all(
+        "SELECT files, bytes, path FROM account WHERE tenant = ?1",
+        params![tenant],
+    )
+}
+
+fn account_from(row: &Row) -> Result<Account, Error>
+    ensures { IfOk result (λ a. (tenant : ℕ) → IsAccount tenant row.now (shown_account tenant a)) }
+{
+    Ok(Account {
+        files: row.get(0)?,
+        bytes: row.get(1)?,
+        path: row.get(2)?,
+    })
+}
+
+/// The account of a tenant, if it has one.
+pub(crate) fn account_of(
+    conn: &mut Connection<MemStore>,
+    tenant: u32,
+) -> Result<Option<Account>, Error>
+    requires settled { IsSettled (state over_memory conn.old) }
+    requires formed { IsFormed (state over_memory conn.old).now }
+    ensures account { IfOk result (λ found. option_map (shown_account tenant) found ≡ account_in tenant (held_in (state over_memory conn.old)).accounts) }
+    ensures stays { Stays (state over_memory conn.old) (state over_memory conn.new) }
+{
+    let rows = account_rows(conn, tenant)?;
+    match rows.first() {
+        None => Ok(None),
+        Some(row) => Ok(Some(account_from(row)?)),
+    }
+}

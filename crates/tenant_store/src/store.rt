@@ -1,0 +1,208 @@
+// The store as its callers see it.
+ghost use Rattle.std.specs.Prelude.{◌≡◌, IfOk, IsErrOf, OnOk, OnErr};
+ghost use Rattle.std.specs.FinMap.{get, insert, remove, contains_key};
+ghost use Rattle.mk_paths.specs.SearchPath.{trees_of};
+ghost use Rattle.sqlite.specs.Held.{state};
+ghost use Rattle.sqlite.specs.Steps.{over_memory};
+ghost use Rattle.tenant_store.specs.Holdings.{nothing, files_of, path_of, IsOver, ChangesFiles, ChangesPath};
+ghost use Rattle.tenant_store.specs.Tables.{IsKept, Stays, held_in};
+
+use crate::changing::{put, set, take};
+use crate::faults::{PutFault, fault_of};
+use crate::opening::open;
+use crate::reading::{account_of, content_of};
+use mk_files::Content;
+use mk_paths::{FilesFault, Name, PathFault, SearchPath, Settings};
+use sqlite::{Connection, MemStore};
+use std::alloc::Global;
+use std::marker::Model;
+
+/// The files and the search path of each tenant, in one database in memory. Clauses see what it holds: each
+/// tenant's files as a map of names to contents (`files_of`), and the trees of its search path (`path_of`).
+#[derive(Drop)]
+pub struct TenantStore {
+    conn: Connection<MemStore>,
+}
+
+impl Model for TenantStore {
+    ghost use Rattle.sqlite.specs.Held.{state};
+    ghost use Rattle.sqlite.specs.Steps.{over_memory};
+    ghost use Rattle.tenant_store.specs.Holdings.{Holdings, holdings_code};
+    ghost use Rattle.tenant_store.specs.Tables.{held_in, IsKept};
+
+    ghost Value = { Holdings };
+
+    ghost coded = { holdings_code };
+
+    ghost view = { λ store. held_in (state over_memory store.conn) };
+
+    ghost invariant = { λ store. IsKept (state over_memory store.conn) };
+}
+
+impl TenantStore {
+    /// A store in which no tenant has a file, and each has the path `/ports:/mystuff`.
+    ///
+    /// The error is a refusal of the database, or want of memory.
+    pub fn open_in_memory(alloc: Global) -> Result<TenantStore, FilesFault>
+        ensures { IfOk result (λ store. store ≡ nothing) }
+    {
+        match open(alloc) {
+            Ok(conn) => Ok(TenantStore { conn }),
+            Err(error) => Err(fault_of(&error)),
+        }
+    }
+
+    /// Gives the file of this name of a tenant this content, whether or not it was there.
+    ///
+    /// # Errors
+    ///
+    /// `Full` exactly where the tenant would then have more than 2,000 files or more than 8,388,608 bytes of
+    /// contents; a file that is replaced counts as what takes its place. `Store` where the database refuses a
+    /// statement, `Memory` where none is left. Nothing has changed then.
+    pub fn put_file(
+        &mut self,
+        alloc: Global,
+        tenant: u32,
+        name: &Name,
+        content: &[u8],
+    ) -> Result<(), PutFault>
+        ensures stored { OnOk result (ChangesFiles self.old self.new tenant (insert (files_of tenant self.old) name.now content.now)) }
+        ensures fits { OnOk result (¬ IsOver (insert (files_of tenant self.old) name.now content.now)) }
+        ensures full { IsErrOf result PutFault.Full → IsOver (insert (files_of tenant self.old) name.now content.now) }
+        ensures err { OnErr result (self.new ≡ self.old) }
+    {
+        match put(&mut self.conn, alloc, tenant, name.as_str(), content) {
+            Ok(true) => Ok(()),
+            Ok(false) => Err(PutFault::Full),
+            Err(error) => Err(PutFault::from(fault_of(&error))),
+        }
+    }
+
+    /// Takes the file of this name of a tenant away, and tells whether it was there.
+    ///
+    /// # Errors
+    ///
+    /// `Store` where the database refuses a statement, `Memory` where none is left. Nothing has changed then.
+    pub fn remove_file(
+        &mut self,
+        alloc: Global,
+        tenant: u32,
+        name: &Name,
+    ) -> Result<bool, FilesFault>
+        ensures was_there { IfOk result (λ there. there ≡ contains_key (files_of tenant self.old) name.now) }
+        ensures removed { OnOk result (ChangesFiles self.old self.new tenant (remove (files_of tenant self.old) name.now)) }
+        ensures err { OnErr result (self.new ≡ self.old) }
+    {
+        match take(&mut self.conn, alloc, tenant, name.as_str()) {
+            Ok(there) => Ok(there),
+            Err(error) => Err(fault_of(&error)),
+        }
+    }
+
+    /// The content of the file of this name of a tenant; `None` where it isn't there.
+    ///
+    /// # Errors
+    ///
+    /// `Store` where the database refuses a statement, `Memory` where none is left.
+    pub fn get_file(
+        &mut self,
+        alloc: Global,
+        tenant: u32,
+        name: &Name,
+    ) -> Result<Option<Content>, FilesFault>
+        ensures content { IfOk result (λ content. content ≡ get (files_of tenant self.old) name.now) }
+        ensures same { self.new ≡ self.old }
+    {
+        shared_content(&mut self.conn, alloc, tenant, name.as_str())
+    }
+
+    /// Gives a tenant this search path.
+    ///
+    /// # Errors
+    ///
+    /// `Store` where the database refuses a statement, `Memory` where none is left. Nothing has changed then.
+    pub fn set_path(
+        &mut self,
+        alloc: Global,
+        tenant: u32,
+        path: &SearchPath,
+    ) -> Result<(), FilesFault>
+        ensures path { OnOk result (ChangesPath self.old self.new tenant path.now) }
+        ensures err { OnErr result (self.new ≡ self.old) }
+    {
+        match set(&mut self.conn, alloc, tenant, path) {
+            Ok(()) => Ok(()),
+            Err(error) => Err(fault_of(&error)),
+        }
+    }
+
+    /// The settings of a tenant: its search path, which is `/ports:/mystuff` until it sets one.
+    ///
+    /// # Errors
+    ///
+    /// `Store` where the database refuses a statement, `Memory` where none is left.
+    pub fn settings(&mut self, alloc: Global, tenant: u32) -> Result<Settings, FilesFault>
+        ensures path { IfOk result (λ settings. settings.path ≡ path_of tenant self.old) }
+        ensures same { self.new ≡ self.old }
+    {
+        settings_of(&mut self.conn, alloc, tenant)
+    }
+
+    /// Limits the steps of each later statement, or limits them no more. A statement that would take more is
+    /// refused as `Store`; the end of a transaction takes none. It changes nothing that is held.
+    pub fn limit_steps(&mut self, limit: Option<u64>)
+        ensures { self.new ≡ self.old }
+    {
+        self.conn.set_step_limit(limit);
+    }
+}
+
+// The path of a text that the store holds.
+fn path_from(alloc: Global, text: &str) -> Result<SearchPath, FilesFault>
+    ensures { IfOk result (λ path. path ≡ trees_of text.now) }
+{
+    match SearchPath::read(alloc, text) {
+        Ok(path) => Ok(path),
+        Err(PathFault::BadPath) => Err(FilesFault::Store),
+        Err(PathFault::Memory) => Err(FilesFault::Memory),
+    }
+}
+
+// The content of a file of a tenant, if it is there, to be shared.
+fn shared_content(
+    conn: &mut Connection<MemStore>,
+    alloc: Global,
+    tenant: u32,
+    name: &str,
+) -> Result<Option<Content>, FilesFault>
+    requires { IsKept (state over_memory conn.old) }
+    ensures content { IfOk result (λ content. content ≡ get (files_of tenant (held_in (state over_memory conn.old))) name.now) }
+    ensures stays { Stays (state over_memory conn.old) (state over_memory conn.new) }
+{
+    match content_of(conn, tenant, name) {
+        Ok(Some(bytes)) => Ok(Some(Content::new(alloc, bytes)?)),
+        Ok(None) => Ok(None),
+        Err(error) => Err(fault_of(&error)),
+    }
+}
+
+// The settings of a tenant.
+fn settings_of(
+    conn: &mut Connection<MemStore>,
+    alloc: Global,
+    tenant: u32,
+) -> Result<Settings, FilesFault>
+    requires { IsKept (state over_memory conn.old) }
+    ensures path { IfOk result (λ settings. settings.path ≡ path_of tenant (held_in (state over_memory conn.old))) }
+    ensures stays { Stays (state over_memory conn.old) (state over_memory conn.new) }
+{
+    match account_of(conn, tenant) {
+        Ok(Some(account)) => Ok(Settings {
+            path: path_from(alloc, account.path.as_str())?,
+        }),
+        Ok(None) => Ok(Settings {
+            path: SearchPath::standard(alloc)?,
+        }),
+        Err(error) => Err(fault_of(&error)),
+    }
+}
