@@ -8,8 +8,9 @@ use Rattle.text_cuts.proofs.PartTexts.{parts_are_between, written_is_cut_again, 
 use Rattle.std.specs.List.{list_all, list_any, filter, find}
 use Rattle.std.specs.Option.{option_to_list}
 use Rattle.std.specs.Str.{bytes_eq}
-use Rattle.pkg_path.proofs.Ordered.{among-in_order, in_order-again}
-use Rattle.pkg_path.specs.Paths.{comma, PathValue, elements_of, directory_of, choices_of, is_subpackage, is_flavor, in_order, flavors_of, value_of, has_two_subpackages, may_stand, is_directory, is_bare_dash, is_well_written, path_of, flavor_choices, choices_text, canonical, IsPath, without_subpackage}
+use Rattle.text_order.specs.Ordered.{among-in_order, in_order-again}
+use Rattle.pkg_path.specs.Paths.{comma, PathValue, elements_of, directory_of, choices_of, is_subpackage, is_flavor, flavors_of, value_of, has_two_subpackages, may_stand, is_directory, is_bare_dash, is_well_written, path_of, flavor_choices, choices_text, canonical, IsPath, without_subpackage}
+use Rattle.text_order.specs.Order.{in_order}
 use Rattle.pkg_path.specs.declared.faults.PkgPathFault.TheVariants.{Empty, TwoSubpackages, BadCharacter}
 
 -- a byte of an element: it may stand in a path and is no comma

@@ -3,9 +3,7 @@
 use Rattle.std.specs.Prelude.{◌≡◌, ℕ, ◌==◌, nat_lt, nat_le, ◌&&◌, ◌||◌, if◌then◌else◌, Bool, false, not, List, [], ◌∷◌, ◌++◌, length, filter, find, Option, Some, None, Result, Ok, Err, option_to_list, codes}
 use Rattle.std.specs.List.{slice_split, flat_map, list_all, list_any}
 use Rattle.std.specs.Str.{bytes_eq}
-use Rattle.std.specs.Ordering.{nat_cmp}
-use Rattle.std.specs.Cmp.Lexicographic.{slice_cmp}
-use Rattle.std.specs.BTreeSet.{insert_key}
+use Rattle.text_order.specs.Order.{in_order}
 use Rattle.pkg_path.specs.declared.faults.PkgPathFault.{PkgPathFault}
 use Rattle.pkg_path.specs.declared.faults.PkgPathFault.TheVariants.{Empty, TwoSubpackages, BadCharacter, Memory}
 
@@ -46,11 +44,6 @@ is_subpackage (first ∷ rest) = first == dash
 -- any other choice that isn't empty is a flavor
 abbrev pub is_flavor : List ℕ → Bool
 is_flavor choice = nat_lt 0 (length choice) && not (is_subpackage choice)
-
--- texts in the order of their bytes, each once: one is put in its place among the others, unless it is there
-abbrev pub in_order : List (List ℕ) → List (List ℕ)
-in_order [] = []
-in_order (text ∷ texts) = insert_key (slice_cmp nat_cmp) (in_order texts) text
 
 -- the flavors of choices: a choice that is no subpackage, be it empty, makes them explicit
 abbrev pub flavors_of : List (List ℕ) → Option (List (List ℕ))

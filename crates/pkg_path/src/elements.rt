@@ -2,12 +2,14 @@
 ghost use Rattle.std.specs.Prelude.{◌≡◌, IfOk, map, filter, find, length, option_map};
 ghost use Rattle.std.specs.List.{list_all, list_any};
 ghost use Rattle.std.specs.String.{string_bytes};
-ghost use Rattle.pkg_path.specs.Paths.{is_subpackage, is_flavor, in_order, flavors_of, may_stand, is_part, is_directory, is_bare_dash, is_well_cut};
+ghost use Rattle.pkg_path.specs.Paths.{is_subpackage, is_flavor, flavors_of, may_stand, is_part, is_directory, is_bare_dash, is_well_cut};
+ghost use Rattle.text_order.specs.Order.{in_order};
 ghost use Rattle.pkg_path.specs.Seen.{flavors_seen};
 ghost use Rattle.text_cuts.specs.Cuts.{now_all};
 
 use crate::flavors::Flavors;
 use std::alloc::{AllocError, Global};
+use text_order::put_in_order;
 
 // Whether a choice names a subpackage.
 fn is_subpackage(choice: &str) -> bool
@@ -112,14 +114,6 @@ fn named_flavors(alloc: Global, choices: &[&str]) -> Result<Vec<String>, AllocEr
         }
     }
     Ok(flavors)
-}
-
-// Puts texts in the order of their bytes, and leaves one of each.
-fn put_in_order(texts: &mut Vec<String>)
-    ensures { map string_bytes texts.new.items ≡ in_order (map string_bytes texts.old.items) }
-{
-    texts.sort_unstable();
-    texts.dedup();
 }
 
 // The first subpackage that choices name.

@@ -1,9 +1,10 @@
 // The flavors of a path.
 ghost use Rattle.std.specs.Fmt.{DisplaysOnOk};
-ghost use Rattle.std.specs.Prelude.{◌≡◌, ◌↔◌, IsTrue, Some, map, string_bytes};
+ghost use Rattle.std.specs.Prelude.{◌≡◌, ◌↔◌, IsTrue, IfOk, Some, map, string_bytes};
 ghost use Rattle.pkg_path.specs.Paths.{flavor_choices, choices_text};
 ghost use Rattle.pkg_path.specs.Seen.{flavors_seen};
 
+use std::alloc::{AllocError, Global};
 use std::fmt;
 
 /// The flavors that a path chooses.
@@ -31,6 +32,27 @@ fn same_names(names: &[String], others: &[String]) -> bool
     ensures { IsTrue result ↔ (map string_bytes names.now ≡ map string_bytes others.now) }
 {
     names == others
+}
+
+// The same flavors.
+pub(crate) fn copy_flavors(alloc: Global, flavors: &Flavors) -> Result<Flavors, AllocError>
+    ensures { IfOk result (λ copied. flavors_seen copied ≡ flavors_seen flavors.now) }
+{
+    match flavors {
+        Flavors::Default => Ok(Flavors::Default),
+        Flavors::Explicit(names) => Ok(Flavors::Explicit(copy_names(alloc, names)?)),
+    }
+}
+
+// The same names, in the same order.
+fn copy_names(alloc: Global, names: &[String]) -> Result<Vec<String>, AllocError>
+    ensures { IfOk result (λ copied. map string_bytes copied.items ≡ map string_bytes names.now) }
+{
+    let mut copied = Vec::with_capacity(alloc, names.len())?;
+    for name in names {
+        copied.push(String::from_str(alloc, name.as_str())?)?;
+    }
+    Ok(copied)
 }
 
 // Writes flavors as a path has them, each behind a comma.

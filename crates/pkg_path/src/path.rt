@@ -10,7 +10,7 @@ ghost use Rattle.pkg_path.specs.Paths.{path_of, canonical, IsPath, without_subpa
 
 use crate::elements::{count_subpackages, flavors_of, is_well_written, subpackage_of};
 use crate::faults::PkgPathFault;
-use crate::flavors::{Flavors, same_flavors, write_flavors};
+use crate::flavors::{Flavors, copy_flavors, same_flavors, write_flavors};
 use std::alloc::{AllocError, Global};
 use std::fmt;
 use std::marker::Model;
@@ -106,6 +106,17 @@ impl PkgPath {
         }
     }
 
+    /// Another path that is the same. It fails where no memory is left.
+    pub fn copy(&self, alloc: Global) -> Result<PkgPath, AllocError>
+        ensures { IfOk result (λ path. path ≡ self.now) }
+    {
+        Ok(PkgPath {
+            directory: String::from_str(alloc, self.directory.as_str())?,
+            flavors: copy_flavors(alloc, &self.flavors)?,
+            subpackage: copy_name(alloc, &self.subpackage)?,
+        })
+    }
+
     /// The directory of the port below a ports tree, as `editors/vim`.
     pub fn directory(&self) -> &str
         ensures directory { result.now ≡ self.now.directory }
@@ -165,6 +176,16 @@ impl PartialEq for PkgPath {
 
 impl Eq for PkgPath {
     ghost laws = { on_equiv canonical nat_list_eq_equiv };
+}
+
+// The same subpackage, or none.
+fn copy_name(alloc: Global, name: &Option<String>) -> Result<Option<String>, AllocError>
+    ensures { IfOk result (λ copied. option_map string_bytes copied ≡ option_map string_bytes name.now) }
+{
+    match name {
+        Some(name) => Ok(Some(String::from_str(alloc, name.as_str())?)),
+        None => Ok(None),
+    }
 }
 
 // Whether these are the same subpackage, or both none.

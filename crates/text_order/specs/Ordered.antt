@@ -15,7 +15,7 @@ use Rattle.std.specs.List.Sorted.{IsStrictlySortedBy, IsSorted, IsPermutation}
 use Rattle.std.specs.Ordering.{nat_cmp, eq_by_cmp, is_eq, match_ordering, ordering_reverse}
 use Rattle.std.specs.declared.cmp.Ordering.{Ordering}
 use Rattle.std.specs.declared.cmp.Ordering.TheVariants.{Less, Equal, Greater}
-use Rattle.pkg_path.specs.Paths.{in_order}
+use Rattle.text_order.specs.Order.{in_order}
 
 -- the order of the bytes
 abbrev pub by_bytes : List ℕ → List ℕ → Ordering
