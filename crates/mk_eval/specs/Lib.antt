@@ -1,4 +1,13 @@
 pub mod Expanded
 pub mod Lines
+pub mod Heads
+pub mod Includes
+pub mod Execution
+pub mod Start
 pub mod Meaning
 pub mod Telling
+pub mod Views
+pub mod FormViews
+pub mod Trees
+pub mod Running
+pub mod Sharing

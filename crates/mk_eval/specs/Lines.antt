@@ -1,6 +1,6 @@
--- What a line of a makefile does to its variables (make(1), "VARIABLES"). The cost, the limits, and that an assignment of a command's
--- output is a fault are this project's choice.
-use Rattle.std.specs.Prelude.{ℕ, is_some, if◌then◌else◌, List, [], ◌∷◌}
+-- What a line of a makefile that is neither a block nor an include does to its variables (make(1), "VARIABLES"). The cost, the limits, and
+-- that an assignment of a command's output is a fault are this project's choice.
+use Rattle.std.specs.Prelude.{ℕ, is_some, Bool, true, false, if◌then◌else◌, List, [], ◌∷◌, ◌++◌, Option, Some, None, unwrap_or}
 use Rattle.std.specs.FinMap as finite
 use Rattle.mk_base.specs.declared.faults.FaultKind.{FaultKind}
 use Rattle.mk_base.specs.declared.faults.FaultKind.TheVariants as kinds
@@ -11,9 +11,11 @@ use Rattle.mk_ast.specs.declared.kinds.Directive.{Directive}
 use Rattle.mk_ast.specs.declared.kinds.Directive.TheVariants as words
 use Rattle.mk_ast.specs.declared.kinds.Operator.{Operator}
 use Rattle.mk_ast.specs.declared.kinds.Operator.TheVariants as operators
-use Rattle.mk_ast.specs.Kinds.{TextLineKind, CommandLine, BlankLine, DirectiveLine, AssignmentLine, DependencyLine, BadLine, is_word}
+use Rattle.mk_ast.specs.Kinds.{TextLineKind, CommandLine, BlankLine, DirectiveLine, AssignmentLine, DependencyLine, BadLine, is_word, line_kind, plain_kind}
 use Rattle.mk_env.specs.Texts.{Variables, appended}
 use Rattle.mk_env.specs.Expansion.{bounded, expand, expand_now}
+use Rattle.mk_loop.specs.LoopWords.{LoopWords}
+use Rattle.mk_loop.specs.Putting.{put_words}
 
 -- the variables with this text stored under a name, unless it is too long
 abbrev pub store : Variables → List ℕ → List ℕ → Work Meter FaultKind Variables
@@ -36,16 +38,69 @@ abbrev pub without : Variables → List (List ℕ) → Variables
 without variables [] = variables
 without variables (name ∷ names) = without (finite.remove variables name) names
 
--- `.undef` takes away each word of its expanded text; the other directives aren't read yet
-abbrev pub direct : Variables → Directive → List ℕ → Work Meter FaultKind Variables
-direct variables words.Undef text = expand variables text >>= λ found. give (without variables (words_of found))
+-- a file that a line asks for: the line's text, expanded, and whether the file may be missing
+pub record Request : Type 0 where
+  pub text : List ℕ
+  pub optional : Bool
+
+-- what a line leaves: the variables, and the file that it asks for, if it does
+abbrev pub Performed : Type 0
+Performed = Variables × Option Request
+
+-- a line that asks for no file
+abbrev pub alone : Variables → Work Meter FaultKind Performed
+alone variables = give (variables, None)
+
+-- `.undef` takes away each word of its expanded text; the two forms of `.include` ask for a file; no other directive stands alone
+abbrev pub direct : Variables → Directive → List ℕ → Work Meter FaultKind Performed
+direct variables words.Undef text = expand variables text >>= λ found. alone (without variables (words_of found))
+direct variables words.Include text = expand variables text >>= λ found. give (variables, Some (record { text = found; optional = false }))
+direct variables words.Sinclude text = expand variables text >>= λ found. give (variables, Some (record { text = found; optional = true }))
 direct variables word text = fail kinds.Line
 
--- What a line does to the variables, by its kind. One that isn't blank costs a unit, before anything else.
-abbrev pub perform : Variables → TextLineKind → Work Meter FaultKind Variables
-perform variables CommandLine = pay >>= λ _. give variables
-perform variables BlankLine = give variables
-perform variables (DirectiveLine word text) = pay >>= λ _. direct variables word text
-perform variables (AssignmentLine operator name text) = pay >>= λ _. expand variables name >>= assign_to variables operator text
-perform variables DependencyLine = pay >>= λ _. give variables
-perform variables BadLine = pay >>= λ _. fail kinds.Line
+-- what a line of a kind does
+abbrev pub execute_kind : Variables → TextLineKind → Work Meter FaultKind Performed
+execute_kind variables CommandLine = alone variables
+execute_kind variables BlankLine = alone variables
+execute_kind variables (DirectiveLine word text) = direct variables word text
+execute_kind variables (AssignmentLine operator name text) = expand variables name >>= assign_to variables operator text >>= alone
+execute_kind variables DependencyLine = alone variables
+execute_kind variables BadLine = fail kinds.Line
+
+-- The loops round a line, if there are any: their variables with their words, those of the innermost loop first.
+abbrev pub Loops : Type 0
+Loops = Option LoopWords
+
+-- the loops round a line of a loop's body, in the turn with these words
+abbrev pub inside_turn : Loops → LoopWords → Loops
+inside_turn loops turn = Some (turn ++ unwrap_or loops [])
+
+-- a text with the words of the loops round it put in; with no loop round it, it isn't looked at
+abbrev pub put_in : Variables → Loops → List ℕ → Work Meter FaultKind (List ℕ)
+put_in variables None text = give text
+put_in variables (Some words) text = put_words words variables text
+
+-- What a line of a loop's body is, once words are put in, whose text as written was of this kind: a directive stays one, with words put
+-- into what stands behind its word, and a command stays one. Any other is read anew, and isn't a directive even if it looks like one.
+abbrev pub read_again : Variables → LoopWords → List ℕ → TextLineKind → Work Meter FaultKind TextLineKind
+read_again variables words text (DirectiveLine word rest) = put_words words variables rest >>= λ put. give (DirectiveLine word put)
+read_again variables words text CommandLine = put_words words variables text >>= λ put. give CommandLine
+read_again variables words text kind = put_words words variables text >>= λ put. give (plain_kind put)
+
+-- what a line of a loop's body does whose text as written is of this kind, once words are put in
+abbrev pub execute_again : Variables → LoopWords → List ℕ → TextLineKind → Work Meter FaultKind Performed
+execute_again variables words text kind = read_again variables words text kind >>= execute_kind variables
+
+-- the same of a line with these loops round it, or with none
+abbrev pub execute_in : Variables → Loops → List ℕ → TextLineKind → Work Meter FaultKind Performed
+execute_in variables None text kind = execute_kind variables kind
+execute_in variables (Some words) text kind = execute_again variables words text kind
+
+-- What a line does, whose text is of this kind. One that isn't blank costs a unit, before anything else.
+abbrev pub perform_kind : Variables → Loops → List ℕ → TextLineKind → Work Meter FaultKind Performed
+perform_kind variables loops text BlankLine = alone variables
+perform_kind variables loops text kind = pay >>= λ _. execute_in variables loops text kind
+
+-- what a line with this text does that begins, parts and ends no block
+abbrev pub perform : Variables → Loops → List ℕ → Work Meter FaultKind Performed
+perform variables loops text = perform_kind variables loops text (line_kind text)

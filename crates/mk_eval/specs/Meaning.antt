@@ -1,55 +1,109 @@
--- What a makefile means: its variables and what it costs, or the first fault with what it cost until there.
-use Rattle.std.specs.Prelude.{ℕ, ◌+◌, ◌==◌, if◌then◌else◌, List, take, count_by, Option, Some, None, Result, Ok, Err}
-use Rattle.std.specs.Str.{is_utf8}
-use Rattle.std.specs.Str.Lossy.{utf8_valid_len}
+-- What a makefile means: its kind, its variables and what it costs, or the first fault with what it cost until there.
+use Rattle.std.specs.Prelude.{ℕ, suc, zero, false, if◌then◌else◌, List, [], Option, Some, None, unwrap_or, Result, Ok, Err}
 use Rattle.std.specs.FinMap as finite
 use Rattle.mk_base.specs.declared.faults.FaultKind.{FaultKind}
 use Rattle.mk_base.specs.declared.faults.FaultKind.TheVariants as kinds
 use Rattle.mk_base.specs.declared.metering.TheConstants.{UNITS}
 use Rattle.mk_base.specs.FaultAt.{FaultAt, fault_at}
-use Rattle.mk_base.specs.Meter.{Meter, full}
-use Rattle.mk_base.specs.Outcome.{Work, fail, each, tell}
-use Rattle.mk_text.specs.Lines.{LogicalLine, logical_lines}
-use Rattle.mk_ast.specs.Kinds.{line_kind}
+use Rattle.mk_base.specs.Meter.{Meter, full, pay}
+use Rattle.mk_base.specs.Outcome.{Work, give, fail, tell, left, ◌>>=◌}
+use Rattle.mk_text.specs.Lines.{LogicalLine}
+use Rattle.mk_ast.specs.declared.parsing.ParseFault.{ParseFault}
+use Rattle.mk_ast.specs.Trees.{Block}
+use Rattle.mk_ast.specs.Parsing.{parsed}
 use Rattle.mk_env.specs.Texts.{Variables}
 use Rattle.mk_env.specs.Expansion.{variable}
-use Rattle.mk_paths.specs.World.{World, files_in}
+use Rattle.mk_paths.specs.World.{FileMap, World, files_in, search_path_of}
+use Rattle.mk_paths.specs.Shelf.{Question}
+use Rattle.mk_files.specs.Asking.{Account, quietly, look_read}
 use Rattle.mk_eval.specs.Expanded.{Expanded}
-use Rattle.mk_eval.specs.Lines.{perform}
+use Rattle.mk_eval.specs.Lines.{Loops, perform}
+use Rattle.mk_eval.specs.Heads.{judge, turns}
+use Rattle.mk_eval.specs.Includes.{Place, Opened, open_request}
+use Rattle.mk_eval.specs.Execution.{LineWorks, execute}
+use Rattle.mk_eval.specs.Start.{start}
+use Rattle.mk_eval.specs.declared.outcome.Kind.TheVariants as roles
 use Rattle.mk_eval.specs.declared.outcome.Evaluated.{Evaluated}
 use Rattle.mk_eval.specs.declared.outcome.Failed.{Failed}
+use Rattle.mk_eval.specs.declared.standing.Standing.{Standing}
 
 -- a fault at a line of a file
 abbrev pub at : List ℕ → ℕ → FaultKind → FaultAt
 at name line kind = fault_at kind name line
 
--- what a line of the named file does
-abbrev pub execute : List ℕ → Variables → LogicalLine → Work Meter FaultAt Variables
-execute name variables line m = tell (at name line.line) (perform variables (line_kind line.text) m)
+-- work on a line of a file, whose faults are told with their place
+abbrev pub told_at : {A : Type 0} → Place → LogicalLine → Work Account FaultKind A → Work Account FaultAt A
+told_at place line work a = tell (at place.file line.line) (work a)
 
--- the line of the first byte that is no UTF-8
-abbrev pub bad_line : List ℕ → ℕ
-bad_line bytes = 1 + count_by (λ byte. byte == 10) (take (utf8_valid_len bytes) bytes)
+-- what a file with this name and these bytes does
+abbrev pub Entering : Type 0
+Entering = List ℕ → List ℕ → Standing → Work Account FaultAt Standing
 
--- the lines of a text in their order, from no variables
-unfoldable pub text_meaning : List ℕ → List ℕ → Work Meter FaultAt Variables
-text_meaning name bytes m =
-    (if is_utf8 bytes then each (execute name) finite.empty (logical_lines bytes)
-    else fail (at name (bad_line bytes) kinds.Utf8)) m
+-- what is left once the file that a line opened, if it did, is executed
+abbrev pub enter : Entering → Opened → Work Account FaultAt Standing
+enter entering (standing, None) = give standing
+enter entering (standing, Some file) = entering file.0 file.1 standing
 
--- what the named file means, if it is there
-abbrev pub file_meaning : List ℕ → Option (List ℕ) → Work Meter FaultAt Variables
-file_meaning name None = fail (at name 0 kinds.Include)
-file_meaning name (Some bytes) = text_meaning name bytes
+-- what a line opens, once it has done what it does alone
+abbrev pub open_line : Place → Loops → LogicalLine → Standing → Work Account FaultKind Opened
+open_line place loops line standing =
+    quietly (perform standing.variables loops line.text) >>= λ done. open_request place (record standing { variables = done.0 }) done.1
+
+-- what the lines of a file do
+abbrev pub works_at : Entering → Place → LineWorks Account FaultAt Standing
+works_at entering place = record {
+  performs = λ loops line standing. told_at place line (open_line place loops line standing) >>= enter entering;
+  holds = λ loops line standing. told_at place line (judge place.files place.makefile standing.variables loops line.text);
+  turns = λ loops line standing. told_at place line (quietly (turns standing.variables loops line.text));
+  begins = λ line. told_at place line (quietly pay);
+}
+
+-- what a file that was read does, outside any loop; one that can't be read is at fault before any line is executed
+abbrev pub execute_read : Entering → Place → Result Block ParseFault → Standing → Work Account FaultAt Standing
+execute_read entering place (Ok block) standing = execute (works_at entering place) block None standing
+execute_read entering place (Err fault) standing = fail (fault_at fault.kind place.file fault.line)
+
+-- where no more files may include one another, none is entered
+abbrev pub nothing_entered : Entering
+nothing_entered name bytes standing = give standing
+
+-- What a file with this name and these bytes does in the evaluation of a makefile, where so many files may still include one another.
+unfoldable pub file_meaning : FileMap → List ℕ → ℕ → Entering
+file_meaning files makefile zero name bytes standing a =
+    execute_read nothing_entered (record { files = files; makefile = makefile; file = name; levels = zero }) (parsed bytes) standing a
+file_meaning files makefile (suc levels) name bytes standing a =
+    execute_read (file_meaning files makefile levels) (record { files = files; makefile = makefile; file = name; levels = suc levels }) (parsed bytes) standing a
+
+-- the state with which an evaluation begins
+abbrev pub opening : World → List ℕ → Option (List (List ℕ)) → Standing
+opening world name flavors = record { variables = start (search_path_of world) name flavors; kind = roles.Other; shared_asked = false }
+
+-- what the makefile of this name does, if it is there
+abbrev pub makefile_meaning : World → List ℕ → Option (List (List ℕ)) → Option (List ℕ) → Work Account FaultAt Standing
+makefile_meaning world name flavors None = fail (at name 0 kinds.Include)
+makefile_meaning world name flavors (Some bytes) = file_meaning (files_in world) name 16 name bytes (opening world name flavors)
+
+-- an evaluation: the makefile is looked at, which isn't counted among the questions, and executed
+unfoldable pub evaluation : World → List ℕ → Option (List (List ℕ)) → Work Account FaultAt Standing
+evaluation world name flavors a = (look_read (files_in world) name >>= makefile_meaning world name flavors) a
+
+-- a budget of so many units, of which nothing is spent, beside this log
+abbrev pub fresh : ℕ → Option (List Question) → Account
+fresh limit log = record { meter = full limit; log = log }
 
 -- the end of an evaluation with its cost, in units
-abbrev pub evaluated : Result (Variables × Meter) (FaultAt × Meter) → Result Evaluated Failed
-evaluated (Ok end) = Ok (record { env = end.0; cost = end.1.spent })
-evaluated (Err end) = Err (record { fault = end.0; cost = end.1.spent })
+abbrev pub evaluated : Result (Standing × Account) (FaultAt × Account) → Result Evaluated Failed
+evaluated (Ok end) = Ok (record { kind = end.0.kind; env = end.0.variables; cost = end.1.meter.spent })
+evaluated (Err end) = Err (record { fault = end.0; cost = end.1.meter.spent })
 
--- what a makefile of a world means; no line that is read so far depends on the settings
-abbrev pub means : World → List ℕ → Result Evaluated Failed
-means world name = evaluated (file_meaning name (finite.get (files_in world) name) (full UNITS))
+-- What a makefile of a world means with these flavors, or with none given, in a budget of 50,000 units.
+abbrev pub means : World → List ℕ → Option (List (List ℕ)) → Result Evaluated Failed
+means world name flavors = evaluated (evaluation world name flavors (fresh UNITS None))
+
+-- The names that its evaluation in a budget of so many units reads or asks about, in order, each with its answer: what it leaves in a log
+-- in which nothing stood.
+abbrev pub asked : World → List ℕ → Option (List (List ℕ)) → ℕ → List Question
+asked world name flavors limit = unwrap_or (left (evaluation world name flavors (fresh limit (Some [])))).log []
 
 -- the end of an expansion with its cost, in units
 abbrev pub valued : Result (List ℕ × Meter) (FaultAt × Meter) → Result (Option Expanded) Failed

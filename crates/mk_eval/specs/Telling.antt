@@ -2,8 +2,11 @@ use Rattle.std.specs.Prelude.{◌≡◌, ◌⊎◌, ℕ, List, Result, Ok, Err}
 use Rattle.mk_base.specs.declared.stopping.Stop.{Stop}
 use Rattle.mk_base.specs.declared.stopping.Stop.TheVariants as stops
 use Rattle.mk_base.specs.FaultAt.{FaultAt}
-use Rattle.mk_paths.specs.Shelf.{Shelf, failed}
-use Rattle.mk_files.specs.Looking.{looked}
+use Rattle.mk_paths.specs.Shelf.{Shelf, Question, noted}
+use Rattle.mk_paths.specs.declared.asking.FilesFault.{FilesFault}
+use Rattle.mk_paths.specs.declared.asking.FilesFault.TheVariants as faults
+use Rattle.mk_files.specs.Looking.{Asked, AskedInVain}
+use Rattle.mk_eval.specs.declared.outcome.Evaluated.{Evaluated}
 use Rattle.mk_eval.specs.declared.outcome.Failed.{Failed}
 
 -- Work stopped with this fault; for want of memory or of the store nothing is said.
@@ -23,13 +26,11 @@ with_cost cost (stops.Fault fault) = stops.Fault (record { fault = fault; cost =
 with_cost cost stops.Store = stops.Store
 with_cost cost stops.Memory = stops.Memory
 
--- the makefile was asked for, once, and its content noted
-abbrev pub Looked : Shelf → Shelf → List ℕ → Type 0
-Looked old new name = new ≡ looked old name
-
--- What the question for the makefile left of a world of files, where work stopped: it was answered, or it failed,
--- which is the only way to a refusal of the store and one way to want of memory.
-abbrev pub LooksAndStops : {F : Type 0} → Shelf → Shelf → List ℕ → Stop F → Type 0
-LooksAndStops old new name (stops.Fault fault) = Looked old new name
-LooksAndStops old new name stops.Store = new ≡ failed old
-LooksAndStops old new name stops.Memory = Looked old new name ⊎ (new ≡ failed old)
+-- What an evaluation left of a world of files. At its end, and at a fault, these questions were asked and answered, those of a budget of the
+-- units that were spent; a refusal of the store comes only where the files failed so, and want of memory where they did, or where there was
+-- none for the work itself.
+abbrev pub LeavesAsked : (FilesFault → Type 0) → Shelf → Shelf → (ℕ → List Question) → Result Evaluated (Stop Failed) → Type 0
+LeavesAsked may old new asked (Ok evaluated) = new ≡ noted old (asked evaluated.cost)
+LeavesAsked may old new asked (Err (stops.Fault failed)) = new ≡ noted old (asked failed.cost)
+LeavesAsked may old new asked (Err stops.Store) = may faults.Store × AskedInVain old new
+LeavesAsked may old new asked (Err stops.Memory) = Asked old new ⊎ (may faults.Memory × AskedInVain old new)

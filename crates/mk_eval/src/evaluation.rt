@@ -1,62 +1,109 @@
-ghost use Rattle.std.specs.Prelude.{◌≡◌, OnOk, IfErr, option_map};
-ghost use Rattle.mk_base.specs.Meter.{full};
-ghost use Rattle.mk_base.specs.Stopping.{NeverStore};
-ghost use Rattle.mk_eval.specs.Meaning.{means, value_of, evaluated, file_meaning};
-ghost use Rattle.mk_eval.specs.Telling.{Tells, Looked, LooksAndStops};
+ghost use Rattle.std.specs.Prelude.{◌≡◌, OnOk, IfOk, IfErr, option_map, string_bytes, map};
+ghost use Rattle.mk_base.specs.Meter.{full, IsLater};
+ghost use Rattle.mk_files.specs.Asking.{account};
+ghost use Rattle.mk_files.specs.Looking.{Asked, LeavesAtStop};
+ghost use Rattle.mk_base.specs.Stopping.{Gives, NeverStore};
+ghost use Rattle.mk_eval.specs.Meaning as meaning;
+ghost use Rattle.mk_eval.specs.Meaning.{means, asked, value_of};
+ghost use Rattle.mk_eval.specs.Telling.{Tells, LeavesAsked};
+ghost use Rattle.mk_eval.specs.Views.{flavors_in};
 
-use super::outcome::{Evaluated, Failed, Valued, with_cost};
-use super::reading::evaluate_text;
-use mk_base::{Budget, FaultKind, Stop, UNITS};
+use crate::including::Spot;
+use crate::outcome::{Evaluated, Failed, Kind, Valued, with_cost};
+use crate::parses::{Anew, Parses};
+use crate::running::{INCLUDES, execute_file};
+use crate::standing::Standing;
+use crate::starting::start;
+use mk_base::{Budget, Fault, FaultKind, Stop, UNITS};
 use mk_env::expand_variable;
-use mk_files::{Content, Files, look_read};
+use mk_files::{Files, look_read};
 use mk_paths::{Name, Settings};
 use std::alloc::Global;
 
-/// What the makefile of this name means in the world of these files and settings: its variables and
-/// what it cost, in a budget of 50,000 units, or its first fault with what it cost until there. The
-/// files are asked once, for the makefile itself, which a log of theirs notes. No line that is read so
-/// far depends on the settings.
+/// What the makefile of this name means in the world of these files and settings, evaluated with these
+/// flavors or with none given: what it describes, its variables and what it cost, in a budget of 50,000
+/// units, or its first fault with what it cost until there. Each file is looked at, or asked about, where a
+/// line does so, in order, and a log of the files notes it with its answer.
 ///
-/// The faults: `Include` at line 0 where the file isn't there; `Utf8` at the line of the first bad
-/// byte, before any line is executed; then, at the line that is executed, `Budget` where no unit is
-/// left, `Line` where it can't be read or the name that it assigns to isn't one word once expanded,
-/// `Shell` where it assigns a command's output, those of `mk_env::expand` for what it expands, and
-/// `Length` where the text to be stored has more than 65,536 bytes. The other errors are a refusal of
-/// the files, and want of memory.
+/// The variables begin with `.CURDIR`, the makefile's directory; `PORTSDIR`, `/ports`; `PORTSDIR_PATH`, the
+/// trees of the settings with colons between; `MACHINE_ARCH`, `amd64`; `LOCALBASE`, `/usr/local`; and,
+/// where flavors are given, `FLAVOR`, with the flavors in the order of their bytes, each once, with blanks
+/// between.
+///
+/// # Errors
+///
+/// The faults, each with the file and the line where it arose: `Include` at line 0 where the makefile isn't
+/// there. For each file, before any of its lines is executed, `Utf8` at the line of the first bad byte, and
+/// then `Block` for a block that doesn't end, a part without its block, or more than 64 blocks one inside
+/// another. At a line that is executed, `Budget` where no unit is left; in a loop the faults of
+/// `mk_loop::put_words`; then those of `mk_cond::truth` for a condition, of `mk_loop::read_header` for a
+/// `.for`, and else of `perform`; at a turn of a loop `Budget` at the line of its `.for`. Where a line asks
+/// for a file: `Include` where its text names none in one of the forms; `IncludeDepth` where more than 16
+/// files would include one another; `Include` where a name in quotes is none; `Questions` for the 257th
+/// question, for which nothing is asked; `Include` where the file is missing, and may not be.
+///
+/// `Store` and `Memory` are the faults of the files, told as they are; `Memory` comes too where none is left.
 pub fn evaluate<F: Files>(
     alloc: Global,
     files: &mut F,
-    _settings: &Settings,
+    settings: &Settings,
     name: &Name,
+    flavors: Option<&[String]>,
 ) -> Result<Evaluated, Stop<Failed>>
-    ensures means { Tells (λ x. x) result (means ((F.shelf files.old).files, _settings.now) name.now) }
-    ensures looked { OnOk result (Looked (F.shelf files.old) (F.shelf files.new) name.now) }
-    ensures stops { IfErr result (LooksAndStops (F.shelf files.old) (F.shelf files.new) name.now) }
+    ensures means { Tells (λ x. x) result (means ((F.shelf files.old).files, settings.now) name.now (flavors_in flavors.entry)) }
+    ensures files { LeavesAsked F.fails_with (F.shelf files.old) (F.shelf files.new) (asked ((F.shelf files.old).files, settings.now) name.now (flavors_in flavors.entry)) result }
 {
-    let content = look_read(files, name)?;
-    evaluate_content(alloc, name, content)
-}
-
-fn evaluate_content(
-    alloc: Global,
-    name: &Name,
-    content: Option<Content>,
-) -> Result<Evaluated, Stop<Failed>>
-    ensures means { Tells (λ x. x) result (evaluated (file_meaning name.now content (full UNITS))) }
-    ensures store { NeverStore result }
-{
-    let Some(content) = content else {
-        let stop = Stop::Fault(FaultKind::Include).blame(alloc, name.as_str(), 0);
-        return Err(with_cost(stop, 0));
-    };
     let mut budget = Budget::new(UNITS);
-    match evaluate_text(alloc, name.as_str(), content.as_slice(), &mut budget) {
-        Ok(env) => Ok(Evaluated {
-            env,
+    let mut parses = Anew::new(alloc);
+    match run(
+        alloc,
+        settings,
+        name,
+        flavors,
+        &mut parses,
+        files,
+        &mut budget,
+    ) {
+        Ok(standing) => Ok(Evaluated {
+            kind: standing.kind,
+            env: standing.variables,
             cost: budget.spent(),
         }),
         Err(stop) => Err(with_cost(stop, budget.spent())),
     }
+}
+
+/// How the evaluation of the named makefile ends.
+#[tactic(auto, unfolding(crate::specs::Meaning::evaluation))]
+fn run<F: Files, P: Parses>(
+    alloc: Global,
+    settings: &Settings,
+    name: &Name,
+    flavors: Option<&[String]>,
+    parses: &mut P,
+    files: &mut F,
+    budget: &mut Budget,
+) -> Result<Standing, Stop<Fault>>
+    ensures gives { Gives (λ standing. standing) result (account budget.new (F.shelf files.new)) (meaning.evaluation ((F.shelf files.old).files, settings.now) name.now (flavors_in flavors.entry) (account budget.old (F.shelf files.old))) }
+    ensures asked { IfOk result (λ _. Asked (F.shelf files.old) (F.shelf files.new)) }
+    ensures stops { IfErr result (LeavesAtStop F.fails_with (F.shelf files.old) (F.shelf files.new)) }
+    ensures later { IsLater budget.old budget.new }
+{
+    let Some(content) = look_read(files, name)? else {
+        return Err(Stop::Fault(FaultKind::Include).blame(alloc, name.as_str(), 0));
+    };
+    let mut standing = Standing {
+        variables: start(alloc, settings, name, flavors)?,
+        kind: Kind::Other,
+        shared_asked: false,
+    };
+    let spot = Spot {
+        makefile: name,
+        file: name,
+        levels: INCLUDES,
+    };
+    execute_file(alloc, spot, &content, &mut standing, parses, files, budget)?;
+    Ok(standing)
 }
 
 /// The value of a variable after the evaluation of the named makefile, in a budget of 50,000 units

@@ -1,75 +1,127 @@
 //! What the lines of a makefile do to its variables.
-ghost use Rattle.std.specs.Prelude.{◌≡◌, OnOk, OnErr};
-ghost use Rattle.mk_base.specs.Meter.{Meter};
+ghost use Rattle.std.specs.Prelude.{◌≡◌, OnOk, OnErr, IfOk};
+ghost use Rattle.mk_base.specs.Meter.{Meter, IsLater};
 ghost use Rattle.mk_base.specs.Stopping.{Gives, NeverStore};
 ghost use Rattle.mk_text.specs.Words.{words_of};
 ghost use Rattle.mk_ast.specs.declared.kinds.Operator.TheVariants as operators;
-ghost use Rattle.mk_ast.specs.Kinds.{shown_kind, line_kind};
+ghost use Rattle.mk_ast.specs.Kinds.{shown_kind};
+ghost use Rattle.mk_loop.specs.Places.{text_of};
 ghost use Rattle.mk_eval.specs.Lines as lines;
+ghost use Rattle.mk_eval.specs.Running.{Requests};
+ghost use Rattle.mk_eval.specs.Views.{loops_of};
 
-use mk_ast::{Directive, LineKind, Operator, is_word, line_kind};
+use crate::requests::Request;
+use mk_ast::{Directive, LineKind, Operator, is_word, line_kind, plain_kind};
 use mk_base::{Budget, FaultKind, Stop};
 use mk_env::{Env, expand, expand_now};
+use mk_loop::{Scope, put_words};
 use mk_text::{TEXT_LIMIT, words};
 use std::alloc::{AllocError, Global};
 
-/// Does what the line with this text says. A line that isn't blank costs a unit, before anything
-/// else: so `Budget` comes first where none is left. A fault leaves the variables as they were.
+/// Does what the line with this text says, which begins, parts and ends no block; `scope` are the loops
+/// round it. What it answers is the file that it asks for, if it does: `.include` and `.sinclude` are
+/// done but for that. A line that isn't blank costs a unit, before anything else: so `Budget` comes
+/// first where none is left. Then the words of the loops are put in, and it is read. A fault leaves the
+/// variables as they were.
 ///
-/// The faults: `Line` for a line that can't be read, and for an assignment whose name, once expanded,
-/// isn't one word; `Shell` for `!=`; those of expanding the name, and after these `Line` and `Shell`,
-/// and then those of expanding the value of `:=`; `Length` where the text to be stored has more than
-/// 65,536 bytes.
-pub(crate) fn perform_text(
+/// The faults: in a loop, those of `mk_loop::put_words`; then `Line` for a line that can't be read, and
+/// for an assignment whose name, once expanded, isn't one word; `Shell` for `!=`; those of expanding the
+/// name, and after these `Line` and `Shell`, and then those of expanding the value of `:=`; `Length`
+/// where the text to be stored has more than 65,536 bytes; those of expanding what stands behind
+/// `.undef`, `.include` and `.sinclude`.
+pub fn perform(
     alloc: Global,
     variables: &mut Env,
+    scope: Scope<'_>,
     text: &str,
     budget: &mut Budget,
-) -> Result<(), Stop<FaultKind>>
-    ensures gives { Gives (λ _. variables.new) result budget.new (lines.perform variables.old (line_kind text.now) budget.old) }
+) -> Result<Option<Request>, Stop<FaultKind>>
+    ensures gives { Gives (λ request. (variables.new, request)) result budget.new (lines.perform variables.old (loops_of scope.entry) text.now budget.old) }
     ensures err { OnErr result (variables.new ≡ variables.old) }
     ensures store { NeverStore result }
+    ensures later { IsLater budget.old budget.new }
+    ensures paid { IfOk result (Requests budget.old budget.new) }
 {
     let kind = line_kind(alloc, text)?;
-    perform(alloc, variables, kind, budget)
+    if let LineKind::Blank = kind {
+        return Ok(None);
+    }
+    budget.pay()?;
+    execute_in(alloc, variables, scope, text, kind, budget)
 }
 
-fn perform(
+/// Does what a line says, whose text as written is of this kind.
+fn execute_in(
+    alloc: Global,
+    variables: &mut Env,
+    scope: Scope<'_>,
+    text: &str,
+    kind: LineKind<'_>,
+    budget: &mut Budget,
+) -> Result<Option<Request>, Stop<FaultKind>>
+    ensures gives { Gives (λ request. (variables.new, request)) result budget.new (lines.execute_in variables.old (loops_of scope.entry) text.now (shown_kind kind.entry) budget.old) }
+    ensures err { OnErr result (variables.new ≡ variables.old) }
+    ensures store { NeverStore result }
+    ensures later { IsLater budget.old budget.new }
+{
+    if let Scope::Outside = scope {
+        return execute_kind(alloc, variables, kind, budget);
+    }
+    match kind {
+        LineKind::Directive { word, rest } => {
+            let put = put_words(alloc, variables, scope, rest, budget)?;
+            direct(alloc, variables, word, put_or(&put, rest), budget)
+        }
+        LineKind::Command => {
+            put_words(alloc, variables, scope, text, budget)?;
+            Ok(None)
+        }
+        _ => {
+            let put = put_words(alloc, variables, scope, text, budget)?;
+            let kind = plain_kind(alloc, put_or(&put, text))?;
+            execute_kind(alloc, variables, kind, budget)
+        }
+    }
+}
+
+/// A text with words put in; where none was, it is the text as written.
+pub(crate) fn put_or<'a>(put: &'a Option<String>, written: &'a str) -> &'a str
+    ensures { result.now ≡ text_of written.now put.now }
+{
+    match put {
+        Some(text) => text.as_str(),
+        None => written,
+    }
+}
+
+/// Does what a line of this kind says.
+fn execute_kind(
     alloc: Global,
     variables: &mut Env,
     kind: LineKind<'_>,
     budget: &mut Budget,
-) -> Result<(), Stop<FaultKind>>
-    ensures gives { Gives (λ _. variables.new) result budget.new (lines.perform variables.old (shown_kind kind.entry) budget.old) }
+) -> Result<Option<Request>, Stop<FaultKind>>
+    ensures gives { Gives (λ request. (variables.new, request)) result budget.new (lines.execute_kind variables.old (shown_kind kind.entry) budget.old) }
     ensures err { OnErr result (variables.new ≡ variables.old) }
     ensures store { NeverStore result }
+    ensures later { IsLater budget.old budget.new }
 {
     match kind {
-        LineKind::Blank => Ok(()),
-        LineKind::Command | LineKind::Dependency => {
-            budget.pay()?;
-            Ok(())
-        }
-        LineKind::Directive { word, rest } => {
-            budget.pay()?;
-            direct(alloc, variables, word, rest, budget)
-        }
+        LineKind::Blank | LineKind::Command | LineKind::Dependency => Ok(None),
+        LineKind::Directive { word, rest } => direct(alloc, variables, word, rest, budget),
         LineKind::Assignment {
             operator,
             name,
             value,
         } => {
-            budget.pay()?;
             let name = expand(alloc, variables, name, budget)?;
             if !is_word(name.as_str()) {
                 return Err(Stop::Fault(FaultKind::Line));
             }
-            assign(alloc, variables, operator, name.as_str(), value, budget)
+            assign(alloc, variables, operator, name.as_str(), value, budget)?;
+            Ok(None)
         }
-        LineKind::Bad => {
-            budget.pay()?;
-            Err(Stop::Fault(FaultKind::Line))
-        }
+        LineKind::Bad => Err(Stop::Fault(FaultKind::Line)),
     }
 }
 
@@ -85,6 +137,7 @@ fn assign(
     ensures gives { Gives (λ _. variables.new) result budget.new (lines.assign variables.old operator name.now text.now budget.old) }
     ensures err { OnErr result (variables.new ≡ variables.old) }
     ensures store { NeverStore result }
+    ensures later { IsLater budget.old budget.new }
 {
     match operator {
         Operator::Set => store(variables, name, text),
@@ -141,23 +194,32 @@ fn append(variables: &mut Env, name: &str, text: &str) -> Result<(), Stop<FaultK
     Ok(())
 }
 
-/// Does what a directive says.
+/// Does what a directive says that stands alone.
 fn direct(
     alloc: Global,
     variables: &mut Env,
     word: Directive,
     text: &str,
     budget: &mut Budget,
-) -> Result<(), Stop<FaultKind>>
-    ensures gives { Gives (λ _. variables.new) result budget.new (lines.direct variables.old word text.now budget.old) }
+) -> Result<Option<Request>, Stop<FaultKind>>
+    ensures gives { Gives (λ request. (variables.new, request)) result budget.new (lines.direct variables.old word text.now budget.old) }
     ensures err { OnErr result (variables.new ≡ variables.old) }
     ensures store { NeverStore result }
+    ensures later { IsLater budget.old budget.new }
 {
     match word {
         Directive::Undef => {
             let found = expand(alloc, variables, text, budget)?;
             undef_words(alloc, variables, found.as_str())?;
-            Ok(())
+            Ok(None)
+        }
+        Directive::Include => {
+            let found = expand(alloc, variables, text, budget)?;
+            Ok(Some(Request::new(found, false)))
+        }
+        Directive::Sinclude => {
+            let found = expand(alloc, variables, text, budget)?;
+            Ok(Some(Request::new(found, true)))
         }
         _ => Err(Stop::Fault(FaultKind::Line)),
     }

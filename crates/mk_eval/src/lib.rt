@@ -1,10 +1,22 @@
-//! The meaning of makefiles: what variables one leaves, what it costs, or its first fault.
+//! The meaning of makefiles: what one describes, what variables it leaves, what it costs, or its first
+//! fault.
 #![tactic(auto)]
 
 mod evaluation;
 mod executing;
+mod forms;
+mod heads;
+mod including;
+mod laws;
 mod outcome;
-mod reading;
+mod parses;
+mod requests;
+mod running;
+mod standing;
+mod starting;
 
 pub use evaluation::{evaluate, value};
-pub use outcome::{Evaluated, Failed, Valued};
+pub use executing::perform;
+pub use laws::same_where_answered;
+pub use outcome::{Evaluated, Failed, Kind, Valued};
+pub use requests::Request;

@@ -5,9 +5,23 @@ use mk_base::{Fault, Stop};
 use mk_env::Env;
 use std::marker::Model;
 
-/// What a makefile leaves: its variables, and the units of work that it cost.
+/// What a makefile describes, as the first of the two system files that it includes says
+/// (bsd.port.mk(5)).
+#[derive(Clone, Copy, Debug, PartialEq, Eq)]
+pub enum Kind {
+    /// A port: it includes `<bsd.port.mk>`.
+    Port,
+    /// A list of ports' directories: it includes `<bsd.port.subdir.mk>`.
+    List,
+    /// Neither.
+    Other,
+}
+
+/// What a makefile leaves: what it describes, its variables, and the units of work that it cost.
 #[derive(Drop)]
 pub struct Evaluated {
+    /// What it describes.
+    pub kind: Kind,
     /// The variables, as they stand behind the last line.
     pub env: Env,
     /// The units spent.

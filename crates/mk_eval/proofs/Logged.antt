@@ -1,0 +1,137 @@
+-- What an evaluation means doesn't depend on a log, what it leaves in one is what the definition asks under a budget of its cost, and every
+-- world that answers the same means the same.
+use Rattle.std.proofs.Common.{◌≡◌, ◌≤◌, ◌∙◌, ◌++◌, ℕ, List, [], Option, Some, None, unwrap_or, Result, Ok, Err, refl, sym, ap, subst, arith}
+use Rattle.mk_base.specs.declared.metering.TheConstants.{UNITS}
+use Rattle.mk_base.specs.FaultAt.{FaultAt}
+use Rattle.mk_base.specs.Meter.{Meter, full}
+use Rattle.mk_base.specs.Outcome.{left}
+use Rattle.mk_paths.specs.Shelf.{Question, Shelf, noted}
+use Rattle.mk_base.specs.Stopping.{StopsAt}
+use Rattle.mk_base.specs.declared.stopping.Stop.{Stop}
+use Rattle.mk_base.specs.declared.stopping.Stop.TheVariants as stops
+use Rattle.mk_paths.specs.World.{FileMap}
+use Rattle.mk_paths.specs.declared.asking.FilesFault.{FilesFault}
+use Rattle.mk_paths.specs.declared.search_path.Settings.{Settings}
+use Rattle.mk_files.specs.Asking.{Account, account, beside}
+use Rattle.mk_files.specs.Looking.{Asked, LeavesAtStop}
+use Rattle.mk_eval.specs.Telling.{FailsWith, LeavesAsked, with_cost}
+use Rattle.mk_eval.specs.declared.outcome.Failed.{Failed}
+use Rattle.mk_eval.specs.declared.standing.Standing.{Standing}
+use Rattle.mk_eval.specs.Meaning.{evaluation, evaluated, fresh, means, asked}
+use Rattle.mk_eval.specs.Sharing.{Agrees, cost_of, questions_of, IsTheSameWhereAnswered}
+use Rattle.mk_eval.proofs.Shared.{Shared, with_questions}
+use Rattle.mk_eval.proofs.SharedEvaluation.{shared-evaluation}
+
+evaluated-beside : (one other : Option (List Question)) (r : Result (Standing × Meter) (FaultAt × Meter)) → evaluated (beside one r) ≡ evaluated (beside other r)
+evaluated-beside one other (Ok end) = refl
+evaluated-beside one other (Err end) = refl
+
+log-beside : (log : Option (List Question)) (r : Result (Standing × Meter) (FaultAt × Meter)) → (left (beside log r)).log ≡ log
+log-beside log (Ok end) = refl
+log-beside log (Err end) = refl
+
+meter-beside : (log : Option (List Question)) (r : Result (Standing × Meter) (FaultAt × Meter)) → (left (beside log r)).meter ≡ left r
+meter-beside log (Ok end) = refl
+meter-beside log (Err end) = refl
+
+cost-beside : (log : Option (List Question)) (r : Result (Standing × Meter) (FaultAt × Meter)) → cost_of (evaluated (beside log r)) ≡ (left r).spent
+cost-beside log (Ok end) = refl
+cost-beside log (Err end) = refl
+
+-- an evaluation among some files, and the same among others
+module _ (files other : FileMap) (settings : Settings) (name : List ℕ) (flavors : Option (List (List ℕ))) where
+  both : Shared other (evaluation (files, settings) name flavors) (evaluation (other, settings) name flavors)
+  both = shared-evaluation files other settings name flavors
+
+  -- the units that are spent under the whole budget
+  abbrev spending : ℕ
+  spending = (left (both.ends (full UNITS))).spent
+
+  -- the meaning, beside any log
+  means-beside : (log : Option (List Question)) → evaluated (evaluation (files, settings) name flavors (fresh UNITS log)) ≡ means (files, settings) name flavors
+  means-beside log =
+      ap evaluated (both.is (full UNITS) log)
+      ∙ evaluated-beside (with_questions log (both.asks (full UNITS))) (with_questions None (both.asks (full UNITS))) (both.ends (full UNITS))
+      ∙ sym (ap evaluated (both.is (full UNITS) None))
+
+  asked-is : (limit : ℕ) → asked (files, settings) name flavors limit ≡ both.asks (full limit)
+  asked-is limit =
+      ap (λ (end : Result (Standing × Account) (FaultAt × Account)). unwrap_or (left end).log []) (both.is (full limit) (Some []))
+      ∙ ap (λ log. unwrap_or log []) (log-beside (Some ([] ++ both.asks (full limit))) (both.ends (full limit)))
+
+  -- under the whole budget the same is asked as under one of what is spent
+  asked-whole : both.asks (full UNITS) ≡ asked (files, settings) name flavors spending
+  asked-whole =
+      let few : spending ≤ UNITS = both.steady.within (full UNITS) (omega arith) in
+      sym (both.same (full UNITS) spending few (omega arith)) ∙ sym (asked-is spending)
+
+  -- what is left of a log
+  log-left : (log : Option (List Question)) (end : Result (Standing × Account) (FaultAt × Account)) → evaluation (files, settings) name flavors (fresh UNITS log) ≡ end
+      → (left end).log ≡ with_questions log (asked (files, settings) name flavors (left end).meter.spent)
+  log-left log end is =
+      let whole = sym is ∙ both.is (full UNITS) log in
+      let left_by = with_questions log (both.asks (full UNITS)) in
+      let spends : (left end).meter.spent ≡ spending = ap (λ (end : Result (Standing × Account) (FaultAt × Account)). (left end).meter.spent) whole ∙ ap (λ (m : Meter). m.spent) (meter-beside left_by (both.ends (full UNITS))) in
+      ap (λ (end : Result (Standing × Account) (FaultAt × Account)). (left end).log) whole
+      ∙ log-beside left_by (both.ends (full UNITS))
+      ∙ ap (with_questions log) (asked-whole ∙ ap (asked (files, settings) name flavors) (sym spends))
+
+  cost-is : cost_of (means (files, settings) name flavors) ≡ spending
+  cost-is = ap (λ end. cost_of (evaluated end)) (both.is (full UNITS) None) ∙ cost-beside (with_questions None (both.asks (full UNITS))) (both.ends (full UNITS))
+
+  module _ (agrees : Agrees other (questions_of files settings name flavors)) where
+    ends-alike : evaluation (other, settings) name flavors (fresh UNITS None) ≡ evaluation (files, settings) name flavors (fresh UNITS None)
+    ends-alike = both.shared (full UNITS) None (subst (Agrees other) (ap (asked (files, settings) name flavors) cost-is ∙ sym asked-whole) agrees)
+
+    means-alike : means (other, settings) name flavors ≡ means (files, settings) name flavors
+    means-alike = ap evaluated ends-alike
+
+    -- with the same cost, the same is asked under it
+    abbrev cost : ℕ
+    cost = cost_of (means (files, settings) name flavors)
+
+    asked-alike : asked (other, settings) name flavors cost ≡ asked (files, settings) name flavors cost
+    asked-alike =
+        ap (λ (end : Result (Standing × Account) (FaultAt × Account)). unwrap_or (left end).log [])
+        (both.shared (full cost) (Some []) (subst (Agrees other) (asked-is cost) agrees))
+
+    questions-alike : questions_of other settings name flavors ≡ questions_of files settings name flavors
+    questions-alike = ap (λ known. asked (other, settings) name flavors (cost_of known)) means-alike ∙ asked-alike
+
+pub same-where-answered : IsTheSameWhereAnswered
+same-where-answered files other settings name flavors agrees = (means-alike files other settings name flavors agrees, questions-alike files other settings name flavors agrees)
+
+-- what is known of the log, and that nothing but questions were asked, says what is left of the files
+pub noted-by : (old new : Shelf) (questions : List Question) → Asked old new → new.log ≡ with_questions old.log questions → new ≡ noted old questions
+noted-by old new questions asked log = asked.in_log ∙ ap (λ log. record old { log = log }) (sym (ap (λ (world : Shelf). world.log) asked.in_log) ∙ log)
+
+module _ (settings : Settings) (name : List ℕ) (flavors : Option (List (List ℕ))) (old new : Shelf) where
+  -- what an evaluation with the whole budget means, by its end
+  pub means-ended : (begun : Meter) (end : Result (Standing × Account) (FaultAt × Account)) → begun ≡ full UNITS → evaluation (old.files, settings) name flavors (account begun old) ≡ end
+      → means (old.files, settings) name flavors ≡ evaluated end
+  means-ended begun end is ends =
+      sym (means-beside old.files old.files settings name flavors old.log)
+      ∙ ap (λ m. evaluated (evaluation (old.files, settings) name flavors (record { meter = m; log = old.log }))) (sym is) ∙ ap evaluated ends
+
+  -- what it leaves of the files
+  pub files-ended : (begun : Meter) (spent : ℕ) (end : Result (Standing × Account) (FaultAt × Account)) → begun ≡ full UNITS → evaluation (old.files, settings) name flavors (account begun old) ≡ end
+      → (left end).log ≡ new.log → (left end).meter.spent ≡ spent → Asked old new → new ≡ noted old (asked (old.files, settings) name flavors spent)
+  files-ended begun spent end is ends log cost asks =
+      noted-by old new (asked (old.files, settings) name flavors spent) asks
+      (sym log ∙ log-left old.files old.files settings name flavors old.log end (ap (λ m. evaluation (old.files, settings) name flavors (record { meter = m; log = old.log })) (sym is) ∙ ends)
+      ∙ ap (λ spent. with_questions old.log (asked (old.files, settings) name flavors spent)) cost)
+
+  module _ (begun end : Meter) (spent : ℕ) (is : begun ≡ full UNITS) (cost : spent ≡ end.spent) where
+    pub fails-with : (stop : Stop FaultAt) (told : Stop Failed) → told ≡ with_cost spent stop → StopsAt stop (account end new) (evaluation (old.files, settings) name flavors (account begun old))
+        → FailsWith told (means (old.files, settings) name flavors)
+    fails-with (stops.Fault fault) told same ends =
+        rw same (means-ended begun (Err (fault, account end new)) is ends ∙ ap (λ cost. Err (record { fault = fault; cost = cost })) (sym cost))
+    fails-with stops.Store told same ends = rw same tt
+    fails-with stops.Memory told same ends = rw same tt
+
+    pub leaves-at : (may : FilesFault → Type 0) (stop : Stop FaultAt) (told : Stop Failed) → told ≡ with_cost spent stop → StopsAt stop (account end new) (evaluation (old.files, settings) name flavors (account begun old))
+        → LeavesAtStop may old new stop → LeavesAsked may old new (asked (old.files, settings) name flavors) (Err told)
+    leaves-at may (stops.Fault fault) told same ends leaves =
+        rw same (files-ended begun spent (Err (fault, account end new)) is ends refl (sym cost) leaves)
+    leaves-at may stops.Store told same ends leaves = rw same leaves
+    leaves-at may stops.Memory told same ends leaves = rw same leaves

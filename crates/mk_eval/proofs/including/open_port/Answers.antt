@@ -1,0 +1,19 @@
+use Rattle.std.proofs.Common.{◌∙◌, codes, None, Ok, ap, sym, if◌then◌else◌}
+use Rattle.mk_paths.specs.FileName.{resolved, name_under, directory_of}
+use Rattle.mk_files.specs.Asking.{account}
+use Rattle.mk_eval.specs.Includes as includes
+use Rattle.mk_eval.specs.Views.{place_of}
+use Rattle.mk_eval.specs.declared.outcome.Kind.TheVariants as roles
+use Rattle.mk_eval.proofs.Stepping.{Gives-same}
+use Rattle.mk_eval.proofs.including.open_port.Goals as goal
+
+pub returns-clause-gives : goal.returns-clause-gives
+returns-clause-gives g c =
+    let shelf = g.F.Names.shelf in
+    let place = place_of c.args.spot (shelf c.args.files.now).files in
+    let a = account c.args.budget.now (shelf c.args.files.now) in
+    let name = resolved (name_under (directory_of place.makefile) (codes "../Makefile.inc")) in
+    Gives-same _ _ _ _ _
+    (ap (λ again. (if again then (λ b. Ok ((includes.with_kind c.args.standing.now roles.Port, None), b)) else includes.open_shared place (includes.first_port c.args.standing.now) name) a) c.if-standing.false
+    ∙ ap (λ standing. includes.open_shared place standing name a) (sym c.say_first_port.ensures))
+    (c.open_shared.ensures.gives c.say_first_port.new.standing)

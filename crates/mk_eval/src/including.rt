@@ -1,0 +1,198 @@
+//! The files that lines ask for.
+ghost use Rattle.std.specs.Prelude.{◌≡◌, IfOk, IfErr, option_map};
+ghost use Rattle.mk_base.specs.Meter.{IsLater};
+ghost use Rattle.mk_base.specs.Stopping.{Gives};
+ghost use Rattle.mk_paths.specs.FileName.{resolved, name_under, directory_of};
+ghost use Rattle.mk_files.specs.Asking.{account};
+ghost use Rattle.mk_eval.specs.declared.standing.Standing.{Standing};
+ghost use Rattle.mk_files.specs.Looking.{Asked, LeavesAtStop};
+ghost use Rattle.mk_eval.specs.Includes as includes;
+ghost use Rattle.mk_eval.specs.Running.{MayOpen};
+ghost use Rattle.mk_eval.specs.Views.{place_of, file_of};
+
+use crate::forms::{Form, form_of};
+use crate::outcome::Kind;
+use crate::requests::Request;
+use crate::standing::Standing;
+use mk_base::{Budget, FaultKind, Stop};
+use mk_files::{Content, Files, ask_read};
+use mk_paths::{Name, NameFault};
+use std::alloc::Global;
+
+/// Where lines stand.
+#[derive(Clone, Copy)]
+pub(crate) struct Spot<'a> {
+    /// The makefile that is evaluated.
+    pub(crate) makefile: &'a Name,
+    /// The file in which they stand.
+    pub(crate) file: &'a Name,
+    /// How many files may still include one another.
+    pub(crate) levels: u32,
+}
+
+/// A file that is to be executed.
+#[derive(Drop)]
+pub(crate) struct Included {
+    /// Its name.
+    pub(crate) name: Name,
+    /// Its content.
+    pub(crate) content: Content,
+}
+
+/// The file that a request opens, if any. The system files open none but `<bsd.port.mk>`, which says
+/// that the makefile is a port's, as `<bsd.port.subdir.mk>` says that it lists ports; the first of
+/// these says what it is. The first `<bsd.port.mk>` opens `../Makefile.inc` of the makefile's
+/// directory, where it is.
+///
+/// The faults: `Include` where the text names no file in one of the forms; `IncludeDepth` where more
+/// than 16 files would include one another; `Include` where a name in quotes is none; `Questions` for
+/// the 257th question; `Include` where the file is missing, and may not be.
+pub(crate) fn open_request<F: Files>(
+    alloc: Global,
+    spot: Spot<'_>,
+    standing: &mut Standing,
+    request: &Request,
+    files: &mut F,
+    budget: &mut Budget,
+) -> Result<Option<Included>, Stop<FaultKind>>
+    ensures gives { Gives (λ included. (standing.new, option_map file_of included)) result (account budget.new (F.shelf files.new)) (includes.open_form (place_of spot.entry (F.shelf files.old).files) standing.old request.now.optional (includes.form_of request.now.text) (account budget.old (F.shelf files.old))) }
+    ensures asked { IfOk result (λ included. Asked (F.shelf files.old) (F.shelf files.new)) }
+    ensures stops { IfErr result (LeavesAtStop F.fails_with (F.shelf files.old) (F.shelf files.new)) }
+    ensures later { IsLater budget.old budget.new }
+    ensures opens { IfOk result (MayOpen spot.entry.levels) }
+{
+    match form_of(request.text()) {
+        Form::Own(file) => open_own(alloc, spot, file, request.optional(), files, budget),
+        Form::Port => open_port(alloc, spot, standing, files, budget),
+        Form::Subdir => {
+            say(standing, Kind::List);
+            Ok(None)
+        }
+        Form::System => Ok(None),
+        Form::Nothing => Err(Stop::Fault(FaultKind::Include)),
+    }
+}
+
+/// A file under the directory of the including file, or with an absolute name.
+fn open_own<F: Files>(
+    alloc: Global,
+    spot: Spot<'_>,
+    file: &str,
+    optional: bool,
+    files: &mut F,
+    budget: &mut Budget,
+) -> Result<Option<Included>, Stop<FaultKind>>
+    ensures gives { (standing : Standing) → Gives (λ included. (standing, option_map file_of included)) result (account budget.new (F.shelf files.new)) (includes.open_own (place_of spot.entry (F.shelf files.old).files) standing optional file.now (account budget.old (F.shelf files.old))) }
+    ensures asked { IfOk result (λ included. Asked (F.shelf files.old) (F.shelf files.new)) }
+    ensures stops { IfErr result (LeavesAtStop F.fails_with (F.shelf files.old) (F.shelf files.new)) }
+    ensures later { IsLater budget.old budget.new }
+    ensures opens { IfOk result (MayOpen spot.entry.levels) }
+{
+    if spot.levels == 0 {
+        return Err(Stop::Fault(FaultKind::IncludeDepth));
+    }
+    match Name::under(alloc, spot.file.directory(), file) {
+        Ok(name) => open_named(name, optional, files, budget),
+        Err(NameFault::BadName | NameFault::Above) => Err(Stop::Fault(FaultKind::Include)),
+        Err(NameFault::Memory) => Err(Stop::Memory),
+    }
+}
+
+/// The file of this name.
+fn open_named<F: Files>(
+    name: Name,
+    optional: bool,
+    files: &mut F,
+    budget: &mut Budget,
+) -> Result<Option<Included>, Stop<FaultKind>>
+    ensures gives { (standing : Standing) → Gives (λ included. (standing, option_map file_of included)) result (account budget.new (F.shelf files.new)) (includes.open_named (F.shelf files.old).files standing optional name (account budget.old (F.shelf files.old))) }
+    ensures asked { IfOk result (λ included. Asked (F.shelf files.old) (F.shelf files.new)) }
+    ensures stops { IfErr result (LeavesAtStop F.fails_with (F.shelf files.old) (F.shelf files.new)) }
+    ensures later { IsLater budget.old budget.new }
+{
+    match ask_read(files, &name, budget)? {
+        Some(content) => Ok(Some(Included { name, content })),
+        None if optional => Ok(None),
+        None => Err(Stop::Fault(FaultKind::Include)),
+    }
+}
+
+/// What the makefile describes stays what it was first said to be.
+fn say(standing: &mut Standing, kind: Kind)
+    ensures { standing.new ≡ includes.with_kind standing.old kind }
+{
+    if standing.kind == Kind::Other {
+        standing.kind = kind;
+    }
+}
+
+/// The first `<bsd.port.mk>` is included.
+fn say_first_port(standing: &mut Standing)
+    ensures { standing.new ≡ includes.first_port standing.old }
+{
+    say(standing, Kind::Port);
+    standing.shared_asked = true;
+}
+
+/// `<bsd.port.mk>`.
+fn open_port<F: Files>(
+    alloc: Global,
+    spot: Spot<'_>,
+    standing: &mut Standing,
+    files: &mut F,
+    budget: &mut Budget,
+) -> Result<Option<Included>, Stop<FaultKind>>
+    ensures gives { Gives (λ included. (standing.new, option_map file_of included)) result (account budget.new (F.shelf files.new)) (includes.open_port (place_of spot.entry (F.shelf files.old).files) standing.old (account budget.old (F.shelf files.old))) }
+    ensures asked { IfOk result (λ included. Asked (F.shelf files.old) (F.shelf files.new)) }
+    ensures stops { IfErr result (LeavesAtStop F.fails_with (F.shelf files.old) (F.shelf files.new)) }
+    ensures later { IsLater budget.old budget.new }
+    ensures opens { IfOk result (MayOpen spot.entry.levels) }
+{
+    if standing.shared_asked {
+        say(standing, Kind::Port);
+        return Ok(None);
+    }
+    say_first_port(standing);
+    open_shared(alloc, spot, "../Makefile.inc", files, budget)
+}
+
+/// A file beside the makefile's directory that its ports share, if it is there.
+fn open_shared<F: Files>(
+    alloc: Global,
+    spot: Spot<'_>,
+    file: &str,
+    files: &mut F,
+    budget: &mut Budget,
+) -> Result<Option<Included>, Stop<FaultKind>>
+    ensures gives { (standing : Standing) → Gives (λ included. (standing, option_map file_of included)) result (account budget.new (F.shelf files.new)) (includes.open_shared (place_of spot.entry (F.shelf files.old).files) standing (resolved (name_under (directory_of spot.entry.makefile.now) file.now)) (account budget.old (F.shelf files.old))) }
+    ensures asked { IfOk result (λ included. Asked (F.shelf files.old) (F.shelf files.new)) }
+    ensures stops { IfErr result (LeavesAtStop F.fails_with (F.shelf files.old) (F.shelf files.new)) }
+    ensures later { IsLater budget.old budget.new }
+    ensures opens { IfOk result (MayOpen spot.entry.levels) }
+{
+    match Name::under(alloc, spot.makefile.directory(), file) {
+        Ok(name) => open_inside(spot, name, true, files, budget),
+        Err(NameFault::BadName | NameFault::Above) => Ok(None),
+        Err(NameFault::Memory) => Err(Stop::Memory),
+    }
+}
+
+/// The file of this name, where files may still include one another.
+fn open_inside<F: Files>(
+    spot: Spot<'_>,
+    name: Name,
+    optional: bool,
+    files: &mut F,
+    budget: &mut Budget,
+) -> Result<Option<Included>, Stop<FaultKind>>
+    ensures gives { (standing : Standing) → Gives (λ included. (standing, option_map file_of included)) result (account budget.new (F.shelf files.new)) (includes.open_inside (place_of spot.entry (F.shelf files.old).files) standing optional name (account budget.old (F.shelf files.old))) }
+    ensures asked { IfOk result (λ included. Asked (F.shelf files.old) (F.shelf files.new)) }
+    ensures stops { IfErr result (LeavesAtStop F.fails_with (F.shelf files.old) (F.shelf files.new)) }
+    ensures later { IsLater budget.old budget.new }
+    ensures opens { IfOk result (MayOpen spot.entry.levels) }
+{
+    if spot.levels == 0 {
+        return Err(Stop::Fault(FaultKind::IncludeDepth));
+    }
+    open_named(name, optional, files, budget)
+}

@@ -1,0 +1,43 @@
+//! Files that lines ask for.
+ghost use Rattle.std.specs.Prelude.{◌≡◌, string_bytes};
+
+use std::marker::Model;
+
+/// A file that a line asks for, by a text that names it. Clauses see the text's bytes, and whether the
+/// file may be missing.
+#[derive(Debug, Drop)]
+pub struct Request {
+    text: String,
+    optional: bool,
+}
+
+impl Model for Request {
+    ghost use Rattle.std.specs.Prelude.{string_bytes};
+    ghost use Rattle.mk_eval.specs.Lines.{Request as Asked};
+
+    ghost Value = { Asked };
+
+    ghost view = { λ r. record { text = string_bytes r.text; optional = r.optional } };
+}
+
+impl Request {
+    pub(crate) fn new(text: String, optional: bool) -> Request
+        ensures { result ≡ record { text = string_bytes text; optional = optional } }
+    {
+        Request { text, optional }
+    }
+
+    /// What stands behind the directive's word, expanded.
+    pub fn text(&self) -> &str
+        ensures { result.now ≡ self.now.text }
+    {
+        self.text.as_str()
+    }
+
+    /// Whether the file may be missing, as under `.sinclude`.
+    pub fn optional(&self) -> bool
+        ensures { result ≡ self.now.optional }
+    {
+        self.optional
+    }
+}

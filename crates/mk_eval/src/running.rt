@@ -1,0 +1,368 @@
+//! Makefiles executed: blocks, loops and included files.
+ghost use Rattle.std.specs.Prelude.{◌≡◌, ◌∷◌, IfOk, IfErr, None, [], map, option_map, string_bytes};
+ghost use Rattle.mk_base.specs.Meter.{IsLater, pay};
+ghost use Rattle.mk_base.specs.Outcome.{tell};
+ghost use Rattle.mk_base.specs.Stopping.{Gives, NeverStore};
+ghost use Rattle.mk_ast.specs.Blocks.{branches_from};
+ghost use Rattle.mk_ast.specs.Trees.{LoopTree};
+ghost use Rattle.mk_ast.specs.Views.{block_of, tree_of, branch_of, last_branch};
+ghost use Rattle.mk_files.specs.Asking.{account};
+ghost use Rattle.mk_files.specs.Looking.{Asked, LeavesAtStop};
+ghost use Rattle.mk_ast.specs.Kinds.{line_kind};
+ghost use Rattle.mk_loop.specs.Header as headers;
+ghost use Rattle.mk_loop.specs.Scopes.{turns_in};
+ghost use Rattle.mk_eval.specs.Execution as execution;
+ghost use Rattle.mk_eval.specs.Meaning as meaning;
+ghost use Rattle.mk_eval.specs.Views.{loops_of, place_of, file_of};
+ghost use Rattle.mk_eval.specs.Includes.{Place};
+ghost use Rattle.mk_eval.specs.Heads as heads;
+ghost use Rattle.mk_eval.specs.Lines as lines;
+ghost use Rattle.mk_eval.specs.Running.{works_of, Opens, Pays};
+
+use crate::executing::perform;
+use crate::heads::{header_text, judge};
+use crate::including::{Included, Spot, open_request};
+use crate::parses::Parses;
+use crate::standing::Standing;
+use mk_ast::{Block, Branch, Node};
+use mk_base::{Budget, Fault, FaultKind, Stop};
+use mk_files::{Content, Files};
+use mk_loop::{Scope, Turns, read_header};
+use mk_paths::{Name, Names};
+use mk_text::Logical;
+use std::alloc::Global;
+
+/// How many files may include one another.
+pub(crate) const INCLUDES: u32 = 16;
+
+/// Executes the file of this name and content.
+#[cycle(execution)]
+pub(crate) fn execute_file<F: Files, P: Parses>(
+    alloc: Global,
+    spot: Spot<'_>,
+    content: &Content,
+    standing: &mut Standing,
+    parses: &mut P,
+    files: &mut F,
+    budget: &mut Budget,
+) -> Result<(), Stop<Fault>>
+    ensures gives { Gives (λ _. standing.new) result (account budget.new (F.shelf files.new)) (meaning.file_meaning (F.shelf files.old).files spot.entry.makefile.now spot.entry.levels spot.entry.file.now content.now standing.old (account budget.old (F.shelf files.old))) }
+    ensures asked { IfOk result (λ _. Asked (F.shelf files.old) (F.shelf files.new)) }
+    ensures stops { IfErr result (LeavesAtStop F.fails_with (F.shelf files.old) (F.shelf files.new)) }
+    ensures later { IsLater budget.old budget.new }
+{
+    match parses.parsed(content)? {
+        Ok(makefile) => execute_block(
+            alloc,
+            spot,
+            Scope::Outside,
+            makefile.nodes.as_slice(),
+            standing,
+            parses,
+            files,
+            budget,
+        ),
+        Err(fault) => {
+            let fault = Fault::new(alloc, fault.kind, spot.file.as_str(), fault.line)?;
+            Err(Stop::Fault(fault))
+        }
+    }
+}
+
+/// Executes lines and blocks in order.
+#[cycle(execution)]
+fn execute_block<F: Files, P: Parses>(
+    alloc: Global,
+    spot: Spot<'_>,
+    scope: Scope<'_>,
+    nodes: &[Node],
+    standing: &mut Standing,
+    parses: &mut P,
+    files: &mut F,
+    budget: &mut Budget,
+) -> Result<(), Stop<Fault>>
+    ensures gives { Gives (λ _. standing.new) result (account budget.new (F.shelf files.new)) (execution.execute (works_of spot.entry (F.shelf files.old).files) (block_of nodes.now) (loops_of scope.entry) standing.old (account budget.old (F.shelf files.old))) }
+    ensures asked { IfOk result (λ _. Asked (F.shelf files.old) (F.shelf files.new)) }
+    ensures stops { IfErr result (LeavesAtStop F.fails_with (F.shelf files.old) (F.shelf files.new)) }
+    ensures later { IsLater budget.old budget.new }
+{
+    for node in nodes {
+        execute_node(alloc, spot, scope, node, standing, parses, files, budget)?;
+    }
+    Ok(())
+}
+
+/// Executes a line or a block.
+#[cycle(execution)]
+fn execute_node<F: Files, P: Parses>(
+    alloc: Global,
+    spot: Spot<'_>,
+    scope: Scope<'_>,
+    node: &Node,
+    standing: &mut Standing,
+    parses: &mut P,
+    files: &mut F,
+    budget: &mut Budget,
+) -> Result<(), Stop<Fault>>
+    ensures gives { Gives (λ _. standing.new) result (account budget.new (F.shelf files.new)) (execution.execute_tree (works_of spot.entry (F.shelf files.old).files) (tree_of node.now) (loops_of scope.entry) standing.old (account budget.old (F.shelf files.old))) }
+    ensures asked { IfOk result (λ _. Asked (F.shelf files.old) (F.shelf files.new)) }
+    ensures stops { IfErr result (LeavesAtStop F.fails_with (F.shelf files.old) (F.shelf files.new)) }
+    ensures later { IsLater budget.old budget.new }
+{
+    match node {
+        Node::Line(line) => {
+            execute_line(alloc, spot, scope, line, standing, parses, files, budget)
+        }
+        Node::Choice {
+            head,
+            body,
+            branches,
+            otherwise,
+        } => {
+            if holds(alloc, spot, scope, head, standing, files, budget)? {
+                let body = body.as_slice();
+                return execute_block(alloc, spot, scope, body, standing, parses, files, budget);
+            }
+            let branches = branches.as_slice();
+            execute_branches(
+                alloc, spot, scope, branches, otherwise, standing, parses, files, budget,
+            )
+        }
+        Node::Loop { head, body } => {
+            let body = body.as_slice();
+            execute_loop(
+                alloc, spot, scope, head, body, standing, parses, files, budget,
+            )
+        }
+    }
+}
+
+/// Executes the first of these branches of a choice whose condition holds, and else the last one, if
+/// there is one.
+#[cycle(execution)]
+fn execute_branches<F: Files, P: Parses>(
+    alloc: Global,
+    spot: Spot<'_>,
+    scope: Scope<'_>,
+    branches: &[Branch],
+    otherwise: &Option<Block>,
+    standing: &mut Standing,
+    parses: &mut P,
+    files: &mut F,
+    budget: &mut Budget,
+) -> Result<(), Stop<Fault>>
+    ensures gives { Gives (λ _. standing.new) result (account budget.new (F.shelf files.new)) (execution.execute_branches (works_of spot.entry (F.shelf files.old).files) (branches_from (map branch_of branches.now) (last_branch (option_map (λ block. block_of block.value.items) otherwise.now))) (loops_of scope.entry) standing.old (account budget.old (F.shelf files.old))) }
+    ensures asked { IfOk result (λ _. Asked (F.shelf files.old) (F.shelf files.new)) }
+    ensures stops { IfErr result (LeavesAtStop F.fails_with (F.shelf files.old) (F.shelf files.new)) }
+    ensures later { IsLater budget.old budget.new }
+{
+    for branch in branches {
+        if holds(alloc, spot, scope, &branch.head, standing, files, budget)? {
+            let body = branch.body.as_slice();
+            return execute_block(alloc, spot, scope, body, standing, parses, files, budget);
+        }
+    }
+    match otherwise {
+        Some(body) => {
+            let body = body.as_slice();
+            execute_block(alloc, spot, scope, body, standing, parses, files, budget)
+        }
+        None => Ok(()),
+    }
+}
+
+/// Executes a line that frames no block, and the file that it asks for.
+#[cycle(execution)]
+fn execute_line<F: Files, P: Parses>(
+    alloc: Global,
+    spot: Spot<'_>,
+    scope: Scope<'_>,
+    line: &Logical,
+    standing: &mut Standing,
+    parses: &mut P,
+    files: &mut F,
+    budget: &mut Budget,
+) -> Result<(), Stop<Fault>>
+    ensures gives { Gives (λ _. standing.new) result (account budget.new (F.shelf files.new)) ((works_of spot.entry (F.shelf files.old).files).performs (loops_of scope.entry) line.now standing.old (account budget.old (F.shelf files.old))) }
+    ensures asked { IfOk result (λ _. Asked (F.shelf files.old) (F.shelf files.new)) }
+    ensures stops { IfErr result (LeavesAtStop F.fails_with (F.shelf files.old) (F.shelf files.new)) }
+    ensures later { IsLater budget.old budget.new }
+{
+    match open_line(alloc, spot, scope, line, standing, files, budget)? {
+        None => Ok(()),
+        Some(Included { name, content }) => {
+            let inside = Spot {
+                makefile: spot.makefile,
+                file: &name,
+                levels: spot.levels - 1,
+            };
+            execute_file(alloc, inside, &content, standing, parses, files, budget)
+        }
+    }
+}
+
+/// Executes a loop: its body, once for each turn.
+#[cycle(execution)]
+fn execute_loop<F: Files, P: Parses>(
+    alloc: Global,
+    spot: Spot<'_>,
+    scope: Scope<'_>,
+    head: &Logical,
+    body: &[Node],
+    standing: &mut Standing,
+    parses: &mut P,
+    files: &mut F,
+    budget: &mut Budget,
+) -> Result<(), Stop<Fault>>
+    ensures gives { Gives (λ _. standing.new) result (account budget.new (F.shelf files.new)) (execution.execute_tree (works_of spot.entry (F.shelf files.old).files) (LoopTree head.now (block_of body.now)) (loops_of scope.entry) standing.old (account budget.old (F.shelf files.old))) }
+    ensures asked { IfOk result (λ _. Asked (F.shelf files.old) (F.shelf files.new)) }
+    ensures stops { IfErr result (LeavesAtStop F.fails_with (F.shelf files.old) (F.shelf files.new)) }
+    ensures later { IsLater budget.old budget.new }
+{
+    let header = header_of(alloc, spot, scope, head, standing, budget)?;
+    let turns = turns_of(alloc, spot, header.as_str(), head, standing, budget)?;
+    for index in 0..turns.count() {
+        let scope = Scope::Turn(turns.turn(index), &scope);
+        execute_turn(
+            alloc, spot, scope, head, body, standing, parses, files, budget,
+        )?;
+    }
+    Ok(())
+}
+
+/// Executes the body of a loop in one turn.
+#[cycle(execution)]
+fn execute_turn<F: Files, P: Parses>(
+    alloc: Global,
+    spot: Spot<'_>,
+    scope: Scope<'_>,
+    head: &Logical,
+    body: &[Node],
+    standing: &mut Standing,
+    parses: &mut P,
+    files: &mut F,
+    budget: &mut Budget,
+) -> Result<(), Stop<Fault>>
+    ensures gives { Gives (λ _. standing.new) result (account budget.new (F.shelf files.new)) ((execution.turn_in ((works_of spot.entry (F.shelf files.old).files).begins head.now) (execution.execute (works_of spot.entry (F.shelf files.old).files) (block_of body.now)) (loops_of scope.entry) standing.old) (account budget.old (F.shelf files.old))) }
+    ensures asked { IfOk result (λ _. Asked (F.shelf files.old) (F.shelf files.new)) }
+    ensures stops { IfErr result (LeavesAtStop F.fails_with (F.shelf files.old) (F.shelf files.new)) }
+    ensures later { IsLater budget.old budget.new }
+{
+    begin_turn(alloc, spot, head, budget)?;
+    execute_block(alloc, spot, scope, body, standing, parses, files, budget)
+}
+
+/// Does what a line says that frames no block, but for the file that it opens, if any.
+fn open_line<F: Files>(
+    alloc: Global,
+    spot: Spot<'_>,
+    scope: Scope<'_>,
+    line: &Logical,
+    standing: &mut Standing,
+    files: &mut F,
+    budget: &mut Budget,
+) -> Result<Option<Included>, Stop<Fault>>
+    ensures gives { Gives (λ included. (standing.new, option_map file_of included)) result (account budget.new (F.shelf files.new)) (meaning.told_at (place_of spot.entry (F.shelf files.old).files) line.now (meaning.open_line (place_of spot.entry (F.shelf files.old).files) (loops_of scope.entry) line.now standing.old) (account budget.old (F.shelf files.old))) }
+    ensures asked { IfOk result (λ _. Asked (F.shelf files.old) (F.shelf files.new)) }
+    ensures stops { IfErr result (LeavesAtStop F.fails_with (F.shelf files.old) (F.shelf files.new)) }
+    ensures later { IsLater budget.old budget.new }
+    ensures opens { IfOk result (Opens spot.entry.levels budget.old budget.new) }
+{
+    let opened = match perform(alloc, &mut standing.variables, scope, line.text(), budget) {
+        Ok(None) => Ok(None),
+        Ok(Some(request)) => open_request(alloc, spot, standing, &request, files, budget),
+        Err(stop) => Err(stop),
+    };
+    match opened {
+        Ok(opened) => Ok(opened),
+        Err(stop) => Err(stop.blame(alloc, spot.file.as_str(), line.line())),
+    }
+}
+
+/// Whether the condition of a line holds.
+fn holds<F: Names>(
+    alloc: Global,
+    spot: Spot<'_>,
+    scope: Scope<'_>,
+    line: &Logical,
+    standing: &Standing,
+    files: &mut F,
+    budget: &mut Budget,
+) -> Result<bool, Stop<Fault>>
+    ensures gives { Gives (λ held. held) result (account budget.new (F.shelf files.new)) ((works_of spot.entry (F.shelf files.old).files).holds (loops_of scope.entry) line.now standing.now (account budget.old (F.shelf files.old))) }
+    ensures asked { IfOk result (λ _. Asked (F.shelf files.old) (F.shelf files.new)) }
+    ensures stops { IfErr result (LeavesAtStop F.fails_with (F.shelf files.old) (F.shelf files.new)) }
+    ensures later { IsLater budget.old budget.new }
+    ensures paid { IfOk result (λ held. Pays budget.old budget.new) }
+{
+    let variables = &standing.variables;
+    match judge(
+        alloc,
+        spot.makefile,
+        variables,
+        scope,
+        line.text(),
+        files,
+        budget,
+    ) {
+        Ok(held) => Ok(held),
+        Err(stop) => Err(stop.blame(alloc, spot.file.as_str(), line.line())),
+    }
+}
+
+/// The header of the loop that this line begins.
+fn header_of(
+    alloc: Global,
+    spot: Spot<'_>,
+    scope: Scope<'_>,
+    line: &Logical,
+    standing: &Standing,
+    budget: &mut Budget,
+) -> Result<String, Stop<Fault>>
+    ensures gives { Gives string_bytes result budget.new (tell (meaning.at spot.entry.file.now line.now.line) (heads.head_text standing.now.variables (loops_of scope.entry) (line_kind line.now.text) budget.old)) }
+    ensures store { NeverStore result }
+    ensures later { IsLater budget.old budget.new }
+    ensures paid { IfOk result (λ _. Pays budget.old budget.new) }
+{
+    match header_text(alloc, &standing.variables, scope, line.text(), budget) {
+        Ok(header) => Ok(header),
+        Err(stop) => Err(stop.blame(alloc, spot.file.as_str(), line.line())),
+    }
+}
+
+/// The turns of the loop with this header.
+fn turns_of<'a>(
+    alloc: Global,
+    spot: Spot<'_>,
+    header: &'a str,
+    line: &Logical,
+    standing: &Standing,
+    budget: &mut Budget,
+) -> Result<Turns<'a>, Stop<Fault>>
+    ensures gives { Gives turns_in result budget.new (tell (meaning.at spot.entry.file.now line.now.line) (headers.header standing.now.variables header.now budget.old)) }
+    ensures store { NeverStore result }
+    ensures later { IsLater budget.old budget.new }
+{
+    match read_header(alloc, &standing.variables, header, budget) {
+        Ok(turns) => Ok(turns),
+        Err(stop) => Err(stop.blame(alloc, spot.file.as_str(), line.line())),
+    }
+}
+
+/// Spends the unit of a turn.
+fn begin_turn(
+    alloc: Global,
+    spot: Spot<'_>,
+    line: &Logical,
+    budget: &mut Budget,
+) -> Result<(), Stop<Fault>>
+    ensures gives { Gives (λ _. tt) result budget.new (tell (meaning.at spot.entry.file.now line.now.line) (pay budget.old)) }
+    ensures store { NeverStore result }
+    ensures later { IsLater budget.old budget.new }
+    ensures paid { IfOk result (λ _. Pays budget.old budget.new) }
+{
+    match budget.pay() {
+        Ok(()) => Ok(()),
+        Err(kind) => Err(Stop::Fault(kind).blame(alloc, spot.file.as_str(), line.line())),
+    }
+}
