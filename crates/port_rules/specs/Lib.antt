@@ -1,0 +1,7 @@
+pub mod Values
+pub mod TextSets
+pub mod Flavors
+pub mod Packages
+pub mod Depends
+pub mod Ports
+pub mod Records

@@ -1,0 +1,53 @@
+-- Variables that are asked for a record: their values, as make(1) expands them, over one budget.
+use Rattle.std.specs.Prelude.{ℕ, if◌then◌else◌, is_some, List, [], ◌++◌, Option, Some, None, codes}
+use Rattle.std.specs.Str.{bytes_eq, str_to_ascii_lowercase}
+use Rattle.std.specs.FinMap as finite
+use Rattle.mk_base.specs.declared.faults.FaultKind.{FaultKind}
+use Rattle.mk_base.specs.Meter.{Meter}
+use Rattle.mk_base.specs.Outcome.{Work, give, ◌>>=◌}
+use Rattle.mk_text.specs.Words.{words_of}
+use Rattle.mk_env.specs.Texts.{Variables}
+use Rattle.mk_env.specs.Expansion.{variable}
+
+-- the value of a variable; one that isn't defined has none, and costs nothing
+unfoldable pub value : Variables → List ℕ → Work Meter FaultKind (Option (List ℕ))
+value variables name m = (if is_some (finite.get variables name) then (variable variables name >>= λ text. give (Some text)) else give None) m
+
+-- a value, or where there is none what stands in for it
+abbrev pub or_else : Option (List ℕ) → Work Meter FaultKind (Option (List ℕ)) → Work Meter FaultKind (Option (List ℕ))
+or_else None other = other
+or_else (Some text) other = give (Some text)
+
+-- the value of a variable, or where that isn't defined of another
+unfoldable pub value_or : Variables → List ℕ → List ℕ → Work Meter FaultKind (Option (List ℕ))
+value_or variables name other m = (value variables name >>= λ found. or_else found (value variables other)) m
+
+-- what a variable's name ends in for a package: the package's name; nothing for `-`, the one package of a port that names none
+abbrev pub ending : List ℕ → List ℕ
+ending subpackage = if bytes_eq subpackage (codes "-") then [] else subpackage
+
+-- the value of a variable for a package: of the variable with the package's ending, and where that isn't defined of the one without
+abbrev pub package_value : Variables → List ℕ → List ℕ → Work Meter FaultKind (Option (List ℕ))
+package_value variables name subpackage = value_or variables (name ++ ending subpackage) name
+
+-- the text of a value: nothing where there is none
+abbrev pub text_of : Option (List ℕ) → List ℕ
+text_of None = []
+text_of (Some text) = text
+
+-- the text of a variable, its words, and its words lowered
+unfoldable pub asked_text : Variables → List ℕ → Work Meter FaultKind (List ℕ)
+asked_text variables name m = (value variables name >>= λ found. give (text_of found)) m
+
+unfoldable pub asked_words : Variables → List ℕ → Work Meter FaultKind (List (List ℕ))
+asked_words variables name m = (value variables name >>= λ found. give (words_of (text_of found))) m
+
+unfoldable pub asked_lowered : Variables → List ℕ → Work Meter FaultKind (List (List ℕ))
+asked_lowered variables name m = (value variables name >>= λ found. give (words_of (str_to_ascii_lowercase (text_of found)))) m
+
+-- the text of a variable for a package, and its words
+unfoldable pub package_text : Variables → List ℕ → List ℕ → Work Meter FaultKind (List ℕ)
+package_text variables name subpackage m = (package_value variables name subpackage >>= λ found. give (text_of found)) m
+
+unfoldable pub package_words : Variables → List ℕ → List ℕ → Work Meter FaultKind (List (List ℕ))
+package_words variables name subpackage m = (package_value variables name subpackage >>= λ found. give (words_of (text_of found))) m

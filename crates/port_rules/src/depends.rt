@@ -1,0 +1,155 @@
+//! What a port depends on.
+ghost use Rattle.std.specs.Prelude.{◌≡◌, ◌++◌, [], map, string_bytes, OnOk};
+ghost use Rattle.mk_base.specs.Outcome.{each};
+ghost use Rattle.mk_base.specs.Stopping.{Gives, NeverStore};
+ghost use Rattle.port_rules.specs.Depends as depends;
+
+use crate::values::{asked_words, package_words};
+use mk_base::{Budget, FaultKind, Stop};
+use mk_env::Env;
+use std::alloc::{AllocError, Global};
+use std::marker::Model;
+
+/// What a dependency is for (bsd.port.mk(5)).
+#[derive(Clone, Copy, Debug, PartialEq, Eq)]
+pub enum DependKind {
+    /// To build the port (BUILD_DEPENDS).
+    Build,
+    /// A library that a package is linked with (LIB_DEPENDS).
+    Lib,
+    /// To run a package (RUN_DEPENDS).
+    Run,
+    /// To test the port (TEST_DEPENDS).
+    Test,
+}
+
+impl DependKind {
+    /// The word for it: `build`, `lib`, `run` or `test`.
+    pub fn as_str(self) -> &'static str
+        ensures { result.now ≡ depends.word_of self }
+    {
+        match self {
+            DependKind::Build => "build",
+            DependKind::Lib => "lib",
+            DependKind::Run => "run",
+            DependKind::Test => "test",
+        }
+    }
+}
+
+/// A dependency of a port, as it is written.
+#[derive(Debug, Drop)]
+pub struct Depend {
+    kind: DependKind,
+    subpackage: String,
+    item: String,
+}
+
+impl Model for Depend {
+    ghost use Rattle.std.specs.Prelude.{string_bytes};
+    ghost use Rattle.port_rules.specs.Depends.{DependValue};
+
+    ghost Value = { DependValue };
+
+    ghost view = { λ d. record { kind = d.kind; subpackage = string_bytes d.subpackage; item = string_bytes d.item } };
+}
+
+impl Depend {
+    /// What it is for.
+    pub fn kind(&self) -> DependKind
+        ensures { result ≡ self.now.kind }
+    {
+        self.kind
+    }
+
+    /// The package that has it, with its dash; empty where it is the port's as a whole, to be built or
+    /// tested.
+    pub fn subpackage(&self) -> &str
+        ensures { result.now ≡ self.now.subpackage }
+    {
+        self.subpackage.as_str()
+    }
+
+    /// What is depended on, not read yet.
+    pub fn item(&self) -> &str
+        ensures { result.now ≡ self.now.item }
+    {
+        self.item.as_str()
+    }
+}
+
+/// The dependencies of a port with these packages: to be built, then of each package, then to be tested.
+#[tactic(auto, unfolding(crate::specs::Depends::depends_of))]
+pub(crate) fn read_depends(
+    alloc: Global,
+    variables: &Env,
+    subpackages: &[String],
+    budget: &mut Budget,
+) -> Result<Vec<Depend>, Stop<FaultKind>>
+    ensures store { NeverStore result }
+    ensures gives { Gives (λ found. found.items) result budget.new (depends.depends_of variables.now (map string_bytes subpackages.now) budget.old) }
+{
+    let build = asked_words(alloc, variables, "BUILD_DEPENDS", budget)?;
+    let mut found = Vec::new(alloc);
+    put_depends(alloc, &mut found, DependKind::Build, "", build)?;
+    add_each(alloc, variables, &mut found, subpackages, budget)?;
+    let test = asked_words(alloc, variables, "TEST_DEPENDS", budget)?;
+    put_depends(alloc, &mut found, DependKind::Test, "", test)?;
+    Ok(found)
+}
+
+/// Adds the dependencies of each package.
+fn add_each(
+    alloc: Global,
+    variables: &Env,
+    found: &mut Vec<Depend>,
+    subpackages: &[String],
+    budget: &mut Budget,
+) -> Result<(), Stop<FaultKind>>
+    ensures store { NeverStore result }
+    ensures gives { Gives (λ _. found.new.items) result budget.new (each (depends.add_depends variables.now) found.old.items (map string_bytes subpackages.now) budget.old) }
+{
+    for subpackage in subpackages {
+        add_depends(alloc, variables, found, subpackage, budget)?;
+    }
+    Ok(())
+}
+
+/// Adds the dependencies of a package.
+#[tactic(auto, unfolding(crate::specs::Depends::add_depends))]
+fn add_depends(
+    alloc: Global,
+    variables: &Env,
+    found: &mut Vec<Depend>,
+    subpackage: &str,
+    budget: &mut Budget,
+) -> Result<(), Stop<FaultKind>>
+    ensures store { NeverStore result }
+    ensures gives { Gives (λ _. found.new.items) result budget.new (depends.add_depends variables.now found.old.items subpackage.now budget.old) }
+{
+    let lib = package_words(alloc, variables, "LIB_DEPENDS", subpackage, budget)?;
+    let run = package_words(alloc, variables, "RUN_DEPENDS", subpackage, budget)?;
+    put_depends(alloc, found, DependKind::Lib, subpackage, lib)?;
+    put_depends(alloc, found, DependKind::Run, subpackage, run)?;
+    Ok(())
+}
+
+/// Adds dependencies of one kind.
+fn put_depends(
+    alloc: Global,
+    found: &mut Vec<Depend>,
+    kind: DependKind,
+    subpackage: &str,
+    items: Vec<String>,
+) -> Result<(), AllocError>
+    ensures { OnOk result (found.new.items ≡ found.old.items ++ depends.depends kind subpackage.now (map string_bytes items.items)) }
+{
+    for item in items {
+        found.push(Depend {
+            kind,
+            subpackage: String::from_str(alloc, subpackage)?,
+            item,
+        })?;
+    }
+    Ok(())
+}

@@ -1,0 +1,121 @@
+//! The flavors of a port.
+ghost use Rattle.std.specs.Prelude.{◌≡◌, ◌||◌, map, string_bytes, IfOk};
+ghost use Rattle.std.specs.List.{list_all};
+ghost use Rattle.mk_base.specs.Stopping.{Gives, NeverStore};
+ghost use Rattle.text_cuts.specs.Cuts.{now_all};
+ghost use Rattle.port_rules.specs.TextSets.{holds};
+ghost use Rattle.port_rules.specs.Flavors as flavors;
+
+use crate::text_sets::TextSet;
+use crate::values::asked_lowered;
+use mk_base::{Budget, FaultKind, Stop};
+use mk_env::Env;
+use std::alloc::{AllocError, Global};
+use std::marker::Model;
+
+/// The flavors of a port (bsd.port.mk(5), "FLAVORS AND MULTI_PACKAGES"), their letters lowered, in the
+/// order of their variables, doubles too.
+#[derive(Debug, Drop)]
+pub struct PortFlavors {
+    chosen: Vec<String>,
+    proper: Vec<String>,
+    pseudo: Vec<String>,
+}
+
+impl Model for PortFlavors {
+    ghost use Rattle.std.specs.Prelude.{map, string_bytes};
+    ghost use Rattle.port_rules.specs.Flavors.{FlavorsValue};
+
+    ghost Value = { FlavorsValue };
+
+    ghost view = { λ f. record {
+      chosen = map string_bytes f.chosen.items;
+      proper = map string_bytes f.proper.items;
+      pseudo = map string_bytes f.pseudo.items;
+    } };
+}
+
+impl PortFlavors {
+    /// The flavors that are chosen (FLAVOR).
+    pub fn chosen(&self) -> &[String]
+        ensures { map string_bytes result.now ≡ self.now.chosen }
+    {
+        self.chosen.as_slice()
+    }
+
+    /// The flavors that the port has and that mark the names of its packages (FLAVORS).
+    pub fn proper(&self) -> &[String]
+        ensures { map string_bytes result.now ≡ self.now.proper }
+    {
+        self.proper.as_slice()
+    }
+
+    /// The flavors that the port has and that mark no name (PSEUDO_FLAVORS).
+    pub fn pseudo(&self) -> &[String]
+        ensures { map string_bytes result.now ≡ self.now.pseudo }
+    {
+        self.pseudo.as_slice()
+    }
+
+    /// Whether the port has each flavor that is chosen.
+    fn has_chosen(&self, alloc: Global) -> Result<bool, AllocError>
+        ensures { IfOk result (λ has. has ≡ flavors.has_chosen self.now) }
+    {
+        let proper = TextSet::of(alloc, &self.proper)?;
+        let pseudo = TextSet::of(alloc, &self.pseudo)?;
+        Ok(are_known(&self.chosen, &proper, &pseudo))
+    }
+
+    /// The marks of the chosen flavors in a package's name.
+    pub(crate) fn marks(&self, alloc: Global) -> Result<Vec<&str>, AllocError>
+        ensures { IfOk result (λ marks. now_all marks.items ≡ flavors.marks_of self.now) }
+    {
+        let chosen = TextSet::of(alloc, &self.chosen)?;
+        let mut marks = Vec::new(alloc);
+        for flavor in &self.proper {
+            if chosen.contains(flavor) {
+                marks.push(flavor.as_str())?;
+            }
+        }
+        Ok(marks)
+    }
+}
+
+/// Whether each of these texts is in one of the sets.
+fn are_known<'a>(texts: &'a [String], one: &TextSet<'a>, other: &TextSet<'a>) -> bool
+    ensures { result ≡ list_all (λ text. holds one.now text || holds other.now text) (map string_bytes texts.now) }
+{
+    for text in texts {
+        if !one.contains(text) && !other.contains(text) {
+            return false;
+        }
+    }
+    true
+}
+
+/// The flavors that the variables of a port tell.
+///
+/// The faults: those of expanding FLAVOR, FLAVORS and PSEUDO_FLAVORS, and then `Flavor` where a chosen
+/// flavor is none of the port's.
+#[tactic(auto, unfolding(crate::specs::Flavors::flavors_of))]
+pub(crate) fn read_flavors(
+    alloc: Global,
+    variables: &Env,
+    budget: &mut Budget,
+) -> Result<PortFlavors, Stop<FaultKind>>
+    ensures store { NeverStore result }
+    ensures gives { Gives (λ x. x) result budget.new (flavors.flavors_of variables.now budget.old) }
+{
+    let chosen = asked_lowered(alloc, variables, "FLAVOR", budget)?;
+    let proper = asked_lowered(alloc, variables, "FLAVORS", budget)?;
+    let pseudo = asked_lowered(alloc, variables, "PSEUDO_FLAVORS", budget)?;
+    let flavors = PortFlavors {
+        chosen,
+        proper,
+        pseudo,
+    };
+    if !flavors.has_chosen(alloc)? {
+        return Err(Stop::Fault(FaultKind::Flavor));
+    }
+    Ok(flavors)
+}

@@ -1,0 +1,18 @@
+//! What a port is: its flavors, its packages with their names, and what it depends on, as its variables
+//! tell it (bsd.port.mk(5)).
+#![tactic(auto)]
+
+mod depends;
+mod flavors;
+mod names;
+mod packages;
+mod port;
+mod recording;
+mod text_sets;
+mod values;
+
+pub use depends::{Depend, DependKind};
+pub use flavors::PortFlavors;
+pub use packages::Package;
+pub use port::PortRecord;
+pub use recording::{Recorded, record};

@@ -1,0 +1,160 @@
+//! The packages of a port.
+ghost use Rattle.std.specs.Prelude.{◌≡◌, map, string_bytes, IfOk};
+ghost use Rattle.std.specs.List.{list_all};
+ghost use Rattle.mk_base.specs.Stopping.{Gives, NeverStore};
+ghost use Rattle.text_cuts.specs.Cuts.{now_all};
+ghost use Rattle.port_rules.specs.Flavors.{marks_of};
+ghost use Rattle.port_rules.specs.Packages as packages;
+
+use crate::flavors::PortFlavors;
+use crate::names::full_name;
+use crate::text_sets::has_double;
+use crate::values::{asked_words, package_text};
+use mk_base::{Budget, FaultKind, Stop};
+use mk_env::Env;
+use pkg_name::PkgName;
+use std::alloc::{AllocError, Global};
+use std::marker::Model;
+
+/// A package of a port.
+#[derive(Debug, Drop)]
+pub struct Package {
+    subpackage: String,
+    name: PkgName,
+    comment: String,
+}
+
+impl Model for Package {
+    ghost use Rattle.std.specs.Prelude.{string_bytes};
+    ghost use Rattle.port_rules.specs.Packages.{PackageValue};
+
+    ghost Value = { PackageValue };
+
+    ghost view = { λ p. record { subpackage = string_bytes p.subpackage; name = p.name; comment = string_bytes p.comment } };
+}
+
+impl Package {
+    /// Which package of the port it is, with its dash, as `-main`; `-` for the one package of a port
+    /// without MULTI_PACKAGES.
+    pub fn subpackage(&self) -> &str
+        ensures { result.now ≡ self.now.subpackage }
+    {
+        self.subpackage.as_str()
+    }
+
+    /// Its full name.
+    pub fn name(&self) -> &PkgName
+        ensures { result.now ≡ self.now.name }
+    {
+        &self.name
+    }
+
+    /// Its comment (COMMENT); empty where there is none.
+    pub fn comment(&self) -> &str
+        ensures { result.now ≡ self.now.comment }
+    {
+        self.comment.as_str()
+    }
+}
+
+/// The packages that a port names (MULTI_PACKAGES), or `-` where it names none.
+///
+/// The faults: those of expanding it, and then `BadName` where a word isn't a dash and a name, or stands
+/// there twice.
+#[tactic(auto, unfolding(crate::specs::Packages::subpackages_of))]
+pub(crate) fn read_subpackages(
+    alloc: Global,
+    variables: &Env,
+    budget: &mut Budget,
+) -> Result<Vec<String>, Stop<FaultKind>>
+    ensures store { NeverStore result }
+    ensures gives { Gives (λ found. map string_bytes found.items) result budget.new (packages.subpackages_of variables.now budget.old) }
+{
+    let mut names = asked_words(alloc, variables, "MULTI_PACKAGES", budget)?;
+    if !are_subpackages(alloc, &names)? {
+        return Err(Stop::Fault(FaultKind::BadName));
+    }
+    if names.is_empty() {
+        names.push(String::from_str(alloc, "-")?)?;
+    }
+    Ok(names)
+}
+
+/// Whether these can name the packages of a port.
+fn are_subpackages(alloc: Global, names: &[String]) -> Result<bool, AllocError>
+    ensures { IfOk result (λ can. can ≡ packages.are_subpackages (map string_bytes names.now)) }
+{
+    Ok(are_named(names) && !has_double(alloc, names)?)
+}
+
+/// Whether each word is a dash and a name.
+fn are_named(words: &[String]) -> bool
+    ensures { result ≡ list_all packages.is_named (map string_bytes words.now) }
+{
+    for word in words {
+        if !is_named(word) {
+            return false;
+        }
+    }
+    true
+}
+
+/// Whether a word is a dash and a name.
+fn is_named(word: &str) -> bool
+    ensures { result ≡ packages.is_named word.now }
+{
+    word.starts_with('-') && word != "-"
+}
+
+/// The packages of a port, in order: of each first the name and then the comment.
+pub(crate) fn read_packages(
+    alloc: Global,
+    variables: &Env,
+    flavors: &PortFlavors,
+    subpackages: &[String],
+    budget: &mut Budget,
+) -> Result<Vec<Package>, Stop<FaultKind>>
+    ensures store { NeverStore result }
+    ensures gives { Gives (λ found. found.items) result budget.new (packages.packages_of variables.now (marks_of flavors.now) (map string_bytes subpackages.now) budget.old) }
+{
+    let marks = flavors.marks(alloc)?;
+    read_each(alloc, variables, &marks, subpackages, budget)
+}
+
+/// The same, `marks` being those of the chosen flavors.
+fn read_each(
+    alloc: Global,
+    variables: &Env,
+    marks: &[&str],
+    subpackages: &[String],
+    budget: &mut Budget,
+) -> Result<Vec<Package>, Stop<FaultKind>>
+    ensures store { NeverStore result }
+    ensures gives { Gives (λ found. found.items) result budget.new (packages.packages_of variables.now (now_all marks.now) (map string_bytes subpackages.now) budget.old) }
+{
+    let mut found = Vec::new(alloc);
+    for subpackage in subpackages {
+        found.push(read_package(alloc, variables, marks, subpackage, budget)?)?;
+    }
+    Ok(found)
+}
+
+#[tactic(auto, unfolding(crate::specs::Packages::package_of))]
+fn read_package(
+    alloc: Global,
+    variables: &Env,
+    marks: &[&str],
+    subpackage: &str,
+    budget: &mut Budget,
+) -> Result<Package, Stop<FaultKind>>
+    ensures store { NeverStore result }
+    ensures gives { Gives (λ x. x) result budget.new (packages.package_of variables.now (now_all marks.now) subpackage.now budget.old) }
+{
+    let name = full_name(alloc, variables, marks, subpackage, budget)?;
+    let comment = package_text(alloc, variables, "COMMENT", subpackage, budget)?;
+    Ok(Package {
+        subpackage: String::from_str(alloc, subpackage)?,
+        name,
+        comment,
+    })
+}

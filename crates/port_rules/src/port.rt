@@ -1,0 +1,113 @@
+//! The record of a port.
+ghost use Rattle.std.specs.Prelude.{◌≡◌, map, string_bytes};
+ghost use Rattle.mk_base.specs.Stopping.{Gives, NeverStore};
+ghost use Rattle.port_rules.specs.Ports as ports;
+
+use crate::depends::{Depend, read_depends};
+use crate::flavors::{PortFlavors, read_flavors};
+use crate::packages::{Package, read_packages, read_subpackages};
+use crate::values::{asked_text, asked_words};
+use mk_base::{Budget, FaultKind, Stop};
+use mk_env::Env;
+use pkg_path::PkgPath;
+use std::alloc::Global;
+use std::marker::Model;
+
+/// What a port is, as its variables tell it (bsd.port.mk(5)).
+#[derive(Debug, Drop)]
+pub struct PortRecord {
+    path: PkgPath,
+    flavors: PortFlavors,
+    maintainer: String,
+    categories: Vec<String>,
+    packages: Vec<Package>,
+    depends: Vec<Depend>,
+}
+
+impl Model for PortRecord {
+    ghost use Rattle.std.specs.Prelude.{map, string_bytes};
+    ghost use Rattle.port_rules.specs.Ports.{PortValue};
+
+    ghost Value = { PortValue };
+
+    ghost view = { λ p. record {
+      path = p.path;
+      flavors = p.flavors;
+      maintainer = string_bytes p.maintainer;
+      categories = map string_bytes p.categories.items;
+      packages = p.packages.items;
+      depends = p.depends.items;
+    } };
+}
+
+impl PortRecord {
+    /// Its path, without a subpackage.
+    pub fn path(&self) -> &PkgPath
+        ensures { result.now ≡ self.now.path }
+    {
+        &self.path
+    }
+
+    /// Its flavors.
+    pub fn flavors(&self) -> &PortFlavors
+        ensures { result.now ≡ self.now.flavors }
+    {
+        &self.flavors
+    }
+
+    /// Who maintains it (MAINTAINER); empty where that isn't told.
+    pub fn maintainer(&self) -> &str
+        ensures { result.now ≡ self.now.maintainer }
+    {
+        self.maintainer.as_str()
+    }
+
+    /// Its categories (CATEGORIES), in order.
+    pub fn categories(&self) -> &[String]
+        ensures { map string_bytes result.now ≡ self.now.categories }
+    {
+        self.categories.as_slice()
+    }
+
+    /// Its packages, in the order of MULTI_PACKAGES; at least one.
+    pub fn packages(&self) -> &[Package]
+        ensures { result.now ≡ self.now.packages }
+    {
+        self.packages.as_slice()
+    }
+
+    /// What it depends on: to be built; then for each package what that is linked with and what it needs
+    /// to run; then to be tested.
+    pub fn depends(&self) -> &[Depend]
+        ensures { result.now ≡ self.now.depends }
+    {
+        self.depends.as_slice()
+    }
+}
+
+/// The port at this path that these variables make.
+#[tactic(auto, unfolding(crate::specs::Ports::port_of))]
+pub(crate) fn read_port(
+    alloc: Global,
+    variables: &Env,
+    path: &PkgPath,
+    budget: &mut Budget,
+) -> Result<PortRecord, Stop<FaultKind>>
+    ensures store { NeverStore result }
+    ensures gives { Gives (λ x. x) result budget.new (ports.port_of variables.now path.now budget.old) }
+{
+    let flavors = read_flavors(alloc, variables, budget)?;
+    let subpackages = read_subpackages(alloc, variables, budget)?;
+    let maintainer = asked_text(alloc, variables, "MAINTAINER", budget)?;
+    let categories = asked_words(alloc, variables, "CATEGORIES", budget)?;
+    let packages = read_packages(alloc, variables, &flavors, &subpackages, budget)?;
+    let depends = read_depends(alloc, variables, &subpackages, budget)?;
+    Ok(PortRecord {
+        path: path.copy(alloc)?.without_sub(),
+        flavors,
+        maintainer,
+        categories,
+        packages,
+        depends,
+    })
+}

@@ -1,0 +1,67 @@
+//! Records of ports, each in a budget of its own.
+ghost use Rattle.std.specs.Prelude.{◌≡◌};
+ghost use Rattle.mk_base.specs.Stopping.{NeverStore};
+ghost use Rattle.mk_eval.specs.Telling as telling;
+ghost use Rattle.port_rules.specs.Records.{record_of};
+
+use crate::port::{PortRecord, read_port};
+use mk_base::{Budget, Fault, Stop, UNITS};
+use mk_eval::{Evaluated, Failed};
+use mk_paths::Name;
+use pkg_path::PkgPath;
+use std::alloc::Global;
+
+/// The record of a port, and the units of work that it cost.
+#[derive(Drop)]
+pub struct Recorded {
+    /// What the port is.
+    pub port: PortRecord,
+    /// The units spent.
+    pub cost: u64,
+}
+
+/// What the port at this path is, by the variables that the evaluation of its makefile, of this name,
+/// left (bsd.port.mk(5)); in a budget of 50,000 units of its own.
+///
+/// The variables are asked in this order: FLAVOR, FLAVORS, PSEUDO_FLAVORS, MULTI_PACKAGES, MAINTAINER,
+/// CATEGORIES; for each package its name (FULLPKGNAME, or else PKGNAME, REVISION, EPOCH) and COMMENT;
+/// BUILD_DEPENDS; for each package LIB_DEPENDS and RUN_DEPENDS; TEST_DEPENDS. One that isn't defined
+/// costs nothing.
+///
+/// The faults, at line 0 of the makefile, and with what was spent: those of `mk_env::expand_variable` for
+/// what is asked; `Flavor` behind PSEUDO_FLAVORS, where a chosen flavor is neither in it nor in FLAVORS;
+/// `BadName` behind MULTI_PACKAGES, where a word of it isn't a dash and a name, or stands there twice;
+/// `NoName` where a package has no name, or an empty one; `BadName` where its name can't be one. The
+/// other error is want of memory.
+pub fn record(
+    alloc: Global,
+    evaluated: &Evaluated,
+    path: &PkgPath,
+    name: &Name,
+) -> Result<Recorded, Stop<Failed>>
+    ensures record { telling.Tells (λ x. x) result (record_of evaluated.now.env path.now name.now) }
+    ensures store { NeverStore result }
+{
+    let mut budget = Budget::new(UNITS);
+    match read_port(alloc, &evaluated.env, path, &mut budget) {
+        Ok(port) => Ok(Recorded {
+            port,
+            cost: budget.spent(),
+        }),
+        Err(stop) => {
+            let stop = stop.blame(alloc, name.as_str(), 0);
+            Err(with_cost(stop, budget.spent()))
+        }
+    }
+}
+
+/// The stop, a fault being told with the units spent.
+fn with_cost(stop: Stop<Fault>, cost: u64) -> Stop<Failed>
+    ensures { result ≡ telling.with_cost cost stop }
+{
+    match stop {
+        Stop::Fault(fault) => Stop::Fault(Failed { fault, cost }),
+        Stop::Store => Stop::Store,
+        Stop::Memory => Stop::Memory,
+    }
+}

@@ -1,0 +1,68 @@
+//! Texts that are found by their bytes.
+ghost use Rattle.std.specs.Prelude.{◌≡◌, ◌||◌, ℕ, not, List, map, false, string_bytes, IfOk, OnOk};
+ghost use Rattle.std.specs.Str.{bytes_eq};
+ghost use Rattle.mk_env.specs.Expansion.{is_among};
+ghost use Rattle.port_rules.specs.TextSets.{holds};
+ghost use Rattle.port_rules.specs.Packages as packages;
+
+use std::alloc::{AllocError, AllocFailed, Global};
+use std::collections::BTreeSet;
+
+/// Texts, none of them twice, which are looked up in time in proportion to the logarithm of their number.
+#[derive(Drop)]
+pub(crate) struct TextSet<'a> {
+    texts: BTreeSet<&'a str>,
+}
+
+impl<'a> TextSet<'a> {
+    /// No text.
+    pub(crate) fn new(alloc: Global) -> TextSet<'a>
+        ensures { (text : List ℕ) → holds result text ≡ false }
+    {
+        TextSet {
+            texts: BTreeSet::new(alloc),
+        }
+    }
+
+    /// These texts.
+    pub(crate) fn of(alloc: Global, texts: &'a [String]) -> Result<TextSet<'a>, AllocError>
+        ensures { IfOk result (λ set. (text : List ℕ) → holds set text ≡ is_among text (map string_bytes texts.now)) }
+    {
+        let mut set = TextSet::new(alloc);
+        for text in texts {
+            set.insert(text.as_str())?;
+        }
+        Ok(set)
+    }
+
+    /// Adds a text, and says whether it is new.
+    pub(crate) fn insert(&mut self, text: &'a str) -> Result<bool, AllocError>
+        ensures new { IfOk result (λ is_new. is_new ≡ not (holds self.old text.now)) }
+        ensures more { OnOk result ((other : List ℕ) → holds self.new other ≡ (bytes_eq other text.now || holds self.old other)) }
+    {
+        match self.texts.insert(text) {
+            Ok(is_new) => Ok(is_new),
+            Err(_failed) => Err(AllocError),
+        }
+    }
+
+    /// Whether this text is one of them.
+    pub(crate) fn contains(&self, text: &'a str) -> bool
+        ensures { result ≡ holds self.now text.now }
+    {
+        self.texts.contains(&text)
+    }
+}
+
+/// Whether some text stands twice among these.
+pub(crate) fn has_double(alloc: Global, texts: &[String]) -> Result<bool, AllocError>
+    ensures { IfOk result (λ found. found ≡ packages.has_double (map string_bytes texts.now)) }
+{
+    let mut before = TextSet::new(alloc);
+    for text in texts {
+        if !before.insert(text.as_str())? {
+            return Ok(true);
+        }
+    }
+    Ok(false)
+}
