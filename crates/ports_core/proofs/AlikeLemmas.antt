@@ -5,7 +5,7 @@ use Rattle.ports_http.specs.Messages.{ReplyMessage}
 use Rattle.ports_plain.specs.Plain.{Asked, plain}
 use Rattle.ports_core.specs.declared.event.Event.{Event}
 use Rattle.ports_core.specs.declared.queue.Waiter.{Waiter}
-use Rattle.ports_core.specs.declared.history.Step.{Step}
+use Rattle.ports_core.specs.Effects.{Effect}
 use Rattle.mk_paths.specs.World.{World, opening_world}
 use Rattle.ports_core.specs.Slices.{plain_answer}
 use Rattle.ports_core.specs.State.{State}
@@ -43,14 +43,14 @@ fronts (x ∷ xs) (y ∷ ys) ls bs e =
     ]
 
 -- the replies told, and those to come, are those of the plain service to the own requests
-all_replies : (keys : List (List ℕ)) (t : ℕ) (events : List Event) (steps : List Step) (service : State) (told : IsToldPlainly keys t events steps service)
+all_replies : (keys : List (List ℕ)) (t : ℕ) (events : List Event) (steps : List Effect) (service : State) (told : IsToldPlainly keys t events steps service)
     → replies_to t steps ++ map (λ (answer : ℕ × ReplyMessage). answer.1) told.later ≡ replies_from opening_world (own_requests told)
 all_replies keys t events steps service told =
     sym (map-append (λ (answer : ℕ × ReplyMessage). answer.1) (answers_of (told_to t steps)) told.later)
     ∙ ap (map (λ (answer : ℕ × ReplyMessage). answer.1)) told.plainly
     ∙ replies-plain_run (own_of told.taken (told_to t steps)) opening_world
 
-pub told_alike : (keys other_keys : List (List ℕ)) (t u : ℕ) (events other_events : List Event) (steps others : List Step) (service other : State)
+pub told_alike : (keys other_keys : List (List ℕ)) (t u : ℕ) (events other_events : List Event) (steps others : List Effect) (service other : State)
     → (told : IsToldPlainly keys t events steps service) (told_there : IsToldPlainly other_keys u other_events others other)
     → own_requests told ≡ own_requests told_there → AreToldAlike t steps service u others other
 told_alike keys other_keys t u events other_events steps others service other told told_there same =

@@ -16,7 +16,7 @@ use Rattle.ports_core.specs.declared.event.Told.{Told}
 use Rattle.ports_core.specs.declared.event.Tell.{Tell}
 use Rattle.ports_core.specs.declared.event.Refused.{Refused}
 use Rattle.ports_core.specs.declared.queue.Waiter.{Waiter}
-use Rattle.ports_core.specs.declared.history.Step.{Step}
+use Rattle.ports_core.specs.Effects.{Effect}
 use Rattle.ports_core.specs.Keys.{tenant_of}
 use Rattle.ports_core.specs.Slices.{Slice, Queue, waiting_of, joined}
 use Rattle.ports_core.specs.Lines.{new_line, hears, answered, kept, is_ready, room_on, count_off, Fits}
@@ -78,14 +78,14 @@ module _ (keys : List (List ℕ)) (Plain : ℕ → Waiter → ReplyMessage → T
   }
 
 -- an event brings and takes so much, and the line is then so
-abbrev pub IsHeard : List (List ℕ) → (ℕ → Waiter → ReplyMessage → Type 0) → ℕ → Event → Step → State → Type 0
+abbrev pub IsHeard : List (List ℕ) → (ℕ → Waiter → ReplyMessage → Type 0) → ℕ → Event → Effect → State → Type 0
 IsHeard keys Plain c event step old = (came sent : List ℕ) (tells : List Tell) (line : Line) → Fits event line → line_of c old ≡ Some line → IsLine keys Plain c came sent tells line old
     → IsLine keys Plain c (came ++ came_in c event) (sent ++ sent_in c event step) tells (hears event line) old
 
 here : {X : Type 0} (c : ℕ) (xs : List X) → (if c == c then xs else []) ≡ xs
 here c xs = ap (λ b. if b then xs else []) (eq-eqb c c refl)
 
-module _ (keys : List (List ℕ)) (Plain : ℕ → Waiter → ReplyMessage → Type 0) (c : ℕ) (step : Step) (old : State) where
+module _ (keys : List (List ℕ)) (Plain : ℕ → Waiter → ReplyMessage → Type 0) (c : ℕ) (step : Effect) (old : State) where
   nothing_came : (came sent : List ℕ) (tells : List Tell) (line : Line) → IsLine keys Plain c came sent tells line old → IsLine keys Plain c (came ++ []) sent tells line old
   nothing_came came sent tells line is = subst (λ bs. IsLine keys Plain c bs sent tells line old) (sym (append-nil came)) is
 
@@ -111,13 +111,13 @@ module _ (keys : List (List ℕ)) (Plain : ℕ → Waiter → ReplyMessage → T
       nothing_came came (sent ++ []) tells after (nothing_sent came sent tells after same)
 
   -- the bytes that are written are those that were pending first
-  pub sent_first : (count : Option ℕ) (line : Line) → line_of c old ≡ Some line → step.sent.items ≡ sent_by (Wrote c count) old
+  pub sent_first : (count : Option ℕ) (line : Line) → line_of c old ≡ Some line → step.sent ≡ sent_by (Wrote c count) old
       → sent_in c (Wrote c count) step ≡ take (count_off count line.pending) line.pending
   sent_first count line at sent_is =
-      here c step.sent.items ∙ sent_is
+      here c step.sent ∙ sent_is
       ∙ ap (λ (o : Option Line). let bytes = unwrap_or (option_map (λ (l : Line). l.pending) o) [] in take (count_off count bytes) bytes) at
 
-  heard_wrote : (count : Option ℕ) → step.sent.items ≡ sent_by (Wrote c count) old → IsHeard keys Plain c (Wrote c count) step old
+  heard_wrote : (count : Option ℕ) → step.sent ≡ sent_by (Wrote c count) old → IsHeard keys Plain c (Wrote c count) step old
   heard_wrote None sent_is came sent tells line fits at is =
       let all : take (length line.pending) line.pending ≡ line.pending = take_all (length line.pending) line.pending (omega arith) in
       let front : sent_in c (Wrote c None) step ≡ line.pending = sent_first None line at sent_is ∙ all in
@@ -132,12 +132,12 @@ module _ (keys : List (List ℕ)) (Plain : ℕ → Waiter → ReplyMessage → T
       (heard_write keys Plain c came sent tells line old is (take count line.pending) (drop count line.pending) (take-append-drop count line.pending) (λ none. ap (drop count) none ∙ drop_nil count)))
 
 -- what an event does to what was asked and told on the connection
-abbrev pub Moves : List (List ℕ) → (ℕ → Waiter → ReplyMessage → Type 0) → ℕ → Event → Step → State → State → Type 0
+abbrev pub Moves : List (List ℕ) → (ℕ → Waiter → ReplyMessage → Type 0) → ℕ → Event → Effect → State → State → Type 0
 Moves keys Plain c event step old mid = (came sent : List ℕ) (tells : List Tell) → Stands keys Plain c came sent tells old
     → Stands keys Plain c (came ++ came_in c event) (sent ++ sent_in c event step) (tells ++ told_in c step.told.reply) mid
 
 -- nothing happens to the connection
-pub record Untouched (c : ℕ) (event : Event) (step : Step) (old mid : State) : Type 0 where
+pub record Untouched (c : ℕ) (event : Event) (step : Effect) (old mid : State) : Type 0 where
   pub came : came_in c event ≡ []
   pub sent : sent_in c event step ≡ []
   pub told : told_in c step.told.reply ≡ []
@@ -145,7 +145,7 @@ pub record Untouched (c : ℕ) (event : Event) (step : Step) (old mid : State) :
   pub next : next_of old ≤ next_of mid
   pub queues : (u : ℕ) (slice : Slice) → slice_of u mid ≡ Some slice → (before : Slice) × (slice_of u old ≡ Some before) × (waiters_of c (waiting_of slice) ≡ waiters_of c (waiting_of before))
 
-module _ (keys : List (List ℕ)) (Plain : ℕ → Waiter → ReplyMessage → Type 0) (c : ℕ) (event : Event) (step : Step) (old mid : State) where
+module _ (keys : List (List ℕ)) (Plain : ℕ → Waiter → ReplyMessage → Type 0) (c : ℕ) (event : Event) (step : Effect) (old mid : State) where
   queued_on : (h : Untouched c event step old mid) (waits : Option ℕ) (waiting : List RequestMessage) → Queued c old waits waiting → Queued c mid waits waiting
   queued_on h waits waiting queued u slice was = let before = h.queues u slice was in before.2 ∙ queued u before.0 before.1
 
@@ -192,7 +192,7 @@ pub same_queues : (c : ℕ) (old mid : State) → ((u : ℕ) → slice_of u mid 
 same_queues c old mid slices u slice was = (slice, sym (slices u) ∙ was, refl)
 
 -- the connection itself hears something
-hears_moves : (keys : List (List ℕ)) (Plain : ℕ → Waiter → ReplyMessage → Type 0) (c : ℕ) (event : Event) (step : Step) (taken : Taken) (old mid : State) → keys_of old ≡ keys → OpenAnd (line_of c old) (Fits event) → IsHeard keys Plain c event step old
+hears_moves : (keys : List (List ℕ)) (Plain : ℕ → Waiter → ReplyMessage → Type 0) (c : ℕ) (event : Event) (step : Effect) (taken : Taken) (old mid : State) → keys_of old ≡ keys → OpenAnd (line_of c old) (Fits event) → IsHeard keys Plain c event step old
     → HearsOn (keys_of old) event c step.told taken (book_of old) (book_of mid) → ((u : ℕ) → slice_of u mid ≡ option_map (joined (entering (keys_of old) c taken u)) (slice_of u old)) → next_of old ≤ next_of mid
     → Moves keys Plain c event step old mid
 hears_moves keys Plain c event step taken old mid keys_are allowed heard h enters next came sent tells (inr is) = absurd (none_some (sym is.at ∙ h.was_open))
@@ -225,7 +225,7 @@ told_by keys c d (Refusal fault) apart = told_there c (at_once d (fault_reply fa
 told_by keys c d (Lost close) apart = told_there c (at_once d store_failed) apart
 
 -- another connection hears something
-pub hears_untouched : (c d : ℕ) (event : Event) (step : Step) (taken : Taken) (old mid : State) → d ≢ c → came_in c event ≡ [] → sent_in c event step ≡ []
+pub hears_untouched : (c d : ℕ) (event : Event) (step : Effect) (taken : Taken) (old mid : State) → d ≢ c → came_in c event ≡ [] → sent_in c event step ≡ []
     → HearsOn (keys_of old) event d step.told taken (book_of old) (book_of mid) → ((u : ℕ) → slice_of u mid ≡ option_map (joined (entering (keys_of old) d taken u)) (slice_of u old)) → next_of old ≤ next_of mid
     → Untouched c event step old mid
 hears_untouched c d event step taken old mid apart no_bytes none_sent h enters next = record {
@@ -240,7 +240,7 @@ hears_untouched c d event step taken old mid apart no_bytes none_sent h enters n
 }
 
 -- no line and no slice changes, and nothing is told
-pub rests_untouched : (c : ℕ) (event : Event) (step : Step) (taken : Taken) (old mid : State) → came_in c event ≡ [] → sent_in c event step ≡ []
+pub rests_untouched : (c : ℕ) (event : Event) (step : Effect) (taken : Taken) (old mid : State) → came_in c event ≡ [] → sent_in c event step ≡ []
     → Rests step.told taken old mid → line_of c mid ≡ line_of c old → next_of old ≤ next_of mid → Untouched c event step old mid
 rests_untouched c event step taken old mid no_bytes none_sent rests line next = record {
   came = no_bytes;
@@ -252,7 +252,7 @@ rests_untouched c event step taken old mid no_bytes none_sent rests line next = 
 }
 
 -- the connection itself opens
-opened : (keys : List (List ℕ)) (Plain : ℕ → Waiter → ReplyMessage → Type 0) (c d : ℕ) (step : Step) (taken : Taken) (old mid : State) → c ≡ d → d ≡ next_of old → d < next_of mid → line_of d mid ≡ Some new_line → Rests step.told taken old mid → Moves keys Plain c (Open d) step old mid
+opened : (keys : List (List ℕ)) (Plain : ℕ → Waiter → ReplyMessage → Type 0) (c d : ℕ) (step : Effect) (taken : Taken) (old mid : State) → c ≡ d → d ≡ next_of old → d < next_of mid → line_of d mid ≡ Some new_line → Rests step.told taken old mid → Moves keys Plain c (Open d) step old mid
 opened keys Plain c d step taken old mid here is_next below line_is rests came sent tells (inl is) = absurd (omega (arith, is.below, is_next, here))
 opened keys Plain c d step taken old mid here is_next below line_is rests came sent tells (inr is) =
     let fresh = is.fresh (omega (arith, is_next, here)) in
@@ -276,7 +276,7 @@ opened keys Plain c d step taken old mid here is_next below line_is rests came s
     (subst (λ ts. Stands keys Plain c came sent ts mid) (sym (ap (λ ts. tells ++ ts) told ∙ append-nil tells)) stands))
 
 -- a connection opens
-opens_move : (keys : List (List ℕ)) (Plain : ℕ → Waiter → ReplyMessage → Type 0) (c d : ℕ) (step : Step) (old mid : State) → IsSeen (Open d) step.told old mid → Moves keys Plain c (Open d) step old mid
+opens_move : (keys : List (List ℕ)) (Plain : ℕ → Waiter → ReplyMessage → Type 0) (c d : ℕ) (step : Effect) (old mid : State) → IsSeen (Open d) step.told old mid → Moves keys Plain c (Open d) step old mid
 opens_move keys Plain c d step old mid s =
     let P : Option Refused → Type 0 = λ refused. MatchOption refused ((line_of d mid ≡ Some new_line) × KeepsOthers d (book_of old) (book_of mid)) (λ why. KeepsLines (book_of old) (book_of mid)) in
     elim (step.told.refused) as (λ refused. step.told.refused ≡ refused → P refused → Moves keys Plain c (Open d) step old mid) [
@@ -302,7 +302,7 @@ first_in_queue c queue first rest waited here =
     ap (λ b. if b then first ∷ waiters_of c rest else waiters_of c rest) (sym (eq-eqb first.conn c here)) ∙ ap (waiters_of c) (sym waited)
 
 -- a turn that answers another connection
-pub answered_there : (c t : ℕ) (step : Step) (taken : Taken) (old mid : State) (h : FirstLeaves t step.told taken old mid) → TellsOn h.tell (book_of old) (book_of mid) → next_of old ≤ next_of mid
+pub answered_there : (c t : ℕ) (step : Effect) (taken : Taken) (old mid : State) (h : FirstLeaves t step.told taken old mid) → TellsOn h.tell (book_of old) (book_of mid) → next_of old ≤ next_of mid
     → h.first.conn ≢ c → Untouched c (Turn t) step old mid
 answered_there c t step taken old mid h tells next apart = record {
   came = refl;
@@ -339,7 +339,7 @@ answers_in_turn keys Plain c t request first rest reply key_is alone plain =
     (refl, subst (λ w. Plain t w reply) (sym same) plain))
 
 -- a turn that answers the connection's request
-answered_here : (keys : List (List ℕ)) (Plain : ℕ → Waiter → ReplyMessage → Type 0) (c t : ℕ) (step : Step) (taken : Taken) (old mid : State) (h : FirstLeaves t step.told taken old mid) → TellsOn h.tell (book_of old) (book_of mid) → next_of old ≤ next_of mid
+answered_here : (keys : List (List ℕ)) (Plain : ℕ → Waiter → ReplyMessage → Type 0) (c t : ℕ) (step : Effect) (taken : Taken) (old mid : State) (h : FirstLeaves t step.told taken old mid) → TellsOn h.tell (book_of old) (book_of mid) → next_of old ≤ next_of mid
     → Plain t h.first h.tell.reply → h.first.conn ≡ c → Moves keys Plain c (Turn t) step old mid
 answered_here keys Plain c t step taken old mid h book next plain here came sent tells (inr is) =
     absurd (some_not_none (first_in_queue c (waiting_of h.slice) h.first h.rest h.waited here ∙ is.queued t h.slice h.was))
@@ -384,11 +384,11 @@ answered_here keys Plain c t step taken old mid h book next plain here came sent
     (subst (λ ts. Stands keys Plain c came sent (tells ++ ts) mid) (sym told) stands))
 
 -- the reply that a turn tells is plain
-abbrev pub EachIsPlain : (ℕ → Waiter → ReplyMessage → Type 0) → Event → Step → State → State → Type 0
+abbrev pub EachIsPlain : (ℕ → Waiter → ReplyMessage → Type 0) → Event → Effect → State → State → Type 0
 EachIsPlain Plain event step old mid = (t : ℕ) (taken : Taken) (h : FirstLeaves t step.told taken old mid) → event ≡ Turn t → Plain t h.first h.tell.reply
 
 -- a turn of a tenant
-turns_move : (keys : List (List ℕ)) (Plain : ℕ → Waiter → ReplyMessage → Type 0) (c t : ℕ) (step : Step) (taken : Taken) (old mid : State) → ChangesSlices (Turn t) step.told taken old mid → BookTurns step.told (book_of old) (book_of mid) → next_of old ≤ next_of mid → EachIsPlain Plain (Turn t) step old mid
+turns_move : (keys : List (List ℕ)) (Plain : ℕ → Waiter → ReplyMessage → Type 0) (c t : ℕ) (step : Effect) (taken : Taken) (old mid : State) → ChangesSlices (Turn t) step.told taken old mid → BookTurns step.told (book_of old) (book_of mid) → next_of old ≤ next_of mid → EachIsPlain Plain (Turn t) step old mid
     → Moves keys Plain c (Turn t) step old mid
 turns_move keys Plain c t step taken old mid (inl rests) book next plain =
     let lines : KeepsLines (book_of old) (book_of mid) =
@@ -400,7 +400,7 @@ turns_move keys Plain c t step taken old mid (inr h) book next plain =
     ⊎_elim (λ here. answered_here keys Plain c t step taken old mid h tells next (plain t taken h refl) here) (λ apart. untouched keys Plain c (Turn t) step old mid (answered_there c t step taken old mid h tells next apart)) (cases_eq h.first.conn c)
 
 -- an event of an open connection, this one or another
-heard_move : (keys : List (List ℕ)) (Plain : ℕ → Waiter → ReplyMessage → Type 0) (c d : ℕ) (event : Event) (step : Step) (taken : Taken) (old mid : State) → keys_of old ≡ keys → OpenAnd (line_of d old) (Fits event) → IsHeard keys Plain d event step old
+heard_move : (keys : List (List ℕ)) (Plain : ℕ → Waiter → ReplyMessage → Type 0) (c d : ℕ) (event : Event) (step : Effect) (taken : Taken) (old mid : State) → keys_of old ≡ keys → OpenAnd (line_of d old) (Fits event) → IsHeard keys Plain d event step old
     → (d ≢ c → came_in c event ≡ []) → (d ≢ c → sent_in c event step ≡ [])
     → HearsOn (keys_of old) event d step.told taken (book_of old) (book_of mid) → ((u : ℕ) → slice_of u mid ≡ option_map (joined (entering (keys_of old) d taken u)) (slice_of u old)) → next_of old ≤ next_of mid
     → Moves keys Plain c event step old mid
@@ -410,7 +410,7 @@ heard_move keys Plain c d event step taken old mid keys_are allowed heard no_byt
     (cases_eq d c)
 
 -- any event that is allowed
-pub moves : (keys : List (List ℕ)) (Plain : ℕ → Waiter → ReplyMessage → Type 0) (c : ℕ) (event : Event) (step : Step) (old mid : State) → keys_of old ≡ keys → loses c event ≡ false → IsAllowed event old → step.sent.items ≡ sent_by event old → IsSeen event step.told old mid → EachIsPlain Plain event step old mid
+pub moves : (keys : List (List ℕ)) (Plain : ℕ → Waiter → ReplyMessage → Type 0) (c : ℕ) (event : Event) (step : Effect) (old mid : State) → keys_of old ≡ keys → loses c event ≡ false → IsAllowed event old → step.sent ≡ sent_by event old → IsSeen event step.told old mid → EachIsPlain Plain event step old mid
     → Moves keys Plain c event step old mid
 moves keys Plain c (Open d) step old mid keys_are alive allowed sent s plain = opens_move keys Plain c d step old mid s
 moves keys Plain c (Turn t) step old mid keys_are alive allowed sent s plain = turns_move keys Plain c t step s.taken old mid s.changes s.books.1 s.next plain
@@ -421,4 +421,4 @@ moves keys Plain c (End d) step old mid keys_are alive allowed sent s plain =
 moves keys Plain c (Fault d) step old mid keys_are alive allowed sent s plain =
     untouched keys Plain c (Fault d) step old mid (hears_untouched c d (Fault d) step s.taken old mid (λ same. let lost : (d == c) ≡ true = eq-eqb d c same in cc) refl refl s.books (none_enters (keys_of old) d step.told s.taken old mid s.changes) s.next)
 moves keys Plain c (Wrote d count) step old mid keys_are alive allowed sent s plain =
-    heard_move keys Plain c d (Wrote d count) step s.taken old mid keys_are allowed (heard_wrote keys Plain d step old count sent) (λ apart. refl) (λ apart. ap (λ b. if b then step.sent.items else []) (other_number d c apart)) s.books s.changes.slices s.next
+    heard_move keys Plain c d (Wrote d count) step s.taken old mid keys_are allowed (heard_wrote keys Plain d step old count sent) (λ apart. refl) (λ apart. ap (λ b. if b then step.sent else []) (other_number d c apart)) s.books s.changes.slices s.next

@@ -7,7 +7,7 @@ use Rattle.ports_plain.specs.Plain.{Asked, plain}
 use Rattle.ports_core.specs.declared.event.Event.{Event}
 use Rattle.ports_core.specs.declared.event.Tell.{Tell}
 use Rattle.ports_core.specs.declared.queue.Waiter.{Waiter}
-use Rattle.ports_core.specs.declared.history.Step.{Step}
+use Rattle.ports_core.specs.Effects.{Effect}
 use Rattle.mk_paths.specs.World.{World}
 use Rattle.ports_core.specs.Slices.{Slice, Queue, asked_of, plain_answer}
 use Rattle.ports_core.specs.State.{State, world_at, queue_at, waiting_at}
@@ -44,7 +44,7 @@ replies-append world [] rest = refl
 replies-append world (request ∷ first) rest = ap (λ rs. (plain world request).0 ∷ rs) (replies-append (plain world request).1 first rest)
 
 -- one tenant in one run: all that is and will be told
-module _ (t : ℕ) (slice : Slice) (events : List Event) (steps : List Step) (old new : State) (served : IsServedPlainly t slice events steps old new) where
+module _ (t : ℕ) (slice : Slice) (events : List Event) (steps : List Effect) (old new : State) (served : IsServedPlainly t slice events steps old new) where
   pub replies_are : replies_to t steps ≡ replies_from slice.0 (requests_of served.answered)
   replies_are = ap (map (λ (answer : ℕ × ReplyMessage). answer.1)) served.replies ∙ replies-plain_run served.answered slice.0
 

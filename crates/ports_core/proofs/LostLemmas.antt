@@ -14,7 +14,7 @@ use Rattle.ports_core.specs.declared.event.Event.TheVariants.{Open, Piece, End, 
 use Rattle.ports_core.specs.declared.event.Tell.{Tell}
 use Rattle.ports_core.specs.declared.event.Refused.{Refused}
 use Rattle.ports_core.specs.declared.queue.Waiter.{Waiter}
-use Rattle.ports_core.specs.declared.history.Step.{Step}
+use Rattle.ports_core.specs.Effects.{Effect}
 use Rattle.ports_core.specs.Slices.{Slice, waiting_of, joined}
 use Rattle.ports_core.specs.Lines.{new_line, hears, answered, kept, is_done, is_ready, is_empty, room_on, count_off, Fits}
 use Rattle.ports_core.specs.Telling.{in_turn}
@@ -103,7 +103,7 @@ lost_taken keys c taken told line after is takes =
       takes.line_is ∙ ap (λ k. line_behind keys k (record line { stream = takes.stream })) stays.0 ∙ ap (λ s. record line { stream = s }) stays.1,
     )
 
-module _ (keys : List (List ℕ)) (Plain : ℕ → Waiter → ReplyMessage → Type 0) (c : ℕ) (event : Event) (step : Step) (old mid : State) where
+module _ (keys : List (List ℕ)) (Plain : ℕ → Waiter → ReplyMessage → Type 0) (c : ℕ) (event : Event) (step : Effect) (old mid : State) where
   -- where nothing comes, is sent or is told
   lost_silent : (came sent : List ℕ) (tells : List Tell) → came_in c event ≡ [] → sent_in c event step ≡ [] → told_in c step.told.reply ≡ []
       → StandsLost keys Plain c came sent tells mid → StandsLost keys Plain c (came ++ came_in c event) (sent ++ sent_in c event step) (tells ++ told_in c step.told.reply) mid
@@ -157,7 +157,7 @@ waits_for keys None waiting pending over holds = holds
 waits_for keys (Some t) waiting pending over (request, one, key_is, none, over_is) = (request, one, key_is)
 
 -- a connection is lost
-pub is_lost : (keys : List (List ℕ)) (Plain : ℕ → Waiter → ReplyMessage → Type 0) (c : ℕ) (step : Step) (old mid : State) (came sent : List ℕ) (tells : List Tell) → IsSeen (Fault c) step.told old mid
+pub is_lost : (keys : List (List ℕ)) (Plain : ℕ → Waiter → ReplyMessage → Type 0) (c : ℕ) (step : Effect) (old mid : State) (came sent : List ℕ) (tells : List Tell) → IsSeen (Fault c) step.told old mid
     → Stands keys Plain c came sent tells old → StandsLost keys Plain c (came ++ []) (sent ++ []) (tells ++ told_in c step.told.reply) mid
 is_lost keys Plain c step old mid came sent tells s (inr is) = absurd (none_some (sym is.at ∙ s.books.was_open))
 is_lost keys Plain c step old mid came sent tells s (inl is) =
@@ -187,7 +187,7 @@ lost_answers (Some line) p waits reply at is =
       over = at.0.over;
     })
 
-lost_turn : (keys : List (List ℕ)) (Plain : ℕ → Waiter → ReplyMessage → Type 0) (c t : ℕ) (step : Step) (taken : Taken) (old mid : State) (came sent : List ℕ) (tells : List Tell) (h : FirstLeaves t step.told taken old mid)
+lost_turn : (keys : List (List ℕ)) (Plain : ℕ → Waiter → ReplyMessage → Type 0) (c t : ℕ) (step : Effect) (taken : Taken) (old mid : State) (came sent : List ℕ) (tells : List Tell) (h : FirstLeaves t step.told taken old mid)
     → TellsOn h.tell (book_of old) (book_of mid) → next_of old ≤ next_of mid → Plain t h.first h.tell.reply → h.first.conn ≡ c
     → StandsLost keys Plain c came sent tells old → StandsLost keys Plain c (came ++ []) (sent ++ []) (tells ++ told_in c step.told.reply) mid
 lost_turn keys Plain c t step taken old mid came sent tells h book next plain here is =
@@ -223,11 +223,11 @@ lost_turn keys Plain c t step taken old mid came sent tells h book next plain he
     (subst (λ ts. StandsLost keys Plain c came sent (tells ++ ts) mid) (sym told) stands))
 
 -- what an event does to a lost connection
-abbrev pub LostMoves : List (List ℕ) → (ℕ → Waiter → ReplyMessage → Type 0) → ℕ → Event → Step → State → State → Type 0
+abbrev pub LostMoves : List (List ℕ) → (ℕ → Waiter → ReplyMessage → Type 0) → ℕ → Event → Effect → State → State → Type 0
 LostMoves keys Plain c event step old mid = (came sent : List ℕ) (tells : List Tell) → StandsLost keys Plain c came sent tells old
     → StandsLost keys Plain c (came ++ came_in c event) (sent ++ sent_in c event step) (tells ++ told_in c step.told.reply) mid
 
-lost_heard_by : (keys : List (List ℕ)) (Plain : ℕ → Waiter → ReplyMessage → Type 0) (c d : ℕ) (event : Event) (step : Step) (taken : Taken) (old mid : State) → OpenAnd (line_of d old) (Fits event)
+lost_heard_by : (keys : List (List ℕ)) (Plain : ℕ → Waiter → ReplyMessage → Type 0) (c d : ℕ) (event : Event) (step : Effect) (taken : Taken) (old mid : State) → OpenAnd (line_of d old) (Fits event)
     → ((line : Line) → line_of d old ≡ Some line → IsLostLine line → Fits event line → (came_in d event ≡ []) × (sent_in d event step ≡ []))
     → (d ≢ c → came_in c event ≡ []) → (d ≢ c → sent_in c event step ≡ [])
     → HearsOn (keys_of old) event d step.told taken (book_of old) (book_of mid) → ((u : ℕ) → slice_of u mid ≡ option_map (joined (entering (keys_of old) d taken u)) (slice_of u old)) → next_of old ≤ next_of mid
@@ -237,7 +237,7 @@ lost_heard_by keys Plain c d event step taken old mid allowed silent no_bytes no
     (λ apart came sent tells. lost_on keys Plain c event step old mid came sent tells (hears_untouched c d event step taken old mid apart (no_bytes apart) (none_sent apart) h enters next))
     (cases_eq d c)
 
-lost_opens : (keys : List (List ℕ)) (Plain : ℕ → Waiter → ReplyMessage → Type 0) (c d : ℕ) (step : Step) (old mid : State) → IsSeen (Open d) step.told old mid → LostMoves keys Plain c (Open d) step old mid
+lost_opens : (keys : List (List ℕ)) (Plain : ℕ → Waiter → ReplyMessage → Type 0) (c d : ℕ) (step : Effect) (old mid : State) → IsSeen (Open d) step.told old mid → LostMoves keys Plain c (Open d) step old mid
 lost_opens keys Plain c d step old mid s came sent tells is =
     let P : Option Refused → Type 0 = λ refused. MatchOption refused ((line_of d mid ≡ Some new_line) × KeepsOthers d (book_of old) (book_of mid)) (λ why. KeepsLines (book_of old) (book_of mid)) in
     let apart : c ≢ d = λ same. let number = s.numbers.0 in absurd (omega (arith, is.below, same, number)) in
@@ -247,7 +247,7 @@ lost_opens keys Plain c d step old mid s came sent tells is =
     ] s.books.1 in
     lost_on keys Plain c (Open d) step old mid came sent tells (rests_untouched c (Open d) step s.taken old mid refl refl s.changes line s.next) is
 
-lost_turns : (keys : List (List ℕ)) (Plain : ℕ → Waiter → ReplyMessage → Type 0) (c t : ℕ) (step : Step) (taken : Taken) (old mid : State) → ChangesSlices (Turn t) step.told taken old mid → BookTurns step.told (book_of old) (book_of mid) → next_of old ≤ next_of mid
+lost_turns : (keys : List (List ℕ)) (Plain : ℕ → Waiter → ReplyMessage → Type 0) (c t : ℕ) (step : Effect) (taken : Taken) (old mid : State) → ChangesSlices (Turn t) step.told taken old mid → BookTurns step.told (book_of old) (book_of mid) → next_of old ≤ next_of mid
     → EachIsPlain Plain (Turn t) step old mid → LostMoves keys Plain c (Turn t) step old mid
 lost_turns keys Plain c t step taken old mid (inl rests) book next plain came sent tells is =
     let lines : KeepsLines (book_of old) (book_of mid) =
@@ -260,13 +260,13 @@ lost_turns keys Plain c t step taken old mid (inr h) book next plain came sent t
     (λ apart. lost_on keys Plain c (Turn t) step old mid came sent tells (answered_there c t step taken old mid h on next apart) is) (cases_eq h.first.conn c)
 
 -- nothing of a lost connection is written
-none_written : (keys : List (List ℕ)) (Plain : ℕ → Waiter → ReplyMessage → Type 0) (c : ℕ) (count : Option ℕ) (step : Step) (old : State) → step.sent.items ≡ sent_by (Wrote c count) old → (line : Line) → line_of c old ≡ Some line → IsLostLine line
+none_written : (keys : List (List ℕ)) (Plain : ℕ → Waiter → ReplyMessage → Type 0) (c : ℕ) (count : Option ℕ) (step : Effect) (old : State) → step.sent ≡ sent_by (Wrote c count) old → (line : Line) → line_of c old ≡ Some line → IsLostLine line
     → sent_in c (Wrote c count) step ≡ []
 none_written keys Plain c count step old sent_is line at is =
     sent_first keys Plain c step old count line at sent_is ∙ ap (λ bytes. take (count_off count bytes) bytes) is.pending ∙ take_nil (count_off count [])
 
 -- any event that is allowed
-pub lost_moves : (keys : List (List ℕ)) (Plain : ℕ → Waiter → ReplyMessage → Type 0) (c : ℕ) (event : Event) (step : Step) (old mid : State) → IsAllowed event old → step.sent.items ≡ sent_by event old → IsSeen event step.told old mid
+pub lost_moves : (keys : List (List ℕ)) (Plain : ℕ → Waiter → ReplyMessage → Type 0) (c : ℕ) (event : Event) (step : Effect) (old mid : State) → IsAllowed event old → step.sent ≡ sent_by event old → IsSeen event step.told old mid
     → EachIsPlain Plain event step old mid → LostMoves keys Plain c event step old mid
 lost_moves keys Plain c (Open d) step old mid allowed sent s plain = lost_opens keys Plain c d step old mid s
 lost_moves keys Plain c (Turn t) step old mid allowed sent s plain = lost_turns keys Plain c t step s.taken old mid s.changes s.books.1 s.next plain
@@ -279,4 +279,4 @@ lost_moves keys Plain c (Fault d) step old mid allowed sent s plain =
     lost_heard_by keys Plain c d (Fault d) step s.taken old mid allowed (λ line at is fits. (refl, refl)) (λ apart. refl) (λ apart. refl) s.books (none_enters (keys_of old) d step.told s.taken old mid s.changes) s.next
 lost_moves keys Plain c (Wrote d count) step old mid allowed sent s plain =
     lost_heard_by keys Plain c d (Wrote d count) step s.taken old mid allowed (λ line at is fits. (refl, none_written keys Plain d count step old sent line at is))
-    (λ apart. refl) (λ apart. ap (λ b. if b then step.sent.items else []) (other_number d c apart)) s.books s.changes.slices s.next
+    (λ apart. refl) (λ apart. ap (λ b. if b then step.sent else []) (other_number d c apart)) s.books s.changes.slices s.next

@@ -16,7 +16,7 @@ use Rattle.ports_core.specs.declared.event.Told.{Told}
 use Rattle.ports_core.specs.declared.event.Tell.{Tell}
 use Rattle.ports_core.specs.declared.event.Refused.{Refused}
 use Rattle.ports_core.specs.declared.queue.Waiter.{Waiter}
-use Rattle.ports_core.specs.declared.history.Step.{Step}
+use Rattle.ports_core.specs.Effects.{Effect}
 use Rattle.ports_core.specs.Keys.{tenant_of}
 use Rattle.ports_core.specs.Lines.{new_line, hears, answered, kept, is_ready, with_pending}
 use Rattle.ports_core.specs.Telling.{at_once}
@@ -165,7 +165,7 @@ same_step keys (Wrote c count) told taken other old was new after same h k =
 same_step keys (Turn t) told taken other old was new after same h k =
     record { enters = λ u. ap (λ x. entering keys 0 x u) (h.0 ∙ sym k.0); books = same_turns told.reply old was new after same h.1 k.1 }
 
-same_lists : (keys : List (List ℕ)) (t : ℕ) (events : List Event) (steps : List Step) (old was : Book) (all others : List Waiter) → ((d : ℕ) → old d ≡ was d)
+same_lists : (keys : List (List ℕ)) (t : ℕ) (events : List Event) (steps : List Effect) (old was : Book) (all others : List Waiter) → ((d : ℕ) → old d ≡ was d)
     → TakesIn keys t old events steps all → TakesIn keys t was events steps others → all ≡ others
 same_lists keys t [] [] old was all others same a b = a ∙ sym b
 same_lists keys t [] (step ∷ steps) old was all others same a b = absurd a

@@ -5,7 +5,7 @@ use Rattle.ports_http.specs.Messages.{ReplyMessage}
 use Rattle.ports_plain.specs.Plain.{Served}
 use Rattle.ports_core.specs.declared.event.Event.{Event}
 use Rattle.ports_core.specs.declared.queue.Waiter.{Waiter}
-use Rattle.ports_core.specs.declared.history.Step.{Step}
+use Rattle.ports_core.specs.Effects.{Effect}
 use Rattle.mk_paths.specs.World.{opening_world}
 use Rattle.ports_core.specs.Slices.{Slice, new_slice, plain_answer}
 use Rattle.ports_core.specs.State.{State, new_state, keys_of, book_of, IsAllowed}
@@ -21,19 +21,19 @@ use Rattle.ports_core.proofs.RunsServe.{run_serves, begins_new}
 use Rattle.ports_core.proofs.RunLemmas.{run_more}
 use Rattle.ports_core.proofs.ConversingLemmas.{EachIsPlain}
 
-told_to-append : (t : ℕ) (steps more : List Step) → told_to t (steps ++ more) ≡ told_to t steps ++ told_to t more
+told_to-append : (t : ℕ) (steps more : List Effect) → told_to t (steps ++ more) ≡ told_to t steps ++ told_to t more
 told_to-append t [] more = refl
 told_to-append t (step ∷ steps) more = ap (λ ts. told_if t step.told.reply ++ ts) (told_to-append t steps more) ∙ sym (append_assoc (told_if t step.told.reply) (told_to t steps) (told_to t more))
 
 -- the keys stay in a run
-pub run_keys : (events : List Event) (steps : List Step) (old new : State) → Run old events steps new → keys_of new ≡ keys_of old
+pub run_keys : (events : List Event) (steps : List Effect) (old new : State) → Run old events steps new → keys_of new ≡ keys_of old
 run_keys [] [] old new same = ap keys_of same
 run_keys [] (step ∷ steps) old new run = absurd run
 run_keys (event ∷ events) [] old new run = absurd run
 run_keys (event ∷ events) (step ∷ steps) old new (mid, h, run) = run_keys events steps mid new run ∙ (seen event step.told old mid h.allowed h.does).keys
 
 -- a turn between the events before and those behind it
-module _ (keys : List (List ℕ)) (before events : List Event) (before_steps steps : List Step) (event : Event) (step : Step) (old mid new : State)
+module _ (keys : List (List ℕ)) (before events : List Event) (before_steps steps : List Effect) (event : Event) (step : Effect) (old mid new : State)
     (begun : Run (new_state keys) before before_steps old) (happens : Happens event step old mid) (goes_on : Run mid events steps new) where
   pub plain_turn : EachIsPlain (IsPlainOr503 keys (before ++ event ∷ events) (before_steps ++ step ∷ steps)) event step old mid
   plain_turn t taken h is_turn =
@@ -70,13 +70,13 @@ module _ (keys : List (List ℕ)) (before events : List Event) (before_steps ste
       ]
 
 -- each turn of a run tells so
-abbrev pub EachPlain : (ℕ → Waiter → ReplyMessage → Type 0) → (events : List Event) (steps : List Step) (old new : State) → Run old events steps new → Type 0
+abbrev pub EachPlain : (ℕ → Waiter → ReplyMessage → Type 0) → (events : List Event) (steps : List Effect) (old new : State) → Run old events steps new → Type 0
 EachPlain Plain [] [] old new run = Unit {0}
 EachPlain Plain [] (step ∷ steps) old new run = Unit {0}
 EachPlain Plain (event ∷ events) [] old new run = Unit {0}
 EachPlain Plain (event ∷ events) (step ∷ steps) old new run = EachIsPlain Plain event step old run.0 × EachPlain Plain events steps run.0 new run.2
 
-pub each_plain : (keys : List (List ℕ)) (before events : List Event) (before_steps steps : List Step) (old new : State) → Run (new_state keys) before before_steps old → (run : Run old events steps new)
+pub each_plain : (keys : List (List ℕ)) (before events : List Event) (before_steps steps : List Effect) (old new : State) → Run (new_state keys) before before_steps old → (run : Run old events steps new)
     → EachPlain (IsPlainOr503 keys (before ++ events) (before_steps ++ steps)) events steps old new run
 each_plain keys before [] before_steps [] old new begun run = tt
 each_plain keys before [] before_steps (step ∷ steps) old new begun run = tt

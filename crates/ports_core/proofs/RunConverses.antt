@@ -11,7 +11,7 @@ use Rattle.ports_core.specs.declared.event.Event.{Event}
 use Rattle.ports_core.specs.declared.event.Event.TheVariants.{Open, Piece, End, Fault, Wrote, Turn}
 use Rattle.ports_core.specs.declared.event.Tell.{Tell}
 use Rattle.ports_core.specs.declared.queue.Waiter.{Waiter}
-use Rattle.ports_core.specs.declared.history.Step.{Step}
+use Rattle.ports_core.specs.Effects.{Effect}
 use Rattle.ports_core.specs.Slices.{Queue, waiting_of}
 use Rattle.ports_core.specs.State.{State, new_state, keys_of, world_at, queue_at, line_of, pending_at}
 use Rattle.ports_core.specs.Runs.{Run}
@@ -31,7 +31,7 @@ abbrev StandsSo : Bool → List (List ℕ) → (ℕ → Waiter → ReplyMessage 
 StandsSo lost keys Plain c came sent tells state = MatchBool lost (StandsLost keys Plain c came sent tells state) (Stands keys Plain c came sent tells state)
 
 -- no event of this kind is another's
-only_fault : (keys : List (List ℕ)) (Plain : ℕ → Waiter → ReplyMessage → Type 0) (c : ℕ) (event : Event) (step : Step) (old mid : State) (came sent : List ℕ) (tells : List Tell) → loses c event ≡ true → IsSeen event step.told old mid
+only_fault : (keys : List (List ℕ)) (Plain : ℕ → Waiter → ReplyMessage → Type 0) (c : ℕ) (event : Event) (step : Effect) (old mid : State) (came sent : List ℕ) (tells : List Tell) → loses c event ≡ true → IsSeen event step.told old mid
     → Stands keys Plain c came sent tells old → StandsLost keys Plain c (came ++ came_in c event) (sent ++ sent_in c event step) (tells ++ told_in c step.told.reply) mid
 only_fault keys Plain c (Open d) step old mid came sent tells lost s stands = absurd (false≢true lost)
 only_fault keys Plain c (Piece d bytes) step old mid came sent tells lost s stands = absurd (false≢true lost)
@@ -49,7 +49,7 @@ or-same true b c = refl
 or-same false b c = refl
 
 -- one event
-moves_so : (was_lost : Bool) (keys : List (List ℕ)) (Plain : ℕ → Waiter → ReplyMessage → Type 0) (c : ℕ) (event : Event) (step : Step) (old mid : State) (came sent : List ℕ) (tells : List Tell)
+moves_so : (was_lost : Bool) (keys : List (List ℕ)) (Plain : ℕ → Waiter → ReplyMessage → Type 0) (c : ℕ) (event : Event) (step : Effect) (old mid : State) (came sent : List ℕ) (tells : List Tell)
     → (Stands keys Plain c came sent tells old → loses c event ≡ false → Stands keys Plain c (came ++ came_in c event) (sent ++ sent_in c event step) (tells ++ told_in c step.told.reply) mid)
     → LostMoves keys Plain c event step old mid → IsSeen event step.told old mid
     → StandsSo was_lost keys Plain c came sent tells old → StandsSo (was_lost || loses c event) keys Plain c (came ++ came_in c event) (sent ++ sent_in c event step) (tells ++ told_in c step.told.reply) mid
@@ -61,7 +61,7 @@ moves_so false keys Plain c event step old mid came sent tells alive lost s stan
     ] refl
 
 -- a whole run, from where the connection stood
-run_moves : (lost : Bool) (keys : List (List ℕ)) (Plain : ℕ → Waiter → ReplyMessage → Type 0) (c : ℕ) (came sent : List ℕ) (tells : List Tell) (events : List Event) (steps : List Step) (old new : State) → keys_of old ≡ keys
+run_moves : (lost : Bool) (keys : List (List ℕ)) (Plain : ℕ → Waiter → ReplyMessage → Type 0) (c : ℕ) (came sent : List ℕ) (tells : List Tell) (events : List Event) (steps : List Effect) (old new : State) → keys_of old ≡ keys
     → (run : Run old events steps new) → EachPlain Plain events steps old new run → StandsSo lost keys Plain c came sent tells old
     → StandsSo (lost || is_lost_in c events) keys Plain c (came ++ came_on c events) (sent ++ sent_on c events steps) (tells ++ told_on c steps) new
 run_moves lost keys Plain c came sent tells [] [] old new keys_are same plain stands =
@@ -106,7 +106,7 @@ begins keys Plain c = inr (record {
   queued = λ u slice was. ap (waiters_of c) (new_queue keys u (waiting_of slice) (slice_parts (world_at u (new_state keys)) (queue_at u (new_state keys)) slice was).1);
 })
 
-module _ (keys : List (List ℕ)) (c : ℕ) (events : List Event) (steps : List Step) (service : State) where
+module _ (keys : List (List ℕ)) (c : ℕ) (events : List Event) (steps : List Effect) (service : State) where
   -- these bytes are written, and the connection isn't lost
   written_all : is_lost_in c events ≡ false → (sent pending bytes : List ℕ) → sent ++ pending ≡ bytes → AreWritten (is_lost_in c events) sent pending bytes
   written_all alive sent pending bytes all = subst (λ b. AreWritten b sent pending bytes) (sym alive) all

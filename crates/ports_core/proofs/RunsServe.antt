@@ -3,7 +3,7 @@ use Rattle.std.proofs.Common.{◌≡◌, ◌<◌, ℕ, zero, suc, List, [], ◌�
 use Rattle.std.specs.Prelude.{slice_get, map, option_map, unwrap_or}
 use Rattle.ports_core.specs.declared.event.Event.{Event}
 use Rattle.ports_core.specs.declared.queue.Waiter.{Waiter}
-use Rattle.ports_core.specs.declared.history.Step.{Step}
+use Rattle.ports_core.specs.Effects.{Effect}
 use Rattle.mk_paths.specs.World.{World, opening_world}
 use Rattle.ports_core.specs.Slices.{Slice, Queue, new_slice, sliced, plain_answer}
 use Rattle.ports_core.specs.State.{State, new_state, keys_of, world_at, queue_at, slice_of, book_of}
@@ -17,15 +17,15 @@ use Rattle.ports_core.proofs.ChangeLemmas.{seen, slice_parts}
 use Rattle.ports_core.proofs.StepsServe.{changes_serve}
 
 -- what a run is to a tenant that had that slice
-pub record IsServedIn (t : ℕ) (events : List Event) (steps : List Step) (old new : State) (slice : Slice) : Type 0 where
+pub record IsServedIn (t : ℕ) (events : List Event) (steps : List Effect) (old new : State) (slice : Slice) : Type 0 where
   pub taken : List Waiter
   pub takes : TakesIn (keys_of old) t (book_of old) events steps taken
   pub last : Slice
   pub last_is : slice_of t new ≡ Some last
   pub serves : Serves slice.0 (slice.1 ++ taken) (told_to t steps) last.0 last.1
-  pub takes_on : (later : List Event) (later_steps : List Step) (more : List Waiter) → TakesIn (keys_of old) t (book_of new) later later_steps more → TakesIn (keys_of old) t (book_of old) (events ++ later) (steps ++ later_steps) (taken ++ more)
+  pub takes_on : (later : List Event) (later_steps : List Effect) (more : List Waiter) → TakesIn (keys_of old) t (book_of new) later later_steps more → TakesIn (keys_of old) t (book_of old) (events ++ later) (steps ++ later_steps) (taken ++ more)
 
-pub run_serves : (t : ℕ) (events : List Event) (steps : List Step) (old new : State) (slice : Slice) → Run old events steps new → slice_of t old ≡ Some slice → IsServedIn t events steps old new slice
+pub run_serves : (t : ℕ) (events : List Event) (steps : List Effect) (old new : State) (slice : Slice) → Run old events steps new → slice_of t old ≡ Some slice → IsServedIn t events steps old new slice
 run_serves t [] [] old new slice same was = record {
   taken = [];
   takes = refl;
@@ -74,7 +74,7 @@ length-plain_run [] world = refl
 length-plain_run (waiter ∷ waiters) world = ap suc (length-plain_run waiters (plain_answer world waiter.request).1)
 
 -- in each run from the beginning a tenant is told what the plain service would tell it
-pub run_plainly : (keys : List (List ℕ)) (events : List Event) (steps : List Step) (service : State) (t : ℕ) → t < length keys → Run (new_state keys) events steps service → IsToldPlainly keys t events steps service
+pub run_plainly : (keys : List (List ℕ)) (events : List Event) (steps : List Effect) (service : State) (t : ℕ) → t < length keys → Run (new_state keys) events steps service → IsToldPlainly keys t events steps service
 run_plainly keys events steps service t lt run =
     let served = run_serves t events steps (new_state keys) service new_slice run (begins_new keys t lt) in
     record {

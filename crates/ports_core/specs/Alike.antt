@@ -4,7 +4,7 @@ use Rattle.ports_http.specs.Messages.{ReplyMessage}
 use Rattle.ports_plain.specs.Plain.{Asked}
 use Rattle.ports_core.specs.declared.event.Event.{Event}
 use Rattle.ports_core.specs.declared.queue.Waiter.{Waiter}
-use Rattle.ports_core.specs.declared.history.Step.{Step}
+use Rattle.ports_core.specs.Effects.{Effect}
 use Rattle.ports_core.specs.Slices.{asked_of}
 use Rattle.ports_core.specs.State.{State, waiting_at}
 use Rattle.ports_core.specs.Plainly.{IsFrontOf, told_to, answers_of, own_of, IsToldPlainly}
@@ -14,7 +14,7 @@ abbrev pub requests_of : List Waiter → List Asked
 requests_of waiters = map (λ waiter. asked_of waiter.request) waiters
 
 -- what was told to a tenant, other than 503, whichever connections it went to
-abbrev pub replies_to : ℕ → List Step → List ReplyMessage
+abbrev pub replies_to : ℕ → List Effect → List ReplyMessage
 replies_to t steps = map (λ answer. answer.1) (answers_of (told_to t steps))
 
 -- two lists are equal as far as both go
@@ -22,11 +22,11 @@ abbrev pub AreAlike : {X : Type 0} → List X → List X → Type 0
 AreAlike xs ys = IsFrontOf xs ys ⊎ IsFrontOf ys xs
 
 -- a tenant's own requests in a run
-abbrev pub own_requests : {keys : List (List ℕ)} {t : ℕ} {events : List Event} {steps : List Step} {service : State} → IsToldPlainly keys t events steps service → List Asked
+abbrev pub own_requests : {keys : List (List ℕ)} {t : ℕ} {events : List Event} {steps : List Effect} {service : State} → IsToldPlainly keys t events steps service → List Asked
 own_requests {t = t} {steps = steps} told = requests_of (own_of told.taken (told_to t steps))
 
 -- Two tenants, each in a run of its own, are told equal replies as far as both are told, and all of them once
 -- none of their requests waits.
-pub record AreToldAlike (t : ℕ) (steps : List Step) (service : State) (u : ℕ) (others : List Step) (other : State) : Type 0 where
+pub record AreToldAlike (t : ℕ) (steps : List Effect) (service : State) (u : ℕ) (others : List Effect) (other : State) : Type 0 where
   pub alike : AreAlike (replies_to t steps) (replies_to u others)
   pub whole : waiting_at t service ≡ 0 → waiting_at u other ≡ 0 → replies_to t steps ≡ replies_to u others

@@ -7,7 +7,7 @@ use Rattle.ports_core.specs.declared.event.Event.TheVariants.{Open, Piece, End, 
 use Rattle.ports_core.specs.declared.event.Told.{Told}
 use Rattle.ports_core.specs.declared.event.Tell.{Tell}
 use Rattle.ports_core.specs.declared.queue.Waiter.{Waiter}
-use Rattle.ports_core.specs.declared.history.Step.{Step}
+use Rattle.ports_core.specs.Effects.{Effect}
 use Rattle.ports_core.specs.Lines.{new_line, hears, answered, kept, closing}
 use Rattle.ports_core.specs.Taking.{Taken, Nothing, TakesNext, entering}
 use Rattle.ports_core.specs.Opened.{Book, no_lines, KeepsLines, KeepsOthers}
@@ -57,7 +57,7 @@ conn_of (Wrote c count) = c
 conn_of (Turn t) = 0
 
 -- the requests of a tenant that these events take, in their order
-abbrev pub TakesIn : List (List ℕ) → ℕ → Book → List Event → List Step → List Waiter → Type 0
+abbrev pub TakesIn : List (List ℕ) → ℕ → Book → List Event → List Effect → List Waiter → Type 0
 TakesIn keys t book [] [] all = all ≡ []
 TakesIn keys t book (event ∷ events) (step ∷ steps) all =
     (taken : Taken) × (next : Book) × (rest : List Waiter)
@@ -69,5 +69,5 @@ TakesIn keys t book (event ∷ events) [] all = ⊥
 
 -- the requests of a tenant that events take are one list, read off the events and what was told
 abbrev pub OneListIsTaken : Type 0
-OneListIsTaken = (keys : List (List ℕ)) (t : ℕ) (events : List Event) (steps : List Step) (all others : List Waiter)
+OneListIsTaken = (keys : List (List ℕ)) (t : ℕ) (events : List Event) (steps : List Effect) (all others : List Waiter)
     → TakesIn keys t no_lines events steps all → TakesIn keys t no_lines events steps others → all ≡ others

@@ -9,7 +9,7 @@ use Rattle.ports_core.specs.declared.line.Line.{Line}
 use Rattle.ports_core.specs.declared.event.Event.{Event}
 use Rattle.ports_core.specs.declared.event.Event.TheVariants.{Piece, Fault, Wrote}
 use Rattle.ports_core.specs.declared.event.Tell.{Tell}
-use Rattle.ports_core.specs.declared.history.Step.{Step}
+use Rattle.ports_core.specs.Effects.{Effect}
 use Rattle.ports_core.specs.Keys.{tenant_of}
 use Rattle.ports_core.specs.Lines.{is_ready}
 use Rattle.ports_core.specs.Telling.{at_once, in_turn}
@@ -33,12 +33,12 @@ abbrev pub came_on : ℕ → List Event → List ℕ
 came_on c events = flat_map (came_in c) events
 
 -- the bytes that an event takes off a connection
-abbrev pub sent_in : ℕ → Event → Step → List ℕ
-sent_in c (Wrote d count) step = if d == c then step.sent.items else []
+abbrev pub sent_in : ℕ → Event → Effect → List ℕ
+sent_in c (Wrote d count) step = if d == c then step.sent else []
 sent_in c event step = []
 
 -- all bytes that were taken off a connection, as written
-abbrev pub sent_on : ℕ → List Event → List Step → List ℕ
+abbrev pub sent_on : ℕ → List Event → List Effect → List ℕ
 sent_on c (event ∷ events) (step ∷ steps) = sent_in c event step ++ sent_on c events steps
 sent_on c [] steps = []
 sent_on c (event ∷ events) [] = []
@@ -49,7 +49,7 @@ told_in c None = []
 told_in c (Some tell) = if tell.conn == c then tell ∷ [] else []
 
 -- the replies that were told to a connection, in their order
-abbrev pub told_on : ℕ → List Step → List Tell
+abbrev pub told_on : ℕ → List Effect → List Tell
 told_on c steps = flat_map (λ step. told_in c step.told.reply) steps
 
 -- the connection is lost in this event
@@ -96,7 +96,7 @@ IsCutTo stream requests closed = Cuts stream requests closed
 
 -- The plain service gives this reply to a request of a tenant in a run: it stands in the tenant's own list, and
 -- is asked over the world that the plain service has behind those that stand before it.
-pub record IsPlainReply (keys : List (List ℕ)) (events : List Event) (steps : List Step) (t : ℕ) (waiter : Waiter) (reply : ReplyMessage) : Type 0 where
+pub record IsPlainReply (keys : List (List ℕ)) (events : List Event) (steps : List Effect) (t : ℕ) (waiter : Waiter) (reply : ReplyMessage) : Type 0 where
   pub taken : List Waiter
   pub takes : TakesIn keys t no_lines events steps taken
   pub before : List Waiter
@@ -105,7 +105,7 @@ pub record IsPlainReply (keys : List (List ℕ)) (events : List Event) (steps : 
   pub plainly : reply ≡ (plain_answer (plain_world opening_world before) waiter.request).0
 
 -- a reply to a request of a tenant is the plain one, or 503
-abbrev pub IsPlainOr503 : List (List ℕ) → List Event → List Step → ℕ → Waiter → ReplyMessage → Type 0
+abbrev pub IsPlainOr503 : List (List ℕ) → List Event → List Effect → ℕ → Waiter → ReplyMessage → Type 0
 IsPlainOr503 keys events steps t waiter reply = IsPlainReply keys events steps t waiter reply ⊎ (reply ≡ store_failed)
 
 -- A request of a tenant's key is answered in a turn of that tenant, plainly; one without such a key, and one for
@@ -149,7 +149,7 @@ IsServedOut (Some line) = is_ready line ≡ true → TakesOff line.stream Nothin
 -- these replies as they are written, in order; of a connection that was lost, what was sent before is a front of
 -- them, and nothing is pending. Once nothing of it waits or is pending, what is unread begins with no whole request
 -- and no head refusal.
-pub record ConversesPlainly (keys : List (List ℕ)) (c : ℕ) (events : List Event) (steps : List Step) (service : State) : Type 0 where
+pub record ConversesPlainly (keys : List (List ℕ)) (c : ℕ) (events : List Event) (steps : List Effect) (service : State) : Type 0 where
   pub exchanges : List Exchange
   pub waits : List RequestMessage
   pub end : End
@@ -162,5 +162,5 @@ pub record ConversesPlainly (keys : List (List ℕ)) (c : ℕ) (events : List Ev
 
 -- in every run from the beginning, each connection converses plainly
 abbrev pub EachConnectionConverses : Type 0
-EachConnectionConverses = (keys : List (List ℕ)) (events : List Event) (steps : List Step) (service : State) (c : ℕ)
+EachConnectionConverses = (keys : List (List ℕ)) (events : List Event) (steps : List Effect) (service : State) (c : ℕ)
     → Run (new_state keys) events steps service → ConversesPlainly keys c events steps service

@@ -3,7 +3,7 @@ use Rattle.std.specs.Prelude.{◌≡◌, ℕ, false, List, ◌++◌, All, Some}
 use Rattle.ports_core.specs.declared.event.Event.{Event}
 use Rattle.ports_core.specs.declared.event.Tell.{Tell}
 use Rattle.ports_core.specs.declared.queue.Waiter.{Waiter}
-use Rattle.ports_core.specs.declared.history.Step.{Step}
+use Rattle.ports_core.specs.Effects.{Effect}
 use Rattle.ports_core.specs.Slices.{Slice, world_of, waiting_of}
 use Rattle.ports_core.specs.State.{State, keys_of, slice_of, book_of, waiting_at}
 use Rattle.ports_core.specs.Runs.{Run}
@@ -15,7 +15,7 @@ use Rattle.ports_core.specs.Alike.{requests_of, replies_to, AreAlike}
 -- A run from any state, to a tenant with that slice: of the requests that waited and those that came, less
 -- those answered 503, the first are answered and the others wait. The replies, and the world, are those of
 -- the plain service over the world that the tenant had.
-pub record IsServedPlainly (t : ℕ) (slice : Slice) (events : List Event) (steps : List Step) (old new : State) : Type 0 where
+pub record IsServedPlainly (t : ℕ) (slice : Slice) (events : List Event) (steps : List Effect) (old new : State) : Type 0 where
   pub taken : List Waiter
   pub takes : TakesIn (keys_of old) t (book_of old) events steps taken
   pub last : Slice
@@ -31,13 +31,13 @@ pub record AreEqualSlices (slice other : Slice) : Type 0 where
   pub waiting : requests_of (waiting_of slice) ≡ requests_of (waiting_of other)
 
 -- the tenant is told no 503
-abbrev pub NoneFails : ℕ → List Step → Type 0
+abbrev pub NoneFails : ℕ → List Effect → Type 0
 NoneFails t steps = All (λ (tell : Tell). is_failure tell.reply.status ≡ false) (told_to t steps)
 
 -- Two tenants are told equal replies as far as both are told; where nothing of them waits at the end, all of
 -- them, and their slices are equal.
-pub record EndAlike (t : ℕ) (steps : List Step) (service : State) (last : Slice)
-    (u : ℕ) (others : List Step) (other : State) (other_last : Slice) : Type 0 where
+pub record EndAlike (t : ℕ) (steps : List Effect) (service : State) (last : Slice)
+    (u : ℕ) (others : List Effect) (other : State) (other_last : Slice) : Type 0 where
   pub alike : AreAlike (replies_to t steps) (replies_to u others)
   pub replies : waiting_at t service ≡ 0 → waiting_at u other ≡ 0 → replies_to t steps ≡ replies_to u others
   pub slices : waiting_at t service ≡ 0 → waiting_at u other ≡ 0 → AreEqualSlices last other_last
@@ -45,7 +45,7 @@ pub record EndAlike (t : ℕ) (steps : List Step) (service : State) (last : Slic
 -- Isolation of services in any state: two tenants begin with equal slices, the same requests come for them, and
 -- neither is told 503. Then they are told alike, whatever else the two services hold and whatever else happens.
 abbrev pub EqualSlicesAreToldAlike : Type 0
-EqualSlicesAreToldAlike = (t u : ℕ) (slice other_slice : Slice) (events other_events : List Event) (steps others : List Step) (old new other_old other_new : State)
+EqualSlicesAreToldAlike = (t u : ℕ) (slice other_slice : Slice) (events other_events : List Event) (steps others : List Effect) (old new other_old other_new : State)
     → (served : IsServedPlainly t slice events steps old new) (served_there : IsServedPlainly u other_slice other_events others other_old other_new)
     → AreEqualSlices slice other_slice → requests_of served.taken ≡ requests_of served_there.taken
     → NoneFails t steps → NoneFails u others
@@ -53,5 +53,5 @@ EqualSlicesAreToldAlike = (t u : ℕ) (slice other_slice : Slice) (events other_
 
 -- in every run, from any state, each tenant is served plainly
 abbrev pub EachRunServesPlainly : Type 0
-EachRunServesPlainly = (t : ℕ) (slice : Slice) (events : List Event) (steps : List Step) (old new : State)
+EachRunServesPlainly = (t : ℕ) (slice : Slice) (events : List Event) (steps : List Effect) (old new : State)
     → slice_of t old ≡ Some slice → Run old events steps new → IsServedPlainly t slice events steps old new

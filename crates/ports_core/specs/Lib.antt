@@ -9,6 +9,7 @@ pub mod State
 pub mod Books
 pub mod Steps
 pub mod Changes
+pub mod Effects
 pub mod Runs
 pub mod Plainly
 pub mod Alike
@@ -16,5 +17,6 @@ pub mod Isolation
 pub mod Conversations
 pub mod Replays
 pub mod OutboxView
+pub mod StepView
 pub mod QueueView
 pub mod ServiceView

@@ -4,7 +4,7 @@ use Rattle.ports_http.specs.Messages.{ReplyMessage}
 use Rattle.ports_core.specs.declared.event.Event.{Event}
 use Rattle.ports_core.specs.declared.event.Tell.{Tell}
 use Rattle.ports_core.specs.declared.queue.Waiter.{Waiter}
-use Rattle.ports_core.specs.declared.history.Step.{Step}
+use Rattle.ports_core.specs.Effects.{Effect}
 use Rattle.mk_paths.specs.World.{World, opening_world}
 use Rattle.ports_core.specs.Slices.{plain_answer}
 use Rattle.ports_core.specs.Telling.{is_failure}
@@ -23,7 +23,7 @@ told_if t None = []
 told_if t (Some tell) = if is_of t tell.tenant then tell ∷ [] else []
 
 -- the replies that were told to a tenant, in their order
-abbrev pub told_to : ℕ → List Step → List Tell
+abbrev pub told_to : ℕ → List Effect → List Tell
 told_to t [] = []
 told_to t (step ∷ steps) = told_if t step.told.reply ++ told_to t steps
 
@@ -58,7 +58,7 @@ IsFrontOf {X} xs ys = (more : List X) × (xs ++ more ≡ ys)
 
 -- The replies told to a tenant in a run, other than 503, are, in order, those that the plain service gives to
 -- the tenant's own list from the opening world, less the last ones: as many as requests of the tenant still wait.
-pub record IsToldPlainly (keys : List (List ℕ)) (t : ℕ) (events : List Event) (steps : List Step) (service : State) : Type 0 where
+pub record IsToldPlainly (keys : List (List ℕ)) (t : ℕ) (events : List Event) (steps : List Effect) (service : State) : Type 0 where
   pub taken : List Waiter
   pub takes : TakesIn keys t no_lines events steps taken
   pub later : List (ℕ × ReplyMessage)

@@ -2,7 +2,7 @@
 use Rattle.std.specs.Prelude.{◌≡◌, ℕ, List, [], ◌∷◌, take, slice_get, Some}
 use Rattle.ports_core.specs.declared.event.Event.{Event}
 use Rattle.ports_core.specs.declared.event.Event.TheVariants.{Wrote}
-use Rattle.ports_core.specs.declared.history.Step.{Step}
+use Rattle.ports_core.specs.Effects.{Effect}
 use Rattle.ports_core.specs.Lines.{count_off}
 use Rattle.ports_core.specs.Telling.{CountsNone, CountsTurns}
 use Rattle.ports_core.specs.State.{State, IsAllowed, pending_at}
@@ -14,15 +14,15 @@ sent_by (Wrote c count) state = take (count_off count (pending_at c state)) (pen
 sent_by event state = []
 
 -- an event that may happen happens, and this is told and sent. A turn counts no work yet.
-pub record Happens (event : Event) (step : Step) (old new : State) : Type 0 where
+pub record Happens (event : Event) (step : Effect) (old new : State) : Type 0 where
   pub allowed : IsAllowed event old
-  pub sent : step.sent.items ≡ sent_by event old
+  pub sent : step.sent ≡ sent_by event old
   pub does : Does event step.told old new
   pub counts : CountsTurns event step.told
   pub so_far : CountsNone step.told
 
 -- these events happen one after another, with these steps
-abbrev pub Run : State → List Event → List Step → State → Type 0
+abbrev pub Run : State → List Event → List Effect → State → Type 0
 Run old [] [] new = new ≡ old
 Run old (event ∷ events) (step ∷ steps) new = (mid : State) × Happens event step old mid × Run mid events steps new
 Run old [] (step ∷ steps) new = ⊥

@@ -33,6 +33,10 @@ queue_at t state = slice_get (queues_of state) t
 abbrev pub slice_of : ℕ → State → Option Slice
 slice_of t state = sliced (world_at t state) (queue_at t state)
 
+-- the numbers of the open connections, in rising order
+abbrev pub connections_of : State → List ℕ
+connections_of state = map (λ (entry : ℕ × Line). entry.0) state.3
+
 -- a connection, where it is open
 abbrev pub line_of : ℕ → State → Option Line
 line_of c state = line_in c state.3

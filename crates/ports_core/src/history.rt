@@ -9,6 +9,7 @@ use crate::event::{Event, Told};
 use crate::keys::Config;
 use crate::service::{NewFault, Service};
 use std::alloc::{AllocError, AllocFailed, Global};
+use std::marker::Model;
 
 /// What an event of a run told, and the bytes that it took off its connection: those that a Wrote
 /// says were written.
@@ -16,6 +17,16 @@ use std::alloc::{AllocError, AllocFailed, Global};
 pub struct Step {
     pub told: Told,
     pub sent: Vec<u8>,
+}
+
+impl Model for Step {
+    ghost use Rattle.ports_core.specs.Effects.{Effect};
+
+    ghost Value = { Effect };
+
+    ghost use Rattle.ports_core.specs.StepView.{step_view};
+
+    ghost view = { step_view };
 }
 
 /// A run: one step for each event, and the service as the last event left it.

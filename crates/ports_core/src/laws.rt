@@ -2,7 +2,7 @@
 ghost use Rattle.std.specs.Prelude.{◌≡◌, ℕ, ◌<◌, List, length};
 ghost use Rattle.ports_core.specs.declared.event.Event.{Event};
 ghost use Rattle.ports_core.specs.declared.event.Told.{Told};
-ghost use Rattle.ports_core.specs.declared.history.Step.{Step};
+ghost use Rattle.ports_core.specs.Effects.{Effect};
 ghost use Rattle.ports_core.specs.State.{State, new_state};
 ghost use Rattle.ports_core.specs.Steps.{Does};
 ghost use Rattle.ports_core.specs.Taking.{Taken};
@@ -26,7 +26,7 @@ pub fn each_event_changes_so_much()
 /// the replies told to a tenant, other than 503, are those of the plain service to the tenant's own
 /// requests, in their order, less those that still wait.
 pub fn each_tenant_is_told_plainly()
-    ensures { (keys : List (List ℕ)) (events : List Event) (steps : List Step) (service : State) (t : ℕ)
+    ensures { (keys : List (List ℕ)) (events : List Event) (steps : List Effect) (service : State) (t : ℕ)
         → t < length keys → Run (new_state keys) events steps service → IsToldPlainly keys t events steps service }
 {}
 
@@ -47,7 +47,7 @@ pub fn one_list_is_taken()
 /// another run, the two are told equal replies as far as both are told, and all of them once none of
 /// their requests waits. What others stored, asked or left unread in either run changes nothing.
 pub fn equal_requests_are_told_alike()
-    ensures { (keys other_keys : List (List ℕ)) (t u : ℕ) (events other_events : List Event) (steps others : List Step) (service other : State)
+    ensures { (keys other_keys : List (List ℕ)) (t u : ℕ) (events other_events : List Event) (steps others : List Effect) (service other : State)
         → (told : IsToldPlainly keys t events steps service) (told_there : IsToldPlainly other_keys u other_events others other)
         → own_requests told ≡ own_requests told_there → AreToldAlike t steps service u others other }
 {}

@@ -8,6 +8,7 @@ use crate::line::Line;
 use crate::lines::{Lines, MOST_CONNECTIONS, answer_line, close_done, closes, hear_line, may_hear};
 use crate::queue::{Queue, Waiter};
 use crate::worlds::Worlds;
+use arrayvec::ArrayVec;
 use ports_plain::Plain;
 use std::alloc::{AllocError, Global};
 use std::collections::BTreeMap;
@@ -65,7 +66,7 @@ impl Model for Service {
 impl Service {
     ghost use Rattle.ports_core.specs.Keys.{is_fit, key_texts};
     ghost use Rattle.ports_core.specs.Opened.{OpenAnd};
-    ghost use Rattle.ports_core.specs.State.{new_state, keys_of, next_of, line_of, room_at, pending_at, waiting_at, IsAllowed};
+    ghost use Rattle.ports_core.specs.State.{new_state, keys_of, next_of, connections_of, line_of, room_at, pending_at, waiting_at, IsAllowed};
     ghost use Rattle.ports_core.specs.Lines.{Fits};
     ghost use Rattle.ports_core.specs.Telling.{CountsNone, CountsTurns};
     ghost use Rattle.ports_core.specs.Steps.{Does, Opens, Hears, Turns};
@@ -102,6 +103,24 @@ impl Service {
         ensures { result ≡ next_of self.now }
     {
         self.next
+    }
+
+    /// How many tenants there are.
+    pub fn tenants(&self) -> usize
+        ensures { result ≡ length (keys_of self.now) }
+    {
+        self.keys.len()
+    }
+
+    /// The numbers of the open connections, in rising order.
+    pub fn connections(&self) -> ArrayVec<u64, MOST_CONNECTIONS>
+        ensures { result.items ≡ connections_of self.now }
+    {
+        let mut numbers = ArrayVec::new();
+        for conn in self.lines.keys() {
+            numbers.push(*conn);
+        }
+        numbers
     }
 
     /// How many bytes a connection may send; 0 where it isn't open.

@@ -15,12 +15,13 @@ use Rattle.ports_http.specs.declared.method.Method.{Method}
 use Rattle.ports_http.specs.declared.method.Method.TheVariants.{Get, Put, Delete}
 use Rattle.ports_plain.specs.declared.routing.Route.{Route}
 use Rattle.ports_plain.specs.declared.routing.Route.TheVariants.{File, Path, Var}
-use Rattle.ports_plain.specs.Directory.{is_directory}
+use Rattle.pkg_path.specs.Paths.{PathValue, path_of}
+use Rattle.pkg_path.specs.declared.faults.PkgPathFault.{PkgPathFault}
 use Rattle.ports_plain.specs.Routes.{route_of}
-use Rattle.ports_plain.specs.Target.{path_of}
+use Rattle.ports_plain.specs.Target.{path_of as target_path}
 use Rattle.ports_plain.specs.Trimming.{trimmed}
 use Rattle.ports_plain.specs.Replies.{bad_path, no_file, removed}
-use Rattle.ports_plain.specs.Plain.{Asked, told, content_shown, on_named_file, on_resolved, on_file, set_trees, set_path, value_after, valued, variable_at, get_variable, given, answer_on, answer, plain}
+use Rattle.ports_plain.specs.Plain.{Asked, told, content_shown, on_named_file, on_resolved, on_file, set_trees, set_path, value_after, valued, variable_at, variable_of, get_variable, given, answer_on, answer, plain}
 use Rattle.ports_plain.specs.declared.changing.Change.TheVariants.{RemoveFile}
 
 content-fine : (content : Option (List ℕ)) → ((content_shown content).status == 503) ≡ false
@@ -59,16 +60,16 @@ valued-fine : (value : Result (Option Expanded) Failed) → ((valued value).stat
 valued-fine (Ok value) = refl
 valued-fine (Err failed) = refl
 
-variable_at-fine : (world : World) (name : List ℕ) (makefile : Option (List ℕ)) → ((variable_at world name makefile).status == 503) ≡ false
-variable_at-fine world name (Some makefile) = valued-fine (value_after makefile name (means world makefile))
-variable_at-fine world name None = refl
+variable_at-fine : (world : World) (name : List ℕ) (flavors : Option (List (List ℕ))) (makefile : Option (List ℕ)) → ((variable_at world name flavors makefile).status == 503) ≡ false
+variable_at-fine world name flavors (Some makefile) = valued-fine (value_after makefile name (means world makefile flavors))
+variable_at-fine world name flavors None = refl
+
+variable_of-fine : (world : World) (name : List ℕ) (path : Result PathValue PkgPathFault) → ((variable_of world name path).status == 503) ≡ false
+variable_of-fine world name (Ok path) = variable_at-fine world name path.flavors (place world path.directory)
+variable_of-fine world name (Err refusal) = refl
 
 get_variable-fine : (world : World) (path name : Option (List ℕ)) → ((get_variable world path name).status == 503) ≡ false
-get_variable-fine world (Some path) (Some name) =
-    elim (is_directory path) as (λ b. ((if b then variable_at world name (place world path) else bad_path).status == 503) ≡ false) [
-      | true ↦ variable_at-fine world name (place world path)
-      | false ↦ refl
-    ]
+get_variable-fine world (Some path) (Some name) = variable_of-fine world name (path_of path)
 get_variable-fine world (Some path) None = refl
 get_variable-fine world None (Some name) = refl
 get_variable-fine world None None = refl
@@ -85,4 +86,4 @@ answer_on-fine world request None method = refl
 
 pub never_503 : (world : World) (request : Asked) → ((plain world request).0.status == 503) ≡ false
 unfolding answer
-never_503 world request = answer_on-fine world request (route_of (path_of request.target)) request.method
+never_503 world request = answer_on-fine world request (route_of (target_path request.target)) request.method

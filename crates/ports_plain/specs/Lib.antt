@@ -2,7 +2,6 @@ pub mod Target
 pub mod Parameters
 pub mod Routes
 pub mod RouteRows
-pub mod Directory
 pub mod Bodies
 pub mod Replies
 pub mod Changing

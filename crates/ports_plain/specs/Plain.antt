@@ -12,6 +12,8 @@ use Rattle.mk_eval.specs.Meaning.{means, value_of}
 use Rattle.mk_eval.specs.Expanded.{Expanded}
 use Rattle.mk_eval.specs.declared.outcome.Evaluated.{Evaluated}
 use Rattle.mk_eval.specs.declared.outcome.Failed.{Failed}
+use Rattle.pkg_path.specs.Paths.{PathValue, path_of}
+use Rattle.pkg_path.specs.declared.faults.PkgPathFault.{PkgPathFault}
 use Rattle.ports_http.specs.declared.method.Method.{Method}
 use Rattle.ports_http.specs.declared.method.Method.TheVariants.{Get, Put, Delete}
 use Rattle.ports_http.specs.Messages.{ReplyMessage}
@@ -19,9 +21,8 @@ use Rattle.ports_plain.specs.declared.changing.Change.{Change}
 use Rattle.ports_plain.specs.declared.changing.Change.TheVariants.{PutFile, RemoveFile, SetPath}
 use Rattle.ports_plain.specs.declared.routing.Route.{Route}
 use Rattle.ports_plain.specs.declared.routing.Route.TheVariants.{File, Path, Var}
-use Rattle.ports_plain.specs.Target.{path_of, query_of}
+use Rattle.ports_plain.specs.Target.{path_of as target_path, query_of}
 use Rattle.ports_plain.specs.Parameters.{parameter}
-use Rattle.ports_plain.specs.Directory.{is_directory}
 use Rattle.ports_plain.specs.Trimming.{trimmed}
 use Rattle.ports_plain.specs.Routes.{route_of}
 use Rattle.ports_plain.specs.Replies.{no_route, not_allowed, bad_parameter, bad_name, bad_path, no_file, no_port, faulty, file_shown, stored, removed, path_set, variable}
@@ -88,15 +89,19 @@ abbrev pub valued : Result (Option Expanded) Failed → ReplyMessage
 valued (Ok value) = variable (option_map (λ (known : Expanded). known.text) value)
 valued (Err failed) = faulty failed.fault
 
--- the variable of a directory's makefile
-abbrev pub variable_at : World → List ℕ → Option (List ℕ) → ReplyMessage
-variable_at world name (Some makefile) = valued (value_after makefile name (means world makefile))
-variable_at world name None = no_port
+-- the variable of a makefile, evaluated with these flavors or with none given
+abbrev pub variable_at : World → List ℕ → Option (List (List ℕ)) → Option (List ℕ) → ReplyMessage
+variable_at world name flavors (Some makefile) = valued (value_after makefile name (means world makefile flavors))
+variable_at world name flavors None = no_port
+
+-- the variable of the port that a package path names; its subpackage doesn't count
+abbrev pub variable_of : World → List ℕ → Result PathValue PkgPathFault → ReplyMessage
+variable_of world name (Ok path) = variable_at world name path.flavors (place world path.directory)
+variable_of world name (Err refusal) = bad_path
 
 -- GET /v1/var?path=&name=
 abbrev pub get_variable : World → Option (List ℕ) → Option (List ℕ) → ReplyMessage
-get_variable world (Some path) (Some name) =
-    if is_directory path then variable_at world name (place world path) else bad_path
+get_variable world (Some path) (Some name) = variable_of world name (path_of path)
 get_variable world _ _ = bad_parameter
 
 -- a parameter of a request
@@ -113,7 +118,7 @@ answer_on world request None method = told no_route
 
 -- The reply to a request, and what is to be changed. The path is looked at first, then the method, then the parameters.
 unfoldable pub answer : World → Asked → Answer
-answer world request = answer_on world request (route_of (path_of request.target)) request.method
+answer world request = answer_on world request (route_of (target_path request.target)) request.method
 
 -- a reply, and the world behind it
 abbrev pub Served : Type 0

@@ -42,7 +42,7 @@ bad_parameter = refusal 400 (codes "Parameter")
 abbrev pub bad_name : ReplyMessage
 bad_name = refusal 400 (codes "Name")
 
--- a text that names no directory, or is no search path
+-- a text that is no package path, or no search path
 abbrev pub bad_path : ReplyMessage
 bad_path = refusal 400 (codes "Path")
 

@@ -40,9 +40,10 @@ impl Plain {
     /// `{"error":"Name"}` where N names no file. `PUT /v1/path` makes the trees that the body names, without
     /// the blanks and line feeds at its ends, those that are searched for ports: 200 `{"path":P}`; 400
     /// `{"error":"Path"}` where it names no search path. `GET /v1/var?path=P&name=V` shows the variable V
-    /// of the makefile of the directory P, in the first tree that has it: 200 `{"defined":B,"value":T}`, T
-    /// being empty where V isn't defined; 400 `{"error":"Path"}` where P is no directory below a tree; 404
-    /// `{"error":"NoPort"}` where no tree has its makefile; 422
+    /// of the port with the package path P, in the first tree that has its directory, evaluated with P's
+    /// flavors; a subpackage in P doesn't count: 200 `{"defined":B,"value":T}`, T being empty where V isn't
+    /// defined; 400 `{"error":"Path"}` where P is no package path; 404 `{"error":"NoPort"}` where no tree has
+    /// its makefile; 422
     /// `{"error":"Fault","kind":K,"line":L,"name":N}` where the makefile or the value is at fault.
     ///
     /// Before that any other path is 404 `{"error":"Route"}`, then any other method 405

@@ -5,7 +5,6 @@
 mod answering;
 mod bodies;
 mod changing;
-mod directory;
 mod files;
 mod laws;
 mod parameters;

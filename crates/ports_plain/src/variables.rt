@@ -3,11 +3,12 @@ ghost use Rattle.std.specs.Prelude.{◌≡◌, IfOk, codes};
 ghost use Rattle.std.specs.Result.{result_err};
 ghost use Rattle.mk_eval.specs.Meaning.{means};
 ghost use Rattle.mk_eval.specs.Telling.{Tells};
-ghost use Rattle.ports_plain.specs.Plain.{get_variable as get_variable_of, valued, value_after};
+ghost use Rattle.mk_eval.specs.Views.{flavors_in};
+ghost use Rattle.mk_paths.specs.Place.{place};
+ghost use Rattle.ports_plain.specs.Plain.{get_variable as get_variable_of, variable_at, valued, value_after};
 ghost use Rattle.ports_plain.specs.Parameters.{parameter as parameter_of};
 ghost use Rattle.ports_plain.specs.Refusing.{Keeps, refusal_in};
 
-use crate::directory::is_directory;
 use crate::parameters::parameter;
 use crate::refused::Refused;
 use crate::replies::{faulty, refusal, variable};
@@ -15,10 +16,11 @@ use mk_base::Stop;
 use mk_eval::{Failed, Valued, evaluate, value};
 use mk_files::Files;
 use mk_paths::{Name, Settings, find};
+use pkg_path::{Flavors, PkgPath, PkgPathFault};
 use ports_http::{Reply, StatusCode};
 use std::alloc::Global;
 
-// The variable that the query names, of the directory that it names.
+// The variable that the query names, of the port whose path it gives.
 pub fn get_variable<F: Files>(
     alloc: Global,
     files: &mut F,
@@ -33,14 +35,39 @@ pub fn get_variable<F: Files>(
     let (Some(path), Some(name)) = (path, name) else {
         return Ok(refusal(alloc, StatusCode::BAD_REQUEST, "Parameter")?);
     };
-    if !is_directory(path.as_str()) {
-        return Ok(refusal(alloc, StatusCode::BAD_REQUEST, "Path")?);
+    match PkgPath::read(alloc, path.as_str()) {
+        Ok(path) => variable_of(alloc, files, settings, &path, name.as_str()),
+        Err(PkgPathFault::Memory) => Err(Refused::Memory),
+        Err(_) => Ok(refusal(alloc, StatusCode::BAD_REQUEST, "Path")?),
     }
-    match find(alloc, files, &settings.path, path.as_str())? {
+}
+
+// The variable of the port that a path names.
+fn variable_of<F: Files>(
+    alloc: Global,
+    files: &mut F,
+    settings: &Settings,
+    path: &PkgPath,
+    name: &str,
+) -> Result<Reply, Refused>
+    ensures ok { IfOk result (λ reply. reply ≡ variable_at ((F.shelf files.old).files, settings.now) name.now path.now.flavors (place ((F.shelf files.old).files, settings.now) path.now.directory)) }
+    ensures keeps { Keeps (result_err result) (F.shelf files.old) (F.shelf files.new) }
+{
+    match find(alloc, files, &settings.path, path.directory())? {
         Some(makefile) => {
-            variable_after_makefile(alloc, files, settings, &makefile, name.as_str())
+            variable_after_makefile(alloc, files, settings, &makefile, chosen(path), name)
         }
         None => Ok(refusal(alloc, StatusCode::NOT_FOUND, "NoPort")?),
+    }
+}
+
+// The flavors that a path chooses, if it chooses any.
+fn chosen(path: &PkgPath) -> Option<&[String]>
+    ensures { flavors_in result ≡ path.now.flavors }
+{
+    match path.flavors() {
+        Flavors::Default => None,
+        Flavors::Explicit(names) => Some(names.as_slice()),
     }
 }
 
@@ -50,12 +77,13 @@ fn variable_after_makefile<F: Files>(
     files: &mut F,
     settings: &Settings,
     makefile: &Name,
+    flavors: Option<&[String]>,
     name: &str,
 ) -> Result<Reply, Refused>
-    ensures ok { IfOk result (λ reply. reply ≡ valued (value_after makefile.now name.now (means ((F.shelf files.old).files, settings.now) makefile.now))) }
+    ensures ok { IfOk result (λ reply. reply ≡ valued (value_after makefile.now name.now (means ((F.shelf files.old).files, settings.now) makefile.now (flavors_in flavors.entry)))) }
     ensures keeps { Keeps (result_err result) (F.shelf files.old) (F.shelf files.new) }
 {
-    match value_in(alloc, files, settings, makefile, name) {
+    match value_in(alloc, files, settings, makefile, flavors, name) {
         Ok(Some(known)) => Ok(variable(alloc, Some(known.text()))?),
         Ok(None) => Ok(variable(alloc, None)?),
         Err(Stop::Fault(failed)) => Ok(faulty(alloc, &failed.fault)?),
@@ -70,11 +98,12 @@ fn value_in<F: Files>(
     files: &mut F,
     settings: &Settings,
     makefile: &Name,
+    flavors: Option<&[String]>,
     name: &str,
 ) -> Result<Option<Valued>, Stop<Failed>>
-    ensures value { Tells (λ value. value) result (value_after makefile.now name.now (means ((F.shelf files.old).files, settings.now) makefile.now)) }
+    ensures value { Tells (λ value. value) result (value_after makefile.now name.now (means ((F.shelf files.old).files, settings.now) makefile.now (flavors_in flavors.entry))) }
     ensures keeps { Keeps (refusal_in result) (F.shelf files.old) (F.shelf files.new) }
 {
-    let evaluated = evaluate(alloc, files, settings, makefile)?;
+    let evaluated = evaluate(alloc, files, settings, makefile, flavors)?;
     value(alloc, &evaluated, makefile, name)
 }

@@ -1,6 +1,6 @@
 use Rattle.std.proofs.Common.{◌≡◌, refl, true, length, arith}
 use Rattle.std.proofs.lemmas.Option.{slice_get_read}
-use Rattle.ports_core.specs.declared.history.Step.{Step}
+use Rattle.ports_core.specs.Effects.{Effect}
 use Rattle.ports_core.specs.Keys.{key_texts}
 use Rattle.ports_core.specs.State.{new_state}
 use Rattle.ports_core.proofs.KeyLemmas.{length_texts}
@@ -27,7 +27,7 @@ returns-then-not-allows-clause-err c = (
 
 pub loop-index-preserved : goal.loop-index-preserved
 loop-index-preserved c =
-    let step : Step = record { told = c.step-told.result; sent = c.in_ok-sent.sent } in
+    let step : Effect = record { told = c.step-told.result; sent = c.in_ok-sent.sent.items } in
     run_next (new_state (key_texts c.args.config.keys.items)) c.loop-index.service c.step-told.new.self c.args.events.now c.loop-index.index c.index-events-index.result c.loop-index.steps.items c.push.new.self.items step
     c.loop-index-test.true c.index-events-index.is c.loop-index.invariant
     (record { allowed = c.allows.ensures.0 c.if-not-allows.false; sent = c.in_ok-sent.ensures; does = c.step-told.ensures.does; counts = c.step-told.ensures.counts; so_far = c.step-told.ensures.so_far })
