@@ -4,4 +4,5 @@ pub mod Entries
 pub mod Scripts
 pub mod Printing
 pub mod Running
+pub mod Serving
 pub mod CommandLine

@@ -1,6 +1,6 @@
 -- What a run prints.
 use Rattle.std.specs.Prelude.{ℕ, List, [], ◌∷◌, ◌++◌, codes, decimal, Option, Some, None}
-use Rattle.ports_core.specs.declared.history.Step.{Step}
+use Rattle.ports_core.specs.Effects.{Effect}
 use Rattle.ports_core.specs.declared.event.Tell.{Tell}
 use Rattle.ports_core.specs.declared.event.Refused.{Refused}
 use Rattle.ports_core.specs.declared.event.Refused.TheVariants as refused
@@ -53,13 +53,13 @@ closed_line line None = []
 closed_line line (Some conn) = print_line line (codes "closed " ++ decimal conn)
 
 -- what is printed of an event
-unfoldable pub printed : ℕ → Entry → Step → List ℕ
+unfoldable pub printed : ℕ → Entry → Effect → List ℕ
 printed line event step =
-    sent_line line event step.sent.items
+    sent_line line event step.sent
     ++ (told_line line step.told.reply ++ (refused_line line step.told.refused ++ closed_line line step.told.closed))
 
 -- what is printed of a run: each event's lines, as far as there are steps
-abbrev pub transcript : List (ℕ × Entry) → List Step → List ℕ
+abbrev pub transcript : List (ℕ × Entry) → List Effect → List ℕ
 transcript [] steps = []
 transcript (entry ∷ entries) [] = []
 transcript (entry ∷ entries) (step ∷ steps) = printed entry.0 entry.1 step ++ transcript entries steps

@@ -11,8 +11,8 @@ use Rattle.ports_core.specs.Replays.{IsRun, TellsPlainly, ConversesOnEach, EndsE
 use Rattle.ports_script.specs.declared.script.Script.{Script}
 use Rattle.ports_script.specs.declared.script.ScriptFault.{ScriptFault}
 use Rattle.ports_script.specs.declared.script.ScriptFault.TheVariants as fault
-use Rattle.ports_script.specs.declared.running.Failure.{Failure}
-use Rattle.ports_script.specs.declared.running.Failure.TheVariants.{BadKey, BadEvent, NotAllowed, CannotWrite, StoreFailed, OutOfMemory}
+use Rattle.ports_script.specs.declared.failure.Failure.{Failure}
+use Rattle.ports_script.specs.declared.failure.Failure.TheVariants.{BadKey, BadEvent, NotAllowed, CannotListen, CannotWrite, StoreFailed, OutOfMemory}
 use Rattle.ports_script.specs.Scripts.{numbered, ReadsScript, FailsToRead}
 use Rattle.ports_script.specs.Printing.{transcript}
 
@@ -21,6 +21,7 @@ abbrev pub failure_status : Failure → ℕ
 failure_status BadKey = 2
 failure_status (BadEvent line) = 2
 failure_status (NotAllowed line) = 2
+failure_status CannotListen = 1
 failure_status CannotWrite = 1
 failure_status StoreFailed = 1
 failure_status OutOfMemory = 1
@@ -98,6 +99,7 @@ Ends config streams (BadEvent line) =
     (is_fit config ≡ true) × FailsToRead streams.unread streams.left (fault.BadEvent line)
     × Keeps streams.held streams.holds
 Ends config streams (NotAllowed line) = (is_fit config ≡ true) × StopsAt config streams line
+Ends config streams CannotListen = ⊥
 Ends config streams CannotWrite = (is_fit config ≡ true) × FailsToWrite config streams
 Ends config streams StoreFailed = (is_fit config ≡ true) × Keeps streams.held streams.holds
 Ends config streams OutOfMemory = (is_fit config ≡ true) × Keeps streams.held streams.holds
@@ -107,6 +109,7 @@ abbrev pub failure_text : Failure → List ℕ
 failure_text BadKey = codes "portsd: bad key\n"
 failure_text (BadEvent line) = codes "portsd: line " ++ (decimal line ++ codes ": bad event\n")
 failure_text (NotAllowed line) = codes "portsd: line " ++ (decimal line ++ codes ": event not allowed\n")
+failure_text CannotListen = codes "portsd: cannot listen\n"
 failure_text CannotWrite = codes "portsd: cannot write\n"
 failure_text StoreFailed = codes "portsd: store failed\n"
 failure_text OutOfMemory = codes "portsd: out of memory\n"
@@ -125,6 +128,7 @@ abbrev pub FailsToPrint : Option (List ℕ) → Option (List ℕ) → List ℕ �
 FailsToPrint held holds bytes BadKey = ⊥
 FailsToPrint held holds bytes (BadEvent line) = ⊥
 FailsToPrint held holds bytes (NotAllowed line) = ⊥
+FailsToPrint held holds bytes CannotListen = ⊥
 FailsToPrint held holds bytes CannotWrite = AppendsFront held holds bytes
 FailsToPrint held holds bytes StoreFailed = ⊥
 FailsToPrint held holds bytes OutOfMemory = Keeps held holds

@@ -1,13 +1,16 @@
-//! `portsd`: an index over OpenBSD ports trees for several tenants. `portsd replay KEY...` runs a
-//! script of events over the service and prints what was told and sent.
+//! `portsd`: an index over OpenBSD ports trees for several tenants. `portsd serve` answers clients over
+//! HTTP on 127.0.0.1; `portsd replay` runs a script of events over the service and prints what was told
+//! and sent.
 #![tactic(auto)]
 
-use ports_script::run_script;
-use std::alloc::AllocError;
-use std::env::FillError;
+mod sockets;
+mod words;
+
+use ports_script::run_command;
+use sockets::Loopback;
 use std::io;
 use std::process::ExitCode;
-use std::rt::Env;
+use words::words_given;
 
 fn main(rt: HostRuntime) -> ExitCode {
     let alloc = rt.alloc();
@@ -15,40 +18,13 @@ fn main(rt: HostRuntime) -> ExitCode {
         let _ = eprintln!(rt; "portsd: out of memory");
         return ExitCode::from(1);
     };
-    let status = run_script(
+    let status = run_command(
         alloc,
         words.as_slice(),
         &mut rt.reader(),
         &mut io::writer(&rt),
         &mut rt.stderr(),
+        &Loopback::new(&rt),
     );
     ExitCode::from(status)
-}
-
-/// The words of the command line, the program's name first. What is no UTF-8 in a word is read as
-/// U+FFFD, which no key, no option and no number has. The error is want of memory.
-fn words_given(rt: &(impl Env + AllocGlobal)) -> Result<Vec<String>, AllocError> {
-    let mut words = Vec::new(rt.alloc());
-    for index in 0..usize::MAX {
-        match word_given(rt, index)? {
-            Some(word) => words.push(word)?,
-            None => break,
-        }
-    }
-    Ok(words)
-}
-
-/// The word at a place of the command line, where there is one.
-fn word_given(rt: &(impl Env + AllocGlobal), index: usize) -> Result<Option<String>, AllocError> {
-    let mut bytes = Vec::new(rt.alloc());
-    let mut size = 256usize;
-    for _ in 0..usize::BITS {
-        bytes.resize(size, 0u8)?;
-        match rt.arg(index, bytes.as_mut_slice()) {
-            Ok(count) => return Ok(Some(String::from_utf8_lossy(rt.alloc(), &bytes[..count])?)),
-            Err(FillError::NotPresent) => return Ok(None),
-            Err(FillError::TooLong) => size = size.saturating_add(size),
-        }
-    }
-    Err(AllocError)
 }

@@ -1,6 +1,6 @@
 use Rattle.std.proofs.Common.{◌++◌, ◌∙◌, codes, decimal}
 use Rattle.ports_script.proofs.WriteFacts.{first_fails, second_fails, third_fails, three_written}
-use Rattle.ports_script.proofs.running.say_line.Goals as goal
+use Rattle.ports_script.proofs.failure.say_line.Goals as goal
 
 pub returns-in_err-write_whole-clause-front : goal.returns-in_err-write_whole-clause-front
 returns-in_err-write_whole-clause-front g c =

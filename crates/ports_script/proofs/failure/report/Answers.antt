@@ -1,6 +1,6 @@
 use Rattle.ports_script.specs.Running.{failure_text}
 use Rattle.ports_script.proofs.WriteFacts.{up_to}
-use Rattle.ports_script.proofs.running.report.Goals as goal
+use Rattle.ports_script.proofs.failure.report.Goals as goal
 
 pub returns-clause-said : goal.returns-clause-said
 returns-clause-said g c =

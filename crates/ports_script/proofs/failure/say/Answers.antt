@@ -1,7 +1,7 @@
-use Rattle.ports_script.specs.declared.running.Failure.TheVariants as failures
+use Rattle.ports_script.specs.declared.failure.Failure.TheVariants as failures
 use Rattle.ports_script.specs.Running.{failure_text}
 use Rattle.ports_script.proofs.WriteFacts.{front_along}
-use Rattle.ports_script.proofs.running.say.Goals as goal
+use Rattle.ports_script.proofs.failure.say.Goals as goal
 
 pub returns-in-BadEvent-clause-front : goal.returns-in-BadEvent-clause-front
 returns-in-BadEvent-clause-front g c = rw c.in-BadEvent.is c.say_line.ensures.front

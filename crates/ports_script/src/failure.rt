@@ -1,0 +1,114 @@
+//! Why a run ends early.
+ghost use Rattle.std.specs.Prelude.{◌≡◌, ◌++◌, OnOk, OnErr, codes, decimal};
+ghost use Rattle.std.specs.Io.KnownBytes.{Appends};
+ghost use Rattle.ports_script.specs.declared.failure.Failure.TheVariants as failures;
+ghost use Rattle.ports_script.specs.Running.{failure_status, failure_text, script_failure, new_failure, AppendsFront, AppendsUpTo};
+
+use crate::script::ScriptFault;
+use crate::writing::write_whole;
+use itoa::Buffer;
+use ports_core::NewFault;
+use std::alloc::AllocError;
+use std::io::{self, Write};
+
+/// The exit status of a run that went well.
+pub const DONE: u8 = 0;
+
+/// The exit status where something outside failed.
+const FAILED: u8 = 1;
+
+/// The exit status where what was asked can't be done.
+pub const REFUSED: u8 = 2;
+
+/// Why a run ended early.
+#[derive(Clone, Copy, Debug)]
+pub enum Failure {
+    BadKey,
+    BadEvent(u64),
+    NotAllowed(u64),
+    CannotListen,
+    CannotWrite,
+    StoreFailed,
+    OutOfMemory,
+}
+
+impl Failure {
+    fn status(self) -> u8
+        ensures { result ≡ failure_status self }
+    {
+        match self {
+            Failure::BadKey | Failure::BadEvent(_) | Failure::NotAllowed(_) => REFUSED,
+            Failure::CannotListen
+            | Failure::CannotWrite
+            | Failure::StoreFailed
+            | Failure::OutOfMemory => FAILED,
+        }
+    }
+}
+
+impl From<AllocError> for Failure {
+    ghost from_gives = { λ _ failure. failure ≡ failures.OutOfMemory };
+
+    fn from(_error: AllocError) -> Failure {
+        Failure::OutOfMemory
+    }
+}
+
+impl From<ScriptFault> for Failure {
+    ghost from_gives = { λ fault failure. failure ≡ script_failure fault };
+
+    fn from(fault: ScriptFault) -> Failure {
+        match fault {
+            ScriptFault::BadEvent(line) => Failure::BadEvent(line),
+            ScriptFault::Memory => Failure::OutOfMemory,
+        }
+    }
+}
+
+impl From<NewFault> for Failure {
+    ghost from_gives = { λ fault failure. failure ≡ new_failure fault };
+
+    fn from(fault: NewFault) -> Failure {
+        match fault {
+            NewFault::Config => Failure::BadKey,
+            NewFault::Store => Failure::StoreFailed,
+            NewFault::Memory => Failure::OutOfMemory,
+        }
+    }
+}
+
+/// Says the failure, and gives its status. Where that can't be written the status tells.
+pub fn report<E: Write>(failure: Failure, err: &mut E) -> u8
+    ensures status { result ≡ failure_status failure }
+    ensures said { AppendsUpTo (E.contents err.old) (E.contents err.new) (failure_text failure) }
+{
+    let _ = say(failure, err);
+    failure.status()
+}
+
+/// Writes the text of a failure.
+fn say<E: Write>(failure: Failure, err: &mut E) -> io::Result<()>
+    ensures written { OnOk result (Appends (E.contents err.old) (E.contents err.new) (failure_text failure)) }
+    ensures front { OnErr result (AppendsFront (E.contents err.old) (E.contents err.new) (failure_text failure)) }
+{
+    match failure {
+        Failure::BadKey => write_whole(err, "portsd: bad key\n".as_bytes()),
+        Failure::BadEvent(line) => say_line(line, ": bad event\n", err),
+        Failure::NotAllowed(line) => say_line(line, ": event not allowed\n", err),
+        Failure::CannotListen => write_whole(err, "portsd: cannot listen\n".as_bytes()),
+        Failure::CannotWrite => write_whole(err, "portsd: cannot write\n".as_bytes()),
+        Failure::StoreFailed => write_whole(err, "portsd: store failed\n".as_bytes()),
+        Failure::OutOfMemory => write_whole(err, "portsd: out of memory\n".as_bytes()),
+    }
+}
+
+/// Writes a text that names a line of the script.
+fn say_line<E: Write>(line: u64, what: &str, err: &mut E) -> io::Result<()>
+    ensures written { OnOk result (Appends (E.contents err.old) (E.contents err.new) (codes "portsd: line " ++ (decimal line ++ what.now))) }
+    ensures front { OnErr result (AppendsFront (E.contents err.old) (E.contents err.new) (codes "portsd: line " ++ (decimal line ++ what.now))) }
+{
+    let mut number = Buffer::new();
+    write_whole(err, "portsd: line ".as_bytes())?;
+    write_whole(err, number.format(line).as_bytes())?;
+    write_whole(err, what.as_bytes())
+}

@@ -1,0 +1,27 @@
+use Rattle.std.proofs.Common.{arith, take}
+use Rattle.ports_serve.proofs.Going.{reads_none, reads_nothing, reads_piece, reads_end, reads_fault}
+use Rattle.ports_serve.proofs.serving.read.Goals as goal
+
+pub returns-then-size-eq0-clause-goes : goal.returns-then-size-eq0-clause-goes
+returns-then-size-eq0-clause-goes g c =
+    reads_none g.W.Wire.after c.args.conn c.args.wire.now c.args.service.now (omega (arith, c.if-size-eq0.true, c.min-size.ensures, c.room.ensures))
+
+pub returns-in-Nothing-clause-goes : goal.returns-in-Nothing-clause-goes
+returns-in-Nothing-clause-goes g c =
+    reads_nothing g.W.Wire.after c.args.conn c.min-size.result c.args.wire.now c.fill.new.wire c.args.service.now
+    (omega (arith, c.if-size-eq0.false)) (omega (arith, c.min-size.ensures, c.room.ensures)) c.in-Nothing.ensures.after
+
+pub returns-in-Got-clause-goes : goal.returns-in-Got-clause-goes
+returns-in-Got-clause-goes g c =
+    reads_piece g.W.Wire.after c.args.conn c.min-size.result (take c.in-Got.count c.fill.new.buffer.items) c.args.wire.now c.fill.new.wire c.take_piece.new.wire c.args.service.now c.take_piece.new.service
+    (omega (arith, c.if-size-eq0.false)) (omega (arith, c.min-size.ensures, c.room.ensures)) c.in-Got.ensures.after c.take_piece.ensures.goes
+
+pub returns-in-End-clause-goes : goal.returns-in-End-clause-goes
+returns-in-End-clause-goes g c =
+    reads_end g.W.Wire.after c.args.conn c.min-size.result c.args.wire.now c.fill.new.wire c.happen.new.wire c.args.service.now c.happen.new.service
+    (omega (arith, c.if-size-eq0.false)) (omega (arith, c.min-size.ensures, c.room.ensures)) c.in-End.ensures.after c.happen.ensures
+
+pub returns-in-Fault-clause-goes : goal.returns-in-Fault-clause-goes
+returns-in-Fault-clause-goes g c =
+    reads_fault g.W.Wire.after c.args.conn c.min-size.result c.args.wire.now c.fill.new.wire c.happen-in-Fault.new.wire c.args.service.now c.happen-in-Fault.new.service
+    (omega (arith, c.if-size-eq0.false)) (omega (arith, c.min-size.ensures, c.room.ensures)) c.in-Fault.ensures.after c.happen-in-Fault.ensures

@@ -1,0 +1,31 @@
+-- The calls of a wire.
+use Rattle.std.specs.Prelude.{◌≡◌, ℕ, ◌≤◌, List, [], ◌∷◌, take}
+use Rattle.ports_serve.specs.declared.wire.Outcome.{Outcome}
+use Rattle.ports_serve.specs.declared.wire.Outcome.TheVariants.{Nothing, Got, End, Fault}
+
+-- a call of a wire, and what it brought: a client for a number; bytes of a connection, where so many were asked
+-- for; how many of these bytes of a connection were written; a connection was dropped
+pub data Call : Type 0 where
+  Accept : ℕ → Outcome (Unit {0}) → Call
+  Read : ℕ → ℕ → Outcome (List ℕ) → Call
+  Write : ℕ → List ℕ → Outcome ℕ → Call
+  Shut : ℕ → Call
+
+-- no more came, or was written, than there was room for
+abbrev pub GotWithin : ℕ → Outcome ℕ → Type 0
+GotWithin most Nothing = Unit {0}
+GotWithin most (Got count) = count ≤ most
+GotWithin most End = Unit {0}
+GotWithin most Fault = Unit {0}
+
+-- the bytes that a read brought, in the front of its buffer
+abbrev pub read_outcome : List ℕ → Outcome ℕ → Outcome (List ℕ)
+read_outcome buffer Nothing = Nothing
+read_outcome buffer (Got count) = Got (take count buffer)
+read_outcome buffer End = End
+read_outcome buffer Fault = Fault
+
+-- what a wire is behind a list of calls, each of which leads on from what it was before
+abbrev pub Leads : {W : Type 0} → (W → Call → W → Type 0) → W → List Call → W → Type 0
+Leads After old [] new = new ≡ old
+Leads {W} After old (call ∷ calls) new = (mid : W) × After old call mid × Leads After mid calls new

@@ -1,0 +1,226 @@
+//! The service over a wire, round by round.
+ghost use Rattle.std.specs.Prelude.{◌≡◌, ◌<◌, ◌≤◌, length, map, take, IfOk, OnErr};
+ghost use Rattle.std.specs.Option.{option_to_list};
+ghost use Rattle.ports_core.specs.State.{IsAllowed, keys_of, connections_of, room_at};
+ghost use Rattle.ports_serve.specs.Calls.{Leads, Read, Shut, GotWithin, read_outcome};
+ghost use Rattle.ports_serve.specs.Rounds.{unopened, Accepts, Reads, Writes, TakesTurn, Each, HappensOn, HearsPiece, IsRound, Goes, IsServed, numbers_from};
+ghost use Rattle.ports_serve.specs.declared.serving.TheConstants.{READ_SIZE};
+ghost use Rattle.ports_serve.specs.Buffers.{IsBuffer};
+
+use crate::wire::{Outcome, Wire};
+use ports_core::{Event, Refused, Service};
+use std::alloc::{AllocError, Global};
+
+/// The most bytes that are read of a connection at once.
+const READ_SIZE: usize = 16_384;
+
+/// Serves clients for so many rounds, and hands the service back. In a round at most one client is accepted, under
+/// the number of the next connection; each open connection is read once, at most as many bytes as it has room for;
+/// each that has bytes pending is written to once; and each tenant has one turn. A connection that isn't opened, or
+/// that closes, is shut.
+///
+/// Whatever the wire answers, the service changes by `step` alone, at events that may happen. The error is want of
+/// memory for the buffer of what is read, before anything is served.
+pub fn serve<W: Wire>(
+    alloc: Global,
+    wire: &mut W,
+    service: Service,
+    rounds: u32,
+) -> Result<Service, AllocError>
+    ensures served { IfOk result (λ served. IsServed W.after rounds wire.old service wire.new served) }
+    ensures err { OnErr result (wire.new ≡ wire.old) }
+{
+    let mut buffer = Vec::with_capacity(alloc, READ_SIZE)?;
+    let mut service = service;
+    let mut idle = false;
+    for _round in 0..rounds {
+        let (left, rested) = round(wire, &mut service, buffer, idle);
+        buffer = left;
+        idle = rested;
+    }
+    Ok(service)
+}
+
+/// One round; and whether nothing came in it and no request waits behind it.
+fn round<W: Wire>(
+    wire: &mut W,
+    service: &mut Service,
+    buffer: Vec<u8>,
+    idle: bool,
+) -> (Vec<u8>, bool)
+    requires { IsBuffer buffer }
+    ensures goes { Goes W.after IsRound wire.old service.old wire.new service.new }
+    ensures buffer { IsBuffer result.0 }
+{
+    let accepted = accept(wire, service, idle);
+    let (buffer, heard) = read_all(wire, service, buffer);
+    let written = write_all(wire, service);
+    let worked = turn_all(wire, service);
+    (buffer, !(accepted || heard || written || worked))
+}
+
+/// An event happens, and a connection that isn't opened, or that closes, is shut. Whether a reply was told.
+fn happen<W: Wire>(wire: &mut W, service: &mut Service, event: &Event) -> bool
+    requires { IsAllowed event.now service.old }
+    ensures { Goes W.after (HappensOn event.now) wire.old service.old wire.new service.new }
+{
+    let told = service.step(event);
+    shut_unopened(wire, event, told.refused);
+    shut_closed(wire, told.closed);
+    told.reply.is_some()
+}
+
+fn shut_unopened<W: Wire>(wire: &mut W, event: &Event, refused: Option<Refused>)
+    ensures { Leads W.after wire.old (map Shut (unopened event.now refused)) wire.new }
+{
+    if let (Event::Open(conn), Some(_why)) = (event, refused) {
+        wire.shut(*conn);
+    }
+}
+
+fn shut_closed<W: Wire>(wire: &mut W, closed: Option<u64>)
+    ensures { Leads W.after wire.old (map Shut (option_to_list closed)) wire.new }
+{
+    if let Some(conn) = closed {
+        wire.shut(conn);
+    }
+}
+
+/// A client is accepted, if one waits. Whether something came.
+fn accept<W: Wire>(wire: &mut W, service: &mut Service, idle: bool) -> bool
+    ensures { Goes W.after Accepts wire.old service.old wire.new service.new }
+{
+    let conn = service.next_conn();
+    match wire.accept(conn, idle) {
+        Outcome::Got(_client) => {
+            happen(wire, service, &Event::Open(conn));
+            true
+        }
+        Outcome::Nothing | Outcome::End | Outcome::Fault => false,
+    }
+}
+
+/// Each open connection is read. Whether something came.
+fn read_all<W: Wire>(wire: &mut W, service: &mut Service, buffer: Vec<u8>) -> (Vec<u8>, bool)
+    requires { IsBuffer buffer }
+    ensures goes { Goes W.after (Each Reads (connections_of service.old)) wire.old service.old wire.new service.new }
+    ensures buffer { IsBuffer result.0 }
+{
+    let mut buffer = buffer;
+    let mut heard = false;
+    let open = service.connections();
+    for conn in open.as_slice() {
+        let (left, came) = read(wire, service, *conn, buffer);
+        buffer = left;
+        heard = heard || came;
+    }
+    (buffer, heard)
+}
+
+/// A connection is read, if it has room. Whether something came.
+fn read<W: Wire>(wire: &mut W, service: &mut Service, conn: u64, buffer: Vec<u8>) -> (Vec<u8>, bool)
+    requires { IsBuffer buffer }
+    ensures goes { Goes W.after (Reads conn) wire.old service.old wire.new service.new }
+    ensures buffer { IsBuffer result.0 }
+{
+    let mut buffer = buffer;
+    let size = service.room(conn).min(READ_SIZE);
+    if size == 0 {
+        return (buffer, false);
+    }
+    match fill(wire, conn, &mut buffer, size) {
+        Outcome::Nothing => (buffer, false),
+        Outcome::Got(count) => (take_piece(wire, service, conn, buffer, count), true),
+        Outcome::End => {
+            happen(wire, service, &Event::End(conn));
+            (buffer, true)
+        }
+        Outcome::Fault => {
+            happen(wire, service, &Event::Fault(conn));
+            (buffer, true)
+        }
+    }
+}
+
+/// Bytes of a connection are read into the buffer, at most so many.
+fn fill<W: Wire>(wire: &mut W, conn: u64, buffer: &mut Vec<u8>, size: usize) -> Outcome<usize>
+    requires sized { IsBuffer buffer.old }
+    requires within { size ≤ READ_SIZE }
+    ensures within { GotWithin size result }
+    ensures buffer { IsBuffer buffer.new }
+    ensures after { W.after wire.old (Read conn size (read_outcome buffer.new.items result)) wire.new }
+{
+    buffer.resize(size, 0).unwrap();
+    wire.read(conn, buffer.as_mut_slice())
+}
+
+/// The first bytes of the buffer are a piece of a connection's stream.
+fn take_piece<W: Wire>(
+    wire: &mut W,
+    service: &mut Service,
+    conn: u64,
+    buffer: Vec<u8>,
+    count: usize,
+) -> Vec<u8>
+    requires sized { IsBuffer buffer }
+    requires within { count ≤ READ_SIZE }
+    requires room { count ≤ room_at conn service.old }
+    requires hears { 0 < room_at conn service.old }
+    ensures goes { Goes W.after (HearsPiece conn (take count buffer.items)) wire.old service.old wire.new service.new }
+    ensures buffer { IsBuffer result }
+{
+    let mut piece = buffer;
+    piece.truncate(count);
+    let event = Event::Piece(conn, piece);
+    happen(wire, service, &event);
+    let Event::Piece(_, buffer) = event else {
+        unreachable!();
+    };
+    buffer
+}
+
+/// Each connection that has bytes pending is written to. Whether some were taken.
+fn write_all<W: Wire>(wire: &mut W, service: &mut Service) -> bool
+    ensures { Goes W.after (Each Writes (connections_of service.old)) wire.old service.old wire.new service.new }
+{
+    let mut written = false;
+    let open = service.connections();
+    for conn in open.as_slice() {
+        let taken = write(wire, service, *conn);
+        written = written || taken;
+    }
+    written
+}
+
+/// A connection's pending bytes are written, if there are some. Whether the wire took some.
+fn write<W: Wire>(wire: &mut W, service: &mut Service, conn: u64) -> bool
+    ensures { Goes W.after (Writes conn) wire.old service.old wire.new service.new }
+{
+    let pending = service.pending(conn);
+    if pending.is_empty() {
+        return false;
+    }
+    match wire.write(conn, pending) {
+        Outcome::Nothing | Outcome::End => false,
+        Outcome::Got(count) => {
+            happen(wire, service, &Event::Wrote(conn, Some(count)));
+            true
+        }
+        Outcome::Fault => {
+            happen(wire, service, &Event::Fault(conn));
+            true
+        }
+    }
+}
+
+/// Each tenant has a turn. Whether a reply was told, or a request waits.
+fn turn_all<W: Wire>(wire: &mut W, service: &mut Service) -> bool
+    ensures { Goes W.after (λ old. Each TakesTurn (numbers_from 0 (length (keys_of old))) old) wire.old service.old wire.new service.new }
+{
+    let mut worked = false;
+    for tenant in 0..service.tenants() {
+        let told = happen(wire, service, &Event::Turn(tenant));
+        worked = worked || told || service.waiting(tenant) > 0;
+    }
+    worked
+}

@@ -1,0 +1,45 @@
+//! What carries the bytes of connections.
+ghost use Rattle.std.specs.Prelude.{◌≡◌, ◌≤◌, ℕ, length, take};
+ghost use Rattle.ports_serve.specs.Calls.{Call, Accept, Read, Write, Shut, GotWithin, read_outcome};
+
+/// What a call of a wire brought.
+#[derive(Clone, Copy, Debug, PartialEq, Eq)]
+pub enum Outcome<T> {
+    /// Nothing yet.
+    Nothing,
+    /// Something.
+    Got(T),
+    /// The other side sends no more.
+    End,
+    /// The connection is lost.
+    Fault,
+}
+
+/// What carries the bytes of connections, each under the number that it was accepted with.
+///
+/// Its meaning is a relation: what it was, a call with what it brought, and what it is then. A wire that keeps
+/// a list of its calls has "the list has this call more" as that relation; sockets, of which nothing is known,
+/// have any.
+pub trait Wire {
+    ghost after: { Self → Call → Self → Type 0 };
+
+    /// Takes the client that waited longest, if one waits, and gives its connection this number. Where the
+    /// caller is idle it may wait a while for something to come, on any connection.
+    fn accept(&mut self, conn: u64, idle: bool) -> Outcome<()>
+        ensures after { after self.old (Accept conn result) self.new };
+
+    /// Reads bytes of a connection into the front of the buffer; `Got` says how many.
+    fn read(&mut self, conn: u64, buffer: &mut [u8]) -> Outcome<usize>
+        ensures within { GotWithin (length buffer.old) result }
+        ensures size { length buffer.new ≡ length buffer.old }
+        ensures after { after self.old (Read conn (length buffer.old) (read_outcome buffer.new result)) self.new };
+
+    /// Writes bytes to a connection, from the first on; `Got` says how many.
+    fn write(&mut self, conn: u64, bytes: &[u8]) -> Outcome<usize>
+        ensures within { GotWithin (length bytes.now) result }
+        ensures after { after self.old (Write conn bytes.now result) self.new };
+
+    /// Drops a connection.
+    fn shut(&mut self, conn: u64)
+        ensures after { after self.old (Shut conn) self.new };
+}
