@@ -3,7 +3,9 @@ use crate::answer::{Answer, Trouble};
 use crate::evaluation::{self, MAKEFILE};
 use crate::line::as_text;
 use crate::world::World;
-use crate::{conditions, loops, packages, service, stores, streams, texts, trees};
+use crate::{
+    conditions, loops, packages, records, service, stores, streams, texts, trees, trickle,
+};
 use mk_env::Env;
 use mk_files::Content;
 use mk_paths::Name;
@@ -89,6 +91,8 @@ impl Bench {
             "reply store" => service::store_reply(alloc),
             "run on" => service::run(alloc, given),
             "input failing after" => streams::failing_input(alloc, given),
+            "serve on within" => streams::narrow_serving(alloc, given),
+            "trickle" => trickle::trickled(alloc, given),
             "narrow output" => streams::narrow_output(alloc, given),
             "print" => streams::printed_steps(alloc, given),
             "open and end" => service::open_and_end(alloc, given),
@@ -139,8 +143,11 @@ impl Bench {
             "read" => evaluation::read(alloc, &mut self.world.files, given),
             "place of on" => evaluation::place(alloc, &mut self.world.files, given),
             "cost" => evaluation::cost(alloc, &mut self.world),
+            "evaluate" => evaluation::evaluated_whole(alloc, &mut self.world, given),
             "stored" => evaluation::stored(alloc, &mut self.world, given),
+            "flavored" => evaluation::flavored(alloc, &mut self.world, given),
             "value" => evaluation::value_of(alloc, &mut self.world, given),
+            "record" => records::record_told(alloc, &mut self.world, given),
             _ => answer_of_text(alloc, call, given),
         }
     }

@@ -4,12 +4,12 @@ use crate::line::{as_number, as_text};
 use crate::world::World;
 use mk_base::{Budget, Fault, FaultKind, Stop, UNITS};
 use mk_env::{Env, expand, expand_inside, expand_now, expand_variable, modify};
-use mk_eval::{Evaluated, Failed, evaluate, value};
+use mk_eval::{Evaluated, Failed, Kind, evaluate, value};
 use mk_files::{Content, Files, MemoryFiles, ask_has, ask_read, look_has, look_read};
 use mk_paths::{FilesFault, Name, NameFault, Names, PathFault, SearchPath, Settings, find};
 use std::alloc::Global;
 
-/// The file that `makefile`, `cost`, `value` and `stored` are about.
+/// The file that `makefile`, `cost`, `value`, `stored` and `flavored` are about.
 pub const MAKEFILE: &str = "/a/b";
 
 /// `number of KIND`: the number by which replies name a kind of fault, with the kind's place.
@@ -228,7 +228,7 @@ fn trees_told(alloc: Global, path: &SearchPath) -> Result<Answer, Trouble> {
 }
 
 /// A name that a case gives.
-fn given_name(alloc: Global, text: &[u8]) -> Result<Name, Trouble> {
+pub fn given_name(alloc: Global, text: &[u8]) -> Result<Name, Trouble> {
     Name::read(alloc, as_text(text)?).map_err(|fault| match fault {
         NameFault::Memory => Trouble::Memory,
         _ => Trouble::NoCase,
@@ -374,6 +374,68 @@ pub fn cost(alloc: Global, world: &mut World) -> Result<Answer, Trouble> {
     }
 }
 
+/// `evaluate FILE NAME`: what this makefile describes, what it costs, and the value of a variable behind
+/// it with its cost; or the fault of the makefile or of the value.
+pub fn evaluated_whole(
+    alloc: Global,
+    world: &mut World,
+    given: &[Vec<u8>],
+) -> Result<Answer, Trouble> {
+    let [file, variable] = given else {
+        return Err(Trouble::NoCase);
+    };
+    let evaluated = match evaluated_file(alloc, world, file, None)? {
+        Ok(evaluated) => evaluated,
+        Err(failed) => return failure(alloc, &failed),
+    };
+    let name = given_name(alloc, file)?;
+    let mut answer = Answer::of_word(alloc, kind_word(evaluated.kind))?;
+    answer.word("cost")?;
+    answer.number(evaluated.cost)?;
+    match value(alloc, &evaluated, &name, as_text(variable)?) {
+        Ok(Some(valued)) => {
+            answer.text(valued.text().as_bytes())?;
+            answer.word("cost")?;
+            answer.number(valued.cost())?;
+            Ok(answer)
+        }
+        Ok(None) => {
+            answer.word("undefined")?;
+            Ok(answer)
+        }
+        Err(Stop::Fault(failed)) => failure(alloc, &failed),
+        Err(_) => Err(Trouble::Memory),
+    }
+}
+
+fn kind_word(kind: Kind) -> &'static str {
+    match kind {
+        Kind::Port => "Port",
+        Kind::List => "List",
+        Kind::Other => "Other",
+    }
+}
+
+/// `flavored NAME FLAVOR..`: the text of a variable that the makefile leaves with these flavors given.
+pub fn flavored(alloc: Global, world: &mut World, given: &[Vec<u8>]) -> Result<Answer, Trouble> {
+    let [_, flavors @ ..] = given else {
+        return Err(Trouble::NoCase);
+    };
+    let flavors = texts(alloc, flavors)?;
+    match evaluated_file(alloc, world, MAKEFILE.as_bytes(), Some(flavors.as_slice()))? {
+        Ok(evaluated) => text_of_variable(alloc, &evaluated.env, &given[..1]),
+        Err(failed) => failure(alloc, &failed),
+    }
+}
+
+fn texts(alloc: Global, given: &[Vec<u8>]) -> Result<Vec<String>, Trouble> {
+    let mut texts = Vec::new(alloc);
+    for bytes in given {
+        texts.push(String::from_str(alloc, as_text(bytes)?)?)?;
+    }
+    Ok(texts)
+}
+
 /// `stored NAME`: the text of a variable that the makefile leaves, unexpanded.
 pub fn stored(alloc: Global, world: &mut World, given: &[Vec<u8>]) -> Result<Answer, Trouble> {
     match evaluated(alloc, world)? {
@@ -406,16 +468,27 @@ pub fn value_of(alloc: Global, world: &mut World, given: &[Vec<u8>]) -> Result<A
     }
 }
 
-fn evaluated(alloc: Global, world: &mut World) -> Result<Result<Evaluated, Failed>, Trouble> {
-    let name = given_name(alloc, MAKEFILE.as_bytes())?;
-    match evaluate(alloc, &mut world.files, &world.settings, &name) {
+/// What the makefile leaves, or its fault.
+pub fn evaluated(alloc: Global, world: &mut World) -> Result<Result<Evaluated, Failed>, Trouble> {
+    evaluated_file(alloc, world, MAKEFILE.as_bytes(), None)
+}
+
+fn evaluated_file(
+    alloc: Global,
+    world: &mut World,
+    file: &[u8],
+    flavors: Option<&[String]>,
+) -> Result<Result<Evaluated, Failed>, Trouble> {
+    let name = given_name(alloc, file)?;
+    match evaluate(alloc, &mut world.files, &world.settings, &name, flavors) {
         Ok(evaluated) => Ok(Ok(evaluated)),
         Err(Stop::Fault(failed)) => Ok(Err(failed)),
         Err(_) => Err(Trouble::Memory),
     }
 }
 
-fn failure(alloc: Global, failed: &Failed) -> Result<Answer, Trouble> {
+/// A fault, with what was spent until there.
+pub fn failure(alloc: Global, failed: &Failed) -> Result<Answer, Trouble> {
     let mut answer = told_fault(alloc, &failed.fault)?;
     answer.word("cost")?;
     answer.number(failed.cost)?;

@@ -11,11 +11,14 @@ mod evaluation;
 mod line;
 mod loops;
 mod packages;
+mod quiet;
+mod records;
 mod service;
 mod stores;
 mod streams;
 mod texts;
 mod trees;
+mod trickle;
 mod world;
 
 use cases::Cases;

@@ -27,7 +27,7 @@ pub fn canonical_path(alloc: Global, given: &[Vec<u8>]) -> Result<Answer, Troubl
 }
 
 /// The path, or the number of its refusal.
-fn read_path(alloc: Global, text: &[u8]) -> Result<Result<PkgPath, u8>, Trouble> {
+pub fn read_path(alloc: Global, text: &[u8]) -> Result<Result<PkgPath, u8>, Trouble> {
     match PkgPath::read(alloc, as_text(text)?) {
         Ok(path) => Ok(Ok(path)),
         Err(PkgPathFault::Memory) => Err(Trouble::Memory),

@@ -1,12 +1,13 @@
 //! The layers of the service: streams, replies, requests over a tenant's files, whole runs.
 use crate::answer::{Answer, Trouble};
 use crate::line::{as_number, as_text};
+use crate::quiet::QuietPorts;
 use crate::world::World;
 use http::StatusCode;
 use ports_core::{Config, Transcript, replay};
 use ports_http::{Content, HeadFault, Method, Reply, StreamEnd, decode, write_fixed, write_reply};
 use ports_plain::{Plain, Prepared, Refused};
-use ports_script::{read_script, run_script};
+use ports_script::{read_script, run_command};
 use std::alloc::Global;
 use std::fmt::Write;
 
@@ -151,12 +152,13 @@ pub fn run_program(alloc: Global, words: &str, input: &[u8]) -> Result<Ran, Trou
     let mut printed = Vec::new(alloc);
     let mut said = Vec::new(alloc);
     let mut reader = input;
-    let status = run_script(
+    let status = run_command(
         alloc,
         arguments.as_slice(),
         &mut reader,
         &mut printed,
         &mut said,
+        &QuietPorts,
     );
     Ok(Ran {
         status,

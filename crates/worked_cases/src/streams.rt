@@ -1,9 +1,10 @@
 //! Inputs and outputs that fail, and steps that no run can be made to take.
 use crate::answer::{Answer, Trouble};
 use crate::line::as_number;
+use crate::quiet::QuietPorts;
 use ports_core::{Config, Refused, Step, Tell, Told};
 use ports_http::Reply;
-use ports_script::{ScriptFault, read_script, run_config, transcript_text};
+use ports_script::{ScriptFault, Serving, read_script, run_config, run_serving, transcript_text};
 use std::alloc::Global;
 use std::io::{self, ErrorKind, Read, Write};
 
@@ -100,6 +101,45 @@ pub fn narrow_output(alloc: Global, given: &[Vec<u8>]) -> Result<Answer, Trouble
     Ok(answer)
 }
 
+/// `serve on PORT within N`: how a service for clients, for one tenant and three rounds, ends on that port
+/// where no client comes and the output takes N bytes, one at a write: its status, what was written, and
+/// what was said.
+pub fn narrow_serving(alloc: Global, given: &[Vec<u8>]) -> Result<Answer, Trouble> {
+    let [port, writes] = given else {
+        return Err(Trouble::NoCase);
+    };
+    let Ok(port) = u16::try_from(as_number(port)?) else {
+        return Err(Trouble::NoCase);
+    };
+    let serving = Serving {
+        port,
+        rounds: 3,
+        config: config_of_one(alloc)?,
+    };
+    let mut out = Narrow {
+        taken: Vec::new(alloc),
+        writes: as_number(writes)? as usize,
+    };
+    let mut said = Vec::new(alloc);
+    let status = run_serving(alloc, serving, &QuietPorts, &mut out, &mut said);
+    let mut answer = Answer::of_word(alloc, "status")?;
+    answer.number(u64::from(status))?;
+    answer.text(out.taken.as_slice())?;
+    answer.text(said.as_slice())?;
+    Ok(answer)
+}
+
+/// The config of one tenant with the key `alpha`.
+pub fn config_of_one(alloc: Global) -> Result<Config, Trouble> {
+    let mut keys = Vec::new(alloc);
+    keys.push(String::from_str(alloc, "alpha")?)?;
+    Ok(Config {
+        keys,
+        parses: 1,
+        evals: 1,
+    })
+}
+
 /// A run for one tenant whose output takes so many bytes: its status, what was written, and what was
 /// said.
 fn run_narrow(
@@ -107,13 +147,7 @@ fn run_narrow(
     script: &[u8],
     writes: usize,
 ) -> Result<(u8, Vec<u8>, Vec<u8>), Trouble> {
-    let mut keys = Vec::new(alloc);
-    keys.push(String::from_str(alloc, "alpha")?)?;
-    let config = Config {
-        keys,
-        parses: 1,
-        evals: 1,
-    };
+    let config = config_of_one(alloc)?;
     let mut out = Narrow {
         taken: Vec::new(alloc),
         writes,

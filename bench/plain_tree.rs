@@ -1,0 +1,285 @@
+//! A plain program to compare `portsd` with over a whole tree: `plain_tree DIRECTORY VARIABLE` loads every
+//! file below the directory, whose names are then taken from it as from `/`, evaluates the makefile of each
+//! directory `/ports/CATEGORY/PORT`, and prints the variable of each and, on standard error, the
+//! microseconds that this took without the loading. It reads what `tree.sh` writes and no more, proves
+//! nothing, and has none of the limits.
+use std::collections::HashMap;
+use std::env;
+use std::fs;
+use std::io::{self, BufWriter, Write};
+use std::path::Path;
+use std::process::ExitCode;
+use std::time::Instant;
+
+type Files = HashMap<String, String>;
+
+struct Make<'a> {
+    files: &'a Files,
+    makefile: &'a str,
+    variables: HashMap<String, String>,
+    shared_asked: bool,
+}
+
+enum Line {
+    Plain(String),
+    If { branches: Vec<(Option<String>, Vec<Line>)> },
+    For { header: String, body: Vec<Line> },
+}
+
+fn directory(name: &str) -> &str {
+    name.rsplit_once('/').map_or("", |(front, _)| front)
+}
+
+fn under(directory: &str, file: &str) -> String {
+    let mut parts: Vec<&str> = Vec::new();
+    let whole = if file.starts_with('/') { file.to_string() } else { format!("{directory}/{file}") };
+    for part in whole.split('/') {
+        match part {
+            "" | "." => {}
+            ".." => {
+                parts.pop();
+            }
+            _ => parts.push(part),
+        }
+    }
+    parts.iter().map(|part| format!("/{part}")).collect()
+}
+
+/// Reads lines up to the end of a block, and gives them with the line that ends it.
+fn read_block<'a>(lines: &mut impl Iterator<Item = &'a str>) -> (Vec<Line>, &'a str) {
+    let mut block = Vec::new();
+    while let Some(line) = lines.next() {
+        let line = line.split('#').next().unwrap_or("").trim();
+        if let Some(condition) = line.strip_prefix(".if") {
+            let mut branches = Vec::new();
+            let mut condition = Some(condition.trim().to_string());
+            loop {
+                let (body, end) = read_block(lines);
+                branches.push((condition.take(), body));
+                if let Some(next) = end.strip_prefix(".elif") {
+                    condition = Some(next.trim().to_string());
+                } else if end != ".else" {
+                    break;
+                }
+            }
+            block.push(Line::If { branches });
+        } else if let Some(header) = line.strip_prefix(".for") {
+            let (body, _) = read_block(lines);
+            block.push(Line::For { header: header.trim().to_string(), body });
+        } else if line.starts_with(".el") || line.starts_with(".end") {
+            return (block, line);
+        } else if !line.is_empty() {
+            block.push(Line::Plain(line.to_string()));
+        }
+    }
+    (block, "")
+}
+
+impl Make<'_> {
+    fn file(&mut self, name: &str) -> bool {
+        let Some(text) = self.files.get(name) else {
+            return false;
+        };
+        let (block, _) = read_block(&mut text.lines());
+        self.block(name, &block, &[]);
+        true
+    }
+
+    fn block(&mut self, name: &str, block: &[Line], words: &[(String, String)]) {
+        for line in block {
+            match line {
+                Line::Plain(text) => self.line(name, &put(text, words)),
+                Line::If { branches } => {
+                    for (condition, body) in branches {
+                        let holds = match condition {
+                            Some(text) => self.holds(&put(text, words)),
+                            None => true,
+                        };
+                        if holds {
+                            self.block(name, body, words);
+                            break;
+                        }
+                    }
+                }
+                Line::For { header, body } => {
+                    let Some((variable, rest)) = header.split_once(" in ") else {
+                        continue;
+                    };
+                    let found = self.expand(&put(rest, words));
+                    for word in found.split_whitespace() {
+                        let mut inner = vec![(variable.trim().to_string(), word.to_string())];
+                        inner.extend_from_slice(words);
+                        self.block(name, body, &inner);
+                    }
+                }
+            }
+        }
+    }
+
+    fn line(&mut self, name: &str, line: &str) {
+        if let Some(rest) = line.strip_prefix(".include") {
+            let text = self.expand(rest.trim());
+            if let Some(file) = text.strip_prefix('"').and_then(|text| text.strip_suffix('"')) {
+                self.file(&under(directory(name), file));
+            } else if text == "<bsd.port.mk>" && !self.shared_asked {
+                self.shared_asked = true;
+                self.file(&under(directory(self.makefile), "../Makefile.inc"));
+            }
+        } else if let Some((name, value)) = line.split_once('=') {
+            self.assign(name, value.trim_start());
+        }
+    }
+
+    fn assign(&mut self, name: &str, value: &str) {
+        let word = name.trim_end_matches([':', '+', '?']);
+        let key = self.expand(word.trim());
+        match &name[word.len()..] {
+            ":" => {
+                let expanded = self.expand(value);
+                self.variables.insert(key, expanded);
+            }
+            "+" => match self.variables.get_mut(&key) {
+                Some(text) => {
+                    text.push(' ');
+                    text.push_str(value);
+                }
+                None => {
+                    self.variables.insert(key, value.to_string());
+                }
+            },
+            "?" => {
+                self.variables.entry(key).or_insert_with(|| value.to_string());
+            }
+            _ => {
+                self.variables.insert(key, value.to_string());
+            }
+        }
+    }
+
+    fn holds(&self, text: &str) -> bool {
+        text.split("||").any(|operand| operand.split("&&").all(|term| self.term(term.trim())))
+    }
+
+    fn term(&self, term: &str) -> bool {
+        if let Some(term) = term.strip_prefix('!') {
+            return !self.term(term.trim());
+        }
+        if let Some(name) = term.strip_prefix("defined(").and_then(|t| t.strip_suffix(')')) {
+            return self.variables.contains_key(&self.expand(name));
+        }
+        if let Some(inside) = term.strip_prefix("empty(").and_then(|t| t.strip_suffix(')')) {
+            return self.expand(&format!("${{{inside}}}")).trim().is_empty();
+        }
+        if let Some(file) = term.strip_prefix("exists(").and_then(|t| t.strip_suffix(')')) {
+            return self.files.contains_key(&under(directory(self.makefile), &self.expand(file)));
+        }
+        match term.split_once("==") {
+            Some((left, right)) => self.expand(left.trim()) == self.expand(right.trim()),
+            None => !self.expand(term).is_empty(),
+        }
+    }
+
+    fn expand(&self, text: &str) -> String {
+        let mut joined = String::new();
+        self.expand_onto(text, &mut joined);
+        joined
+    }
+
+    fn expand_onto(&self, text: &str, joined: &mut String) {
+        let mut rest = text;
+        while let Some(at) = rest.find('$') {
+            joined.push_str(&rest[..at]);
+            rest = &rest[at + 1..];
+            if let Some(behind) = rest.strip_prefix('$') {
+                joined.push('$');
+                rest = behind;
+            } else if let Some((inside, behind)) = rest.strip_prefix('{').and_then(|r| r.split_once('}')) {
+                let (name, modifiers) = inside.split_once(':').unwrap_or((inside, ""));
+                let value = self.variables.get(name).map(|value| self.expand(value)).unwrap_or_default();
+                joined.push_str(&modified(value, modifiers));
+                rest = behind;
+            } else {
+                joined.push('$');
+            }
+        }
+        joined.push_str(rest);
+    }
+}
+
+fn modified(value: String, modifiers: &str) -> String {
+    if modifiers.is_empty() {
+        return value;
+    }
+    let mut value = value;
+    for modifier in modifiers.split(':') {
+        value = value.split_whitespace().filter_map(|word| changed(word, modifier)).collect::<Vec<_>>().join(" ");
+    }
+    value
+}
+
+fn changed(word: &str, modifier: &str) -> Option<String> {
+    if let Some(pattern) = modifier.strip_prefix('M') {
+        return match pattern.strip_suffix('*') {
+            Some(front) => word.starts_with(front).then(|| word.to_string()),
+            None => (word == pattern).then(|| word.to_string()),
+        };
+    }
+    if let Some(texts) = modifier.strip_prefix("S/") {
+        let mut parts = texts.split('/');
+        let (old, new) = (parts.next()?, parts.next()?);
+        return Some(word.replacen(old, new, 1));
+    }
+    match modifier {
+        "U" => Some(word.to_ascii_uppercase()),
+        "R" => Some(word.rsplit_once('.').map_or(word, |(front, _)| front).to_string()),
+        "T" => Some(word.rsplit_once('/').map_or(word, |(_, back)| back).to_string()),
+        _ => Some(word.to_string()),
+    }
+}
+
+/// A line with the words of the loops round it put in.
+fn put(line: &str, words: &[(String, String)]) -> String {
+    let mut line = line.to_string();
+    for (name, word) in words {
+        line = line.replace(&format!("${{{name}}}"), word);
+    }
+    line
+}
+
+fn load(top: &Path, at: &Path, files: &mut Files) -> io::Result<()> {
+    for entry in fs::read_dir(at)? {
+        let path = entry?.path();
+        if path.is_dir() {
+            load(top, &path, files)?;
+        } else if let Ok(name) = path.strip_prefix(top) {
+            files.insert(format!("/{}", name.display()), fs::read_to_string(&path)?);
+        }
+    }
+    Ok(())
+}
+
+fn main() -> ExitCode {
+    let words: Vec<String> = env::args().collect();
+    let [_, top, variable] = words.as_slice() else {
+        return ExitCode::from(2);
+    };
+    let mut files = Files::new();
+    if load(Path::new(top), Path::new(top), &mut files).is_err() {
+        return ExitCode::from(2);
+    }
+    let mut names: Vec<&String> = files.keys().filter(|name| name.ends_with("/Makefile")).collect();
+    names.sort();
+    let mut out = BufWriter::new(io::stdout().lock());
+    let from = Instant::now();
+    for name in names {
+        let mut make = Make { files: &files, makefile: name, variables: HashMap::new(), shared_asked: false };
+        make.variables.insert(".CURDIR".to_string(), directory(name).to_string());
+        make.file(name);
+        let value = make.expand(&format!("${{{variable}}}"));
+        if writeln!(out, "{name} {value}").is_err() {
+            return ExitCode::from(1);
+        }
+    }
+    eprintln!("{}", from.elapsed().as_micros());
+    ExitCode::SUCCESS
+}

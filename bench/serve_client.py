@@ -1,0 +1,86 @@
+"""A client for bench/serve.sh: one keep-alive connection to a portsd that serves, one request after another.
+
+serve_client.py PORT PID: uploads 2,000 small ports and asks each for a variable, and prints how many of
+each were answered a second; then how long a request takes before and after idle time, and which share of a
+core the process PID used while idle."""
+import os
+import socket
+import sys
+import time
+
+PORTS = 2000
+IDLE_SECONDS = 10
+HEAD = "Host: localhost\r\nX-Ports-Key: alpha\r\n"
+
+
+class Client:
+    def __init__(self, port):
+        self.socket = socket.create_connection(("127.0.0.1", port))
+        self.socket.setsockopt(socket.IPPROTO_TCP, socket.TCP_NODELAY, 1)
+
+    def ask(self, request, wanted):
+        """Sends a request, reads its whole reply, and stops where that isn't the one wanted."""
+        self.socket.sendall(request)
+        reply = b""
+        while b"\r\n\r\n" not in reply:
+            reply += self.receive()
+        head, body = reply.split(b"\r\n\r\n", 1)
+        size = int(head.split(b"Content-Length: ", 1)[1].split(b"\r\n", 1)[0])
+        while len(body) < size:
+            body += self.receive()
+        if not head.startswith(b"HTTP/1.1 200 ") or body != wanted:
+            sys.exit(f"another reply than wanted: {head} {body}")
+
+    def receive(self):
+        received = self.socket.recv(65536)
+        if not received:
+            sys.exit("the connection was closed")
+        return received
+
+
+def upload(number):
+    body = f"COMMENT = port number {number}\nV = 1.{number}\nDISTNAME = small-${{V}}\nCATEGORIES = bench\n".encode()
+    target = f"/v1/file?name=/ports/bench/small{number}/Makefile"
+    return f"PUT {target} HTTP/1.1\r\n{HEAD}Content-Length: {len(body)}\r\n\r\n".encode() + body, b'{"stored":true}'
+
+
+def variable(number):
+    target = f"/v1/var?path=bench/small{number}&name=DISTNAME"
+    return f"GET {target} HTTP/1.1\r\n{HEAD}\r\n".encode(), b'{"defined":true,"value":"small-1.%d"}' % number
+
+
+def seconds(client, requests):
+    """The seconds that the requests take."""
+    start = time.monotonic()
+    for request, wanted in requests:
+        client.ask(request, wanted)
+    return time.monotonic() - start
+
+
+def cpu_seconds(pid):
+    """The processor time that a process has used."""
+    fields = open(f"/proc/{pid}/stat").read().rsplit(")", 1)[1].split()
+    return (int(fields[11]) + int(fields[12])) / os.sysconf("SC_CLK_TCK")
+
+
+def main():
+    port, pid = int(sys.argv[1]), int(sys.argv[2])
+    client = Client(port)
+    uploads = [upload(number) for number in range(PORTS)]
+    variables = [variable(number) for number in range(PORTS)]
+    print(f"uploads a second:  {PORTS / seconds(client, uploads):.0f}")
+    seconds(client, variables)
+    print(f"/v1/var a second:  {PORTS / min(seconds(client, variables) for _ in range(3)):.0f}")
+    for idle in range(3):
+        if idle > 0:
+            used = cpu_seconds(pid)
+            time.sleep(IDLE_SECONDS)
+            used = cpu_seconds(pid) - used
+            print(f"idle for {IDLE_SECONDS} s: {100 * used / IDLE_SECONDS:.1f} % of a core")
+            first = seconds(client, variables[:1])
+            print(f"  the first request behind it: {first * 1e6:.0f} microseconds")
+        mean = min(seconds(client, variables[:500]) for _ in range(3)) / 500
+        print(f"a request with {idle * IDLE_SECONDS} s idle before: {mean * 1e6:.1f} microseconds")
+
+
+main()

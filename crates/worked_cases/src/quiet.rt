@@ -1,0 +1,47 @@
+//! Ports on which no client comes.
+ghost use Rattle.std.specs.Prelude.{ℕ};
+ghost use Rattle.ports_serve.specs.Calls.{Call};
+
+use ports_script::{Listen, ListenFault};
+use ports_serve::{Outcome, Wire};
+use std::alloc::Global;
+
+/// What listens on any port but 1, which can't be had, and 2, for which there is no memory.
+#[derive(Clone, Copy)]
+pub struct QuietPorts;
+
+/// A wire on which no client comes.
+#[derive(Drop)]
+pub struct Quiet;
+
+impl Listen for QuietPorts {
+    type Wire = Quiet;
+
+    ghost listens_on = { λ port wire. Unit {0} };
+
+    fn listen(&self, _alloc: Global, port: u16) -> Result<Quiet, ListenFault> {
+        match port {
+            1 => Err(ListenFault::Port),
+            2 => Err(ListenFault::Memory),
+            _ => Ok(Quiet),
+        }
+    }
+}
+
+impl Wire for Quiet {
+    ghost after = { λ old call new. Unit {0} };
+
+    fn accept(&mut self, _conn: u64, _idle: bool) -> Outcome<()> {
+        Outcome::Nothing
+    }
+
+    fn read(&mut self, _conn: u64, _buffer: &mut [u8]) -> Outcome<usize> {
+        Outcome::Fault
+    }
+
+    fn write(&mut self, _conn: u64, _bytes: &[u8]) -> Outcome<usize> {
+        Outcome::Fault
+    }
+
+    fn shut(&mut self, _conn: u64) {}
+}

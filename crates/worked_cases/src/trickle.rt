@@ -1,0 +1,108 @@
+//! A client that sends and takes one byte at a time.
+ghost use Rattle.std.specs.Prelude.{ℕ};
+ghost use Rattle.ports_serve.specs.Calls.{Call};
+
+use crate::answer::{Answer, Trouble};
+use crate::streams::config_of_one;
+use ports_core::Service;
+use ports_serve::{Outcome, Wire, serve};
+use std::alloc::Global;
+
+/// More rounds than the calls of a client that sends and takes one byte at a time.
+const ROUNDS: u32 = 450;
+
+/// A wire with one client, which sends a stream and then no more, one byte at a read, and takes one byte at
+/// a write. One of its reads and writes may be lost.
+#[derive(Drop)]
+struct Trickle<'a> {
+    waits: bool,
+    unread: &'a [u8],
+    taken: Vec<u8>,
+    calls: u64,
+    lost: u64,
+    shut: bool,
+}
+
+impl Trickle<'_> {
+    /// Counts a read or a write, and tells whether it is the one that is lost.
+    fn is_lost(&mut self) -> bool {
+        self.calls = self.calls.saturating_add(1);
+        self.calls == self.lost
+    }
+}
+
+impl Wire for Trickle<'_> {
+    ghost after = { λ old call new. Unit {0} };
+
+    fn accept(&mut self, _conn: u64, _idle: bool) -> Outcome<()> {
+        if !self.waits {
+            return Outcome::Nothing;
+        }
+        self.waits = false;
+        Outcome::Got(())
+    }
+
+    fn read(&mut self, _conn: u64, buffer: &mut [u8]) -> Outcome<usize> {
+        if self.is_lost() {
+            return Outcome::Fault;
+        }
+        let (Some((byte, unread)), Some(place)) = (self.unread.split_first(), buffer.first_mut())
+        else {
+            return Outcome::End;
+        };
+        *place = *byte;
+        self.unread = unread;
+        Outcome::Got(1)
+    }
+
+    fn write(&mut self, _conn: u64, bytes: &[u8]) -> Outcome<usize> {
+        if self.is_lost() {
+            return Outcome::Fault;
+        }
+        match bytes.first() {
+            Some(byte) if self.taken.push(*byte).is_ok() => Outcome::Got(1),
+            _ => Outcome::Nothing,
+        }
+    }
+
+    fn shut(&mut self, _conn: u64) {
+        self.shut = true;
+    }
+}
+
+/// `trickle STREAM`: what a client takes that sends this stream, for the tenant `alpha`, and no more, one byte at a
+/// time. Before that, each of its reads and writes is lost in turn. Where such a client takes anything but a front of
+/// it, or one isn't shut, `wrong` and the number of that call.
+pub fn trickled(alloc: Global, given: &[Vec<u8>]) -> Result<Answer, Trouble> {
+    let [stream] = given else {
+        return Err(Trouble::NoCase);
+    };
+    let whole = served(alloc, stream.as_slice(), 0)?;
+    let mut answer = Answer::new(alloc);
+    for lost in 1..=whole.calls {
+        let wire = served(alloc, stream.as_slice(), lost)?;
+        if !whole.taken.starts_with(wire.taken.as_slice()) || !wire.shut {
+            answer.word("wrong")?;
+            answer.number(lost)?;
+        }
+    }
+    answer.text(whole.taken.as_slice())?;
+    Ok(answer)
+}
+
+/// The wire of a client that was served.
+fn served<'a>(alloc: Global, stream: &'a [u8], lost: u64) -> Result<Trickle<'a>, Trouble> {
+    let Ok(service) = Service::new(alloc, config_of_one(alloc)?) else {
+        return Err(Trouble::NoCase);
+    };
+    let mut wire = Trickle {
+        waits: true,
+        unread: stream,
+        taken: Vec::new(alloc),
+        calls: 0,
+        lost,
+        shut: false,
+    };
+    let _service = serve(alloc, &mut wire, service, ROUNDS)?;
+    Ok(wire)
+}
