@@ -1,5 +1,7 @@
 -- What a port is, by its variables (bsd.port.mk(5)).
-use Rattle.std.specs.Prelude.{ℕ, List, codes}
+use Rattle.std.specs.Prelude.{ℕ, Bool, List, codes}
+use Rattle.std.specs.List.{list_any}
+use Rattle.std.specs.Str.{bytes_eq}
 use Rattle.mk_base.specs.declared.faults.FaultKind.{FaultKind}
 use Rattle.mk_base.specs.Meter.{Meter}
 use Rattle.mk_base.specs.Outcome.{Work, give, ◌>>=◌}
@@ -18,6 +20,10 @@ pub record PortValue : Type 0 where
   pub categories : List (List ℕ)
   pub packages : List PackageValue
   pub depends : List DependValue
+
+-- one of a port's packages has this name
+abbrev pub has_package : PortValue → List ℕ → Bool
+has_package port subpackage = list_any (λ (package : PackageValue). bytes_eq package.subpackage subpackage) port.packages
 
 -- The port that these variables make, at this path. They are asked in this order: FLAVOR, FLAVORS, PSEUDO_FLAVORS, MULTI_PACKAGES, MAINTAINER,
 -- CATEGORIES; for each package those of its name, and COMMENT; BUILD_DEPENDS; for each package LIB_DEPENDS and RUN_DEPENDS; TEST_DEPENDS.

@@ -76,6 +76,14 @@ impl PortRecord {
         self.packages.as_slice()
     }
 
+    /// Whether it has a package of this name, which has its dash, as `-main`.
+    pub fn has_package(&self, subpackage: &str) -> bool
+        ensures { result ≡ ports.has_package self.now subpackage.now }
+    {
+        let packages = self.packages.as_slice();
+        packages.iter().any(|package| package.subpackage() == subpackage)
+    }
+
     /// What it depends on: to be built; then for each package what that is linked with and what it needs
     /// to run; then to be tested.
     pub fn depends(&self) -> &[Depend]

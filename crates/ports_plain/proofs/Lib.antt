@@ -1,3 +1,4 @@
+pub mod PortBodies
 mod BodyLemmas
 mod LiteralRoutes
 pub mod NeverFails

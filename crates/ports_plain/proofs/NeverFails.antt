@@ -14,14 +14,16 @@ use Rattle.mk_paths.specs.FileName.{resolved}
 use Rattle.ports_http.specs.declared.method.Method.{Method}
 use Rattle.ports_http.specs.declared.method.Method.TheVariants.{Get, Put, Delete}
 use Rattle.ports_plain.specs.declared.routing.Route.{Route}
-use Rattle.ports_plain.specs.declared.routing.Route.TheVariants.{File, Path, Var}
+use Rattle.ports_plain.specs.declared.routing.Route.TheVariants.{File, Path, Port, Var}
 use Rattle.pkg_path.specs.Paths.{PathValue, path_of}
 use Rattle.pkg_path.specs.declared.faults.PkgPathFault.{PkgPathFault}
+use Rattle.port_rules.specs.Ports.{PortValue, has_package}
+use Rattle.port_rules.specs.declared.recording.Recorded.{Recorded}
 use Rattle.ports_plain.specs.Routes.{route_of}
 use Rattle.ports_plain.specs.Target.{path_of as target_path}
 use Rattle.ports_plain.specs.Trimming.{trimmed}
-use Rattle.ports_plain.specs.Replies.{bad_path, no_file, removed}
-use Rattle.ports_plain.specs.Plain.{Asked, told, content_shown, on_named_file, on_resolved, on_file, set_trees, set_path, value_after, valued, variable_at, variable_of, get_variable, given, answer_on, answer, plain}
+use Rattle.ports_plain.specs.Replies.{bad_path, no_file, no_subpackage, removed, port_shown}
+use Rattle.ports_plain.specs.Plain.{Asked, told, content_shown, on_named_file, on_resolved, on_file, set_trees, set_path, value_after, valued, variable_at, variable_of, get_variable, record_after, shown, described, port_at, port_of, get_port, given, answer_on, answer, plain}
 use Rattle.ports_plain.specs.declared.changing.Change.TheVariants.{RemoveFile}
 
 content-fine : (content : Option (List ℕ)) → ((content_shown content).status == 503) ≡ false
@@ -74,11 +76,39 @@ get_variable-fine world (Some path) None = refl
 get_variable-fine world None (Some name) = refl
 get_variable-fine world None None = refl
 
+shown-fine : (subpackage : Option (List ℕ)) (port : PortValue) → ((shown subpackage port).status == 503) ≡ false
+shown-fine None port = refl
+shown-fine (Some subpackage) port =
+    elim (has_package port subpackage) as (λ b. ((if b then port_shown port else no_subpackage).status == 503) ≡ false) [
+      | true ↦ refl
+      | false ↦ refl
+    ]
+
+described-fine : (subpackage : Option (List ℕ)) (found : Result (Option Recorded) Failed) → ((described subpackage found).status == 503) ≡ false
+described-fine subpackage (Ok (Some recorded)) = shown-fine subpackage recorded.port
+described-fine subpackage (Ok None) = refl
+described-fine subpackage (Err failed) = refl
+
+port_at-fine : (world : World) (path : PathValue) (makefile : Option (List ℕ)) → ((port_at world path makefile).status == 503) ≡ false
+port_at-fine world path (Some makefile) = described-fine path.subpackage (record_after path makefile (means world makefile path.flavors))
+port_at-fine world path None = refl
+
+port_of-fine : (world : World) (path : Result PathValue PkgPathFault) → ((port_of world path).status == 503) ≡ false
+port_of-fine world (Ok path) = port_at-fine world path (place world path.directory)
+port_of-fine world (Err refusal) = refl
+
+get_port-fine : (world : World) (path : Option (List ℕ)) → ((get_port world path).status == 503) ≡ false
+get_port-fine world (Some path) = port_of-fine world (path_of path)
+get_port-fine world None = refl
+
 answer_on-fine : (world : World) (request : Asked) (route : Option Route) (method : Method) → ((answer_on world request route method).0.status == 503) ≡ false
 answer_on-fine world request (Some File) method = on_file-fine (files_in world) method request.body (given (codes "name") request)
 answer_on-fine world request (Some Path) Put = set_path-fine request.body
 answer_on-fine world request (Some Path) Get = refl
 answer_on-fine world request (Some Path) Delete = refl
+answer_on-fine world request (Some Port) Get = get_port-fine world (given (codes "path") request)
+answer_on-fine world request (Some Port) Put = refl
+answer_on-fine world request (Some Port) Delete = refl
 answer_on-fine world request (Some Var) Get = get_variable-fine world (given (codes "path") request) (given (codes "name") request)
 answer_on-fine world request (Some Var) Put = refl
 answer_on-fine world request (Some Var) Delete = refl

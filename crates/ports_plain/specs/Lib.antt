@@ -3,6 +3,7 @@ pub mod Parameters
 pub mod Routes
 pub mod RouteRows
 pub mod Bodies
+pub mod PortBody
 pub mod Replies
 pub mod Changing
 pub mod Trimming

@@ -12,20 +12,25 @@ use Rattle.mk_eval.specs.Meaning.{means, value_of}
 use Rattle.mk_eval.specs.Expanded.{Expanded}
 use Rattle.mk_eval.specs.declared.outcome.Evaluated.{Evaluated}
 use Rattle.mk_eval.specs.declared.outcome.Failed.{Failed}
+use Rattle.mk_eval.specs.declared.outcome.Kind.{Kind}
+use Rattle.mk_eval.specs.declared.outcome.Kind.TheVariants as kinds
 use Rattle.pkg_path.specs.Paths.{PathValue, path_of}
 use Rattle.pkg_path.specs.declared.faults.PkgPathFault.{PkgPathFault}
+use Rattle.port_rules.specs.Ports.{PortValue, has_package}
+use Rattle.port_rules.specs.Records.{record_of}
+use Rattle.port_rules.specs.declared.recording.Recorded.{Recorded}
 use Rattle.ports_http.specs.declared.method.Method.{Method}
 use Rattle.ports_http.specs.declared.method.Method.TheVariants.{Get, Put, Delete}
 use Rattle.ports_http.specs.Messages.{ReplyMessage}
 use Rattle.ports_plain.specs.declared.changing.Change.{Change}
 use Rattle.ports_plain.specs.declared.changing.Change.TheVariants.{PutFile, RemoveFile, SetPath}
 use Rattle.ports_plain.specs.declared.routing.Route.{Route}
-use Rattle.ports_plain.specs.declared.routing.Route.TheVariants.{File, Path, Var}
+use Rattle.ports_plain.specs.declared.routing.Route.TheVariants.{File, Path, Port, Var}
 use Rattle.ports_plain.specs.Target.{path_of as target_path, query_of}
 use Rattle.ports_plain.specs.Parameters.{parameter}
 use Rattle.ports_plain.specs.Trimming.{trimmed}
 use Rattle.ports_plain.specs.Routes.{route_of}
-use Rattle.ports_plain.specs.Replies.{no_route, not_allowed, bad_parameter, bad_name, bad_path, no_file, no_port, faulty, file_shown, stored, removed, path_set, variable}
+use Rattle.ports_plain.specs.Replies.{no_route, not_allowed, bad_parameter, bad_name, bad_path, no_file, no_port, no_subpackage, faulty, file_shown, stored, removed, path_set, variable, port_shown}
 use Rattle.ports_plain.specs.Changing.{behind}
 
 -- what is asked
@@ -104,6 +109,44 @@ abbrev pub get_variable : World → Option (List ℕ) → Option (List ℕ) → 
 get_variable world (Some path) (Some name) = variable_of world name (path_of path)
 get_variable world _ _ = bad_parameter
 
+-- of a makefile that describes a port, its record
+abbrev pub record_by : Kind → Result Recorded Failed → Result (Option Recorded) Failed
+record_by kinds.Port (Ok recorded) = Ok (Some recorded)
+record_by kinds.Port (Err failed) = Err failed
+record_by kinds.List recorded = Ok None
+record_by kinds.Other recorded = Ok None
+
+-- the record of the port at a path after its makefile's evaluation, if it describes one, or the fault that the evaluation or the record met
+abbrev pub record_after : PathValue → List ℕ → Result Evaluated Failed → Result (Option Recorded) Failed
+record_after path makefile (Ok evaluated) = record_by evaluated.kind (record_of evaluated.env path makefile)
+record_after path makefile (Err failed) = Err failed
+
+-- a port, where it has the package that is asked for, if one is
+abbrev pub shown : Option (List ℕ) → PortValue → ReplyMessage
+shown None port = port_shown port
+shown (Some subpackage) port = if has_package port subpackage then port_shown port else no_subpackage
+
+-- what a record, or a fault met on the way to it, is answered with
+abbrev pub described : Option (List ℕ) → Result (Option Recorded) Failed → ReplyMessage
+described subpackage (Ok (Some recorded)) = shown subpackage recorded.port
+described subpackage (Ok None) = no_port
+described subpackage (Err failed) = faulty failed.fault
+
+-- the port of a makefile
+abbrev pub port_at : World → PathValue → Option (List ℕ) → ReplyMessage
+port_at world path (Some makefile) = described path.subpackage (record_after path makefile (means world makefile path.flavors))
+port_at world path None = no_port
+
+-- the port that a package path names
+abbrev pub port_of : World → Result PathValue PkgPathFault → ReplyMessage
+port_of world (Ok path) = port_at world path (place world path.directory)
+port_of world (Err refusal) = bad_path
+
+-- GET /v1/port?path=
+abbrev pub get_port : World → Option (List ℕ) → ReplyMessage
+get_port world (Some path) = port_of world (path_of path)
+get_port world None = bad_parameter
+
 -- a parameter of a request
 abbrev pub given : List ℕ → Asked → Option (List ℕ)
 given name request = parameter name (query_of request.target)
@@ -112,6 +155,7 @@ given name request = parameter name (query_of request.target)
 abbrev pub answer_on : World → Asked → Option Route → Method → Answer
 answer_on world request (Some File) method = on_file (files_in world) method request.body (given (codes "name") request)
 answer_on world request (Some Path) Put = set_path request.body
+answer_on world request (Some Port) Get = told (get_port world (given (codes "path") request))
 answer_on world request (Some Var) Get = told (get_variable world (given (codes "path") request) (given (codes "name") request))
 answer_on world request (Some route) method = told (not_allowed route)
 answer_on world request None method = told no_route

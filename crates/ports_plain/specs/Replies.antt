@@ -9,7 +9,9 @@ use Rattle.ports_http.specs.Messages.{ReplyMessage}
 use Rattle.serde_json.specs.Data.{Data}
 use Rattle.serde_json.specs.Written.{compact_text}
 use Rattle.ports_plain.specs.declared.routing.Route.{Route}
-use Rattle.ports_plain.specs.declared.routing.Route.TheVariants.{File, Path, Var}
+use Rattle.ports_plain.specs.declared.routing.Route.TheVariants.{File, Path, Port, Var}
+use Rattle.port_rules.specs.Ports.{PortValue}
+use Rattle.ports_plain.specs.PortBody.{port_body}
 use Rattle.ports_plain.specs.Bodies.{stored_body, removed_body, path_body, error_body, fault_body, variable_body}
 
 -- a reply with a JSON value, written without blanks
@@ -28,6 +30,7 @@ no_route = refusal 404 (codes "Route")
 abbrev pub methods_of : Route → List Method
 methods_of File = Get ∷ Put ∷ Delete ∷ []
 methods_of Path = Put ∷ []
+methods_of Port = Get ∷ []
 methods_of Var = Get ∷ []
 
 -- a method that the route doesn't have
@@ -54,6 +57,10 @@ no_file = refusal 404 (codes "NoFile")
 abbrev pub no_port : ReplyMessage
 no_port = refusal 404 (codes "NoPort")
 
+-- a package that the port doesn't have
+abbrev pub no_subpackage : ReplyMessage
+no_subpackage = refusal 404 (codes "NoSubpackage")
+
 -- a makefile at fault
 abbrev pub faulty : FaultAt → ReplyMessage
 faulty fault = json_reply 422 (fault_body (number_of fault.kind) fault.line fault.name)
@@ -77,3 +84,7 @@ path_set path = json_reply 200 (path_body path)
 -- the value of a variable, or that it isn't defined
 abbrev pub variable : Option (List ℕ) → ReplyMessage
 variable value = json_reply 200 (variable_body value)
+
+-- what a port is
+abbrev pub port_shown : PortValue → ReplyMessage
+port_shown port = json_reply 200 (port_body port)

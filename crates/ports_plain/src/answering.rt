@@ -7,6 +7,7 @@ ghost use Rattle.ports_plain.specs.Refusing.{Keeps};
 use crate::changing::Prepared;
 use crate::files::on_file;
 use crate::paths::set_path;
+use crate::ports::get_port;
 use crate::refused::Refused;
 use crate::replies::{not_allowed, refusal};
 use crate::routing::{Route, Routes};
@@ -43,8 +44,10 @@ impl Plain {
     /// of the port with the package path P, in the first tree that has its directory, evaluated with P's
     /// flavors; a subpackage in P doesn't count: 200 `{"defined":B,"value":T}`, T being empty where V isn't
     /// defined; 400 `{"error":"Path"}` where P is no package path; 404 `{"error":"NoPort"}` where no tree has
-    /// its makefile; 422
-    /// `{"error":"Fault","kind":K,"line":L,"name":N}` where the makefile or the value is at fault.
+    /// its makefile; 422 `{"error":"Fault","kind":K,"line":L,"name":N}` where the makefile or the value is at
+    /// fault. `GET /v1/port?path=P` shows what the port is: 200 with its record (`docs/PACKAGES.md`); refused
+    /// in the same way, and 404 `{"error":"NoPort"}` where the makefile describes no port, 422 where its
+    /// record is at fault, then 404 `{"error":"NoSubpackage"}` where it hasn't P's subpackage.
     ///
     /// Before that any other path is 404 `{"error":"Route"}`, then any other method 405
     /// `{"error":"Method"}` with the route's methods, then a parameter of the route that is missing, empty
@@ -74,6 +77,10 @@ impl Plain {
         match (route, method) {
             (Route::File, method) => on_file(alloc, files, method, query, body),
             (Route::Path, Method::Put) => Ok(set_path(alloc, &body)?),
+            (Route::Port, Method::Get) => {
+                let reply = get_port(alloc, files, settings, query)?;
+                Ok(Prepared::told(reply))
+            }
             (Route::Var, Method::Get) => {
                 let reply = get_variable(alloc, files, settings, query)?;
                 Ok(Prepared::told(reply))

@@ -9,6 +9,8 @@ mod files;
 mod laws;
 mod parameters;
 mod paths;
+mod port_bodies;
+mod ports;
 mod refused;
 mod replies;
 mod routing;

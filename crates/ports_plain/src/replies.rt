@@ -3,11 +3,12 @@ ghost use Rattle.std.specs.Prelude.{◌≡◌, IfOk, false};
 ghost use Rattle.std.specs.Option.{option_copied};
 ghost use Rattle.serde_json.specs.View.{view};
 ghost use Rattle.serde_json.specs.Written.{has_float};
-ghost use Rattle.ports_plain.specs.Replies.{json_reply as json_reply_of, refusal as refusal_of, not_allowed as not_allowed_on, methods_of, faulty as faulty_at, file_shown as file_shown_as, stored as stored_reply, removed as removed_reply, path_set as path_set_to, variable as variable_reply};
+ghost use Rattle.ports_plain.specs.Replies.{json_reply as json_reply_of, refusal as refusal_of, not_allowed as not_allowed_on, methods_of, faulty as faulty_at, file_shown as file_shown_as, stored as stored_reply, removed as removed_reply, path_set as path_set_to, variable as variable_reply, port_shown};
 
-use crate::bodies;
 use crate::routing::Route;
+use crate::{bodies, port_bodies};
 use mk_base::Fault;
+use port_rules::PortRecord;
 use ports_http::{Content, Method, Reply, StatusCode};
 use serde_json::Value;
 use std::alloc::{AllocError, Global};
@@ -36,7 +37,7 @@ fn methods_of_route(route: Route) -> &'static [Method]
     match route {
         Route::File => &[Method::Get, Method::Put, Method::Delete],
         Route::Path => &[Method::Put],
-        Route::Var => &[Method::Get],
+        Route::Port | Route::Var => &[Method::Get],
     }
 }
 
@@ -93,5 +94,13 @@ pub fn variable(alloc: Global, value: Option<&str>) -> Result<Reply, AllocError>
     ensures { IfOk result (λ reply. reply ≡ variable_reply (option_copied value.entry)) }
 {
     let body = bodies::variable(alloc, value)?;
+    json_reply(alloc, StatusCode::OK, &body)
+}
+
+// What a port is.
+pub fn port(alloc: Global, port: &PortRecord) -> Result<Reply, AllocError>
+    ensures { IfOk result (λ reply. reply ≡ port_shown port.now) }
+{
+    let body = port_bodies::port(alloc, port)?;
     json_reply(alloc, StatusCode::OK, &body)
 }

@@ -15,6 +15,8 @@ pub enum Route {
     File,
     /// `/v1/path`: the tenant's search path.
     Path,
+    /// `/v1/port`: what a port is.
+    Port,
     /// `/v1/var`: a variable of a port's makefile.
     Var,
 }
@@ -32,6 +34,7 @@ impl Routes {
         let mut router = Router::new(alloc);
         add(&mut router, "/v1/file", Route::File)?;
         add(&mut router, "/v1/path", Route::Path)?;
+        add(&mut router, "/v1/port", Route::Port)?;
         add(&mut router, "/v1/var", Route::Var)?;
         Ok(Routes { router })
     }

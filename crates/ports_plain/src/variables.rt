@@ -62,7 +62,7 @@ fn variable_of<F: Files>(
 }
 
 // The flavors that a path chooses, if it chooses any.
-fn chosen(path: &PkgPath) -> Option<&[String]>
+pub fn chosen(path: &PkgPath) -> Option<&[String]>
     ensures { flavors_in result ≡ path.now.flavors }
 {
     match path.flavors() {

@@ -8,4 +8,5 @@ invariant_of-result c =
     let first = c.in_ok-add.ensures in
     let second = c.in_ok-add-2.ensures in
     let third = c.in_ok-add-3.ensures in
-    record { fixed = rw (third.1, second.1, first.1, c.new-router.ensures) refl }
+    let fourth = c.in_ok-add-4.ensures in
+    record { fixed = rw (fourth.1, third.1, second.1, first.1, c.new-router.ensures) refl }

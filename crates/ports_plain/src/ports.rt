@@ -1,0 +1,113 @@
+// The route of ports.
+ghost use Rattle.std.specs.Prelude.{◌≡◌, IfOk, codes};
+ghost use Rattle.std.specs.Option.{option_copied};
+ghost use Rattle.std.specs.Result.{result_err};
+ghost use Rattle.mk_eval.specs.Meaning.{means};
+ghost use Rattle.mk_eval.specs.Telling.{Tells};
+ghost use Rattle.mk_paths.specs.Place.{place};
+ghost use Rattle.ports_plain.specs.Plain.{get_port as get_port_of, port_at as port_at_place, record_after, described, shown as shown_to};
+ghost use Rattle.ports_plain.specs.Parameters.{parameter as parameter_of};
+ghost use Rattle.ports_plain.specs.Refusing.{Keeps, refusal_in};
+
+use crate::parameters::parameter;
+use crate::refused::Refused;
+use crate::replies::{faulty, port, refusal};
+use crate::variables::chosen;
+use mk_base::Stop;
+use mk_eval::{Failed, Kind, evaluate};
+use mk_files::Files;
+use mk_paths::{Name, Settings, find};
+use pkg_path::{PkgPath, PkgPathFault};
+use port_rules::{PortRecord, Recorded, record};
+use ports_http::{Reply, StatusCode};
+use std::alloc::{AllocError, Global};
+
+// The port whose path the query gives.
+pub fn get_port<F: Files>(
+    alloc: Global,
+    files: &mut F,
+    settings: &Settings,
+    query: &str,
+) -> Result<Reply, Refused>
+    ensures ok { IfOk result (λ reply. reply ≡ get_port_of ((F.shelf files.old).files, settings.now) (parameter_of (codes "path") query.now)) }
+    ensures keeps { Keeps (result_err result) (F.shelf files.old) (F.shelf files.new) }
+{
+    let Some(path) = parameter(alloc, query, "path")? else {
+        return Ok(refusal(alloc, StatusCode::BAD_REQUEST, "Parameter")?);
+    };
+    match PkgPath::read(alloc, path.as_str()) {
+        Ok(path) => port_at(alloc, files, settings, &path),
+        Err(PkgPathFault::Memory) => Err(Refused::Memory),
+        Err(_) => Ok(refusal(alloc, StatusCode::BAD_REQUEST, "Path")?),
+    }
+}
+
+// The port that a path names.
+fn port_at<F: Files>(
+    alloc: Global,
+    files: &mut F,
+    settings: &Settings,
+    path: &PkgPath,
+) -> Result<Reply, Refused>
+    ensures ok { IfOk result (λ reply. reply ≡ port_at_place ((F.shelf files.old).files, settings.now) path.now (place ((F.shelf files.old).files, settings.now) path.now.directory)) }
+    ensures keeps { Keeps (result_err result) (F.shelf files.old) (F.shelf files.new) }
+{
+    match find(alloc, files, &settings.path, path.directory())? {
+        Some(makefile) => port_of_makefile(alloc, files, settings, path, &makefile),
+        None => Ok(refusal(alloc, StatusCode::NOT_FOUND, "NoPort")?),
+    }
+}
+
+// The port that a makefile describes.
+fn port_of_makefile<F: Files>(
+    alloc: Global,
+    files: &mut F,
+    settings: &Settings,
+    path: &PkgPath,
+    makefile: &Name,
+) -> Result<Reply, Refused>
+    ensures ok { IfOk result (λ reply. reply ≡ described path.now.subpackage (record_after path.now makefile.now (means ((F.shelf files.old).files, settings.now) makefile.now path.now.flavors))) }
+    ensures keeps { Keeps (result_err result) (F.shelf files.old) (F.shelf files.new) }
+{
+    match record_in(alloc, files, settings, path, makefile) {
+        Ok(Some(found)) => Ok(shown(alloc, path.subpackage(), &found.port)?),
+        Ok(None) => Ok(refusal(alloc, StatusCode::NOT_FOUND, "NoPort")?),
+        Err(Stop::Fault(failed)) => Ok(faulty(alloc, &failed.fault)?),
+        Err(Stop::Store) => Err(Refused::Store),
+        Err(Stop::Memory) => Err(Refused::Memory),
+    }
+}
+
+// The record of the port that a makefile describes; none where it describes no port.
+fn record_in<F: Files>(
+    alloc: Global,
+    files: &mut F,
+    settings: &Settings,
+    path: &PkgPath,
+    makefile: &Name,
+) -> Result<Option<Recorded>, Stop<Failed>>
+    ensures record { Tells (λ found. found) result (record_after path.now makefile.now (means ((F.shelf files.old).files, settings.now) makefile.now path.now.flavors)) }
+    ensures keeps { Keeps (refusal_in result) (F.shelf files.old) (F.shelf files.new) }
+{
+    let evaluated = evaluate(alloc, files, settings, makefile, chosen(path))?;
+    match evaluated.kind {
+        Kind::Port => Ok(Some(record(alloc, &evaluated, path, makefile)?)),
+        Kind::List | Kind::Other => Ok(None),
+    }
+}
+
+// A port, where it has the package that is asked for, if one is.
+fn shown(
+    alloc: Global,
+    subpackage: Option<&str>,
+    found: &PortRecord,
+) -> Result<Reply, AllocError>
+    ensures { IfOk result (λ reply. reply ≡ shown_to (option_copied subpackage.entry) found.now) }
+{
+    match subpackage {
+        Some(subpackage) if !found.has_package(subpackage) => {
+            refusal(alloc, StatusCode::NOT_FOUND, "NoSubpackage")
+        }
+        _ => port(alloc, found),
+    }
+}
