@@ -1,1 +1,2 @@
 pub mod HeldFiles
+pub mod ListedFiles

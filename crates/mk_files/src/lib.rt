@@ -10,4 +10,4 @@ mod worlds;
 pub use asking::{ask_has, ask_read, look_has, look_read};
 pub use memory_files::MemoryFiles;
 pub use shared::Content;
-pub use worlds::Files;
+pub use worlds::{Files, Listing};

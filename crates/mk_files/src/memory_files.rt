@@ -1,11 +1,12 @@
 // A world of files kept in memory.
-ghost use Rattle.std.specs.Prelude.{◌≡◌, OnOk, OnErr};
+ghost use Rattle.std.specs.Prelude.{◌≡◌, map as map_list, string_bytes, IfOk, OnOk, OnErr};
 ghost use Rattle.std.specs.Option.{option_copied};
 ghost use Rattle.std.specs.FinMap as map;
-ghost use Rattle.mk_files.specs.Holding.{nothing, with_file, without_file, shelf_of, IsMemory};
+ghost use Rattle.mk_paths.specs.Shelf.{Fails};
+ghost use Rattle.mk_files.specs.Holding.{nothing, with_file, without_file, shelf_of, IsMemory, files_of};
 
 use crate::shared::Content;
-use crate::worlds::Files;
+use crate::worlds::{Files, Listing};
 use mk_paths::{FilesFault, Name, Names};
 use std::alloc::{AllocError, Global};
 use std::collections::BTreeMap;
@@ -20,6 +21,7 @@ pub struct MemoryFiles {
 }
 
 impl Model for MemoryFiles {
+    ghost use Rattle.mk_paths.specs.Shelf.{Fails};
     ghost use Rattle.mk_files.specs.Holding.{Holding, holding_code, files_of};
 
     ghost Value = { Holding };
@@ -64,6 +66,15 @@ impl MemoryFiles {
     {
         self.files.get(name.as_str())
     }
+
+    // Counts one more reading that failed, as it does for want of memory.
+    fn fail(&mut self) -> FilesFault
+        ensures counted { Fails (shelf_of self.old) (shelf_of self.new) }
+        ensures memory { result ≡ FilesFault.Memory }
+    {
+        self.failures = self.failures.saturating_add(1);
+        FilesFault::Memory
+    }
 }
 
 impl Names for MemoryFiles {
@@ -83,10 +94,27 @@ impl Files for MemoryFiles {
         };
         match content.share() {
             Ok(shared) => Ok(Some(shared)),
-            Err(_error) => {
-                self.failures = self.failures.saturating_add(1);
-                Err(FilesFault::Memory)
-            }
+            Err(_error) => Err(self.fail()),
         }
     }
+}
+
+impl Listing for MemoryFiles {
+    fn names(&mut self, alloc: Global) -> Result<Vec<String>, FilesFault> {
+        let Ok(names) = names_of(alloc, &self.files) else {
+            return Err(self.fail());
+        };
+        Ok(names)
+    }
+}
+
+// The names of these files, in the order of their bytes.
+fn names_of(alloc: Global, files: &BTreeMap<String, Content>) -> Result<Vec<String>, AllocError>
+    ensures { IfOk result (λ names. map_list string_bytes names.items ≡ map.keys (files_of files.now.entries)) }
+{
+    let mut names = Vec::new(alloc);
+    for name in files.keys() {
+        names.push(String::from_str(alloc, name.as_str())?)?;
+    }
+    Ok(names)
 }

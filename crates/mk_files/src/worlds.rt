@@ -1,9 +1,11 @@
 // Worlds of files that can be read.
-ghost use Rattle.std.specs.Prelude.{IfOk, IfErr, OnErr};
+ghost use Rattle.std.specs.Prelude.{◌≡◌, map, string_bytes, IfOk, IfErr, OnOk, OnErr};
+ghost use Rattle.std.specs.FinMap.{keys};
 ghost use Rattle.mk_paths.specs.Shelf.{Contents, Answers, Fails};
 
 use crate::shared::Content;
 use mk_paths::{FilesFault, Name, Names};
+use std::alloc::Global;
 
 /// A world of files that can be read.
 ///
@@ -16,6 +18,19 @@ pub trait Files: Names {
     /// and adds one to the count of failures, which stands still at 2^64 - 1.
     fn read(&mut self, name: &Name) -> Result<Option<Content>, FilesFault>
         ensures answer { IfOk result (λ content. Answers (Self.shelf self.old) (Self.shelf self.new) name.now (Contents content)) }
+        ensures fault { OnErr result (Fails (Self.shelf self.old) (Self.shelf self.new)) }
+        ensures kind { IfErr result Self.fails_with };
+}
+
+/// A world of files that can be listed too.
+pub trait Listing: Files {
+    /// The names of all files, in the order of their bytes.
+    ///
+    /// Listing is no question, and joins no log. A fault leaves the map and the log, and adds one to the
+    /// count of failures, which stands still at 2^64 - 1.
+    fn names(&mut self, alloc: Global) -> Result<Vec<String>, FilesFault>
+        ensures names { IfOk result (λ names. map string_bytes names.items ≡ keys (Self.shelf self.old).files) }
+        ensures same { OnOk result (Self.shelf self.new ≡ Self.shelf self.old) }
         ensures fault { OnErr result (Fails (Self.shelf self.old) (Self.shelf self.new)) }
         ensures kind { IfErr result Self.fails_with };
 }
