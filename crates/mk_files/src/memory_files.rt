@@ -21,7 +21,6 @@ pub struct MemoryFiles {
 }
 
 impl Model for MemoryFiles {
-    ghost use Rattle.mk_paths.specs.Shelf.{Fails};
     ghost use Rattle.mk_files.specs.Holding.{Holding, holding_code, files_of};
 
     ghost Value = { Holding };

@@ -6,15 +6,13 @@ use Rattle.mk_base.specs.declared.faults.FaultKind.{FaultKind}
 use Rattle.mk_base.specs.Meter.{Meter}
 use Rattle.mk_base.specs.Outcome.{Work, give, ◌>>=◌}
 use Rattle.mk_env.specs.Texts.{Variables}
-use Rattle.pkg_path.specs.Paths.{PathValue, without_subpackage}
 use Rattle.port_rules.specs.Values.{asked_text, asked_words}
 use Rattle.port_rules.specs.Flavors.{FlavorsValue, flavors_of, marks_of}
 use Rattle.port_rules.specs.Packages.{PackageValue, subpackages_of, packages_of}
 use Rattle.port_rules.specs.Depends.{DependValue, depends_of}
 
--- a port: its path without a subpackage, its flavors, who maintains it, its categories, its packages, and what it depends on
+-- a port: its flavors, who maintains it, its categories, its packages, and what it depends on
 pub record PortValue : Type 0 where
-  pub path : PathValue
   pub flavors : FlavorsValue
   pub maintainer : List ℕ
   pub categories : List (List ℕ)
@@ -25,15 +23,14 @@ pub record PortValue : Type 0 where
 abbrev pub has_package : PortValue → List ℕ → Bool
 has_package port subpackage = list_any (λ (package : PackageValue). bytes_eq package.subpackage subpackage) port.packages
 
--- The port that these variables make, at this path. They are asked in this order: FLAVOR, FLAVORS, PSEUDO_FLAVORS, MULTI_PACKAGES, MAINTAINER,
+-- The port that these variables make. They are asked in this order: FLAVOR, FLAVORS, PSEUDO_FLAVORS, MULTI_PACKAGES, MAINTAINER,
 -- CATEGORIES; for each package those of its name, and COMMENT; BUILD_DEPENDS; for each package LIB_DEPENDS and RUN_DEPENDS; TEST_DEPENDS.
-unfoldable pub port_of : Variables → PathValue → Work Meter FaultKind PortValue
-port_of variables path m =
+unfoldable pub port_of : Variables → Work Meter FaultKind PortValue
+port_of variables m =
     (flavors_of variables >>= λ flavors. subpackages_of variables >>= λ subpackages. asked_text variables (codes "MAINTAINER")
     >>= λ maintainer. asked_words variables (codes "CATEGORIES") >>= λ categories. packages_of variables (marks_of flavors) subpackages
     >>= λ packages. depends_of variables subpackages
     >>= λ depends. give (record {
-      path = without_subpackage path;
       flavors = flavors;
       maintainer = maintainer;
       categories = categories;

@@ -6,7 +6,6 @@ use Rattle.mk_base.specs.FaultAt.{fault_at}
 use Rattle.mk_base.specs.Meter.{Meter, full}
 use Rattle.mk_env.specs.Texts.{Variables}
 use Rattle.mk_eval.specs.declared.outcome.Failed.{Failed}
-use Rattle.pkg_path.specs.Paths.{PathValue}
 use Rattle.port_rules.specs.Ports.{PortValue, port_of}
 use Rattle.port_rules.specs.declared.recording.Recorded.{Recorded}
 
@@ -15,6 +14,6 @@ abbrev pub recorded : List ℕ → Result (PortValue × Meter) (FaultKind × Met
 recorded makefile (Ok end) = Ok (record { port = end.0; cost = end.1.spent })
 recorded makefile (Err end) = Err (record { fault = fault_at end.0 makefile 0; cost = end.1.spent })
 
--- the record of the port at a path whose makefile, of this name, left these variables
-abbrev pub record_of : Variables → PathValue → List ℕ → Result Recorded Failed
-record_of variables path makefile = recorded makefile (port_of variables path (full UNITS))
+-- the record of the port whose makefile, of this name, left these variables
+abbrev pub record_of : Variables → List ℕ → Result Recorded Failed
+record_of variables makefile = recorded makefile (port_of variables (full UNITS))

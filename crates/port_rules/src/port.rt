@@ -9,14 +9,12 @@ use crate::packages::{Package, read_packages, read_subpackages};
 use crate::values::{asked_text, asked_words};
 use mk_base::{Budget, FaultKind, Stop};
 use mk_env::Env;
-use pkg_path::PkgPath;
 use std::alloc::Global;
 use std::marker::Model;
 
 /// What a port is, as its variables tell it (bsd.port.mk(5)).
 #[derive(Debug, Drop)]
 pub struct PortRecord {
-    path: PkgPath,
     flavors: PortFlavors,
     maintainer: String,
     categories: Vec<String>,
@@ -31,7 +29,6 @@ impl Model for PortRecord {
     ghost Value = { PortValue };
 
     ghost view = { λ p. record {
-      path = p.path;
       flavors = p.flavors;
       maintainer = string_bytes p.maintainer;
       categories = map string_bytes p.categories.items;
@@ -41,13 +38,6 @@ impl Model for PortRecord {
 }
 
 impl PortRecord {
-    /// Its path, without a subpackage.
-    pub fn path(&self) -> &PkgPath
-        ensures { result.now ≡ self.now.path }
-    {
-        &self.path
-    }
-
     /// Its flavors.
     pub fn flavors(&self) -> &PortFlavors
         ensures { result.now ≡ self.now.flavors }
@@ -93,16 +83,15 @@ impl PortRecord {
     }
 }
 
-/// The port at this path that these variables make.
+/// The port that these variables make.
 #[tactic(auto, unfolding(crate::specs::Ports::port_of))]
 pub(crate) fn read_port(
     alloc: Global,
     variables: &Env,
-    path: &PkgPath,
     budget: &mut Budget,
 ) -> Result<PortRecord, Stop<FaultKind>>
     ensures store { NeverStore result }
-    ensures gives { Gives (λ x. x) result budget.new (ports.port_of variables.now path.now budget.old) }
+    ensures gives { Gives (λ x. x) result budget.new (ports.port_of variables.now budget.old) }
 {
     let flavors = read_flavors(alloc, variables, budget)?;
     let subpackages = read_subpackages(alloc, variables, budget)?;
@@ -111,7 +100,6 @@ pub(crate) fn read_port(
     let packages = read_packages(alloc, variables, &flavors, &subpackages, budget)?;
     let depends = read_depends(alloc, variables, &subpackages, budget)?;
     Ok(PortRecord {
-        path: path.copy(alloc)?.without_sub(),
         flavors,
         maintainer,
         categories,

@@ -8,7 +8,6 @@ use crate::port::{PortRecord, read_port};
 use mk_base::{Budget, Fault, Stop, UNITS};
 use mk_eval::{Evaluated, Failed};
 use mk_paths::Name;
-use pkg_path::PkgPath;
 use std::alloc::Global;
 
 /// The record of a port, and the units of work that it cost.
@@ -20,8 +19,8 @@ pub struct Recorded {
     pub cost: u64,
 }
 
-/// What the port at this path is, by the variables that the evaluation of its makefile, of this name,
-/// left (bsd.port.mk(5)); in a budget of 50,000 units of its own.
+/// What a port is, by the variables that the evaluation of its makefile, of this name, left
+/// (bsd.port.mk(5)); in a budget of 50,000 units of its own.
 ///
 /// The variables are asked in this order: FLAVOR, FLAVORS, PSEUDO_FLAVORS, MULTI_PACKAGES, MAINTAINER,
 /// CATEGORIES; for each package its name (FULLPKGNAME, or else PKGNAME, REVISION, EPOCH) and COMMENT;
@@ -36,14 +35,13 @@ pub struct Recorded {
 pub fn record(
     alloc: Global,
     evaluated: &Evaluated,
-    path: &PkgPath,
     name: &Name,
 ) -> Result<Recorded, Stop<Failed>>
-    ensures record { telling.Tells (λ x. x) result (record_of evaluated.now.env path.now name.now) }
+    ensures record { telling.Tells (λ x. x) result (record_of evaluated.now.env name.now) }
     ensures store { NeverStore result }
 {
     let mut budget = Budget::new(UNITS);
-    match read_port(alloc, &evaluated.env, path, &mut budget) {
+    match read_port(alloc, &evaluated.env, &mut budget) {
         Ok(port) => Ok(Recorded {
             port,
             cost: budget.spent(),

@@ -17,13 +17,12 @@ use Rattle.ports_plain.specs.declared.routing.Route.{Route}
 use Rattle.ports_plain.specs.declared.routing.Route.TheVariants.{File, Path, Port, Var}
 use Rattle.pkg_path.specs.Paths.{PathValue, path_of}
 use Rattle.pkg_path.specs.declared.faults.PkgPathFault.{PkgPathFault}
-use Rattle.port_rules.specs.Ports.{PortValue, has_package}
 use Rattle.port_rules.specs.declared.recording.Recorded.{Recorded}
 use Rattle.ports_plain.specs.Routes.{route_of}
 use Rattle.ports_plain.specs.Target.{path_of as target_path}
 use Rattle.ports_plain.specs.Trimming.{trimmed}
 use Rattle.ports_plain.specs.Replies.{bad_path, no_file, no_subpackage, removed, port_shown}
-use Rattle.ports_plain.specs.Plain.{Asked, told, content_shown, on_named_file, on_resolved, on_file, set_trees, set_path, value_after, valued, variable_at, variable_of, get_variable, record_after, shown, described, port_at, port_of, get_port, given, answer_on, answer, plain}
+use Rattle.ports_plain.specs.Plain.{Asked, told, content_shown, on_named_file, on_resolved, on_file, set_trees, set_path, value_after, valued, variable_at, variable_of, get_variable, record_after, has_named, described, port_at, port_of, get_port, given, answer_on, answer, plain}
 use Rattle.ports_plain.specs.declared.changing.Change.TheVariants.{RemoveFile}
 
 content-fine : (content : Option (List ℕ)) → ((content_shown content).status == 503) ≡ false
@@ -76,21 +75,17 @@ get_variable-fine world (Some path) None = refl
 get_variable-fine world None (Some name) = refl
 get_variable-fine world None None = refl
 
-shown-fine : (subpackage : Option (List ℕ)) (port : PortValue) → ((shown subpackage port).status == 503) ≡ false
-shown-fine None port = refl
-shown-fine (Some subpackage) port =
-    elim (has_package port subpackage) as (λ b. ((if b then port_shown port else no_subpackage).status == 503) ≡ false) [
+described-fine : (path : PathValue) (found : Result (Option Recorded) Failed) → ((described path found).status == 503) ≡ false
+described-fine path (Ok (Some recorded)) =
+    elim (has_named path.subpackage recorded.port) as (λ b. ((if b then port_shown path recorded.port else no_subpackage).status == 503) ≡ false) [
       | true ↦ refl
       | false ↦ refl
     ]
-
-described-fine : (subpackage : Option (List ℕ)) (found : Result (Option Recorded) Failed) → ((described subpackage found).status == 503) ≡ false
-described-fine subpackage (Ok (Some recorded)) = shown-fine subpackage recorded.port
-described-fine subpackage (Ok None) = refl
-described-fine subpackage (Err failed) = refl
+described-fine path (Ok None) = refl
+described-fine path (Err failed) = refl
 
 port_at-fine : (world : World) (path : PathValue) (makefile : Option (List ℕ)) → ((port_at world path makefile).status == 503) ≡ false
-port_at-fine world path (Some makefile) = described-fine path.subpackage (record_after path makefile (means world makefile path.flavors))
+port_at-fine world path (Some makefile) = described-fine path (record_after makefile (means world makefile path.flavors))
 port_at-fine world path None = refl
 
 port_of-fine : (world : World) (path : Result PathValue PkgPathFault) → ((port_of world path).status == 503) ≡ false

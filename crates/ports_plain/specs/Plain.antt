@@ -1,6 +1,6 @@
 -- The plain service: what one request is answered over one tenant's world, and what the world is then. It knows nothing of
 -- connections, of other tenants, of work that waits or is shared.
-use Rattle.std.specs.Prelude.{ℕ, if◌then◌else◌, List, Option, Some, None, Result, Ok, Err, option_map, codes}
+use Rattle.std.specs.Prelude.{ℕ, if◌then◌else◌, Bool, true, List, Option, Some, None, Result, Ok, Err, option_map, codes}
 use Rattle.std.specs.Str.{is_utf8}
 use Rattle.std.specs.FinMap.{get, contains_key}
 use Rattle.mk_paths.specs.FileName.{resolved}
@@ -116,25 +116,25 @@ record_by kinds.Port (Err failed) = Err failed
 record_by kinds.List recorded = Ok None
 record_by kinds.Other recorded = Ok None
 
--- the record of the port at a path after its makefile's evaluation, if it describes one, or the fault that the evaluation or the record met
-abbrev pub record_after : PathValue → List ℕ → Result Evaluated Failed → Result (Option Recorded) Failed
-record_after path makefile (Ok evaluated) = record_by evaluated.kind (record_of evaluated.env path makefile)
-record_after path makefile (Err failed) = Err failed
+-- the record of the port that a makefile describes, if it does, after its evaluation; or the fault that the evaluation or the record met
+abbrev pub record_after : List ℕ → Result Evaluated Failed → Result (Option Recorded) Failed
+record_after makefile (Ok evaluated) = record_by evaluated.kind (record_of evaluated.env makefile)
+record_after makefile (Err failed) = Err failed
 
--- a port, where it has the package that is asked for, if one is
-abbrev pub shown : Option (List ℕ) → PortValue → ReplyMessage
-shown None port = port_shown port
-shown (Some subpackage) port = if has_package port subpackage then port_shown port else no_subpackage
+-- a port has the package that a path names, if it names one
+abbrev pub has_named : Option (List ℕ) → PortValue → Bool
+has_named None port = true
+has_named (Some subpackage) port = has_package port subpackage
 
 -- what a record, or a fault met on the way to it, is answered with
-abbrev pub described : Option (List ℕ) → Result (Option Recorded) Failed → ReplyMessage
-described subpackage (Ok (Some recorded)) = shown subpackage recorded.port
-described subpackage (Ok None) = no_port
-described subpackage (Err failed) = faulty failed.fault
+abbrev pub described : PathValue → Result (Option Recorded) Failed → ReplyMessage
+described path (Ok (Some recorded)) = if has_named path.subpackage recorded.port then port_shown path recorded.port else no_subpackage
+described path (Ok None) = no_port
+described path (Err failed) = faulty failed.fault
 
 -- the port of a makefile
 abbrev pub port_at : World → PathValue → Option (List ℕ) → ReplyMessage
-port_at world path (Some makefile) = described path.subpackage (record_after path makefile (means world makefile path.flavors))
+port_at world path (Some makefile) = described path (record_after makefile (means world makefile path.flavors))
 port_at world path None = no_port
 
 -- the port that a package path names

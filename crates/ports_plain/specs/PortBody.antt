@@ -1,6 +1,6 @@
 -- What a port is, as JSON: the members of each object in the order of their names' bytes (RFC 8259).
 use Rattle.std.specs.Prelude.{ℕ, List, map, codes}
-use Rattle.pkg_path.specs.Paths.{canonical}
+use Rattle.pkg_path.specs.Paths.{PathValue, canonical, without_subpackage}
 use Rattle.pkg_name.specs.Name.{name_text}
 use Rattle.port_rules.specs.Packages.{PackageValue}
 use Rattle.port_rules.specs.Depends.{DependValue, word_of}
@@ -26,14 +26,14 @@ depend_body depend =
     (member (codes "kind") (string (word_of depend.kind))
     (member (codes "subpackage") (string depend.subpackage) no_members)))
 
--- a port
-abbrev pub port_body : PortValue → Data
-port_body port =
+-- the port that a path names, whose subpackage doesn't count
+abbrev pub port_body : PathValue → PortValue → Data
+port_body path port =
     object (member (codes "categories") (texts_body port.categories)
     (member (codes "depends") (array (items_of (map depend_body port.depends)))
     (member (codes "flavor") (texts_body port.flavors.chosen)
     (member (codes "flavors") (texts_body port.flavors.proper)
     (member (codes "maintainer") (string port.maintainer)
     (member (codes "packages") (array (items_of (map package_body port.packages)))
-    (member (codes "path") (string (canonical port.path))
+    (member (codes "path") (string (canonical (without_subpackage path)))
     (member (codes "pseudo") (texts_body port.flavors.pseudo) no_members))))))))

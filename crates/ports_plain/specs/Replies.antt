@@ -10,6 +10,7 @@ use Rattle.serde_json.specs.Data.{Data}
 use Rattle.serde_json.specs.Written.{compact_text}
 use Rattle.ports_plain.specs.declared.routing.Route.{Route}
 use Rattle.ports_plain.specs.declared.routing.Route.TheVariants.{File, Path, Port, Var}
+use Rattle.pkg_path.specs.Paths.{PathValue}
 use Rattle.port_rules.specs.Ports.{PortValue}
 use Rattle.ports_plain.specs.PortBody.{port_body}
 use Rattle.ports_plain.specs.Bodies.{stored_body, removed_body, path_body, error_body, fault_body, variable_body}
@@ -85,6 +86,6 @@ path_set path = json_reply 200 (path_body path)
 abbrev pub variable : Option (List ℕ) → ReplyMessage
 variable value = json_reply 200 (variable_body value)
 
--- what a port is
-abbrev pub port_shown : PortValue → ReplyMessage
-port_shown port = json_reply 200 (port_body port)
+-- what the port is that a path names
+abbrev pub port_shown : PathValue → PortValue → ReplyMessage
+port_shown path port = json_reply 200 (port_body path port)

@@ -5,13 +5,14 @@ ghost use Rattle.serde_json.specs.Data.{array};
 ghost use Rattle.serde_json.specs.View.{items_of};
 ghost use Rattle.ports_plain.specs.PortBody.{texts_body, package_body, depend_body, port_body};
 
+use pkg_path::PkgPath;
 use port_rules::{Depend, Package, PortRecord};
 use serde_json::{Value, json};
 use std::alloc::{AllocError, Global};
 
-// A port.
-pub fn port(alloc: Global, port: &PortRecord) -> Result<Value, AllocError>
-    ensures { IfOk result (λ value. view value ≡ port_body port.now) }
+// The port that a path names, whose subpackage doesn't count.
+pub fn port(alloc: Global, path: &PkgPath, port: &PortRecord) -> Result<Value, AllocError>
+    ensures { IfOk result (λ value. view value ≡ port_body path.now port.now) }
 {
     let flavors = port.flavors();
     let categories = texts(alloc, port.categories())?;
@@ -19,7 +20,7 @@ pub fn port(alloc: Global, port: &PortRecord) -> Result<Value, AllocError>
     let chosen = texts(alloc, flavors.chosen())?;
     let proper = texts(alloc, flavors.proper())?;
     let packages = packages(alloc, port.packages())?;
-    let path = port.path().canonical(alloc)?;
+    let path = path.copy(alloc)?.without_sub().canonical(alloc)?;
     let pseudo = texts(alloc, flavors.pseudo())?;
     json!(in alloc; {
         "categories": categories,

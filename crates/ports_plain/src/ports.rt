@@ -1,11 +1,10 @@
 // The route of ports.
 ghost use Rattle.std.specs.Prelude.{◌≡◌, IfOk, codes};
-ghost use Rattle.std.specs.Option.{option_copied};
 ghost use Rattle.std.specs.Result.{result_err};
 ghost use Rattle.mk_eval.specs.Meaning.{means};
 ghost use Rattle.mk_eval.specs.Telling.{Tells};
 ghost use Rattle.mk_paths.specs.Place.{place};
-ghost use Rattle.ports_plain.specs.Plain.{get_port as get_port_of, port_at as port_at_place, record_after, described, shown as shown_to};
+ghost use Rattle.ports_plain.specs.Plain.{get_port as get_port_of, port_at as port_at_place, record_after, described, has_named as has_named_in};
 ghost use Rattle.ports_plain.specs.Parameters.{parameter as parameter_of};
 ghost use Rattle.ports_plain.specs.Refusing.{Keeps, refusal_in};
 
@@ -20,7 +19,7 @@ use mk_paths::{Name, Settings, find};
 use pkg_path::{PkgPath, PkgPathFault};
 use port_rules::{PortRecord, Recorded, record};
 use ports_http::{Reply, StatusCode};
-use std::alloc::{AllocError, Global};
+use std::alloc::Global;
 
 // The port whose path the query gives.
 pub fn get_port<F: Files>(
@@ -66,11 +65,14 @@ fn port_of_makefile<F: Files>(
     path: &PkgPath,
     makefile: &Name,
 ) -> Result<Reply, Refused>
-    ensures ok { IfOk result (λ reply. reply ≡ described path.now.subpackage (record_after path.now makefile.now (means ((F.shelf files.old).files, settings.now) makefile.now path.now.flavors))) }
+    ensures ok { IfOk result (λ reply. reply ≡ described path.now (record_after makefile.now (means ((F.shelf files.old).files, settings.now) makefile.now path.now.flavors))) }
     ensures keeps { Keeps (result_err result) (F.shelf files.old) (F.shelf files.new) }
 {
     match record_in(alloc, files, settings, path, makefile) {
-        Ok(Some(found)) => Ok(shown(alloc, path.subpackage(), &found.port)?),
+        Ok(Some(found)) if !has_named(path, &found.port) => {
+            Ok(refusal(alloc, StatusCode::NOT_FOUND, "NoSubpackage")?)
+        }
+        Ok(Some(found)) => Ok(port(alloc, path, &found.port)?),
         Ok(None) => Ok(refusal(alloc, StatusCode::NOT_FOUND, "NoPort")?),
         Err(Stop::Fault(failed)) => Ok(faulty(alloc, &failed.fault)?),
         Err(Stop::Store) => Err(Refused::Store),
@@ -86,28 +88,22 @@ fn record_in<F: Files>(
     path: &PkgPath,
     makefile: &Name,
 ) -> Result<Option<Recorded>, Stop<Failed>>
-    ensures record { Tells (λ found. found) result (record_after path.now makefile.now (means ((F.shelf files.old).files, settings.now) makefile.now path.now.flavors)) }
+    ensures record { Tells (λ found. found) result (record_after makefile.now (means ((F.shelf files.old).files, settings.now) makefile.now path.now.flavors)) }
     ensures keeps { Keeps (refusal_in result) (F.shelf files.old) (F.shelf files.new) }
 {
     let evaluated = evaluate(alloc, files, settings, makefile, chosen(path))?;
     match evaluated.kind {
-        Kind::Port => Ok(Some(record(alloc, &evaluated, path, makefile)?)),
+        Kind::Port => Ok(Some(record(alloc, &evaluated, makefile)?)),
         Kind::List | Kind::Other => Ok(None),
     }
 }
 
-// A port, where it has the package that is asked for, if one is.
-fn shown(
-    alloc: Global,
-    subpackage: Option<&str>,
-    found: &PortRecord,
-) -> Result<Reply, AllocError>
-    ensures { IfOk result (λ reply. reply ≡ shown_to (option_copied subpackage.entry) found.now) }
+// Whether a port has the package that a path names, if it names one.
+fn has_named(path: &PkgPath, port: &PortRecord) -> bool
+    ensures { result ≡ has_named_in path.now.subpackage port.now }
 {
-    match subpackage {
-        Some(subpackage) if !found.has_package(subpackage) => {
-            refusal(alloc, StatusCode::NOT_FOUND, "NoSubpackage")
-        }
-        _ => port(alloc, found),
+    match path.subpackage() {
+        Some(subpackage) => port.has_package(subpackage),
+        None => true,
     }
 }

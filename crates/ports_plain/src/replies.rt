@@ -8,6 +8,7 @@ ghost use Rattle.ports_plain.specs.Replies.{json_reply as json_reply_of, refusal
 use crate::routing::Route;
 use crate::{bodies, port_bodies};
 use mk_base::Fault;
+use pkg_path::PkgPath;
 use port_rules::PortRecord;
 use ports_http::{Content, Method, Reply, StatusCode};
 use serde_json::Value;
@@ -97,10 +98,10 @@ pub fn variable(alloc: Global, value: Option<&str>) -> Result<Reply, AllocError>
     json_reply(alloc, StatusCode::OK, &body)
 }
 
-// What a port is.
-pub fn port(alloc: Global, port: &PortRecord) -> Result<Reply, AllocError>
-    ensures { IfOk result (λ reply. reply ≡ port_shown port.now) }
+// What the port is that a path names.
+pub fn port(alloc: Global, path: &PkgPath, port: &PortRecord) -> Result<Reply, AllocError>
+    ensures { IfOk result (λ reply. reply ≡ port_shown path.now port.now) }
 {
-    let body = port_bodies::port(alloc, port)?;
+    let body = port_bodies::port(alloc, path, port)?;
     json_reply(alloc, StatusCode::OK, &body)
 }

@@ -4,6 +4,7 @@ use crate::evaluation::{MAKEFILE, evaluated, failure, given_name};
 use crate::packages::read_path;
 use crate::world::World;
 use mk_base::Stop;
+use pkg_path::PkgPath;
 use port_rules::{Depend, Package, PortFlavors, PortRecord, record};
 use std::alloc::Global;
 
@@ -21,9 +22,9 @@ pub fn record_told(alloc: Global, world: &mut World, given: &[Vec<u8>]) -> Resul
         Err(failed) => return failure(alloc, &failed),
     };
     let name = given_name(alloc, MAKEFILE.as_bytes())?;
-    match record(alloc, &evaluated, &path, &name) {
+    match record(alloc, &evaluated, &name) {
         Ok(recorded) => {
-            let mut answer = told_port(alloc, &recorded.port)?;
+            let mut answer = told_port(alloc, &path.without_sub(), &recorded.port)?;
             answer.word("cost")?;
             answer.number(recorded.cost)?;
             Ok(answer)
@@ -34,8 +35,8 @@ pub fn record_told(alloc: Global, world: &mut World, given: &[Vec<u8>]) -> Resul
 }
 
 /// A port, what is empty of it left out.
-fn told_port(alloc: Global, port: &PortRecord) -> Result<Answer, Trouble> {
-    let mut answer = Answer::of_text(alloc, port.path().canonical(alloc)?.as_str())?;
+fn told_port(alloc: Global, path: &PkgPath, port: &PortRecord) -> Result<Answer, Trouble> {
+    let mut answer = Answer::of_text(alloc, path.canonical(alloc)?.as_str())?;
     add_flavors(&mut answer, port.flavors())?;
     if !port.maintainer().is_empty() {
         answer.word("maintainer")?;
