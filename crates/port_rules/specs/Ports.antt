@@ -21,7 +21,7 @@ pub record PortValue : Type 0 where
 
 -- one of a port's packages has this name
 abbrev pub has_package : PortValue → List ℕ → Bool
-has_package port subpackage = list_any (λ (package : PackageValue). bytes_eq package.subpackage subpackage) port.packages
+has_package port subpackage = list_any (λ (found : PackageValue). bytes_eq found.subpackage subpackage) port.packages
 
 -- The port that these variables make. They are asked in this order: FLAVOR, FLAVORS, PSEUDO_FLAVORS, MULTI_PACKAGES, MAINTAINER,
 -- CATEGORIES; for each package those of its name, and COMMENT; BUILD_DEPENDS; for each package LIB_DEPENDS and RUN_DEPENDS; TEST_DEPENDS.

@@ -71,7 +71,9 @@ impl PortRecord {
         ensures { result ≡ ports.has_package self.now subpackage.now }
     {
         let packages = self.packages.as_slice();
-        packages.iter().any(|package| package.subpackage() == subpackage)
+        packages
+            .iter()
+            .any(|package| package.subpackage() == subpackage)
     }
 
     /// What it depends on: to be built; then for each package what that is linked with and what it needs

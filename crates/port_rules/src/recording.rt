@@ -32,11 +32,7 @@ pub struct Recorded {
 /// `BadName` behind MULTI_PACKAGES, where a word of it isn't a dash and a name, or stands there twice;
 /// `NoName` where a package has no name, or an empty one; `BadName` where its name can't be one. The
 /// other error is want of memory.
-pub fn record(
-    alloc: Global,
-    evaluated: &Evaluated,
-    name: &Name,
-) -> Result<Recorded, Stop<Failed>>
+pub fn record(alloc: Global, evaluated: &Evaluated, name: &Name) -> Result<Recorded, Stop<Failed>>
     ensures record { telling.Tells (λ x. x) result (record_of evaluated.now.env name.now) }
     ensures store { NeverStore result }
 {
