@@ -4,7 +4,8 @@ use crate::evaluation::{self, MAKEFILE};
 use crate::line::as_text;
 use crate::world::World;
 use crate::{
-    conditions, loops, packages, records, service, stores, streams, texts, trees, trickle,
+    conditions, dependencies, loops, packages, records, service, stores, streams, texts, trees,
+    trickle,
 };
 use mk_env::Env;
 use mk_files::Content;
@@ -148,6 +149,14 @@ impl Bench {
             "flavored" => evaluation::flavored(alloc, &mut self.world, given),
             "value" => evaluation::value_of(alloc, &mut self.world, given),
             "record" => records::record_told(alloc, &mut self.world, given),
+            "names" => dependencies::names(alloc, &mut self.world),
+            "index" => dependencies::index(alloc, &mut self.world),
+            "items" => dependencies::items_told(alloc, &mut self.world),
+            "statuses" => dependencies::statuses(alloc, &mut self.world, given),
+            "first" | "to" | "reached" | "reaching" => {
+                dependencies::over_edges(alloc, &mut self.world, call, given)
+            }
+            "list" | "match" => dependencies::listed(alloc, &mut self.world, call, given),
             _ => answer_of_text(alloc, call, given),
         }
     }

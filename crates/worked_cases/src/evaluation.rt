@@ -235,7 +235,7 @@ pub fn given_name(alloc: Global, text: &[u8]) -> Result<Name, Trouble> {
     })
 }
 
-fn of_files(fault: FilesFault) -> Trouble {
+pub fn of_files(fault: FilesFault) -> Trouble {
     match fault {
         FilesFault::Store => Trouble::NoCase,
         FilesFault::Memory => Trouble::Memory,

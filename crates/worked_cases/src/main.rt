@@ -7,6 +7,7 @@ mod answer;
 mod bench;
 mod cases;
 mod conditions;
+mod dependencies;
 mod evaluation;
 mod line;
 mod loops;

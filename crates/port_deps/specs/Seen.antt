@@ -1,0 +1,19 @@
+-- What the types of the code are seen as.
+use Rattle.std.specs.Option.{option_copied}
+use Rattle.port_deps.specs.Reading.{PartsValue}
+use Rattle.port_deps.specs.Statuses.{FoundValue}
+use Rattle.port_deps.specs.Statuses as found
+use Rattle.port_deps.specs.declared.reading.Parts.{Parts}
+use Rattle.port_deps.specs.declared.statuses.Found.{Found}
+use Rattle.port_deps.specs.declared.statuses.Found.TheVariants.{NotThere, Faulted, NotPort, Port}
+
+-- the parts of an item
+abbrev pub parts_seen : Parts → PartsValue
+parts_seen parts = record { spec = option_copied parts.spec; path = parts.path.now }
+
+-- what was found
+abbrev pub found_seen : Found → FoundValue
+found_seen NotThere = found.NotThere
+found_seen (Faulted kind) = found.Faulted kind
+found_seen NotPort = found.NotPort
+found_seen (Port port) = found.Port port.now

@@ -1,0 +1,107 @@
+//! Dependencies of ports on ports.
+ghost use Rattle.std.specs.Prelude.{◌≡◌, IfOk};
+ghost use Rattle.std.specs.Option.{option_copied};
+ghost use Rattle.port_deps.specs.Edges as edges;
+ghost use Rattle.port_deps.specs.Seen.{found_seen};
+
+use crate::statuses::{Found, Status, status_of};
+use crate::wanting::{Item, Wanted};
+use pkg_path::PkgPath;
+use port_rules::DependKind;
+use std::alloc::{AllocError, Global};
+use std::marker::Model;
+
+/// A dependency of a port: an item with the status that the port where its path says gives it.
+#[derive(Debug, Drop)]
+pub struct Edge {
+    kind: DependKind,
+    subpackage: String,
+    item: String,
+    target: Option<PkgPath>,
+    status: Status,
+}
+
+impl Model for Edge {
+    ghost use Rattle.std.specs.Prelude.{string_bytes};
+    ghost use Rattle.port_deps.specs.Edges.{EdgeValue};
+
+    ghost Value = { EdgeValue };
+
+    ghost view = { λ e. record {
+      kind = e.kind;
+      subpackage = string_bytes e.subpackage;
+      item = string_bytes e.item;
+      target = e.target;
+      status = e.status;
+    } };
+}
+
+impl Edge {
+    /// What the port needs it for.
+    pub fn kind(&self) -> DependKind
+        ensures { result ≡ self.now.kind }
+    {
+        self.kind
+    }
+
+    /// The package that needs it, with its dash; empty where it is the port as a whole, to be built or
+    /// tested.
+    pub fn subpackage(&self) -> &str
+        ensures { result.now ≡ self.now.subpackage }
+    {
+        self.subpackage.as_str()
+    }
+
+    /// The item as it is written.
+    pub fn item(&self) -> &str
+        ensures { result.now ≡ self.now.item }
+    {
+        self.item.as_str()
+    }
+
+    /// The path that the item names, with its flavors and its subpackage; `None` where the item can't be
+    /// read.
+    pub fn target(&self) -> Option<&PkgPath>
+        ensures { option_copied result ≡ self.now.target }
+    {
+        self.target.as_ref()
+    }
+
+    /// Whether the item is met.
+    pub fn status(&self) -> Status
+        ensures { result ≡ self.now.status }
+    {
+        self.status
+    }
+}
+
+/// The dependency that an item is, by what is found where its path says, with the flavors of that path.
+///
+/// Its status is the first that fits: `BadItem` where the item can't be read; `NoPort` where nothing is
+/// found; `BadFlavor` where the fault is that of a flavor that isn't the port's; `Unevaluated` at any
+/// other fault; `NoPort` where no port is found; `NoSubpackage` where the port hasn't the package that the
+/// path names; `SpecMismatch` where the spec doesn't admit the package's name; else `Ok`. A path that names
+/// no subpackage means `-main` where there is one, and else the first package.
+///
+/// The error is want of memory.
+pub fn resolve(alloc: Global, item: &Item, found: Found<'_>) -> Result<Edge, AllocError>
+    ensures { IfOk result (λ edge. edge ≡ edges.edge_of item.now (found_seen found.entry)) }
+{
+    Ok(Edge {
+        kind: item.kind(),
+        subpackage: String::from_str(alloc, item.subpackage())?,
+        item: String::from_str(alloc, item.text())?,
+        target: target_of(alloc, item.wanted())?,
+        status: status_of(item.wanted(), found),
+    })
+}
+
+/// The path that an item names.
+fn target_of(alloc: Global, wanted: Option<&Wanted>) -> Result<Option<PkgPath>, AllocError>
+    ensures { IfOk result (λ target. target ≡ edges.target_of (option_copied wanted.entry)) }
+{
+    match wanted {
+        Some(wanted) => Ok(Some(wanted.path().copy(alloc)?)),
+        None => Ok(None),
+    }
+}

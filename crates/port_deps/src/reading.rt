@@ -1,0 +1,169 @@
+//! How the text of an item is read.
+ghost use Rattle.std.specs.Prelude.{◌≡◌, ◌==◌, IfOk, option_map, position, string_bytes};
+ghost use Rattle.std.specs.List.{list_any};
+ghost use Rattle.std.specs.Option.{option_copied};
+ghost use Rattle.text_cuts.specs.Cuts.{now_all};
+ghost use Rattle.port_deps.specs.Reading as reading;
+ghost use Rattle.port_deps.specs.Seen.{parts_seen};
+
+use crate::wanting::Wanted;
+use pkg_path::{PkgPath, PkgPathFault};
+use pkg_spec::{Spec, SpecFault};
+use std::alloc::{AllocError, Global};
+
+/// The parts of an item that say what it asks for, not read yet.
+#[derive(Drop)]
+pub(crate) struct Parts<'a> {
+    pub(crate) spec: Option<&'a str>,
+    pub(crate) path: &'a str,
+}
+
+/// What an item asks for; `None` where its text can't be read.
+pub(crate) fn read_wanted(alloc: Global, text: &str) -> Result<Option<Wanted>, AllocError>
+    ensures { IfOk result (λ wanted. wanted ≡ reading.wanted_of text.now) }
+{
+    let parts = parts_of(alloc, text)?;
+    match named_parts(&parts) {
+        Some(parts) => wanted_in(alloc, parts.spec, parts.path),
+        None => Ok(None),
+    }
+}
+
+/// The parts of an item behind the empty ones that come first.
+fn parts_of(alloc: Global, text: &str) -> Result<Vec<&str>, AllocError>
+    ensures { IfOk result (λ parts. now_all parts.items ≡ reading.parts_of text.now) }
+{
+    text.split(':')
+        .skip_while(|part| part.is_empty())
+        .collect(alloc)
+}
+
+/// Which of an item's parts say what it asks for.
+fn named_parts<'a>(parts: &[&'a str]) -> Option<Parts<'a>>
+    ensures { option_map parts_seen result ≡ reading.named_parts (now_all parts.now) }
+{
+    match parts {
+        [path] => Some(Parts { spec: None, path }),
+        [first, second] => Some(of_two(first, second)),
+        [spec, path, _target] => Some(Parts {
+            spec: Some(spec),
+            path,
+        }),
+        _ => None,
+    }
+}
+
+/// The same of two parts: the second is a target where the first is no spec.
+fn of_two<'a>(first: &'a str, second: &'a str) -> Parts<'a>
+    ensures { parts_seen result ≡ reading.of_two first.now second.now }
+{
+    if is_spec(first) {
+        Parts {
+            spec: Some(first),
+            path: second,
+        }
+    } else {
+        Parts {
+            spec: None,
+            path: first,
+        }
+    }
+}
+
+/// Whether the first of two parts is a spec.
+fn is_spec(part: &str) -> bool
+    ensures { result ≡ reading.is_spec part.now }
+{
+    !holds(part, b'/') || holds(part, b'*') || holds(part, b'|')
+}
+
+/// Whether a byte stands in a text.
+fn holds(text: &str, wanted: u8) -> bool
+    ensures { result ≡ list_any (λ byte. byte == wanted) text.now }
+{
+    text.bytes().any(|byte| byte == wanted)
+}
+
+/// What these parts ask for.
+fn wanted_in(alloc: Global, spec: Option<&str>, path: &str) -> Result<Option<Wanted>, AllocError>
+    ensures { IfOk result (λ wanted. wanted ≡ reading.wanted_in (record { spec = option_copied spec.entry; path = path.now })) }
+{
+    let (path, versions) = cut_at_sign(path);
+    let Some(spec) = spec_text(alloc, spec, versions)? else {
+        return Ok(None);
+    };
+    let Some(path) = read_path(alloc, path)? else {
+        return Ok(None);
+    };
+    let Some(spec) = read_spec(alloc, spec.as_str())? else {
+        return Ok(None);
+    };
+    Ok(Some(Wanted::new(path, spec)))
+}
+
+/// A path, and the versions behind it.
+fn cut_at_sign(text: &str) -> (&str, &str)
+    ensures path { result.0.now ≡ (reading.at_sign text.now).before }
+    ensures versions { result.1.now ≡ (reading.at_sign text.now).behind }
+{
+    match sign_in(text) {
+        Some(at) => (&text[..at], &text[at..]),
+        None => (text, ""),
+    }
+}
+
+/// Where the first sign of a comparison stands.
+fn sign_in(text: &str) -> Option<usize>
+    ensures { result ≡ position reading.is_sign text.now }
+{
+    text.bytes().position(|byte| is_sign(byte))
+}
+
+/// Whether a byte begins the sign of a comparison.
+fn is_sign(byte: u8) -> bool
+    ensures { result ≡ reading.is_sign byte }
+{
+    matches!(byte, b'<' | b'>' | b'=')
+}
+
+/// The text of the one spec; `None` where there are two.
+fn spec_text(
+    alloc: Global,
+    spec: Option<&str>,
+    versions: &str,
+) -> Result<Option<String>, AllocError>
+    ensures { IfOk result (λ text. option_map string_bytes text ≡ reading.spec_text (option_copied spec.entry) versions.now) }
+{
+    match spec {
+        Some(spec) if versions.is_empty() => Ok(Some(String::from_str(alloc, spec)?)),
+        Some(_) => Ok(None),
+        None if versions.is_empty() => Ok(Some(String::from_str(alloc, "STEM-*")?)),
+        None => Ok(Some(format!(in alloc; "STEM-{versions}")?)),
+    }
+}
+
+/// The path that a text is, if it is one.
+fn read_path(alloc: Global, text: &str) -> Result<Option<PkgPath>, AllocError>
+    ensures { IfOk result (λ path. path ≡ reading.path_if_one text.now) }
+{
+    match PkgPath::read(alloc, text) {
+        Ok(path) => Ok(Some(path)),
+        Err(PkgPathFault::Empty) => Ok(None),
+        Err(PkgPathFault::TwoSubpackages) => Ok(None),
+        Err(PkgPathFault::BadCharacter) => Ok(None),
+        Err(PkgPathFault::Memory) => Err(AllocError),
+    }
+}
+
+/// The spec that a text is, if it is one.
+fn read_spec(alloc: Global, text: &str) -> Result<Option<Spec>, AllocError>
+    ensures { IfOk result (λ spec. spec ≡ reading.spec_if_one text.now) }
+{
+    match Spec::read(alloc, text) {
+        Ok(spec) => Ok(Some(spec)),
+        Err(SpecFault::NoStem) => Ok(None),
+        Err(SpecFault::BadVersion) => Ok(None),
+        Err(SpecFault::EmptyAlternative) => Ok(None),
+        Err(SpecFault::Memory) => Err(AllocError),
+    }
+}

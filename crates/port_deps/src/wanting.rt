@@ -1,0 +1,128 @@
+//! The items that a port depends on.
+ghost use Rattle.std.specs.Prelude.{◌≡◌, map, IfOk};
+ghost use Rattle.std.specs.Option.{option_copied};
+ghost use Rattle.port_deps.specs.Items as items;
+
+use crate::reading::read_wanted;
+use pkg_path::PkgPath;
+use pkg_spec::Spec;
+use port_rules::{Depend, DependKind, PortRecord};
+use std::alloc::{AllocError, Global};
+use std::marker::Model;
+
+/// What an item asks for: the path of a port, and a spec of the packages of that port that will do.
+#[derive(Debug, Drop)]
+pub struct Wanted {
+    path: PkgPath,
+    spec: Spec,
+}
+
+impl Model for Wanted {
+    ghost use Rattle.port_deps.specs.Items.{WantedValue};
+
+    ghost Value = { WantedValue };
+
+    ghost view = { λ w. record { path = w.path; spec = w.spec } };
+}
+
+impl Wanted {
+    pub(crate) fn new(path: PkgPath, spec: Spec) -> Wanted
+        ensures { result ≡ record { path = path; spec = spec } }
+    {
+        Wanted { path, spec }
+    }
+
+    /// The path of the port, with its flavors and its subpackage.
+    pub fn path(&self) -> &PkgPath
+        ensures { result.now ≡ self.now.path }
+    {
+        &self.path
+    }
+
+    /// The packages that will do.
+    pub fn spec(&self) -> &Spec
+        ensures { result.now ≡ self.now.spec }
+    {
+        &self.spec
+    }
+}
+
+/// An item of BUILD_DEPENDS, LIB_DEPENDS, RUN_DEPENDS or TEST_DEPENDS (bsd.port.mk(5)).
+#[derive(Debug, Drop)]
+pub struct Item {
+    kind: DependKind,
+    subpackage: String,
+    text: String,
+    wanted: Option<Wanted>,
+}
+
+impl Model for Item {
+    ghost use Rattle.std.specs.Prelude.{string_bytes};
+    ghost use Rattle.port_deps.specs.Items.{ItemValue};
+
+    ghost Value = { ItemValue };
+
+    ghost view = { λ i. record { kind = i.kind; subpackage = string_bytes i.subpackage; text = string_bytes i.text; wanted = i.wanted } };
+}
+
+impl Item {
+    /// The item that a dependency is.
+    fn of(alloc: Global, depend: &Depend) -> Result<Item, AllocError>
+        ensures { IfOk result (λ item. item ≡ items.item_of depend.now) }
+    {
+        Ok(Item {
+            kind: depend.kind(),
+            subpackage: String::from_str(alloc, depend.subpackage())?,
+            text: String::from_str(alloc, depend.item())?,
+            wanted: read_wanted(alloc, depend.item())?,
+        })
+    }
+
+    /// What the port needs it for.
+    pub fn kind(&self) -> DependKind
+        ensures { result ≡ self.now.kind }
+    {
+        self.kind
+    }
+
+    /// The package that needs it, with its dash; empty where it is the port as a whole, to be built or
+    /// tested.
+    pub fn subpackage(&self) -> &str
+        ensures { result.now ≡ self.now.subpackage }
+    {
+        self.subpackage.as_str()
+    }
+
+    /// The item as it is written.
+    pub fn text(&self) -> &str
+        ensures { result.now ≡ self.now.text }
+    {
+        self.text.as_str()
+    }
+
+    /// What it asks for; `None` where it can't be read.
+    pub fn wanted(&self) -> Option<&Wanted>
+        ensures { option_copied result ≡ self.now.wanted }
+    {
+        self.wanted.as_ref()
+    }
+}
+
+/// The items of a port, in the order of its dependencies.
+///
+/// An item is `[pkgspec:]pkgpath[:target]`. Empty parts that come first are dropped. Of two parts the first
+/// is a spec where it has no slash, or holds `*` or `|`. A path ends before its first `<`, `>` or `=`, and
+/// what begins there are the versions that will do, of any stem. Without a spec any package will do.
+///
+/// An item can't be read, and then tells nothing that it asks for, where it has no part or more than
+/// three, a spec and versions behind its path, a path that is none, or a spec that is none. The error is
+/// want of memory.
+pub fn items(alloc: Global, port: &PortRecord) -> Result<Vec<Item>, AllocError>
+    ensures { IfOk result (λ found. found.items ≡ map items.item_of port.now.depends) }
+{
+    let mut found = Vec::new(alloc);
+    for depend in port.depends() {
+        found.push(Item::of(alloc, depend)?)?;
+    }
+    Ok(found)
+}

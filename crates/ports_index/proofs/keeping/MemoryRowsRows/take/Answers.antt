@@ -1,0 +1,12 @@
+use Rattle.std.proofs.Common.{◌∙◌, ap, None, option_map}
+use Rattle.std.proofs.lemmas.Map.Text.{btree_map_updates_text}
+use Rattle.std.specs.BTreeMap.{get_by_text}
+use Rattle.std.specs.Str.{bytes_eq}
+use Rattle.ports_index.specs.Seen.{row_seen}
+use Rattle.ports_index.proofs.Lookups.{seen-cases}
+use Rattle.ports_index.proofs.keeping.MemoryRowsRows.take.Goals as goal
+
+pub returns-clause-left : goal.returns-clause-left
+returns-clause-left c = λ other.
+    ap (option_map row_seen) (btree_map_updates_text c.args.path.now c.args.self.now.rows c.remove.new.self None c.remove.ensures.updates other)
+    ∙ seen-cases (bytes_eq c.args.path.now other) None (get_by_text c.args.self.now.rows other)

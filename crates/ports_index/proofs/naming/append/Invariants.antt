@@ -1,0 +1,6 @@
+-- Behind those that were there stand the texts so far.
+use Rattle.std.proofs.Common.{◌≡◌, ◌++◌}
+use Rattle.ports_index.proofs.naming.append.Given as goal
+
+abbrev pub invariant-loop-text : goal.invariant-loop-text
+invariant-loop-text l = l.texts.items ≡ l.initial.texts.items ++ l.yielded

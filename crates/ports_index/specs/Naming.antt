@@ -1,0 +1,93 @@
+-- The paths of a ports tree: the directories in which a makefile may be, and the paths that lists of directories name (SUBDIR of
+-- bsd.port.subdir.mk(5)). Paths are in their canonical form, without subpackages.
+use Rattle.std.specs.Prelude.{ℕ, ◌==◌, ◌&&◌, ◌||◌, if◌then◌else◌, Bool, true, false, List, [], ◌∷◌, ◌++◌, Option, Some, None, option_and_then, option_map, is_none, codes}
+use Rattle.std.specs.List.{filter_map, flat_map, list_any}
+use Rattle.std.specs.FinMap.{keys}
+use Rattle.std.specs.Result.{result_ok}
+use Rattle.std.specs.Str.{bytes_eq}
+use Rattle.text_cuts.specs.Cuts.{Cut, cut_where}
+use Rattle.text_order.specs.Order.{in_order}
+use Rattle.mk_paths.specs.World.{FileMap}
+use Rattle.pkg_path.specs.Paths.{PathValue, path_of, canonical, without_subpackage, slash, comma}
+use Rattle.ports_index.specs.Rows.{RowValue, Lists, own}
+
+-- a text cut at its first slash, and what stands behind that
+abbrev pub at_slash : List ℕ → Option Cut
+at_slash text = cut_where slash (λ _. true) text
+
+abbrev pub behind_slash : List ℕ → Option (List ℕ)
+behind_slash text = option_map (λ (cut : Cut). cut.behind) (at_slash text)
+
+-- the name of a makefile in its directory
+abbrev pub is_makefile : List ℕ → Bool
+is_makefile text = bytes_eq text (codes "Makefile")
+
+-- a text cut at the slash of a makefile, and what stands before that
+abbrev pub at_makefile : List ℕ → Option Cut
+at_makefile text = cut_where slash is_makefile text
+
+abbrev pub before_makefile : List ℕ → Option (List ℕ)
+before_makefile text = option_map (λ (cut : Cut). cut.before) (at_makefile text)
+
+-- the directory of a makefile by its name below a tree
+abbrev pub directory_below : List ℕ → Option (List ℕ)
+directory_below name = if is_makefile name then Some own else before_makefile name
+
+-- the directory of a makefile by the file's name, whose first part is the tree: the same without the first slash, and with it
+abbrev pub directory_in : List ℕ → Option (List ℕ)
+directory_in name = option_and_then directory_below (behind_slash name)
+
+abbrev pub makefile_directory : List ℕ → Option (List ℕ)
+makefile_directory name = option_and_then directory_in (behind_slash name)
+
+-- the path that a text names, if it names one
+abbrev pub path_if_one : List ℕ → Option PathValue
+path_if_one text = result_ok (path_of text)
+
+-- a path that chooses no flavors and names no subpackage
+abbrev pub names_directory : PathValue → Bool
+names_directory path = is_none path.flavors && is_none path.subpackage
+
+abbrev pub is_bare_path : Option PathValue → Bool
+is_bare_path None = false
+is_bare_path (Some path) = names_directory path
+
+abbrev pub is_bare : List ℕ → Bool
+is_bare text = is_bare_path (path_if_one text)
+
+-- a directory that a path names, or the trees' own
+abbrev pub if_directory : List ℕ → Option (List ℕ)
+if_directory directory = if bytes_eq directory own || is_bare directory then Some directory else None
+
+-- the directory of which a name is the makefile, if it can be listed
+unfoldable pub directory_of : List ℕ → Option (List ℕ)
+directory_of name = option_and_then if_directory (makefile_directory name)
+
+-- the directories in which a makefile may be; the search path decides whether one is found there
+abbrev pub directories : FileMap → List (List ℕ)
+directories files = in_order (filter_map directory_of (keys files))
+
+-- a word below a directory
+abbrev pub joined : List ℕ → List ℕ → List ℕ
+joined directory word = if bytes_eq directory own then word else directory ++ slash ∷ word
+
+-- the canonical path without its subpackage
+abbrev pub key_of : PathValue → List ℕ
+key_of path = canonical (without_subpackage path)
+
+-- the path that a word of a directory's SUBDIR names: one with a comma
+abbrev pub path_of_word : List ℕ → List ℕ → Option (List ℕ)
+path_of_word directory word = if list_any (λ byte. byte == comma) word then option_map key_of (path_if_one (joined directory word)) else None
+
+-- the paths that a directory names, by what stands there
+abbrev pub named_in : List ℕ → RowValue → List (List ℕ)
+named_in directory (Lists words) = filter_map (path_of_word directory) words
+named_in directory row = []
+
+-- the same by what stands at each path
+abbrev pub named_at : (List ℕ → RowValue) → List ℕ → List (List ℕ)
+named_at rows directory = named_in directory (rows directory)
+
+-- directories, and the paths that they name
+abbrev pub listed_from : (List ℕ → RowValue) → List (List ℕ) → List (List ℕ)
+listed_from rows directories = in_order (flat_map (named_at rows) directories ++ directories)

@@ -1,0 +1,175 @@
+//! The ports of a ports tree, and what they depend on, by the rows of its paths.
+ghost use Rattle.std.specs.Prelude.{◌≡◌, ◌++◌, map, string_bytes, IfOk, OnOk, option_map, option_to_list};
+ghost use Rattle.std.specs.List.{filter_map};
+ghost use Rattle.port_deps.specs.Seen.{found_seen};
+ghost use Rattle.ports_index.specs.Depending as depending;
+ghost use Rattle.ports_index.specs.Filling.{IsListed};
+ghost use Rattle.ports_index.specs.Seen.{row_seen, known_row, known_in, item_seen};
+
+use crate::evaluating::Row;
+use crate::keeping::Rows;
+use crate::naming::add_found;
+use mk_base::Fault;
+use port_deps::{Found, Item, Root, RootEdge, items, resolve};
+use port_rules::PortRecord;
+use std::alloc::{AllocError, Global};
+
+/// An item of the port at a path.
+#[derive(Debug, Drop)]
+pub(crate) struct RootItem {
+    root: String,
+    item: Item,
+}
+
+/// The items of the ports at these paths.
+pub(crate) fn items_of_all<R: Rows>(
+    alloc: Global,
+    paths: &[String],
+    rows: &R,
+) -> Result<Vec<RootItem>, AllocError>
+    ensures { IfOk result (λ found. map item_seen found.items ≡ depending.items_among (known_in (R.held rows.now)) (map string_bytes paths.now)) }
+{
+    let mut found = Vec::new(alloc);
+    for path in paths {
+        add_items(alloc, &mut found, path, rows.get(path))?;
+    }
+    Ok(found)
+}
+
+// Adds the items of what stands at a path.
+fn add_items(
+    alloc: Global,
+    found: &mut Vec<RootItem>,
+    path: &str,
+    row: Option<&Row>,
+) -> Result<(), AllocError>
+    ensures { OnOk result (map item_seen found.new.items ≡ map item_seen found.old.items ++ depending.items_in path.now (known_row (option_map (λ row. row_seen row.now) row.entry))) }
+{
+    match row {
+        Some(Row::Port(port)) => put_items(alloc, found, path, items(alloc, port)?),
+        _ => Ok(()),
+    }
+}
+
+// Adds items of the port at a path.
+fn put_items(
+    alloc: Global,
+    found: &mut Vec<RootItem>,
+    path: &str,
+    items: Vec<Item>,
+) -> Result<(), AllocError>
+    ensures { OnOk result (map item_seen found.new.items ≡ map item_seen found.old.items ++ map (depending.item_at path.now) items.items) }
+{
+    for item in items {
+        found.push(RootItem {
+            root: String::from_str(alloc, path)?,
+            item,
+        })?;
+    }
+    Ok(())
+}
+
+/// The paths that items name.
+pub(crate) fn targets_of(alloc: Global, items: &[RootItem]) -> Result<Vec<String>, AllocError>
+    ensures { IfOk result (λ found. map string_bytes found.items ≡ filter_map depending.target_of (map item_seen items.now)) }
+{
+    let mut found = Vec::new(alloc);
+    for rooted in items {
+        add_found(&mut found, target_of(alloc, &rooted.item)?)?;
+    }
+    Ok(found)
+}
+
+// The path that an item names, without a subpackage, if it can be read.
+fn target_of(alloc: Global, item: &Item) -> Result<Option<String>, AllocError>
+    ensures { IfOk result (λ path. option_map string_bytes path ≡ depending.target_in item.now) }
+{
+    match item.wanted() {
+        Some(wanted) => {
+            let path = wanted.path().copy(alloc)?.without_sub();
+            Ok(Some(path.canonical(alloc)?))
+        }
+        None => Ok(None),
+    }
+}
+
+/// The dependencies that items are, by what stands where their paths say.
+pub(crate) fn edges_of_all<R: Rows>(
+    alloc: Global,
+    items: Vec<RootItem>,
+    rows: &R,
+) -> Result<Vec<RootEdge>, AllocError>
+    ensures { IfOk result (λ found. found.items ≡ map (depending.edge_at (known_in (R.held rows.now))) (map item_seen items.items)) }
+{
+    let mut found = Vec::new(alloc);
+    for rooted in items {
+        found.push(edge_of(alloc, rooted, rows)?)?;
+    }
+    Ok(found)
+}
+
+// The dependency that an item is.
+fn edge_of<R: Rows>(alloc: Global, rooted: RootItem, rows: &R) -> Result<RootEdge, AllocError>
+    ensures { IfOk result (λ edge. edge ≡ depending.edge_at (known_in (R.held rows.now)) (item_seen rooted)) }
+{
+    let found = match target_of(alloc, &rooted.item)? {
+        Some(path) => found_as(rows.get(path.as_str())),
+        None => Found::NotThere,
+    };
+    let edge = resolve(alloc, &rooted.item, found)?;
+    Ok(RootEdge::new(rooted.root, edge))
+}
+
+// What a row is for an item whose path it is.
+fn found_as(row: Option<&Row>) -> Found<'_>
+    ensures { found_seen result ≡ depending.found_of (known_row (option_map (λ row. row_seen row.now) row.entry)) }
+{
+    match row {
+        Some(Row::Port(port)) => Found::Port(port),
+        Some(Row::Faulty(fault)) => Found::Faulted(fault.kind()),
+        Some(Row::Lists(_) | Row::BadList(_) | Row::Other) => Found::NotPort,
+        Some(Row::Absent) | None => Found::NotThere,
+    }
+}
+
+/// The ports at these paths, and the faults there. Their rows are taken out.
+pub(crate) fn roots_of_all<R: Rows>(
+    alloc: Global,
+    paths: &[String],
+    rows: &mut R,
+) -> Result<Vec<Root>, AllocError>
+    requires { IsListed (map string_bytes paths.now) }
+    ensures { IfOk result (λ found. found.items ≡ depending.roots_among (known_in (R.held rows.old)) (map string_bytes paths.now)) }
+{
+    let mut found = Vec::new(alloc);
+    for path in paths {
+        add_root(alloc, &mut found, path, rows.take(path))?;
+    }
+    Ok(found)
+}
+
+// Adds the root at a path with this row, if there is one.
+fn add_root(
+    alloc: Global,
+    found: &mut Vec<Root>,
+    path: &str,
+    row: Option<Row>,
+) -> Result<(), AllocError>
+    ensures { OnOk result (found.new.items ≡ found.old.items ++ option_to_list (depending.root_with path.now (depending.state_of (known_row (option_map row_seen row))))) }
+{
+    if let Some(state) = state_of(row) {
+        found.push(Root::new(String::from_str(alloc, path)?, state))?;
+    }
+    Ok(())
+}
+
+// What a row is as a root, if it is one.
+fn state_of(row: Option<Row>) -> Option<Result<PortRecord, Fault>>
+    ensures { result ≡ depending.state_of (known_row (option_map row_seen row)) }
+{
+    match row {
+        Some(Row::Port(port)) => Some(Ok(port)),
+        Some(Row::Faulty(fault) | Row::BadList(fault)) => Some(Err(fault)),
+        Some(Row::Absent | Row::Lists(_) | Row::Other) | None => None,
+    }
+}

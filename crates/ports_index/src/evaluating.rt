@@ -1,0 +1,164 @@
+//! What stands at a path.
+ghost use Rattle.std.specs.Prelude.{◌≡◌, IfOk, map, string_bytes, codes};
+ghost use Rattle.std.specs.Result.{result_err};
+ghost use Rattle.mk_eval.specs.Meaning.{means, value_of};
+ghost use Rattle.mk_text.specs.Words.{words_of};
+ghost use Rattle.port_rules.specs.Records.{record_of};
+ghost use Rattle.mk_eval.specs.Views.{flavors_in};
+ghost use Rattle.mk_paths.specs.Place.{place};
+ghost use Rattle.ports_index.specs.Keeping.{Keeps};
+ghost use Rattle.ports_index.specs.Rows as rows;
+ghost use Rattle.ports_index.specs.Seen.{row_seen};
+
+use mk_base::{Fault, Stop};
+use mk_eval::{Evaluated, Kind, evaluate, value};
+use mk_files::Files;
+use mk_paths::{FilesFault, Name, Settings, find};
+use mk_text::words;
+use pkg_path::{Flavors, PkgPath, PkgPathFault};
+use port_rules::{PortRecord, record};
+use std::alloc::{AllocError, Global};
+
+/// What a makefile describes that a path names.
+#[derive(Debug, Drop)]
+pub enum Row {
+    /// There is no such makefile.
+    Absent,
+    /// Its evaluation, or the record of its port, has this fault.
+    Faulty(Fault),
+    /// This port.
+    Port(PortRecord),
+    /// A list of ports' directories: the words of SUBDIR.
+    Lists(Vec<String>),
+    /// A list of ports' directories whose SUBDIR has this fault.
+    BadList(Fault),
+    /// Neither; or a list of directories, evaluated with flavors.
+    Other,
+}
+
+/// What stands at a path in its canonical form, without a subpackage; `.` is the trees' own directory.
+///
+/// The makefile that the path names is evaluated with the flavors of the path. A text that is no path has
+/// none. The errors are those of the files, and want of memory.
+#[tactic(auto, unfolding(crate::specs::Rows::row_at))]
+pub fn evaluate_path<F: Files>(
+    alloc: Global,
+    files: &mut F,
+    settings: &Settings,
+    path: &str,
+) -> Result<Row, FilesFault>
+    ensures row { IfOk result (λ row. row_seen row ≡ rows.row_at ((F.shelf files.old).files, settings.now) path.now) }
+    ensures keeps { Keeps (result_err result) (F.shelf files.old) (F.shelf files.new) }
+{
+    if path == "." {
+        return row_in(alloc, files, settings, path, None);
+    }
+    match PkgPath::read(alloc, path) {
+        Ok(path) => row_in(alloc, files, settings, path.directory(), chosen(&path)),
+        Err(PkgPathFault::Memory) => Err(FilesFault::Memory),
+        Err(PkgPathFault::Empty) => Ok(Row::Absent),
+        Err(PkgPathFault::TwoSubpackages) => Ok(Row::Absent),
+        Err(PkgPathFault::BadCharacter) => Ok(Row::Absent),
+    }
+}
+
+// The flavors that a path chooses, if it chooses any.
+fn chosen(path: &PkgPath) -> Option<&[String]>
+    ensures { flavors_in result ≡ path.now.flavors }
+{
+    match path.flavors() {
+        Flavors::Default => None,
+        Flavors::Explicit(names) => Some(names.as_slice()),
+    }
+}
+
+// What stands in a directory, evaluated with these flavors or with none given.
+fn row_in<F: Files>(
+    alloc: Global,
+    files: &mut F,
+    settings: &Settings,
+    directory: &str,
+    flavors: Option<&[String]>,
+) -> Result<Row, FilesFault>
+    ensures row { IfOk result (λ row. row_seen row ≡ rows.row_in ((F.shelf files.old).files, settings.now) directory.now (flavors_in flavors.entry)) }
+    ensures keeps { Keeps (result_err result) (F.shelf files.old) (F.shelf files.new) }
+{
+    match find(alloc, files, &settings.path, directory)? {
+        Some(makefile) => row_of(alloc, files, settings, &makefile, flavors),
+        None => Ok(Row::Absent),
+    }
+}
+
+// What a makefile describes.
+fn row_of<F: Files>(
+    alloc: Global,
+    files: &mut F,
+    settings: &Settings,
+    makefile: &Name,
+    flavors: Option<&[String]>,
+) -> Result<Row, FilesFault>
+    ensures row { IfOk result (λ row. row_seen row ≡ rows.described makefile.now (flavors_in flavors.entry) (means ((F.shelf files.old).files, settings.now) makefile.now (flavors_in flavors.entry))) }
+    ensures keeps { Keeps (result_err result) (F.shelf files.old) (F.shelf files.new) }
+{
+    match evaluate(alloc, files, settings, makefile, flavors) {
+        Ok(evaluated) => Ok(row_after(alloc, &evaluated, makefile, flavors)?),
+        Err(Stop::Fault(failed)) => Ok(Row::Faulty(failed.fault)),
+        Err(Stop::Store) => Err(FilesFault::Store),
+        Err(Stop::Memory) => Err(FilesFault::Memory),
+    }
+}
+
+// What an evaluated makefile describes.
+fn row_after(
+    alloc: Global,
+    evaluated: &Evaluated,
+    makefile: &Name,
+    flavors: Option<&[String]>,
+) -> Result<Row, AllocError>
+    ensures { IfOk result (λ row. row_seen row ≡ rows.row_after makefile.now (flavors_in flavors.entry) evaluated.now) }
+{
+    match evaluated.kind {
+        Kind::Port => port_row(alloc, evaluated, makefile),
+        Kind::List => match flavors {
+            Some(_names) => Ok(Row::Other),
+            None => list_row(alloc, evaluated, makefile),
+        },
+        Kind::Other => Ok(Row::Other),
+    }
+}
+
+// A port, or the fault of its record.
+fn port_row(alloc: Global, evaluated: &Evaluated, makefile: &Name) -> Result<Row, AllocError>
+    ensures { IfOk result (λ row. row_seen row ≡ rows.port_row (record_of evaluated.now.env makefile.now)) }
+{
+    match record(alloc, evaluated, makefile) {
+        Ok(recorded) => Ok(Row::Port(recorded.port)),
+        Err(Stop::Fault(failed)) => Ok(Row::Faulty(failed.fault)),
+        Err(Stop::Store) => Err(AllocError),
+        Err(Stop::Memory) => Err(AllocError),
+    }
+}
+
+// A list of directories, or the fault of its SUBDIR.
+fn list_row(alloc: Global, evaluated: &Evaluated, makefile: &Name) -> Result<Row, AllocError>
+    ensures { IfOk result (λ row. row_seen row ≡ rows.list_row (value_of evaluated.now.env makefile.now (codes "SUBDIR"))) }
+{
+    match value(alloc, evaluated, makefile, "SUBDIR") {
+        Ok(Some(found)) => Ok(Row::Lists(words_in(alloc, found.text())?)),
+        Ok(None) => Ok(Row::Lists(Vec::new(alloc))),
+        Err(Stop::Fault(failed)) => Ok(Row::BadList(failed.fault)),
+        Err(Stop::Store) => Err(AllocError),
+        Err(Stop::Memory) => Err(AllocError),
+    }
+}
+
+// The words of a text, each of its own.
+fn words_in(alloc: Global, text: &str) -> Result<Vec<String>, AllocError>
+    ensures { IfOk result (λ found. map string_bytes found.items ≡ words_of text.now) }
+{
+    let mut found = Vec::new(alloc);
+    for span in &words(alloc, text)? {
+        found.push(String::from_str(alloc, span.of(text))?)?;
+    }
+    Ok(found)
+}

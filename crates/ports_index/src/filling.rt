@@ -1,0 +1,56 @@
+//! Finding what stands at paths that have no row yet.
+ghost use Rattle.std.specs.Prelude.{◌∷◌, [], map, string_bytes, OnOk};
+ghost use Rattle.std.specs.Result.{result_err};
+ghost use Rattle.ports_index.specs.Filling.{AreRight, Fills};
+ghost use Rattle.ports_index.specs.Keeping.{Keeps};
+
+use crate::evaluating::evaluate_path;
+use crate::keeping::Rows;
+use mk_files::Files;
+use mk_paths::{FilesFault, Settings};
+use std::alloc::Global;
+
+/// Gives each of these paths a row that has none yet: what stands there. Where all rows were right before,
+/// so they are then, and the paths that had a row have it still.
+///
+/// The errors are those of the files, and want of memory; the rows that were made until
+/// then stay.
+pub fn fill<F: Files, R: Rows>(
+    alloc: Global,
+    files: &mut F,
+    settings: &Settings,
+    paths: &[String],
+    rows: &mut R,
+) -> Result<(), FilesFault>
+    requires { AreRight ((F.shelf files.old).files, settings.now) (R.held rows.old) }
+    ensures right { AreRight ((F.shelf files.old).files, settings.now) (R.held rows.new) }
+    ensures fills { OnOk result (Fills ((F.shelf files.old).files, settings.now) (map string_bytes paths.now) (R.held rows.old) (R.held rows.new)) }
+    ensures keeps { Keeps (result_err result) (F.shelf files.old) (F.shelf files.new) }
+{
+    for path in paths {
+        fill_one(alloc, files, settings, path, rows)?;
+    }
+    Ok(())
+}
+
+/// Gives this path its row, if it has none yet.
+pub(crate) fn fill_one<F: Files, R: Rows>(
+    alloc: Global,
+    files: &mut F,
+    settings: &Settings,
+    path: &str,
+    rows: &mut R,
+) -> Result<(), FilesFault>
+    requires { AreRight ((F.shelf files.old).files, settings.now) (R.held rows.old) }
+    ensures right { AreRight ((F.shelf files.old).files, settings.now) (R.held rows.new) }
+    ensures fills { OnOk result (Fills ((F.shelf files.old).files, settings.now) (path.now ∷ []) (R.held rows.old) (R.held rows.new)) }
+    ensures keeps { Keeps (result_err result) (F.shelf files.old) (F.shelf files.new) }
+{
+    if rows.get(path).is_some() {
+        return Ok(());
+    }
+    let row = evaluate_path(alloc, files, settings, path)?;
+    let key = String::from_str(alloc, path)?;
+    rows.put(key, row)?;
+    Ok(())
+}

@@ -1,0 +1,92 @@
+//! The index of a ports tree.
+ghost use Rattle.std.specs.Prelude.{◌≡◌, map, string_bytes, IfOk};
+ghost use Rattle.std.specs.Result.{result_err};
+ghost use Rattle.ports_index.specs.Filling.{AreRight, AreKnown, IsListed};
+ghost use Rattle.ports_index.specs.Depending.{roots_among, edges_among};
+ghost use Rattle.ports_index.specs.Rows.{row_at};
+ghost use Rattle.ports_index.specs.Index as indexed;
+ghost use Rattle.ports_index.specs.Keeping.{Keeps};
+
+use crate::depending::{edges_of_all, items_of_all, roots_of_all, targets_of};
+use crate::filling::fill;
+use crate::keeping::{MemoryRows, Rows};
+use crate::naming::{directories, listed};
+use mk_files::{Files, Listing};
+use mk_paths::{FilesFault, Settings};
+use port_deps::{Root, RootEdge};
+use std::alloc::Global;
+
+/// The ports of a ports tree, and their dependencies.
+#[derive(Debug, Drop)]
+pub struct Index {
+    /// The ports, and the faults met where they should be, in the order of their canonical paths, each once.
+    pub roots: Vec<Root>,
+    /// The dependencies of all ports, in that order and in the order of each port's items.
+    pub edges: Vec<RootEdge>,
+}
+
+/// The index of these files under these settings.
+///
+/// Each directory that a path without flavors and subpackage names, and the trees' own, shown as `.`, whose
+/// makefile the search path finds, is evaluated without flavors. A port is a root; of a list, each word of
+/// SUBDIR with a comma in it is one, where it is a path below the list's directory that leads to a port; a
+/// fault makes the directory, or that word, a root with the fault, and a fault of SUBDIR its directory.
+///
+/// Each makefile is evaluated once for each choice of flavors. The errors are those of the files, and want
+/// of memory.
+pub fn index_files<F: Listing>(
+    alloc: Global,
+    files: &mut F,
+    settings: &Settings,
+) -> Result<Index, FilesFault>
+    ensures roots { IfOk result (λ index. index.roots.items ≡ indexed.roots ((F.shelf files.old).files, settings.now)) }
+    ensures edges { IfOk result (λ index. index.edges.items ≡ indexed.edges ((F.shelf files.old).files, settings.now)) }
+    ensures keeps { Keeps (result_err result) (F.shelf files.old) (F.shelf files.new) }
+{
+    let mut rows = MemoryRows::new(alloc);
+    let paths = list(alloc, files, settings, &mut rows)?;
+    index_paths(alloc, files, settings, &paths, &mut rows)
+}
+
+// The listed paths, with a row for each.
+fn list<F: Listing, R: Rows>(
+    alloc: Global,
+    files: &mut F,
+    settings: &Settings,
+    rows: &mut R,
+) -> Result<Vec<String>, FilesFault>
+    requires { AreRight ((F.shelf files.old).files, settings.now) (R.held rows.old) }
+    ensures right { AreRight ((F.shelf files.old).files, settings.now) (R.held rows.new) }
+    ensures listed { IfOk result (λ paths. map string_bytes paths.items ≡ indexed.listed ((F.shelf files.old).files, settings.now)) }
+    ensures known { IfOk result (λ paths. AreKnown ((F.shelf files.old).files, settings.now) (R.held rows.new) (map string_bytes paths.items)) }
+    ensures keeps { Keeps (result_err result) (F.shelf files.old) (F.shelf files.new) }
+{
+    let directories = directories(alloc, files)?;
+    fill(alloc, files, settings, &directories, rows)?;
+    let paths = listed(alloc, directories, rows)?;
+    fill(alloc, files, settings, &paths, rows)?;
+    Ok(paths)
+}
+
+// The index of listed paths that have their rows.
+fn index_paths<F: Files, R: Rows>(
+    alloc: Global,
+    files: &mut F,
+    settings: &Settings,
+    paths: &[String],
+    rows: &mut R,
+) -> Result<Index, FilesFault>
+    requires right { AreRight ((F.shelf files.old).files, settings.now) (R.held rows.old) }
+    requires known { AreKnown ((F.shelf files.old).files, settings.now) (R.held rows.old) (map string_bytes paths.now) }
+    requires listed { IsListed (map string_bytes paths.now) }
+    ensures roots { IfOk result (λ index. index.roots.items ≡ roots_among (row_at ((F.shelf files.old).files, settings.now)) (map string_bytes paths.now)) }
+    ensures edges { IfOk result (λ index. index.edges.items ≡ edges_among (row_at ((F.shelf files.old).files, settings.now)) (map string_bytes paths.now)) }
+    ensures keeps { Keeps (result_err result) (F.shelf files.old) (F.shelf files.new) }
+{
+    let items = items_of_all(alloc, paths, rows)?;
+    let targets = targets_of(alloc, &items)?;
+    fill(alloc, files, settings, &targets, rows)?;
+    let edges = edges_of_all(alloc, items, rows)?;
+    let roots = roots_of_all(alloc, paths, rows)?;
+    Ok(Index { roots, edges })
+}

@@ -1,0 +1,15 @@
+//! The index of a ports tree: its ports, each with what it is, and their dependencies with their statuses.
+//! Everything is computed from the files, each makefile once for each choice of flavors.
+#![tactic(auto)]
+
+mod depending;
+mod evaluating;
+mod filling;
+mod indexing;
+mod keeping;
+mod naming;
+
+pub use evaluating::{Row, evaluate_path};
+pub use filling::fill;
+pub use indexing::{Index, index_files};
+pub use keeping::{MemoryRows, Rows};

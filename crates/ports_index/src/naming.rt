@@ -1,0 +1,271 @@
+//! The paths of a ports tree: directories with a makefile, and what a list of directories names.
+ghost use Rattle.std.specs.Prelude.{◌≡◌, ◌==◌, ◌++◌, map, string_bytes, IfOk, OnOk, option_map, option_to_list, MatchOption, Some, None, true};
+ghost use Rattle.std.specs.List.{filter_map, flat_map, list_any};
+ghost use Rattle.std.specs.Option.{option_copied};
+ghost use Rattle.std.specs.Result.{result_err};
+ghost use Rattle.ports_index.specs.Keeping.{Keeps};
+ghost use Rattle.ports_index.specs.Naming as naming;
+ghost use Rattle.ports_index.specs.Seen.{row_seen, known_row, known_in};
+
+use crate::evaluating::Row;
+use crate::keeping::Rows;
+use mk_files::Listing;
+use mk_paths::FilesFault;
+use pkg_path::{Flavors, PkgPath, PkgPathFault};
+use std::alloc::{AllocError, Global};
+use text_cuts::cut_where;
+use text_order::put_in_order;
+
+/// The directories in which a makefile may be, by the names of the files: in the order of their bytes,
+/// each once.
+pub(crate) fn directories<F: Listing>(
+    alloc: Global,
+    files: &mut F,
+) -> Result<Vec<String>, FilesFault>
+    ensures ok { IfOk result (λ found. map string_bytes found.items ≡ naming.directories (F.shelf files.old).files) }
+    ensures keeps { Keeps (result_err result) (F.shelf files.old) (F.shelf files.new) }
+{
+    let names = files.names(alloc)?;
+    let mut found = directories_of(alloc, &names)?;
+    put_in_order(&mut found);
+    Ok(found)
+}
+
+// The directories of which these names are makefiles.
+fn directories_of(alloc: Global, names: &[String]) -> Result<Vec<String>, AllocError>
+    ensures { IfOk result (λ found. map string_bytes found.items ≡ filter_map naming.directory_of (map string_bytes names.now)) }
+{
+    let mut found = Vec::new(alloc);
+    for name in names {
+        add_found(&mut found, directory_of(alloc, name)?)?;
+    }
+    Ok(found)
+}
+
+/// Adds a path, if there is one.
+pub(crate) fn add_found(paths: &mut Vec<String>, path: Option<String>) -> Result<(), AllocError>
+    ensures { OnOk result (map string_bytes paths.new.items ≡ map string_bytes paths.old.items ++ option_to_list (option_map string_bytes path)) }
+{
+    if let Some(path) = path {
+        paths.push(path)?;
+    }
+    Ok(())
+}
+
+// The directory of which a name is the makefile, if a path can name that.
+#[tactic(auto, unfolding(crate::specs::Naming::directory_of))]
+fn directory_of(alloc: Global, name: &str) -> Result<Option<String>, AllocError>
+    ensures { IfOk result (λ found. option_map string_bytes found ≡ naming.directory_of name.now) }
+{
+    let Some(directory) = makefile_directory(name) else {
+        return Ok(None);
+    };
+    if directory == "." || is_bare(alloc, directory)? {
+        return Ok(Some(String::from_str(alloc, directory)?));
+    }
+    Ok(None)
+}
+
+// The directory, below its tree, of which a name is the makefile.
+fn makefile_directory(name: &str) -> Option<&str>
+    ensures { option_copied result ≡ naming.makefile_directory name.now }
+{
+    match behind_slash(name) {
+        Some(tree) => directory_in(tree),
+        None => None,
+    }
+}
+
+// The same where the name has no first slash.
+fn directory_in(name: &str) -> Option<&str>
+    ensures { option_copied result ≡ naming.directory_in name.now }
+{
+    match behind_slash(name) {
+        Some("Makefile") => Some("."),
+        Some(below) => before_makefile(below),
+        None => None,
+    }
+}
+
+// What stands behind the first slash of a text.
+fn behind_slash(text: &str) -> Option<&str>
+    ensures { option_copied result ≡ naming.behind_slash text.now }
+{
+    match at_slash(text) {
+        Some((_before, behind)) => Some(behind),
+        None => None,
+    }
+}
+
+// What stands before and behind the first slash of a text.
+fn at_slash(text: &str) -> Option<(&str, &str)>
+    ensures { MatchOption result (naming.at_slash text.now ≡ None) (λ cut. naming.at_slash text.now ≡ Some (record { before = cut.0.now; behind = cut.1.now })) }
+{
+    cut_where(text, '/', is_anything)
+}
+
+// Any text is.
+fn is_anything(_text: &[u8]) -> bool
+    ensures { result ≡ true }
+{
+    true
+}
+
+// What stands before the makefile in a text.
+fn before_makefile(text: &str) -> Option<&str>
+    ensures { option_copied result ≡ naming.before_makefile text.now }
+{
+    match at_makefile(text) {
+        Some((before, _makefile)) => Some(before),
+        None => None,
+    }
+}
+
+// What stands before and behind the slash in front of a makefile.
+fn at_makefile(text: &str) -> Option<(&str, &str)>
+    ensures { MatchOption result (naming.at_makefile text.now ≡ None) (λ cut. naming.at_makefile text.now ≡ Some (record { before = cut.0.now; behind = cut.1.now })) }
+{
+    cut_where(text, '/', is_makefile)
+}
+
+// Whether a text is `Makefile`.
+fn is_makefile(text: &[u8]) -> bool
+    ensures { result ≡ naming.is_makefile text.now }
+{
+    text == b"Makefile".as_slice()
+}
+
+// Whether a text is a path that chooses no flavors and names no subpackage.
+fn is_bare(alloc: Global, text: &str) -> Result<bool, AllocError>
+    ensures { IfOk result (λ is. is ≡ naming.is_bare text.now) }
+{
+    match read_path(alloc, text)? {
+        Some(path) => Ok(names_directory(&path)),
+        None => Ok(false),
+    }
+}
+
+// Whether a path chooses no flavors and names no subpackage.
+fn names_directory(path: &PkgPath) -> bool
+    ensures { result ≡ naming.names_directory path.now }
+{
+    match path.flavors() {
+        Flavors::Default => path.subpackage().is_none(),
+        Flavors::Explicit(_names) => false,
+    }
+}
+
+// The path that a text is, if it is one.
+fn read_path(alloc: Global, text: &str) -> Result<Option<PkgPath>, AllocError>
+    ensures { IfOk result (λ path. path ≡ naming.path_if_one text.now) }
+{
+    match PkgPath::read(alloc, text) {
+        Ok(path) => Ok(Some(path)),
+        Err(PkgPathFault::Empty) => Ok(None),
+        Err(PkgPathFault::TwoSubpackages) => Ok(None),
+        Err(PkgPathFault::BadCharacter) => Ok(None),
+        Err(PkgPathFault::Memory) => Err(AllocError),
+    }
+}
+
+/// These directories, and the paths that those of them name which are lists: in the order of their bytes,
+/// each once.
+pub(crate) fn listed<R: Rows>(
+    alloc: Global,
+    directories: Vec<String>,
+    rows: &R,
+) -> Result<Vec<String>, AllocError>
+    ensures { IfOk result (λ found. map string_bytes found.items ≡ naming.listed_from (known_in (R.held rows.now)) (map string_bytes directories.items)) }
+{
+    let mut paths = named_by_all(alloc, &directories, rows)?;
+    append(&mut paths, directories)?;
+    put_in_order(&mut paths);
+    Ok(paths)
+}
+
+// Texts with more behind them.
+fn append(texts: &mut Vec<String>, more: Vec<String>) -> Result<(), AllocError>
+    ensures { OnOk result (texts.new.items ≡ texts.old.items ++ more.items) }
+{
+    for text in more {
+        texts.push(text)?;
+    }
+    Ok(())
+}
+
+// The paths that these directories name.
+fn named_by_all<R: Rows>(
+    alloc: Global,
+    directories: &[String],
+    rows: &R,
+) -> Result<Vec<String>, AllocError>
+    ensures { IfOk result (λ found. map string_bytes found.items ≡ flat_map (naming.named_at (known_in (R.held rows.now))) (map string_bytes directories.now)) }
+{
+    let mut found = Vec::new(alloc);
+    for directory in directories {
+        add_named(alloc, &mut found, directory, rows.get(directory))?;
+    }
+    Ok(found)
+}
+
+// Adds the paths that a directory names, where this is its row.
+fn add_named(
+    alloc: Global,
+    found: &mut Vec<String>,
+    directory: &str,
+    row: Option<&Row>,
+) -> Result<(), AllocError>
+    ensures { OnOk result (map string_bytes found.new.items ≡ map string_bytes found.old.items ++ naming.named_in directory.now (known_row (option_map (λ row. row_seen row.now) row.entry))) }
+{
+    match row {
+        Some(Row::Lists(words)) => add_words(alloc, found, directory, words),
+        _ => Ok(()),
+    }
+}
+
+// Adds the paths that words of a directory name.
+fn add_words(
+    alloc: Global,
+    found: &mut Vec<String>,
+    directory: &str,
+    words: &[String],
+) -> Result<(), AllocError>
+    ensures { OnOk result (map string_bytes found.new.items ≡ map string_bytes found.old.items ++ filter_map (naming.path_of_word directory.now) (map string_bytes words.now)) }
+{
+    for word in words {
+        add_found(found, path_of_word(alloc, directory, word)?)?;
+    }
+    Ok(())
+}
+
+// The path that a word of a directory names, if it chooses flavors.
+fn path_of_word(alloc: Global, directory: &str, word: &str) -> Result<Option<String>, AllocError>
+    ensures { IfOk result (λ path. option_map string_bytes path ≡ naming.path_of_word directory.now word.now) }
+{
+    if !has_comma(word) {
+        return Ok(None);
+    }
+    let text = joined(alloc, directory, word)?;
+    match read_path(alloc, text.as_str())? {
+        Some(path) => Ok(Some(path.without_sub().canonical(alloc)?)),
+        None => Ok(None),
+    }
+}
+
+// Whether a comma stands in a text.
+fn has_comma(text: &str) -> bool
+    ensures { result ≡ list_any (λ byte. byte == 44) text.now }
+{
+    text.bytes().any(|byte| byte == b',')
+}
+
+// A word below a directory.
+fn joined(alloc: Global, directory: &str, word: &str) -> Result<String, AllocError>
+    ensures { IfOk result (λ text. string_bytes text ≡ naming.joined directory.now word.now) }
+{
+    if directory == "." {
+        String::from_str(alloc, word)
+    } else {
+        format!(in alloc; "{directory}/{word}")
+    }
+}

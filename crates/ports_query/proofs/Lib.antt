@@ -1,0 +1,4 @@
+mod FirstOperator
+mod Reading
+mod Parts
+mod Steps

@@ -1,0 +1,51 @@
+-- Lists that are tested, mapped and filtered, one element more.
+use Rattle.std.proofs.Common.{◌≡◌, ◌∙◌, sym, ap, refl, ℕ, ◌+◌, ◌<◌, Bool, true, false, cond, ◌||◌, List, [], ◌∷◌, ◌++◌, map, take, length, get_or, Option, Some, None, append-nil}
+use Rattle.std.proofs.lemmas.List.{append_assoc, take_more, map-append}
+use Rattle.std.proofs.lemmas.List.Elements.{filter-append, filter_map-append}
+use Rattle.std.specs.List.{filter, filter_map, cons_option, list_any}
+use Rattle.std.specs.Option.{option_to_list}
+
+-- what one element more gives
+gives_one : {X Y : Type 0} (h : X → Option Y) (x : X) → filter_map h (x ∷ []) ≡ option_to_list (h x)
+gives_one h x = by (h x)
+  where
+    by : {Y : Type 0} (y : Option Y) → filter_map (λ y. y) (y ∷ []) ≡ option_to_list y
+    by None = refl
+    by (Some y) = refl
+
+pub filter_map-more : {X Y : Type 0} (h : X → Option Y) (xs : List X) (i : ℕ) (d : X) (before now : List Y) → i < length xs
+    → before ≡ filter_map h (take i xs) → now ≡ before ++ option_to_list (h (get_or xs i d)) → now ≡ filter_map h (take (i + 1) xs)
+filter_map-more h xs i d before now inside so_far more =
+    more ∙ ap (λ ys. ys ++ option_to_list (h (get_or xs i d))) so_far
+    ∙ ap (λ ys. filter_map h (take i xs) ++ ys) (sym (gives_one h (get_or xs i d)))
+    ∙ sym (filter_map-append h (take i xs) (get_or xs i d ∷ []))
+    ∙ ap (filter_map h) (sym (take_more xs i d inside))
+
+-- what is given of mapped elements
+pub filter_map-over : {X Y Z : Type 0} (h : Y → Option Z) (f : X → Y) (xs : List X) → filter_map h (map f xs) ≡ filter_map (λ x. h (f x)) xs
+filter_map-over h f [] = refl
+filter_map-over h f (x ∷ xs) = ap (cons_option (h (f x))) (filter_map-over h f xs)
+
+-- a test of mapped elements
+pub any_mapped : {X Y : Type 0} (test : Y → Bool) (f : X → Y) (xs : List X) → list_any test (map f xs) ≡ list_any (λ x. test (f x)) xs
+any_mapped test f [] = refl
+any_mapped test f (x ∷ xs) = ap (λ rest. test (f x) || rest) (any_mapped test f xs)
+
+one_kept : {X Y : Type 0} (test : X → Bool) (f : X → Y) (x : X) (before : List Y) (passes : Bool) → test x ≡ passes
+    → cond passes (before ++ f x ∷ []) before ≡ before ++ map f (filter test (x ∷ []))
+one_kept test f x before true is = ap (λ passes. before ++ map f (cond passes (x ∷ []) [])) (sym is)
+one_kept test f x before false is = sym (ap (λ passes. before ++ map f (cond passes (x ∷ []) [])) is ∙ append-nil before)
+
+-- one element more, which is kept if it passes
+pub kept-more : {X Y : Type 0} (test : X → Bool) (f : X → Y) (xs : List X) (i : ℕ) (d : X) (first before now : List Y) → i < length xs
+    → before ≡ first ++ map f (filter test (take i xs)) → now ≡ cond (test (get_or xs i d)) (before ++ f (get_or xs i d) ∷ []) before
+    → now ≡ first ++ map f (filter test (take (i + 1) xs))
+kept-more test f xs i d first before now inside so_far more =
+    let x = get_or xs i d in
+    let kept = map f (filter test (take i xs)) in
+    more ∙ one_kept test f x before (test x) refl
+    ∙ ap (λ ys. ys ++ map f (filter test (x ∷ []))) so_far
+    ∙ append_assoc first kept (map f (filter test (x ∷ [])))
+    ∙ ap (λ ys. first ++ ys) (sym (map-append f (filter test (take i xs)) (filter test (x ∷ []))))
+    ∙ ap (λ ys. first ++ map f ys) (sym (filter-append test (take i xs) (x ∷ [])))
+    ∙ ap (λ ys. first ++ map f (filter test ys)) (sym (take_more xs i d inside))

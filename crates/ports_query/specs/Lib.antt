@@ -1,0 +1,6 @@
+pub mod Conditions
+pub mod Meeting
+pub mod Listing
+pub mod Kinds
+pub mod Edges
+pub mod Reaching

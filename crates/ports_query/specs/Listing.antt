@@ -1,0 +1,51 @@
+-- Which packages are listed.
+use Rattle.std.specs.Prelude.{ℕ, Bool, List, [], map, filter, Result, Ok, Err}
+use Rattle.std.specs.List.{flat_map}
+use Rattle.mk_base.specs.FaultAt.{FaultAt}
+use Rattle.pkg_name.specs.Name.{name_text}
+use Rattle.pkg_spec.specs.Admitting.{admitted_by}
+use Rattle.port_rules.specs.Ports.{PortValue}
+use Rattle.port_rules.specs.Packages.{PackageValue}
+use Rattle.port_deps.specs.Lists.{RootValue}
+use Rattle.ports_query.specs.Conditions.{ConditionValue}
+use Rattle.ports_query.specs.Meeting.{meets_all}
+use Rattle.ports_query.specs.declared.listing.Test.{Test}
+use Rattle.ports_query.specs.declared.listing.Test.TheVariants.{Meets, Admitted}
+
+-- a package as it is listed: its full name, the path of its port, and which package of the port it is
+pub record ListedValue : Type 0 where
+  pub name : List ℕ
+  pub path : List ℕ
+  pub subpackage : List ℕ
+
+abbrev pub listed_at : List ℕ → PackageValue → ListedValue
+listed_at path found = record { name = name_text found.name; path = path; subpackage = found.subpackage }
+
+-- a test of the packages of ports at their paths
+abbrev pub PackageTest : Type 0
+PackageTest = List ℕ → PortValue → PackageValue → Bool
+
+-- the packages of what is found at a path that pass a test; a fault has none
+abbrev pub listed_of : PackageTest → List ℕ → Result PortValue FaultAt → List ListedValue
+listed_of test path (Ok port) = map (listed_at path) (filter (test path port) port.packages)
+listed_of test path (Err fault) = []
+
+-- the packages of all roots that pass a test, root by root
+abbrev pub listed_by : PackageTest → List RootValue → List ListedValue
+listed_by test roots = flat_map (λ (root : RootValue). listed_of test root.path root.state) roots
+
+-- the packages that meet all conditions of a query
+abbrev pub answer_of : List ConditionValue → List RootValue → List ListedValue
+answer_of conditions roots = listed_by (meets_all conditions) roots
+
+-- the packages that a spec, of this text, admits
+abbrev pub admits : List ℕ → PackageTest
+admits spec path port found = admitted_by spec found.name
+
+abbrev pub admitted_of : List ℕ → List RootValue → List ListedValue
+admitted_of spec roots = listed_by (admits spec) roots
+
+-- the test that packages are put to in the code
+abbrev pub test_seen : Test → PackageTest
+test_seen (Meets query) = meets_all query.now
+test_seen (Admitted spec) = admits spec.now

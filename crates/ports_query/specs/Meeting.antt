@@ -1,0 +1,65 @@
+-- When a package meets a condition.
+use Rattle.std.specs.Prelude.{ℕ, ◌||◌, nat_eq, not, Bool, List, [], ◌∷◌}
+use Rattle.std.specs.List.{list_all, list_any, starts_with}
+use Rattle.std.specs.Ordering.{is_lt, is_ge}
+use Rattle.std.specs.Str.{bytes_eq}
+use Rattle.std.specs.declared.cmp.Ordering.{Ordering}
+use Rattle.pkg_name.specs.Name.{name_text}
+use Rattle.pkg_name.specs.Order.{version_cmp}
+use Rattle.port_rules.specs.Ports.{PortValue}
+use Rattle.port_rules.specs.Packages.{PackageValue}
+use Rattle.ports_query.specs.Conditions.{ConditionValue, OfText, OfList, OfVersion}
+use Rattle.ports_query.specs.declared.conditions.TextField.{TextField}
+use Rattle.ports_query.specs.declared.conditions.TextField.TheVariants.{Path, Name, Stem, Version, Maintainer, Comment}
+use Rattle.ports_query.specs.declared.conditions.ListField.{ListField}
+use Rattle.ports_query.specs.declared.conditions.ListField.TheVariants.{Category, Flavor}
+use Rattle.ports_query.specs.declared.operators.Sign.{Sign}
+use Rattle.ports_query.specs.declared.operators.Sign.TheVariants.{Is, IsNot, Has}
+use Rattle.ports_query.specs.declared.operators.Bound.{Bound}
+use Rattle.ports_query.specs.declared.operators.Bound.TheVariants.{Below, AtLeast}
+
+-- a part stands somewhere in a text
+unfoldable pub has_part : List ℕ → List ℕ → Bool
+has_part part [] = starts_with nat_eq [] part
+has_part part (byte ∷ rest) = starts_with nat_eq (byte ∷ rest) part || has_part part rest
+
+-- a text meets a sign and a value
+abbrev pub text_meets : Sign → List ℕ → List ℕ → Bool
+text_meets Is value text = bytes_eq text value
+text_meets IsNot value text = not (bytes_eq text value)
+text_meets Has value text = has_part value text
+
+-- some of these texts is the value, none is, or the value stands in some
+abbrev pub texts_meet : Sign → List ℕ → List (List ℕ) → Bool
+texts_meet Is value texts = list_any (λ text. bytes_eq text value) texts
+texts_meet IsNot value texts = not (list_any (λ text. bytes_eq text value) texts)
+texts_meet Has value texts = list_any (λ text. has_part value text) texts
+
+-- how a version that compares so stands to a bound
+abbrev pub bound_meets : Bound → Ordering → Bool
+bound_meets Below = is_lt
+bound_meets AtLeast = is_ge
+
+-- a text of a package, or of its port at this path
+abbrev pub text_of : TextField → List ℕ → PortValue → PackageValue → List ℕ
+text_of Path path port found = path
+text_of Name path port found = name_text found.name
+text_of Stem path port found = found.name.stem
+text_of Version path port found = found.name.version
+text_of Maintainer path port found = port.maintainer
+text_of Comment path port found = found.comment
+
+-- texts of a port: its categories, and the flavors that are chosen
+abbrev pub texts_of : ListField → PortValue → List (List ℕ)
+texts_of Category port = port.categories
+texts_of Flavor port = port.flavors.chosen
+
+-- a package of the port at this path meets a condition
+abbrev pub meets : List ℕ → PortValue → PackageValue → ConditionValue → Bool
+meets path port found (OfText field sign value) = text_meets sign value (text_of field path port found)
+meets path port found (OfList field sign value) = texts_meet sign value (texts_of field port)
+meets path port found (OfVersion bound version) = bound_meets bound (version_cmp found.name.version version)
+
+-- it meets all of them
+abbrev pub meets_all : List ConditionValue → List ℕ → PortValue → PackageValue → Bool
+meets_all conditions path port found = list_all (meets path port found) conditions

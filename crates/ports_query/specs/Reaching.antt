@@ -1,0 +1,45 @@
+-- Which ports are reached over dependencies that are met. A way is a list of one or more of them, each of which begins where the one before it
+-- ended (`reached_list` and `reaching_list` of the arrows between texts).
+use Rattle.std.specs.Prelude.{ℕ, ◌&&◌, if◌then◌else◌, Bool, true, false, List, Option, None, option_map, string_bytes}
+use Rattle.std.specs.List.{filter_map}
+use Rattle.pkg_path.specs.Paths.{PathValue}
+use Rattle.port_deps.specs.Lists.{RootEdgeValue}
+use Rattle.port_deps.specs.declared.statuses.Status.{Status}
+use Rattle.port_deps.specs.declared.statuses.Status.TheVariants as statuses
+use Rattle.text_graph.specs.Arrows.{ArrowValue}
+use Rattle.text_graph.specs.Listed.{reached_list, reaching_list}
+use Rattle.ports_query.specs.Kinds.{are_asked}
+use Rattle.ports_query.specs.Edges.{root_of}
+use Rattle.ports_query.specs.declared.kinds.Kinds.{Kinds}
+use Rattle.ports_query.specs.declared.reach.Step.{Step}
+
+-- a dependency with this status is met
+abbrev pub is_met : Status → Bool
+is_met statuses.BadItem = false
+is_met statuses.NoPort = false
+is_met statuses.BadFlavor = false
+is_met statuses.Unevaluated = false
+is_met statuses.NoSubpackage = false
+is_met statuses.SpecMismatch = false
+is_met statuses.Ok = true
+
+-- a dependency of these kinds that is met leads from its port to the port that it names
+abbrev pub arrow_of : Kinds → RootEdgeValue → Option ArrowValue
+arrow_of kinds edge =
+    if are_asked kinds edge.edge.kind && is_met edge.edge.status then option_map (λ (target : PathValue). record { from = edge.root; to = root_of target }) edge.edge.target else None
+
+abbrev pub arrows_of : Kinds → List RootEdgeValue → List ArrowValue
+arrows_of kinds edges = filter_map (arrow_of kinds) edges
+
+-- the ports, in the order of their paths, that are reached over one or more dependencies of these kinds that are met, the first of them one of
+-- the first ones
+abbrev pub reached_of : Kinds → List RootEdgeValue → List RootEdgeValue → List (List ℕ)
+reached_of kinds first edges = reached_list (arrows_of kinds first) (arrows_of kinds edges)
+
+-- the ports, in the order of their paths, that reach the port that a path names so
+abbrev pub reaching_of : Kinds → PathValue → List RootEdgeValue → List (List ℕ)
+reaching_of kinds path edges = reaching_list (arrows_of kinds edges) (root_of path)
+
+-- a step of the code
+abbrev pub step_seen : Step → ArrowValue
+step_seen step = record { from = step.from.now; to = string_bytes step.to }

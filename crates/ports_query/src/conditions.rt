@@ -1,0 +1,157 @@
+//! The conditions of a query.
+ghost use Rattle.std.specs.Prelude.{◌≡◌, IfOk, option_map};
+ghost use Rattle.pkg_name.specs.Version.{is_version};
+ghost use Rattle.text_cuts.specs.Cuts.{now_all};
+ghost use Rattle.ports_query.specs.Conditions.{condition_of, condition_with, conditions_of, condition_seen, conditions_seen, field_named};
+ghost use Rattle.ports_query.specs.declared.operators.Operator.TheVariants.{Plain, Ordered};
+
+use crate::operators::{Bound, Operator, Sign, operator_at, plain_length};
+use pkg_name::{Version, VersionFault};
+use std::alloc::{AllocError, Global};
+
+/// A text of a package or of its port.
+#[derive(Clone, Copy, Debug)]
+pub(crate) enum TextField {
+    /// The canonical path of the port.
+    Path,
+    /// The package's full name.
+    Name,
+    /// What stands before the version in the name.
+    Stem,
+    /// The version in the name.
+    Version,
+    /// Who maintains the port.
+    Maintainer,
+    /// The package's comment.
+    Comment,
+}
+
+/// Texts of a port.
+#[derive(Clone, Copy, Debug)]
+pub(crate) enum ListField {
+    /// Its categories.
+    Category,
+    /// Its flavors that are chosen.
+    Flavor,
+}
+
+/// What a condition is on.
+#[derive(Clone, Copy, Debug)]
+pub(crate) enum Field {
+    /// One text.
+    Text(TextField),
+    /// Several texts.
+    Texts(ListField),
+}
+
+/// A condition on a package of a port.
+#[derive(Debug, Drop)]
+pub(crate) enum Condition {
+    /// On a text, by a value.
+    OnText(TextField, Sign, String),
+    /// On several texts, by a value.
+    OnTexts(ListField, Sign, String),
+    /// On the version, by another.
+    OnVersion(Bound, Version),
+}
+
+impl Condition {
+    /// The condition that a text is, if it is one.
+    #[tactic(auto, unfolding(crate::specs::Conditions::condition_of))]
+    pub(crate) fn read(alloc: Global, text: &str) -> Result<Option<Condition>, AllocError>
+        ensures { IfOk result (λ read. option_map condition_seen read ≡ condition_of text.now) }
+    {
+        let (name, rest) = text.split_at(plain_length(text.as_bytes()));
+        match operator_at(rest) {
+            Some((operator, value)) => Condition::of(alloc, name, operator, value),
+            None => Ok(None),
+        }
+    }
+
+    /// The condition of a field's name, an operator and a value, if there is such a one.
+    fn of(
+        alloc: Global,
+        name: &str,
+        operator: Operator,
+        value: &str,
+    ) -> Result<Option<Condition>, AllocError>
+        ensures { IfOk result (λ read. option_map condition_seen read ≡ condition_with name.now operator value.now) }
+    {
+        match operator {
+            Operator::Plain(sign) => Condition::plain(alloc, name, sign, value),
+            Operator::Ordered(bound) => Condition::ordered(alloc, name, bound, value),
+        }
+    }
+
+    /// The condition that a field stands so to a value.
+    fn plain(
+        alloc: Global,
+        name: &str,
+        sign: Sign,
+        value: &str,
+    ) -> Result<Option<Condition>, AllocError>
+        ensures { IfOk result (λ read. option_map condition_seen read ≡ condition_with name.now (Plain sign) value.now) }
+    {
+        let Some(field) = field_named(name) else {
+            return Ok(None);
+        };
+        let value = String::from_str(alloc, value)?;
+        match field {
+            Field::Text(field) => Ok(Some(Condition::OnText(field, sign, value))),
+            Field::Texts(field) => Ok(Some(Condition::OnTexts(field, sign, value))),
+        }
+    }
+
+    /// The condition that the version is so ordered to a value.
+    fn ordered(
+        alloc: Global,
+        name: &str,
+        bound: Bound,
+        value: &str,
+    ) -> Result<Option<Condition>, AllocError>
+        ensures { IfOk result (λ read. option_map condition_seen read ≡ condition_with name.now (Ordered bound) value.now) }
+    {
+        if name != "version" {
+            return Ok(None);
+        }
+        match Version::read(alloc, value) {
+            Ok(version) => Ok(Some(Condition::OnVersion(bound, version))),
+            Err(VersionFault::NoVersion) => Ok(None),
+            Err(VersionFault::Memory) => Err(AllocError),
+        }
+    }
+}
+
+/// The conditions that texts are, if each of them is one.
+pub(crate) fn read_conditions(
+    alloc: Global,
+    texts: &[&str],
+) -> Result<Option<Vec<Condition>>, AllocError>
+    ensures { IfOk result (λ read. option_map conditions_seen read ≡ conditions_of (now_all texts.now)) }
+{
+    let mut conditions = Vec::new(alloc);
+    for text in texts {
+        let Some(condition) = Condition::read(alloc, text)? else {
+            return Ok(None);
+        };
+        conditions.push(condition)?;
+    }
+    Ok(Some(conditions))
+}
+
+/// The field of this name, if there is one.
+fn field_named(name: &str) -> Option<Field>
+    ensures { result ≡ field_named name.now }
+{
+    match name {
+        "path" => Some(Field::Text(TextField::Path)),
+        "name" => Some(Field::Text(TextField::Name)),
+        "stem" => Some(Field::Text(TextField::Stem)),
+        "version" => Some(Field::Text(TextField::Version)),
+        "maintainer" => Some(Field::Text(TextField::Maintainer)),
+        "comment" => Some(Field::Text(TextField::Comment)),
+        "category" => Some(Field::Texts(ListField::Category)),
+        "flavor" => Some(Field::Texts(ListField::Flavor)),
+        _ => None,
+    }
+}

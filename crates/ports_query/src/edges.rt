@@ -1,0 +1,116 @@
+//! The dependencies of a port, and those that lead to one.
+ghost use Rattle.std.specs.Prelude.{◌≡◌, ◌&&◌, IfOk, map, string_bytes};
+ghost use Rattle.std.specs.Option.{option_copied};
+ghost use Rattle.std.specs.Str.{bytes_eq};
+ghost use Rattle.ports_query.specs.Edges as asked;
+ghost use Rattle.ports_query.specs.Kinds.{are_asked};
+
+use crate::kinds::Kinds;
+use pkg_path::PkgPath;
+use port_deps::{Edge, RootEdge};
+use port_rules::DependKind;
+use std::alloc::{AllocError, Global};
+
+/// The dependencies of these kinds that the port at a path has, in their order. Where the path names a
+/// subpackage, these are its own and those of the port as a whole, to be built and tested. It fails where
+/// no memory is left.
+pub fn first_edges<'a>(
+    alloc: Global,
+    kinds: Kinds,
+    path: &PkgPath,
+    edges: &'a [RootEdge],
+) -> Result<Vec<&'a RootEdge>, AllocError>
+    ensures { IfOk result (λ found. map (λ edge. edge.now) found.items ≡ asked.first_edges_of kinds path.now edges.now) }
+{
+    let root = root_of(alloc, path)?;
+    let mut found = Vec::new(alloc);
+    for edge in edges {
+        if is_first(kinds, root.as_str(), path.subpackage(), edge) {
+            found.push(edge)?;
+        }
+    }
+    Ok(found)
+}
+
+/// The dependencies of these kinds, of whatever status, that lead to the port that a path names, in their
+/// order. Where the path names a subpackage, these are those whose item names it, too. It fails where no
+/// memory is left.
+pub fn edges_to<'a>(
+    alloc: Global,
+    kinds: Kinds,
+    path: &PkgPath,
+    edges: &'a [RootEdge],
+) -> Result<Vec<&'a RootEdge>, AllocError>
+    ensures { IfOk result (λ found. map (λ edge. edge.now) found.items ≡ asked.edges_to_of kinds path.now edges.now) }
+{
+    let root = root_of(alloc, path)?;
+    let mut found = Vec::new(alloc);
+    for edge in edges {
+        if leads_to(alloc, kinds, root.as_str(), path.subpackage(), edge)? {
+            found.push(edge)?;
+        }
+    }
+    Ok(found)
+}
+
+/// The canonical text of a path without its subpackage.
+pub fn root_of(alloc: Global, path: &PkgPath) -> Result<String, AllocError>
+    ensures { IfOk result (λ text. string_bytes text ≡ asked.root_of path.now) }
+{
+    path.copy(alloc)?.without_sub().canonical(alloc)
+}
+
+/// Whether a dependency of these kinds is one of a port, and of its subpackage where one is named.
+fn is_first(kinds: Kinds, root: &str, subpackage: Option<&str>, edge: &RootEdge) -> bool
+    ensures { result ≡ (are_asked kinds edge.now.edge.kind && (bytes_eq edge.now.root root.now && asked.keeps (option_copied subpackage.entry) edge.now.edge)) }
+{
+    kinds.have(edge.edge().kind()) && edge.root() == root && keeps(subpackage, edge.edge())
+}
+
+/// Whether a subpackage, where one is named, keeps a dependency.
+fn keeps(subpackage: Option<&str>, edge: &Edge) -> bool
+    ensures { result ≡ asked.keeps (option_copied subpackage.entry) edge.now }
+{
+    match subpackage {
+        Some(name) => is_of_port(edge.kind()) || edge.subpackage() == name,
+        None => true,
+    }
+}
+
+/// Whether what is needed for this is needed for the port as a whole.
+fn is_of_port(kind: DependKind) -> bool
+    ensures { result ≡ asked.is_of_port kind }
+{
+    matches!(kind, DependKind::Build | DependKind::Test)
+}
+
+/// Whether a dependency of these kinds leads to a port, and to its subpackage where one is named.
+fn leads_to(
+    alloc: Global,
+    kinds: Kinds,
+    root: &str,
+    subpackage: Option<&str>,
+    edge: &RootEdge,
+) -> Result<bool, AllocError>
+    ensures { IfOk result (λ leads. leads ≡ (are_asked kinds edge.now.edge.kind && asked.is_at root.now (option_copied subpackage.entry) edge.now.edge.target)) }
+{
+    if !kinds.have(edge.edge().kind()) {
+        return Ok(false);
+    }
+    let Some(target) = edge.edge().target() else {
+        return Ok(false);
+    };
+    let target_root = root_of(alloc, target)?;
+    Ok(target_root.as_str() == root && names_it(subpackage, target.subpackage()))
+}
+
+/// Whether a target names a subpackage, where one is named.
+fn names_it(subpackage: Option<&str>, named: Option<&str>) -> bool
+    ensures { result ≡ asked.names_it (option_copied subpackage.entry) (option_copied named.entry) }
+{
+    match (subpackage, named) {
+        (None, _) => true,
+        (Some(_), None) => false,
+        (Some(subpackage), Some(named)) => named == subpackage,
+    }
+}

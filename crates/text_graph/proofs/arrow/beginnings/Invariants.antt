@@ -1,0 +1,9 @@
+-- Where those of the arrows up to here begin that end at the goal.
+use Rattle.std.proofs.Common.{◌≡◌, map, take}
+use Rattle.text_cuts.specs.Cuts.{now_all}
+use Rattle.text_graph.specs.Arrows.{arrows_seen}
+use Rattle.text_graph.specs.Searching as searching
+use Rattle.text_graph.proofs.arrow.beginnings.Given as goal
+
+abbrev pub invariant-loop-arrow : goal.invariant-loop-arrow
+invariant-loop-arrow l = now_all l.beginnings.items ≡ searching.next_of (map searching.turned (arrows_seen (take l.arrow-index l.arrows))) l.goal

@@ -1,0 +1,12 @@
+-- Where the arrows from all texts before this place lead was added; each place is one of a start or of the end of an arrow.
+use Rattle.std.proofs.Common.{◌+◌, ◌-◌, length}
+use Rattle.text_cuts.specs.Cuts.{now_all}
+use Rattle.text_graph.specs.Arrows.{arrows_seen}
+use Rattle.text_graph.proofs.Searches.{KeepsSearching}
+use Rattle.text_graph.proofs.searching.search.Given as goal
+
+abbrev pub invariant-loop-place : goal.invariant-loop-place
+invariant-loop-place l = KeepsSearching (now_all l.starts) (arrows_seen l.arrows) l.place l.found
+
+abbrev pub decreases-loop-place : goal.decreases-loop-place
+decreases-loop-place l = length l.starts + length l.arrows - l.place

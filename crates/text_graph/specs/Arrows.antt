@@ -1,0 +1,25 @@
+-- Arrows from text to text, and the ways over them. A text is its bytes.
+use Rattle.std.specs.Prelude.{◌≡◌, ℕ, List, [], ◌∷◌, map, Contains, All}
+use Rattle.text_graph.specs.declared.arrow.Arrow.{Arrow}
+
+pub record ArrowValue : Type 0 where
+  pub from : List ℕ
+  pub to : List ℕ
+
+-- what arrows between texts behind references are
+abbrev pub arrow_seen : Arrow → ArrowValue
+arrow_seen arrow = record { from = arrow.from.now; to = arrow.to.now }
+
+abbrev pub arrows_seen : List Arrow → List ArrowValue
+arrows_seen arrows = map arrow_seen arrows
+
+-- arrows, one behind another, lead from a text to a text: each begins where the one before it ended; with none of them one stays where one is
+unfoldable pub Lead : List ArrowValue → List ℕ → List ℕ → Type 0
+Lead [] from to = from ≡ to
+Lead (arrow ∷ way) from to = (arrow.from ≡ from) × Lead way arrow.to to
+
+-- a way from a text to a text over some of these arrows, maybe none
+pub record Way (arrows : List ArrowValue) (from to : List ℕ) : Type 0 where
+  pub way : List ArrowValue
+  pub are_arrows : All (Contains arrows) way
+  pub lead : Lead way from to

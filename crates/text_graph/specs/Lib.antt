@@ -1,0 +1,4 @@
+pub mod Arrows
+pub mod Reaching
+pub mod Searching
+pub mod Listed

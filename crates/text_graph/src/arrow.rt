@@ -1,0 +1,58 @@
+//! Arrows from text to text.
+ghost use Rattle.std.specs.Prelude.{◌≡◌, IfOk, map};
+ghost use Rattle.text_cuts.specs.Cuts.{now_all};
+ghost use Rattle.text_graph.specs.Arrows.{ArrowValue, arrows_seen};
+ghost use Rattle.text_graph.specs.Searching as searching;
+
+use std::alloc::{AllocError, Global};
+
+/// An arrow from a text to a text.
+#[derive(Clone, Copy, Debug)]
+pub struct Arrow<'a> {
+    /// Where it begins.
+    pub from: &'a str,
+    /// Where it ends.
+    pub to: &'a str,
+}
+
+/// The same arrows, the other way round.
+pub(crate) fn turned<'a>(alloc: Global, arrows: &[Arrow<'a>]) -> Result<Vec<Arrow<'a>>, AllocError>
+    ensures { IfOk result (λ turned. arrows_seen turned.items ≡ map searching.turned (arrows_seen arrows.now)) }
+{
+    let mut turned = Vec::with_capacity(alloc, arrows.len())?;
+    for arrow in arrows {
+        turned.push(Arrow {
+            from: arrow.to,
+            to: arrow.from,
+        })?;
+    }
+    Ok(turned)
+}
+
+/// Where these arrows end.
+pub(crate) fn ends<'a>(alloc: Global, arrows: &[Arrow<'a>]) -> Result<Vec<&'a str>, AllocError>
+    ensures { IfOk result (λ ends. now_all ends.items ≡ map (λ (arrow : ArrowValue). arrow.to) (arrows_seen arrows.now)) }
+{
+    let mut ends = Vec::with_capacity(alloc, arrows.len())?;
+    for arrow in arrows {
+        ends.push(arrow.to)?;
+    }
+    Ok(ends)
+}
+
+/// Where the arrows begin that end at a text.
+pub(crate) fn beginnings<'a>(
+    alloc: Global,
+    arrows: &[Arrow<'a>],
+    goal: &str,
+) -> Result<Vec<&'a str>, AllocError>
+    ensures { IfOk result (λ beginnings. now_all beginnings.items ≡ searching.next_of (map searching.turned (arrows_seen arrows.now)) goal.now) }
+{
+    let mut beginnings = Vec::new(alloc);
+    for arrow in arrows {
+        if goal == arrow.to {
+            beginnings.push(arrow.from)?;
+        }
+    }
+    Ok(beginnings)
+}
