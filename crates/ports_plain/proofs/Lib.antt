@@ -5,3 +5,5 @@ pub mod NeverFails
 mod RouteTable
 mod TargetLemmas
 mod TrimmingLemmas
+mod FilterSteps
+mod ListFloats

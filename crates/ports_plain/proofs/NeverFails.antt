@@ -14,15 +14,31 @@ use Rattle.mk_paths.specs.FileName.{resolved}
 use Rattle.ports_http.specs.declared.method.Method.{Method}
 use Rattle.ports_http.specs.declared.method.Method.TheVariants.{Get, Put, Delete}
 use Rattle.ports_plain.specs.declared.routing.Route.{Route}
-use Rattle.ports_plain.specs.declared.routing.Route.TheVariants.{File, Path, Port, Var}
+use Rattle.ports_plain.specs.declared.routing.Route.TheVariants.{Deps, Faults, File, List as AllPackages, Match, Path, Port, Rdeps, Var}
 use Rattle.pkg_path.specs.Paths.{PathValue, path_of}
 use Rattle.pkg_path.specs.declared.faults.PkgPathFault.{PkgPathFault}
 use Rattle.port_rules.specs.declared.recording.Recorded.{Recorded}
 use Rattle.ports_plain.specs.Routes.{route_of}
-use Rattle.ports_plain.specs.Target.{path_of as target_path}
+use Rattle.ports_plain.specs.Target.{path_of as target_path, query_of as query_of_target}
+use Rattle.ports_plain.specs.Parameters.{parameter, optional}
+use Rattle.ports_plain.specs.Subpackages.{has_named}
+use Rattle.ports_plain.specs.Lists.{list_by, get_list, matched_by, get_match, bad_spec, depth_of, dependencies_body_of, dependencies_with, dependencies_of_root, root_named, dependencies_of, dependents_of, question_on, question_of, answered}
+use Rattle.ports_plain.specs.declared.dependencies.Question.{Question}
+use Rattle.ports_plain.specs.declared.depth.Depth.{Depth}
+use Rattle.ports_query.specs.Conditions.{ConditionValue, query_of}
+use Rattle.ports_query.specs.Kinds.{kinds_of}
+use Rattle.ports_query.specs.Edges.{root_of}
+use Rattle.ports_query.specs.declared.kinds.Kinds.{Kinds}
+use Rattle.ports_index.specs.Index.{roots, edges}
+use Rattle.port_deps.specs.Lists.{RootValue, RootEdgeValue}
+use Rattle.port_rules.specs.Ports.{PortValue}
+use Rattle.pkg_spec.specs.Alternatives.{spec_of}
+use Rattle.mk_base.specs.FaultAt.{FaultAt}
+use Rattle.std.specs.Result.{is_ok}
+use Rattle.ports_http.specs.Messages.{ReplyMessage}
 use Rattle.ports_plain.specs.Trimming.{trimmed}
-use Rattle.ports_plain.specs.Replies.{bad_path, no_file, no_subpackage, removed, port_shown}
-use Rattle.ports_plain.specs.Plain.{Asked, told, content_shown, on_named_file, on_resolved, on_file, set_trees, set_path, value_after, valued, variable_at, variable_of, get_variable, record_after, has_named, described, port_at, port_of, get_port, given, answer_on, answer, plain}
+use Rattle.ports_plain.specs.Replies.{bad_path, json_reply, no_file, no_subpackage, removed, port_shown}
+use Rattle.ports_plain.specs.Plain.{Asked, told, content_shown, on_named_file, on_resolved, on_file, set_trees, set_path, value_after, valued, variable_at, variable_of, get_variable, record_after, described, port_at, port_of, get_port, question_in, got, answer_on, answer, plain}
 use Rattle.ports_plain.specs.declared.changing.Change.TheVariants.{RemoveFile}
 
 content-fine : (content : Option (List ℕ)) → ((content_shown content).status == 503) ≡ false
@@ -96,15 +112,106 @@ get_port-fine : (world : World) (path : Option (List ℕ)) → ((get_port world 
 get_port-fine world (Some path) = port_of-fine world (path_of path)
 get_port-fine world None = refl
 
+-- the lists
+
+list_by-fine : (world : World) (conditions : Option (List ConditionValue)) → ((list_by world conditions).status == 503) ≡ false
+list_by-fine world (Some conditions) = refl
+list_by-fine world None = refl
+
+get_list-fine : (world : World) (text : Option (List ℕ)) → ((get_list world text).status == 503) ≡ false
+get_list-fine world (Some text) = list_by-fine world (query_of text)
+get_list-fine world None = refl
+
+get_match-fine : (world : World) (text : Option (List ℕ)) → ((get_match world text).status == 503) ≡ false
+get_match-fine world (Some text) =
+    elim (is_ok (spec_of text)) as (λ b. ((if b then matched_by world text else bad_spec).status == 503) ≡ false) [
+      | true ↦ refl
+      | false ↦ refl
+    ]
+get_match-fine world None = refl
+
+dependencies_with-fine : (edges : List RootEdgeValue) (question : Question) (state : Result PortValue FaultAt) → ((dependencies_with edges question state).status == 503) ≡ false
+dependencies_with-fine edges question (Ok port) =
+    elim (has_named question.path.subpackage port) as (λ b. ((if b then json_reply 200 (dependencies_body_of edges question) else no_subpackage).status == 503) ≡ false) [
+      | true ↦ refl
+      | false ↦ refl
+    ]
+dependencies_with-fine edges question (Err fault) = refl
+
+dependencies_of_root-fine : (edges : List RootEdgeValue) (question : Question) (root : Option RootValue) → ((dependencies_of_root edges question root).status == 503) ≡ false
+dependencies_of_root-fine edges question (Some root) = dependencies_with-fine edges question root.state
+dependencies_of_root-fine edges question None = refl
+
+dependencies_of-fine : (world : World) (question : Question) → ((dependencies_of world question).status == 503) ≡ false
+dependencies_of-fine world question = dependencies_of_root-fine (edges world) question (root_named (roots world) (root_of question.path))
+
+dependents_of-fine : (world : World) (question : Question) → ((dependents_of world question).status == 503) ≡ false
+dependents_of-fine world question = refl
+
+-- a refusal of a question
+RefusesFinely : Result Question ReplyMessage → Type 0
+RefusesFinely (Ok question) = Unit {0}
+RefusesFinely (Err refused) = (refused.status == 503) ≡ false
+
+question_on-fine : (path : Result PathValue PkgPathFault) (kinds : Option Kinds) (depth : Option Depth) → RefusesFinely (question_on path kinds depth)
+unfolding RefusesFinely
+question_on-fine (Err fault) kinds depth = refl
+question_on-fine (Ok path) (Some kinds) (Some depth) = tt
+question_on-fine (Ok path) (Some kinds) None = refl
+question_on-fine (Ok path) None depth = refl
+
+question_of-fine : (path kind depth : Option (List ℕ)) → RefusesFinely (question_of path kind depth)
+unfolding RefusesFinely
+question_of-fine (Some path) (Some kind) (Some depth) = question_on-fine (path_of path) (kinds_of kind) (depth_of depth)
+question_of-fine (Some path) (Some kind) None = refl
+question_of-fine (Some path) None depth = refl
+question_of-fine None kind depth = refl
+
+answered-fine : (answer : Question → ReplyMessage) → ((question : Question) → ((answer question).status == 503) ≡ false) → (asked : Result Question ReplyMessage) → RefusesFinely asked
+    → ((answered answer asked).status == 503) ≡ false
+unfolding RefusesFinely
+answered-fine answer fine (Ok question) refuses = fine question
+answered-fine answer fine (Err refused) refuses = refuses
+
+asked-fine : (answer : Question → ReplyMessage) → ((question : Question) → ((answer question).status == 503) ≡ false) → (query : List ℕ) → ((answered answer (question_in query)).status == 503) ≡ false
+asked-fine answer fine query =
+    answered-fine answer fine (question_in query) (question_of-fine (parameter (codes "path") query) (optional (codes "kind") query) (optional (codes "depth") query))
+
+got-fine : (world : World) (query : List ℕ) (route : Route) → ((got world query route).status == 503) ≡ false
+got-fine world query Deps = asked-fine (dependencies_of world) (dependencies_of-fine world) query
+got-fine world query Faults = refl
+got-fine world query File = refl
+got-fine world query AllPackages = get_list-fine world (optional (codes "where") query)
+got-fine world query Match = get_match-fine world (parameter (codes "spec") query)
+got-fine world query Path = refl
+got-fine world query Port = get_port-fine world (parameter (codes "path") query)
+got-fine world query Rdeps = asked-fine (dependents_of world) (dependents_of-fine world) query
+got-fine world query Var = get_variable-fine world (parameter (codes "path") query) (parameter (codes "name") query)
+
 answer_on-fine : (world : World) (request : Asked) (route : Option Route) (method : Method) → ((answer_on world request route method).0.status == 503) ≡ false
-answer_on-fine world request (Some File) method = on_file-fine (files_in world) method request.body (given (codes "name") request)
+answer_on-fine world request (Some File) method = on_file-fine (files_in world) method request.body (parameter (codes "name") (query_of_target request.target))
+answer_on-fine world request (Some Deps) Get = got-fine world (query_of_target request.target) Deps
+answer_on-fine world request (Some Deps) Put = refl
+answer_on-fine world request (Some Deps) Delete = refl
+answer_on-fine world request (Some Faults) Get = got-fine world (query_of_target request.target) Faults
+answer_on-fine world request (Some Faults) Put = refl
+answer_on-fine world request (Some Faults) Delete = refl
+answer_on-fine world request (Some AllPackages) Get = got-fine world (query_of_target request.target) AllPackages
+answer_on-fine world request (Some AllPackages) Put = refl
+answer_on-fine world request (Some AllPackages) Delete = refl
+answer_on-fine world request (Some Match) Get = got-fine world (query_of_target request.target) Match
+answer_on-fine world request (Some Match) Put = refl
+answer_on-fine world request (Some Match) Delete = refl
+answer_on-fine world request (Some Path) Get = got-fine world (query_of_target request.target) Path
 answer_on-fine world request (Some Path) Put = set_path-fine request.body
-answer_on-fine world request (Some Path) Get = refl
 answer_on-fine world request (Some Path) Delete = refl
-answer_on-fine world request (Some Port) Get = get_port-fine world (given (codes "path") request)
+answer_on-fine world request (Some Port) Get = got-fine world (query_of_target request.target) Port
 answer_on-fine world request (Some Port) Put = refl
 answer_on-fine world request (Some Port) Delete = refl
-answer_on-fine world request (Some Var) Get = get_variable-fine world (given (codes "path") request) (given (codes "name") request)
+answer_on-fine world request (Some Rdeps) Get = got-fine world (query_of_target request.target) Rdeps
+answer_on-fine world request (Some Rdeps) Put = refl
+answer_on-fine world request (Some Rdeps) Delete = refl
+answer_on-fine world request (Some Var) Get = got-fine world (query_of_target request.target) Var
 answer_on-fine world request (Some Var) Put = refl
 answer_on-fine world request (Some Var) Delete = refl
 answer_on-fine world request None method = refl

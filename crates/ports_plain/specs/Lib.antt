@@ -1,11 +1,15 @@
 pub mod Target
 pub mod Parameters
+pub mod ParametersSeen
 pub mod Routes
 pub mod RouteRows
 pub mod Bodies
 pub mod PortBody
+pub mod ListBodies
+pub mod Subpackages
 pub mod Replies
 pub mod Changing
 pub mod Trimming
+pub mod Lists
 pub mod Plain
 pub mod Refusing

@@ -16,11 +16,33 @@ value_under name pair = if bytes_eq (decoded pair.0) name then Some (decoded pai
 abbrev pub values_under : List ℕ → List ℕ → List (List ℕ)
 values_under name query = filter_map (value_under name) (raw_pairs query)
 
--- the value, where there is one and no other, and it isn't empty
-abbrev pub only : List (List ℕ) → Option (List ℕ)
-only ((first ∷ rest) ∷ []) = Some (first ∷ rest)
-only _ = None
+-- how often a parameter stands in a query: never, once with its value, or more often
+pub data Times : Type 0 where
+  Never : Times
+  Once : List ℕ → Times
+  Often : Times
 
--- the parameter of this name
+abbrev pub times : List (List ℕ) → Times
+times [] = Never
+times (value ∷ []) = Once value
+times (value ∷ other ∷ more) = Often
+
+-- a parameter that must be there: its value, where it stands once and isn't empty
+abbrev pub required : Times → Option (List ℕ)
+required (Once (first ∷ rest)) = Some (first ∷ rest)
+required (Once []) = None
+required Never = None
+required Often = None
+
+-- a parameter that may be left out: its value, where it doesn't stand more than once, and empty where it isn't there
+abbrev pub allowed : Times → Option (List ℕ)
+allowed Never = Some []
+allowed (Once value) = Some value
+allowed Often = None
+
+-- the parameters of this name
 abbrev pub parameter : List ℕ → List ℕ → Option (List ℕ)
-parameter name query = only (values_under name query)
+parameter name query = required (times (values_under name query))
+
+abbrev pub optional : List ℕ → List ℕ → Option (List ℕ)
+optional name query = allowed (times (values_under name query))

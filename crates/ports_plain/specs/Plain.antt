@@ -1,6 +1,6 @@
 -- The plain service: what one request is answered over one tenant's world, and what the world is then. It knows nothing of
 -- connections, of other tenants, of work that waits or is shared.
-use Rattle.std.specs.Prelude.{ℕ, if◌then◌else◌, Bool, true, List, Option, Some, None, Result, Ok, Err, option_map, codes}
+use Rattle.std.specs.Prelude.{ℕ, if◌then◌else◌, List, Option, Some, None, Result, Ok, Err, option_map, codes}
 use Rattle.std.specs.Str.{is_utf8}
 use Rattle.std.specs.FinMap.{get, contains_key}
 use Rattle.mk_paths.specs.FileName.{resolved}
@@ -16,7 +16,6 @@ use Rattle.mk_eval.specs.declared.outcome.Kind.{Kind}
 use Rattle.mk_eval.specs.declared.outcome.Kind.TheVariants as kinds
 use Rattle.pkg_path.specs.Paths.{PathValue, path_of}
 use Rattle.pkg_path.specs.declared.faults.PkgPathFault.{PkgPathFault}
-use Rattle.port_rules.specs.Ports.{PortValue, has_package}
 use Rattle.port_rules.specs.Records.{record_of}
 use Rattle.port_rules.specs.declared.recording.Recorded.{Recorded}
 use Rattle.ports_http.specs.declared.method.Method.{Method}
@@ -24,12 +23,15 @@ use Rattle.ports_http.specs.declared.method.Method.TheVariants.{Get, Put, Delete
 use Rattle.ports_http.specs.Messages.{ReplyMessage}
 use Rattle.ports_plain.specs.declared.changing.Change.{Change}
 use Rattle.ports_plain.specs.declared.changing.Change.TheVariants.{PutFile, RemoveFile, SetPath}
+use Rattle.ports_plain.specs.declared.dependencies.Question.{Question}
 use Rattle.ports_plain.specs.declared.routing.Route.{Route}
-use Rattle.ports_plain.specs.declared.routing.Route.TheVariants.{File, Path, Port, Var}
+use Rattle.ports_plain.specs.declared.routing.Route.TheVariants.{Deps, Faults, File, List as AllPackages, Match, Path, Port, Rdeps, Var}
 use Rattle.ports_plain.specs.Target.{path_of as target_path, query_of}
-use Rattle.ports_plain.specs.Parameters.{parameter}
+use Rattle.ports_plain.specs.Lists.{get_list, get_match, get_faults, question_of, answered, dependencies_of, dependents_of}
+use Rattle.ports_plain.specs.Parameters.{parameter, optional}
 use Rattle.ports_plain.specs.Trimming.{trimmed}
 use Rattle.ports_plain.specs.Routes.{route_of}
+use Rattle.ports_plain.specs.Subpackages.{has_named}
 use Rattle.ports_plain.specs.Replies.{no_route, not_allowed, bad_parameter, bad_name, bad_path, no_file, no_port, no_subpackage, faulty, file_shown, stored, removed, path_set, variable, port_shown}
 use Rattle.ports_plain.specs.Changing.{behind}
 
@@ -121,11 +123,6 @@ abbrev pub record_after : List ℕ → Result Evaluated Failed → Result (Optio
 record_after makefile (Ok evaluated) = record_by evaluated.kind (record_of evaluated.env makefile)
 record_after makefile (Err failed) = Err failed
 
--- a port has the package that a path names, if it names one
-abbrev pub has_named : Option (List ℕ) → PortValue → Bool
-has_named None port = true
-has_named (Some subpackage) port = has_package port subpackage
-
 -- what a record, or a fault met on the way to it, is answered with
 abbrev pub described : PathValue → Result (Option Recorded) Failed → ReplyMessage
 described path (Ok (Some recorded)) = if has_named path.subpackage recorded.port then port_shown path recorded.port else no_subpackage
@@ -147,16 +144,27 @@ abbrev pub get_port : World → Option (List ℕ) → ReplyMessage
 get_port world (Some path) = port_of world (path_of path)
 get_port world None = bad_parameter
 
--- a parameter of a request
-abbrev pub given : List ℕ → Asked → Option (List ℕ)
-given name request = parameter name (query_of request.target)
+-- what a query asks about a path's dependencies, or the refusal
+abbrev pub question_in : List ℕ → Result Question ReplyMessage
+question_in query = question_of (parameter (codes "path") query) (optional (codes "kind") query) (optional (codes "depth") query)
+
+-- the reply to a GET on a route, by the query; the file's route has answers of its own
+abbrev pub got : World → List ℕ → Route → ReplyMessage
+got world query Deps = answered (dependencies_of world) (question_in query)
+got world query Faults = get_faults world
+got world query File = not_allowed File
+got world query AllPackages = get_list world (optional (codes "where") query)
+got world query Match = get_match world (parameter (codes "spec") query)
+got world query Path = not_allowed Path
+got world query Port = get_port world (parameter (codes "path") query)
+got world query Rdeps = answered (dependents_of world) (question_in query)
+got world query Var = get_variable world (parameter (codes "path") query) (parameter (codes "name") query)
 
 -- the answer on a route by a method
 abbrev pub answer_on : World → Asked → Option Route → Method → Answer
-answer_on world request (Some File) method = on_file (files_in world) method request.body (given (codes "name") request)
+answer_on world request (Some File) method = on_file (files_in world) method request.body (parameter (codes "name") (query_of request.target))
 answer_on world request (Some Path) Put = set_path request.body
-answer_on world request (Some Port) Get = told (get_port world (given (codes "path") request))
-answer_on world request (Some Var) Get = told (get_variable world (given (codes "path") request) (given (codes "name") request))
+answer_on world request (Some route) Get = told (got world (query_of request.target) route)
 answer_on world request (Some route) method = told (not_allowed route)
 answer_on world request None method = told no_route
 

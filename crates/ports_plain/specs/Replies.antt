@@ -9,7 +9,7 @@ use Rattle.ports_http.specs.Messages.{ReplyMessage}
 use Rattle.serde_json.specs.Data.{Data}
 use Rattle.serde_json.specs.Written.{compact_text}
 use Rattle.ports_plain.specs.declared.routing.Route.{Route}
-use Rattle.ports_plain.specs.declared.routing.Route.TheVariants.{File, Path, Port, Var}
+use Rattle.ports_plain.specs.declared.routing.Route.TheVariants.{Deps, Faults, File, List as AllPackages, Match, Path, Port, Rdeps, Var}
 use Rattle.pkg_path.specs.Paths.{PathValue}
 use Rattle.port_rules.specs.Ports.{PortValue}
 use Rattle.ports_plain.specs.PortBody.{port_body}
@@ -29,9 +29,14 @@ no_route = refusal 404 (codes "Route")
 
 -- the methods of a route
 abbrev pub methods_of : Route → List Method
+methods_of Deps = Get ∷ []
+methods_of Faults = Get ∷ []
 methods_of File = Get ∷ Put ∷ Delete ∷ []
+methods_of AllPackages = Get ∷ []
+methods_of Match = Get ∷ []
 methods_of Path = Put ∷ []
 methods_of Port = Get ∷ []
+methods_of Rdeps = Get ∷ []
 methods_of Var = Get ∷ []
 
 -- a method that the route doesn't have

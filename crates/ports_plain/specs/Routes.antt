@@ -2,7 +2,7 @@
 use Rattle.std.specs.Prelude.{ℕ, if◌then◌else◌, List, [], ◌∷◌, Option, Some, None, codes}
 use Rattle.std.specs.Str.{bytes_eq}
 use Rattle.ports_plain.specs.declared.routing.Route.{Route}
-use Rattle.ports_plain.specs.declared.routing.Route.TheVariants.{File, Path, Port, Var}
+use Rattle.ports_plain.specs.declared.routing.Route.TheVariants.{Deps, Faults, File, List as AllPackages, Match, Path, Port, Rdeps, Var}
 
 -- what stands under a path in a table
 abbrev pub under : {A : Type 0} → List (List ℕ × A) → List ℕ → Option A
@@ -11,7 +11,9 @@ under ((written, here) ∷ others) path = if bytes_eq written path then Some her
 
 -- the paths of the routes, in the order of their bytes
 abbrev pub table : List (List ℕ × Route)
-table = (codes "/v1/file", File) ∷ (codes "/v1/path", Path) ∷ (codes "/v1/port", Port) ∷ (codes "/v1/var", Var) ∷ []
+table =
+    (codes "/v1/deps", Deps) ∷ (codes "/v1/faults", Faults) ∷ (codes "/v1/file", File) ∷ (codes "/v1/list", AllPackages) ∷ (codes "/v1/match", Match)
+    ∷ (codes "/v1/path", Path) ∷ (codes "/v1/port", Port) ∷ (codes "/v1/rdeps", Rdeps) ∷ (codes "/v1/var", Var) ∷ []
 
 -- the route of a path, which is compared as it is written
 abbrev pub route_of : List ℕ → Option Route

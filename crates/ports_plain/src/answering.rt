@@ -1,11 +1,13 @@
 // Requests and their answers.
 ghost use Rattle.std.specs.Prelude.{◌≡◌, IfOk};
 ghost use Rattle.std.specs.Result.{result_err};
-ghost use Rattle.ports_plain.specs.Plain.{answer, asked};
+ghost use Rattle.ports_plain.specs.Plain.{answer, asked, got};
 ghost use Rattle.ports_plain.specs.Refusing.{Keeps};
 
 use crate::changing::Prepared;
+use crate::dependencies::{get_dependencies, get_dependents};
 use crate::files::on_file;
+use crate::lists::{get_faults, get_list, get_match};
 use crate::paths::set_path;
 use crate::ports::get_port;
 use crate::refused::Refused;
@@ -13,9 +15,9 @@ use crate::replies::{not_allowed, refusal};
 use crate::routing::{Route, Routes};
 use crate::target::path_and_query;
 use crate::variables::get_variable;
-use mk_files::Files;
+use mk_files::Listing;
 use mk_paths::Settings;
-use ports_http::{Method, StatusCode};
+use ports_http::{Method, Reply, StatusCode};
 use std::alloc::{AllocError, Global};
 
 /// The plain service: its routes, made once. It holds nothing of a tenant.
@@ -57,7 +59,7 @@ impl Plain {
     /// `Store` comes where reading the files failed, which then count one more failure; `Memory` where no
     /// memory was left.
     #[tactic(auto, unfolding(crate::specs::Plain::answer))]
-    pub fn prepare<F: Files>(
+    pub fn prepare<F: Listing>(
         &self,
         alloc: Global,
         files: &mut F,
@@ -77,15 +79,34 @@ impl Plain {
         match (route, method) {
             (Route::File, method) => on_file(alloc, files, method, query, body),
             (Route::Path, Method::Put) => Ok(set_path(alloc, &body)?),
-            (Route::Port, Method::Get) => {
-                let reply = get_port(alloc, files, settings, query)?;
-                Ok(Prepared::told(reply))
-            }
-            (Route::Var, Method::Get) => {
-                let reply = get_variable(alloc, files, settings, query)?;
+            (route, Method::Get) => {
+                let reply = get(alloc, files, settings, route, query)?;
                 Ok(Prepared::told(reply))
             }
             _ => Ok(Prepared::told(not_allowed(alloc, route)?)),
         }
+    }
+}
+
+// The reply to a GET on a route, which changes nothing.
+fn get<F: Listing>(
+    alloc: Global,
+    files: &mut F,
+    settings: &Settings,
+    route: Route,
+    query: &str,
+) -> Result<Reply, Refused>
+    ensures ok { IfOk result (λ reply. reply ≡ got ((F.shelf files.old).files, settings.now) query.now route) }
+    ensures keeps { Keeps (result_err result) (F.shelf files.old) (F.shelf files.new) }
+{
+    match route {
+        Route::Deps => get_dependencies(alloc, files, settings, query),
+        Route::Faults => get_faults(alloc, files, settings),
+        Route::List => get_list(alloc, files, settings, query),
+        Route::Match => get_match(alloc, files, settings, query),
+        Route::Port => get_port(alloc, files, settings, query),
+        Route::Rdeps => get_dependents(alloc, files, settings, query),
+        Route::Var => get_variable(alloc, files, settings, query),
+        Route::File | Route::Path => Ok(not_allowed(alloc, route)?),
     }
 }

@@ -5,8 +5,12 @@
 mod answering;
 mod bodies;
 mod changing;
+mod dependencies;
+mod depth;
 mod files;
 mod laws;
+mod list_bodies;
+mod lists;
 mod parameters;
 mod paths;
 mod port_bodies;

@@ -1,11 +1,20 @@
 // The parameters of a query.
 ghost use Rattle.std.specs.Prelude.{◌≡◌, IfOk, option_map};
 ghost use Rattle.std.specs.Cow.{cow_str_bytes};
-ghost use Rattle.ports_plain.specs.Parameters.{parameter as parameter_of};
+ghost use Rattle.ports_plain.specs.Parameters as parameters;
+ghost use Rattle.ports_plain.specs.ParametersSeen.{found_seen};
 
 use form_urlencoded::parse;
 use std::alloc::{AllocError, Global};
 use std::borrow::CowStr;
+
+// How often a parameter stands in a query.
+#[derive(Drop)]
+enum Found<'a> {
+    Never,
+    Once(CowStr<'a>),
+    Often,
+}
 
 // The value of the one parameter of this name, decoded; none where it is missing, empty or there twice.
 // What other names stand in the query doesn't matter.
@@ -14,17 +23,45 @@ pub fn parameter<'a>(
     query: &'a str,
     name: &str,
 ) -> Result<Option<CowStr<'a>>, AllocError>
-    ensures { IfOk result (λ value. option_map cow_str_bytes value ≡ parameter_of name.now query.now) }
+    ensures { IfOk result (λ value. option_map cow_str_bytes value ≡ parameters.parameter name.now query.now) }
+{
+    match find(alloc, query, name)? {
+        Found::Once(value) if !value.as_str().is_empty() => Ok(Some(value)),
+        _ => Ok(None),
+    }
+}
+
+// The same of a parameter that may be left out, which is then empty; none where it is there twice.
+pub fn optional<'a>(
+    alloc: Global,
+    query: &'a str,
+    name: &str,
+) -> Result<Option<CowStr<'a>>, AllocError>
+    ensures { IfOk result (λ value. option_map cow_str_bytes value ≡ parameters.optional name.now query.now) }
+{
+    match find(alloc, query, name)? {
+        Found::Never => Ok(Some(CowStr::Borrowed(""))),
+        Found::Once(value) => Ok(Some(value)),
+        Found::Often => Ok(None),
+    }
+}
+
+// How often a parameter stands in a query, decoded.
+fn find<'a>(alloc: Global, query: &'a str, name: &str) -> Result<Found<'a>, AllocError>
+    ensures { IfOk result (λ found. found_seen found ≡ parameters.times (parameters.values_under name.now query.now)) }
 {
     let mut found: Option<CowStr<'a>> = None;
     for pair in parse(alloc, query.as_bytes()) {
         let (written, value) = pair?;
         if written.as_str() == name {
             if found.is_some() {
-                return Ok(None);
+                return Ok(Found::Often);
             }
             found = Some(value);
         }
     }
-    Ok(found.filter(|value| !value.as_str().is_empty()))
+    match found {
+        Some(value) => Ok(Found::Once(value)),
+        None => Ok(Found::Never),
+    }
 }

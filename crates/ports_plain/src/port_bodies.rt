@@ -43,7 +43,7 @@ fn path_text(alloc: Global, path: &PkgPath) -> Result<String, AllocError>
 }
 
 // A list of texts.
-fn texts(alloc: Global, texts: &[String]) -> Result<Value, AllocError>
+pub fn texts(alloc: Global, texts: &[String]) -> Result<Value, AllocError>
     ensures { IfOk result (λ value. view value ≡ texts_body (map string_bytes texts.now)) }
 {
     let mut values = Vec::new(alloc);

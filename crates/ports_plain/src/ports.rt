@@ -4,7 +4,8 @@ ghost use Rattle.std.specs.Result.{result_err};
 ghost use Rattle.mk_eval.specs.Meaning.{means};
 ghost use Rattle.mk_eval.specs.Telling.{Tells};
 ghost use Rattle.mk_paths.specs.Place.{place};
-ghost use Rattle.ports_plain.specs.Plain.{get_port as get_port_of, port_at as port_at_place, record_after, described, has_named as has_named_in};
+ghost use Rattle.ports_plain.specs.Plain.{get_port as get_port_of, port_at as port_at_place, record_after, described};
+ghost use Rattle.ports_plain.specs.Subpackages.{has_named as has_named_in};
 ghost use Rattle.ports_plain.specs.Parameters.{parameter as parameter_of};
 ghost use Rattle.ports_plain.specs.Refusing.{Keeps, refusal_in};
 
@@ -99,7 +100,7 @@ fn record_in<F: Files>(
 }
 
 // Whether a port has the package that a path names, if it names one.
-fn has_named(path: &PkgPath, port: &PortRecord) -> bool
+pub fn has_named(path: &PkgPath, port: &PortRecord) -> bool
     ensures { result ≡ has_named_in path.now.subpackage port.now }
 {
     match path.subpackage() {

@@ -15,7 +15,7 @@ use serde_json::Value;
 use std::alloc::{AllocError, Global};
 
 // A reply with a JSON value.
-fn json_reply(alloc: Global, status: StatusCode, value: &Value) -> Result<Reply, AllocError>
+pub fn json_reply(alloc: Global, status: StatusCode, value: &Value) -> Result<Reply, AllocError>
     requires { has_float (view value.now) ≡ false }
     ensures { IfOk result (λ reply. reply ≡ json_reply_of status (view value.now)) }
 {
@@ -38,7 +38,7 @@ fn methods_of_route(route: Route) -> &'static [Method]
     match route {
         Route::File => &[Method::Get, Method::Put, Method::Delete],
         Route::Path => &[Method::Put],
-        Route::Port | Route::Var => &[Method::Get],
+        _ => &[Method::Get],
     }
 }
 

@@ -11,12 +11,22 @@ use std::alloc::{AllocError, Global};
 /// What a path of the service stands for.
 #[derive(Clone, Copy, Debug, PartialEq, Eq)]
 pub enum Route {
+    /// `/v1/deps`: what a port depends on.
+    Deps,
+    /// `/v1/faults`: the faults of ports and lists.
+    Faults,
     /// `/v1/file`: one of the tenant's files.
     File,
+    /// `/v1/list`: the packages that meet conditions.
+    List,
+    /// `/v1/match`: the packages that a spec admits.
+    Match,
     /// `/v1/path`: the tenant's search path.
     Path,
     /// `/v1/port`: what a port is.
     Port,
+    /// `/v1/rdeps`: what depends on a port.
+    Rdeps,
     /// `/v1/var`: a variable of a port's makefile.
     Var,
 }
@@ -32,9 +42,14 @@ impl Routes {
     /// The routes, in the order of their paths' bytes. Its one error is want of memory.
     pub fn new(alloc: Global) -> Result<Routes, AllocError> {
         let mut router = Router::new(alloc);
+        add(&mut router, "/v1/deps", Route::Deps)?;
+        add(&mut router, "/v1/faults", Route::Faults)?;
         add(&mut router, "/v1/file", Route::File)?;
+        add(&mut router, "/v1/list", Route::List)?;
+        add(&mut router, "/v1/match", Route::Match)?;
         add(&mut router, "/v1/path", Route::Path)?;
         add(&mut router, "/v1/port", Route::Port)?;
+        add(&mut router, "/v1/rdeps", Route::Rdeps)?;
         add(&mut router, "/v1/var", Route::Var)?;
         Ok(Routes { router })
     }

@@ -3,7 +3,7 @@ use Rattle.std.specs.Option.{option_to_list}
 use Rattle.std.specs.Cow.{cow_str_bytes}
 use Rattle.form_urlencoded.specs.Parse.{pairs_left}
 use Rattle.ports_plain.specs.Parameters.{values_under, value_under}
-use Rattle.ports_plain.proofs.parameters.parameter.Given as goal
+use Rattle.ports_plain.proofs.parameters.find.Given as goal
 
 -- the value found so far, before those in what is left
 abbrev pub invariant-loop-pair : goal.invariant-loop-pair
