@@ -1,8 +1,9 @@
 //! A plain program to compare `portsd` with over a whole tree: `plain_tree DIRECTORY VARIABLE` loads every
 //! file below the directory, whose names are then taken from it as from `/`, evaluates the makefile of each
 //! directory `/ports/CATEGORY/PORT`, and prints the variable of each and, on standard error, the
-//! microseconds that this took without the loading. It reads what `tree.sh` writes and no more, proves
-//! nothing, and has none of the limits.
+//! microseconds that this took without the loading; with `--list` for the variable, the list of packages as
+//! `GET /v1/list` has it. It reads what `tree.sh` and `index.sh` write and no more, proves nothing, and has
+//! none of the limits.
 use std::collections::HashMap;
 use std::env;
 use std::fs;
@@ -258,6 +259,37 @@ fn load(top: &Path, at: &Path, files: &mut Files) -> io::Result<()> {
     Ok(())
 }
 
+fn evaluated<'a>(files: &'a Files, makefile: &'a str) -> Make<'a> {
+    let mut make = Make { files, makefile, variables: HashMap::new(), shared_asked: false };
+    make.variables.insert(".CURDIR".to_string(), directory(makefile).to_string());
+    make.file(makefile);
+    make
+}
+
+/// The variable of each makefile.
+fn values(out: &mut impl Write, files: &Files, names: &[&String], variable: &str) -> io::Result<()> {
+    for name in names {
+        let value = evaluated(files, name).expand(&format!("${{{variable}}}"));
+        writeln!(out, "{name} {value}")?;
+    }
+    Ok(())
+}
+
+/// The package of each port, as `GET /v1/list` has them.
+fn list(out: &mut impl Write, files: &Files, names: &[&String]) -> io::Result<()> {
+    let mut packages = Vec::new();
+    for name in names {
+        let path = directory(name).trim_start_matches("/ports/");
+        packages.push((path, evaluated(files, name).expand("${DISTNAME}")));
+    }
+    packages.sort();
+    let texts: Vec<String> = packages
+        .iter()
+        .map(|(path, name)| format!(r#"{{"name":"{name}","path":"{path}","subpackage":"-"}}"#))
+        .collect();
+    writeln!(out, "[{}]", texts.join(","))
+}
+
 fn main() -> ExitCode {
     let words: Vec<String> = env::args().collect();
     let [_, top, variable] = words.as_slice() else {
@@ -271,14 +303,12 @@ fn main() -> ExitCode {
     names.sort();
     let mut out = BufWriter::new(io::stdout().lock());
     let from = Instant::now();
-    for name in names {
-        let mut make = Make { files: &files, makefile: name, variables: HashMap::new(), shared_asked: false };
-        make.variables.insert(".CURDIR".to_string(), directory(name).to_string());
-        make.file(name);
-        let value = make.expand(&format!("${{{variable}}}"));
-        if writeln!(out, "{name} {value}").is_err() {
-            return ExitCode::from(1);
-        }
+    let written = match variable.as_str() {
+        "--list" => list(&mut out, &files, &names),
+        variable => values(&mut out, &files, &names, variable),
+    };
+    if written.is_err() {
+        return ExitCode::from(1);
     }
     eprintln!("{}", from.elapsed().as_micros());
     ExitCode::SUCCESS

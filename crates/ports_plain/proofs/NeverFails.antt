@@ -38,7 +38,7 @@ use Rattle.std.specs.Result.{is_ok}
 use Rattle.ports_http.specs.Messages.{ReplyMessage}
 use Rattle.ports_plain.specs.Trimming.{trimmed}
 use Rattle.ports_plain.specs.Replies.{bad_path, json_reply, no_file, no_subpackage, removed, port_shown}
-use Rattle.ports_plain.specs.Plain.{Asked, told, content_shown, on_named_file, on_resolved, on_file, set_trees, set_path, value_after, valued, variable_at, variable_of, get_variable, record_after, described, port_at, port_of, get_port, question_in, got, answer_on, answer, plain}
+use Rattle.ports_plain.specs.Plain.{Asked, told, content_shown, on_named_file, on_resolved, on_file, set_trees, set_path, value_after, valued, variable_at, variable_of, get_variable, record_after, described, port_at, port_of, get_port, question_in, got, on_query, on_path, answer_on, answer, plain}
 use Rattle.ports_plain.specs.declared.changing.Change.TheVariants.{RemoveFile}
 
 content-fine : (content : Option (List ℕ)) → ((content_shown content).status == 503) ≡ false
@@ -188,34 +188,28 @@ got-fine world query Port = get_port-fine world (parameter (codes "path") query)
 got-fine world query Rdeps = asked-fine (dependents_of world) (dependents_of-fine world) query
 got-fine world query Var = get_variable-fine world (parameter (codes "path") query) (parameter (codes "name") query)
 
-answer_on-fine : (world : World) (request : Asked) (route : Option Route) (method : Method) → ((answer_on world request route method).0.status == 503) ≡ false
-answer_on-fine world request (Some File) method = on_file-fine (files_in world) method request.body (parameter (codes "name") (query_of_target request.target))
-answer_on-fine world request (Some Deps) Get = got-fine world (query_of_target request.target) Deps
-answer_on-fine world request (Some Deps) Put = refl
-answer_on-fine world request (Some Deps) Delete = refl
-answer_on-fine world request (Some Faults) Get = got-fine world (query_of_target request.target) Faults
-answer_on-fine world request (Some Faults) Put = refl
-answer_on-fine world request (Some Faults) Delete = refl
-answer_on-fine world request (Some AllPackages) Get = got-fine world (query_of_target request.target) AllPackages
-answer_on-fine world request (Some AllPackages) Put = refl
-answer_on-fine world request (Some AllPackages) Delete = refl
-answer_on-fine world request (Some Match) Get = got-fine world (query_of_target request.target) Match
-answer_on-fine world request (Some Match) Put = refl
-answer_on-fine world request (Some Match) Delete = refl
-answer_on-fine world request (Some Path) Get = got-fine world (query_of_target request.target) Path
-answer_on-fine world request (Some Path) Put = set_path-fine request.body
-answer_on-fine world request (Some Path) Delete = refl
-answer_on-fine world request (Some Port) Get = got-fine world (query_of_target request.target) Port
-answer_on-fine world request (Some Port) Put = refl
-answer_on-fine world request (Some Port) Delete = refl
-answer_on-fine world request (Some Rdeps) Get = got-fine world (query_of_target request.target) Rdeps
-answer_on-fine world request (Some Rdeps) Put = refl
-answer_on-fine world request (Some Rdeps) Delete = refl
-answer_on-fine world request (Some Var) Get = got-fine world (query_of_target request.target) Var
-answer_on-fine world request (Some Var) Put = refl
-answer_on-fine world request (Some Var) Delete = refl
-answer_on-fine world request None method = refl
+on_query-fine : (world : World) (query : List ℕ) (route : Route) (method : Method) → ((on_query world query route method).0.status == 503) ≡ false
+on_query-fine world query route Get = got-fine world query route
+on_query-fine world query route Put = refl
+on_query-fine world query route Delete = refl
+
+on_path-fine : (body : List ℕ) (method : Method) → ((on_path body method).0.status == 503) ≡ false
+on_path-fine body Put = set_path-fine body
+on_path-fine body Get = refl
+on_path-fine body Delete = refl
+
+answer_on-fine : (world : World) (request : Asked) (route : Option Route) → ((answer_on world request route).0.status == 503) ≡ false
+answer_on-fine world request None = refl
+answer_on-fine world request (Some Deps) = on_query-fine world (query_of_target request.target) Deps request.method
+answer_on-fine world request (Some Faults) = on_query-fine world (query_of_target request.target) Faults request.method
+answer_on-fine world request (Some File) = on_file-fine (files_in world) request.method request.body (parameter (codes "name") (query_of_target request.target))
+answer_on-fine world request (Some AllPackages) = on_query-fine world (query_of_target request.target) AllPackages request.method
+answer_on-fine world request (Some Match) = on_query-fine world (query_of_target request.target) Match request.method
+answer_on-fine world request (Some Path) = on_path-fine request.body request.method
+answer_on-fine world request (Some Port) = on_query-fine world (query_of_target request.target) Port request.method
+answer_on-fine world request (Some Rdeps) = on_query-fine world (query_of_target request.target) Rdeps request.method
+answer_on-fine world request (Some Var) = on_query-fine world (query_of_target request.target) Var request.method
 
 pub never_503 : (world : World) (request : Asked) → ((plain world request).0.status == 503) ≡ false
 unfolding answer
-never_503 world request = answer_on-fine world request (route_of (target_path request.target)) request.method
+never_503 world request = answer_on-fine world request (route_of (target_path request.target))

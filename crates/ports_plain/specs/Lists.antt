@@ -1,5 +1,5 @@
 -- The routes over all ports of a world: which packages they list, and which dependencies.
-use Rattle.std.specs.Prelude.{ℕ, if◌then◌else◌, ◌||◌, List, [], ◌∷◌, Option, Some, None, Result, Ok, Err, map, find, codes}
+use Rattle.std.specs.Prelude.{ℕ, if◌then◌else◌, ◌||◌, List, [], Option, Some, None, Result, Ok, Err, find, codes}
 use Rattle.std.specs.Result.{is_ok}
 use Rattle.std.specs.Str.{bytes_eq}
 use Rattle.mk_base.specs.FaultAt.{FaultAt}

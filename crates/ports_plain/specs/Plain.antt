@@ -148,7 +148,7 @@ get_port world None = bad_parameter
 abbrev pub question_in : List ℕ → Result Question ReplyMessage
 question_in query = question_of (parameter (codes "path") query) (optional (codes "kind") query) (optional (codes "depth") query)
 
--- the reply to a GET on a route, by the query; the file's route has answers of its own
+-- the reply to a GET on a route, by the query; the files and the search path aren't asked for so
 abbrev pub got : World → List ℕ → Route → ReplyMessage
 got world query Deps = answered (dependencies_of world) (question_in query)
 got world query Faults = get_faults world
@@ -160,17 +160,28 @@ got world query Port = get_port world (parameter (codes "path") query)
 got world query Rdeps = answered (dependents_of world) (question_in query)
 got world query Var = get_variable world (parameter (codes "path") query) (parameter (codes "name") query)
 
--- the answer on a route by a method
-abbrev pub answer_on : World → Asked → Option Route → Method → Answer
-answer_on world request (Some File) method = on_file (files_in world) method request.body (parameter (codes "name") (query_of request.target))
-answer_on world request (Some Path) Put = set_path request.body
-answer_on world request (Some route) Get = told (got world (query_of request.target) route)
-answer_on world request (Some route) method = told (not_allowed route)
-answer_on world request None method = told no_route
+-- the answer on the route of a query, by a method
+abbrev pub on_query : World → List ℕ → Route → Method → Answer
+on_query world query route Get = told (got world query route)
+on_query world query route Put = told (not_allowed route)
+on_query world query route Delete = told (not_allowed route)
+
+-- the answer on the route of the search path, by a method
+abbrev pub on_path : List ℕ → Method → Answer
+on_path body Put = set_path body
+on_path body Get = told (not_allowed Path)
+on_path body Delete = told (not_allowed Path)
+
+-- the answer on a route
+abbrev pub answer_on : World → Asked → Option Route → Answer
+answer_on world request None = told no_route
+answer_on world request (Some File) = on_file (files_in world) request.method request.body (parameter (codes "name") (query_of request.target))
+answer_on world request (Some Path) = on_path request.body request.method
+answer_on world request (Some route) = on_query world (query_of request.target) route request.method
 
 -- The reply to a request, and what is to be changed. The path is looked at first, then the method, then the parameters.
 unfoldable pub answer : World → Asked → Answer
-answer world request = answer_on world request (route_of (target_path request.target)) request.method
+answer world request = answer_on world request (route_of (target_path request.target))
 
 -- a reply, and the world behind it
 abbrev pub Served : Type 0

@@ -1,14 +1,14 @@
 // Requests and their answers.
 ghost use Rattle.std.specs.Prelude.{◌≡◌, IfOk};
 ghost use Rattle.std.specs.Result.{result_err};
-ghost use Rattle.ports_plain.specs.Plain.{answer, asked, got};
+ghost use Rattle.ports_plain.specs.Plain.{answer, asked, got, on_query as on_query_of};
 ghost use Rattle.ports_plain.specs.Refusing.{Keeps};
 
 use crate::changing::Prepared;
 use crate::dependencies::{get_dependencies, get_dependents};
 use crate::files::on_file;
 use crate::lists::{get_faults, get_list, get_match};
-use crate::paths::set_path;
+use crate::paths::on_path;
 use crate::ports::get_port;
 use crate::refused::Refused;
 use crate::replies::{not_allowed, refusal};
@@ -76,15 +76,35 @@ impl Plain {
             let reply = refusal(alloc, StatusCode::NOT_FOUND, "Route")?;
             return Ok(Prepared::told(reply));
         };
-        match (route, method) {
-            (Route::File, method) => on_file(alloc, files, method, query, body),
-            (Route::Path, Method::Put) => Ok(set_path(alloc, &body)?),
-            (route, Method::Get) => {
-                let reply = get(alloc, files, settings, route, query)?;
-                Ok(Prepared::told(reply))
-            }
-            _ => Ok(Prepared::told(not_allowed(alloc, route)?)),
+        match route {
+            Route::File => on_file(alloc, files, method, query, body),
+            Route::Path => Ok(on_path(alloc, method, &body)?),
+            Route::Deps
+            | Route::Faults
+            | Route::List
+            | Route::Match
+            | Route::Port
+            | Route::Rdeps
+            | Route::Var => on_query(alloc, files, settings, route, method, query),
         }
+    }
+}
+
+// The answer on the route of a query, which changes nothing.
+fn on_query<F: Listing>(
+    alloc: Global,
+    files: &mut F,
+    settings: &Settings,
+    route: Route,
+    method: Method,
+    query: &str,
+) -> Result<Prepared, Refused>
+    ensures ok { IfOk result (λ prepared. (prepared.reply, prepared.change) ≡ on_query_of ((F.shelf files.old).files, settings.now) query.now route method) }
+    ensures keeps { Keeps (result_err result) (F.shelf files.old) (F.shelf files.new) }
+{
+    match method {
+        Method::Get => Ok(Prepared::told(get(alloc, files, settings, route, query)?)),
+        Method::Put | Method::Delete => Ok(Prepared::told(not_allowed(alloc, route)?)),
     }
 }
 

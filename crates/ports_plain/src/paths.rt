@@ -1,18 +1,29 @@
 // The route of the search path.
 ghost use Rattle.std.specs.Prelude.{◌≡◌, IfOk};
-ghost use Rattle.ports_plain.specs.Plain.{set_path as set_path_of, set_trees as set_trees_of, told};
+ghost use Rattle.ports_plain.specs.Plain.{on_path as on_path_of, set_path as set_path_of, set_trees as set_trees_of, told};
 ghost use Rattle.ports_plain.specs.Replies.{bad_path as bad_path_reply};
 ghost use Rattle.mk_paths.specs.SearchPath.{search_path};
 
 use crate::changing::{Change, Prepared};
-use crate::replies::{path_set, refusal};
+use crate::replies::{not_allowed, path_set, refusal};
+use crate::routing::Route;
 use crate::trimming::trimmed;
 use mk_paths::{PathFault, SearchPath};
-use ports_http::StatusCode;
+use ports_http::{Method, StatusCode};
 use std::alloc::{AllocError, Global};
 
+// The search path, which a PUT sets and nothing shows.
+pub fn on_path(alloc: Global, method: Method, body: &[u8]) -> Result<Prepared, AllocError>
+    ensures { IfOk result (λ prepared. (prepared.reply, prepared.change) ≡ on_path_of body.now method) }
+{
+    match method {
+        Method::Put => set_path(alloc, body),
+        Method::Get | Method::Delete => Ok(Prepared::told(not_allowed(alloc, Route::Path)?)),
+    }
+}
+
 // The search path that a body has, without the blanks and line feeds at its ends, is to be set.
-pub fn set_path(alloc: Global, body: &[u8]) -> Result<Prepared, AllocError>
+fn set_path(alloc: Global, body: &[u8]) -> Result<Prepared, AllocError>
     ensures { IfOk result (λ prepared. (prepared.reply, prepared.change) ≡ set_path_of body.now) }
 {
     match str::from_utf8(trimmed(body)) {
