@@ -2,7 +2,8 @@
 # Makes trees of 500, 1,000 and 2,000 ports with 8 dependencies each, and prints the time that portsd takes
 # for the first list of each, for the packages that a spec admits, and for all ports that reach one: without
 # the storing of the files. Beside the list stands the time of a plain program (plain_tree.rs, built by
-# rustc) that evaluates the same makefiles and writes the same list; what both list is compared.
+# rustc) that evaluates the same makefiles, makes the same records and writes the same list; what both list
+# is compared.
 set -eu
 top=$(cd "$(dirname "$0")/.." && pwd)
 work=$(mktemp -d)

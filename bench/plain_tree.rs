@@ -1,9 +1,9 @@
 //! A plain program to compare `portsd` with over a whole tree: `plain_tree DIRECTORY VARIABLE` loads every
 //! file below the directory, whose names are then taken from it as from `/`, evaluates the makefile of each
 //! directory `/ports/CATEGORY/PORT`, and prints the variable of each and, on standard error, the
-//! microseconds that this took without the loading; with `--list` for the variable, the list of packages as
-//! `GET /v1/list` has it. It reads what `tree.sh` and `index.sh` write and no more, proves nothing, and has
-//! none of the limits.
+//! microseconds that this took without the loading. With `--list` for the variable it makes the record of
+//! each port and prints the list of packages as `GET /v1/list` has it. It reads what `tree.sh` and
+//! `index.sh` write and no more, proves nothing, and has none of the limits.
 use std::collections::HashMap;
 use std::env;
 use std::fs;
@@ -275,18 +275,146 @@ fn values(out: &mut impl Write, files: &Files, names: &[&String], variable: &str
     Ok(())
 }
 
-/// The package of each port, as `GET /v1/list` has them.
-fn list(out: &mut impl Write, files: &Files, names: &[&String]) -> io::Result<()> {
-    let mut packages = Vec::new();
-    for name in names {
-        let path = directory(name).trim_start_matches("/ports/");
-        packages.push((path, evaluated(files, name).expand("${DISTNAME}")));
+/// What a port is, by its variables, as a service has to know it: a list has a port only where all of them
+/// can be had, though it shows its names alone.
+#[allow(dead_code)]
+struct Record {
+    path: String,
+    maintainer: String,
+    categories: Vec<String>,
+    flavors: Vec<String>,
+    packages: Vec<Package>,
+    depends: Vec<Depend>,
+}
+
+#[allow(dead_code)]
+struct Package {
+    subpackage: String,
+    name: String,
+    comment: String,
+}
+
+#[allow(dead_code)]
+struct Depend {
+    kind: &'static str,
+    subpackage: String,
+    item: String,
+}
+
+impl Make<'_> {
+    fn value(&self, name: &str) -> Option<String> {
+        self.variables.get(name).map(|value| self.expand(value))
     }
-    packages.sort();
-    let texts: Vec<String> = packages
-        .iter()
-        .map(|(path, name)| format!(r#"{{"name":"{name}","path":"{path}","subpackage":"-"}}"#))
-        .collect();
+
+    fn words(&self, name: &str) -> Vec<String> {
+        let value = self.value(name).unwrap_or_default();
+        value.split_whitespace().map(str::to_string).collect()
+    }
+
+    /// The record of a port; none where a flavor isn't known or a name is no package's name.
+    fn record(&self) -> Option<Record> {
+        let chosen = lowered(self.words("FLAVOR"));
+        let flavors = lowered(self.words("FLAVORS"));
+        let pseudo = lowered(self.words("PSEUDO_FLAVORS"));
+        if !chosen.iter().all(|flavor| flavors.contains(flavor) || pseudo.contains(flavor)) {
+            return None;
+        }
+        let mut subpackages = self.words("MULTI_PACKAGES");
+        if subpackages.is_empty() {
+            subpackages.push("-".to_string());
+        }
+        let maintainer = self.value("MAINTAINER").unwrap_or_default();
+        let categories = self.words("CATEGORIES");
+        let mut depends = Vec::new();
+        self.depend("build", "BUILD_DEPENDS", "", &mut depends);
+        let mut packages = Vec::new();
+        for subpackage in subpackages {
+            let name = self.full_name(&subpackage, &chosen, &flavors)?;
+            let comment = self.own("COMMENT", &subpackage).unwrap_or_default();
+            self.depend("lib", "LIB_DEPENDS", &subpackage, &mut depends);
+            self.depend("run", "RUN_DEPENDS", &subpackage, &mut depends);
+            packages.push(Package { subpackage, name, comment });
+        }
+        self.depend("test", "TEST_DEPENDS", "", &mut depends);
+        let path = directory(self.makefile).trim_start_matches("/ports/").to_string();
+        Some(Record { path, maintainer, categories, flavors, packages, depends })
+    }
+
+    /// A variable of one package, or else of all.
+    fn own(&self, name: &str, subpackage: &str) -> Option<String> {
+        if subpackage == "-" {
+            return self.value(name);
+        }
+        self.value(&format!("{name}{subpackage}")).or_else(|| self.value(name))
+    }
+
+    fn full_name(&self, subpackage: &str, chosen: &[String], flavors: &[String]) -> Option<String> {
+        let ending = if subpackage == "-" { "" } else { subpackage };
+        if let Some(name) = self.value(&format!("FULLPKGNAME{ending}")) {
+            return is_name(&name).then_some(name);
+        }
+        let base = self.value("PKGNAME").or_else(|| self.value("DISTNAME"));
+        let mut name = match self.value(&format!("PKGNAME{ending}")) {
+            Some(name) => name,
+            None if ending.is_empty() || ending == "-main" => base?,
+            None => format!("{}{ending}", base?),
+        };
+        let end = version_end(&name)?;
+        let epoch = self.own("EPOCH", subpackage).map_or(String::new(), |epoch| format!("v{epoch}"));
+        let revision = self.own("REVISION", subpackage).map_or(String::new(), |revision| format!("p{revision}"));
+        name.insert_str(end, &format!("{revision}{epoch}"));
+        for flavor in flavors.iter().filter(|flavor| chosen.contains(flavor)) {
+            name.push('-');
+            name.push_str(flavor);
+        }
+        is_name(&name).then_some(name)
+    }
+
+    fn depend(&self, kind: &'static str, name: &str, subpackage: &str, depends: &mut Vec<Depend>) {
+        let value = match subpackage {
+            "" => self.value(name),
+            subpackage => self.own(name, subpackage),
+        };
+        for item in value.unwrap_or_default().split_whitespace() {
+            depends.push(Depend { kind, subpackage: subpackage.to_string(), item: item.to_string() });
+        }
+    }
+}
+
+fn lowered(words: Vec<String>) -> Vec<String> {
+    words.iter().map(|word| word.to_ascii_lowercase()).collect()
+}
+
+/// Where the version of a package's name ends.
+fn version_end(name: &str) -> Option<usize> {
+    let start = name.as_bytes().windows(2).position(|pair| pair[0] == b'-' && pair[1].is_ascii_digit())? + 1;
+    Some(name[start..].find('-').map_or(name.len(), |length| start + length))
+}
+
+/// Whether a text is a package's name: a stem, a version, flavors.
+fn is_name(name: &str) -> bool {
+    let Some(end) = version_end(name) else {
+        return false;
+    };
+    let is_plain = |text: &str| !text.is_empty() && !text.contains(|c| " \t/,|<>=*!".contains(c));
+    let version = name[..end].rsplit('-').next().unwrap_or("");
+    let stem = &name[..end - version.len() - 1];
+    let digits = version.split(|c: char| !c.is_ascii_digit()).all(|run| run.len() <= 18);
+    let known = version.bytes().all(|byte| byte.is_ascii_alphanumeric() || b"._+".contains(&byte));
+    is_plain(stem) && digits && known && name[end..].split('-').skip(1).all(is_plain)
+}
+
+/// The packages of all ports, as `GET /v1/list` has them.
+fn list(out: &mut impl Write, files: &Files, names: &[&String]) -> io::Result<()> {
+    let mut records: Vec<Record> = names.iter().filter_map(|name| evaluated(files, name).record()).collect();
+    records.sort_by(|one, other| one.path.cmp(&other.path));
+    let mut texts = Vec::new();
+    for record in &records {
+        for package in &record.packages {
+            let Package { subpackage, name, .. } = package;
+            texts.push(format!(r#"{{"name":"{name}","path":"{}","subpackage":"{subpackage}"}}"#, record.path));
+        }
+    }
     writeln!(out, "[{}]", texts.join(","))
 }
 

@@ -1,16 +1,17 @@
 """A client for bench/serve.sh: one keep-alive connection to a portsd that serves, one request after another.
 
-serve_client.py PORT PID: uploads 2,000 small ports and asks each for a variable, and prints how many of
-each were answered a second; then how long a request takes before and after idle time, and which share of a
-core the process PID used while idle."""
+serve_client.py PORT PID: uploads 2,000 small ports of 1 kB as the tenant `alpha` and asks each for a variable,
+and prints how many of each were answered a second, of uploads also the first and the last 500; then the same
+for 100 uploads of each of the tenants `t1` to `t63`; then how long a request takes before and after idle time,
+and which share of a core the process PID used while idle."""
 import os
 import socket
 import sys
 import time
 
 PORTS = 2000
+BYTES = 1000
 IDLE_SECONDS = 10
-HEAD = "Host: localhost\r\nX-Ports-Key: alpha\r\n"
 
 
 class Client:
@@ -38,15 +39,20 @@ class Client:
         return received
 
 
-def upload(number):
-    body = f"COMMENT = port number {number}\nV = 1.{number}\nDISTNAME = small-${{V}}\nCATEGORIES = bench\n".encode()
+def head(key):
+    return f"HTTP/1.1\r\nHost: localhost\r\nX-Ports-Key: {key}\r\n"
+
+
+def upload(key, number):
+    text = f"COMMENT = port number {number}\nV = 1.{number}\nDISTNAME = small-${{V}}\nCATEGORIES = bench\n"
+    body = f"{text}# {'x' * (BYTES - len(text) - 3)}\n".encode()
     target = f"/v1/file?name=/ports/bench/small{number}/Makefile"
-    return f"PUT {target} HTTP/1.1\r\n{HEAD}Content-Length: {len(body)}\r\n\r\n".encode() + body, b'{"stored":true}'
+    return f"PUT {target} {head(key)}Content-Length: {len(body)}\r\n\r\n".encode() + body, b'{"stored":true}'
 
 
 def variable(number):
     target = f"/v1/var?path=bench/small{number}&name=DISTNAME"
-    return f"GET {target} HTTP/1.1\r\n{HEAD}\r\n".encode(), b'{"defined":true,"value":"small-1.%d"}' % number
+    return f"GET {target} {head('alpha')}\r\n".encode(), b'{"defined":true,"value":"small-1.%d"}' % number
 
 
 def seconds(client, requests):
@@ -66,11 +72,18 @@ def cpu_seconds(pid):
 def main():
     port, pid = int(sys.argv[1]), int(sys.argv[2])
     client = Client(port)
-    uploads = [upload(number) for number in range(PORTS)]
     variables = [variable(number) for number in range(PORTS)]
-    print(f"uploads a second:  {PORTS / seconds(client, uploads):.0f}")
+    rates = []
+    for first in range(0, PORTS, 500):
+        rates.append(500 / seconds(client, [upload("alpha", number) for number in range(first, first + 500)]))
+    mean = len(rates) / sum(1 / rate for rate in rates)
+    print(f"uploads a second:  {mean:.0f}; the first 500 at {rates[0]:.0f}, the last 500 at {rates[-1]:.0f}")
     seconds(client, variables)
     print(f"/v1/var a second:  {PORTS / min(seconds(client, variables) for _ in range(3)):.0f}")
+    rates = []
+    for tenant in range(1, 64):
+        rates.append(100 / seconds(client, [upload(f"t{tenant}", number) for number in range(100)]))
+    print(f"uploads of each of 63 more tenants a second:  {min(rates):.0f} to {max(rates):.0f}; the last {rates[-1]:.0f}")
     for idle in range(3):
         if idle > 0:
             used = cpu_seconds(pid)

@@ -2,6 +2,7 @@
 -- `editors/vim,gtk3,-lang`. That flavors and subpackage may come in any order, and what is refused, is this project's choice.
 use Rattle.std.specs.Prelude.{◌≡◌, ℕ, ◌==◌, nat_lt, nat_le, ◌&&◌, ◌||◌, if◌then◌else◌, Bool, false, not, List, [], ◌∷◌, ◌++◌, length, filter, find, Option, Some, None, Result, Ok, Err, option_to_list, codes}
 use Rattle.std.specs.List.{slice_split, flat_map, list_all, list_any}
+use Rattle.std.specs.Result.{result_ok}
 use Rattle.std.specs.Str.{bytes_eq}
 use Rattle.text_order.specs.Order.{in_order}
 use Rattle.pkg_path.specs.declared.faults.PkgPathFault.{PkgPathFault}
@@ -94,6 +95,10 @@ path_of text =
     else if is_well_written text then Ok (value_of (elements_of text))
     else Err BadCharacter
 
+-- the path that a text names, if it names one
+abbrev pub path_if_one : List ℕ → Option PathValue
+path_if_one text = result_ok (path_of text)
+
 -- the number of a refusal; want of memory has none
 abbrev pub refusal_number : PkgPathFault → Option ℕ
 refusal_number Empty = Some 1
@@ -122,3 +127,7 @@ pub record IsPath (path : PathValue) : Type 0 where
 -- the same path without its subpackage
 abbrev pub without_subpackage : PathValue → PathValue
 without_subpackage path = record path { subpackage = None }
+
+-- the port that a path names: the canonical text without the subpackage
+abbrev pub port_path : PathValue → List ℕ
+port_path path = canonical (without_subpackage path)

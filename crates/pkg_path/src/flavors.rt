@@ -9,7 +9,7 @@ use std::fmt;
 
 /// The flavors that a path chooses.
 #[derive(Debug, Drop, PartialEq, Eq)]
-pub enum Flavors {
+pub(crate) enum Flavors {
     /// None are chosen: the port's default flavor.
     Default,
     /// Just these, in the order of their bytes, each once; with none of them, the empty flavor.

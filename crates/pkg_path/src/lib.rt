@@ -8,6 +8,5 @@ mod laws;
 mod path;
 
 pub use faults::PkgPathFault;
-pub use flavors::Flavors;
 pub use laws::{canonical_names_the_path, same_text_same_path, stays_a_path};
 pub use path::PkgPath;

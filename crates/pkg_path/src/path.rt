@@ -1,12 +1,12 @@
 // Package paths.
-ghost use Rattle.std.specs.Prelude.{◌≡◌, ◌↔◌, IsTrue, IfOk, IsErrOf, option_map, Some};
+ghost use Rattle.std.specs.Prelude.{◌≡◌, ◌↔◌, IsTrue, IfOk, IsErrOf, map, option_map, Some};
 ghost use Rattle.std.specs.String.{string_bytes};
 ghost use Rattle.std.specs.Option.{option_copied};
 ghost use Rattle.std.specs.Ordering.{nat_cmp};
 ghost use Rattle.std.specs.Str.{bytes_eq};
 ghost use Rattle.std.specs.Cmp.{partial_equiv_from_equiv};
 ghost use Rattle.std.proofs.lemmas.Cmp.{on_equiv, nat_list_eq_equiv};
-ghost use Rattle.pkg_path.specs.Paths.{path_of, canonical, IsPath, without_subpackage, flavor_choices, choices_text};
+ghost use Rattle.pkg_path.specs.Paths.{path_of, path_if_one, canonical, port_path, IsPath, without_subpackage, flavor_choices, choices_text};
 
 use crate::elements::{count_subpackages, flavors_of, is_well_written, subpackage_of};
 use crate::faults::PkgPathFault;
@@ -49,8 +49,6 @@ impl Model for PkgPath {
 }
 
 impl PkgPath {
-    ghost use Rattle.pkg_path.specs.Seen.{flavors_seen};
-
     /// The path that a text names.
     ///
     /// Commas separate its elements. The first is the directory. Of the others, in any order, one that
@@ -87,12 +85,34 @@ impl PkgPath {
         })
     }
 
+    /// The path that a text names, if it names one, by whatever it is refused. It fails where no memory is
+    /// left.
+    pub fn read_if_one(alloc: Global, text: &str) -> Result<Option<PkgPath>, AllocError>
+        ensures { IfOk result (λ path. path ≡ path_if_one text.now) }
+    {
+        match PkgPath::read(alloc, text) {
+            Ok(path) => Ok(Some(path)),
+            Err(PkgPathFault::Empty) => Ok(None),
+            Err(PkgPathFault::TwoSubpackages) => Ok(None),
+            Err(PkgPathFault::BadCharacter) => Ok(None),
+            Err(PkgPathFault::Memory) => Err(AllocError),
+        }
+    }
+
     /// The canonical text: the directory, the flavors in the order of their bytes without doubles (a lone
     /// comma for the empty flavor), the subpackage.
     pub fn canonical(&self, alloc: Global) -> Result<String, AllocError>
         ensures { IfOk result (λ text. string_bytes text ≡ canonical self.now) }
     {
         format!(in alloc; "{self}")
+    }
+
+    /// The canonical text of the port that the path names: without the subpackage. It fails where no memory
+    /// is left.
+    pub fn port_path(&self, alloc: Global) -> Result<String, AllocError>
+        ensures { IfOk result (λ text. string_bytes text ≡ port_path self.now) }
+    {
+        self.copy(alloc)?.without_sub().canonical(alloc)
     }
 
     /// The same path without its subpackage.
@@ -125,11 +145,15 @@ impl PkgPath {
         self.directory.as_str()
     }
 
-    /// The flavors that are chosen.
-    pub fn flavors(&self) -> &Flavors
-        ensures { flavors_seen result.now ≡ self.now.flavors }
+    /// The flavors, where some are chosen: just these, in the order of their bytes, each once; with none of
+    /// them, the empty flavor. `None` is the port's default flavor.
+    pub fn flavors(&self) -> Option<&[String]>
+        ensures { option_map (λ names. map string_bytes names.now) result ≡ self.now.flavors }
     {
-        &self.flavors
+        match &self.flavors {
+            Flavors::Default => None,
+            Flavors::Explicit(names) => Some(names.as_slice()),
+        }
     }
 
     /// The subpackage with its dash, as `-main`, where one is named.

@@ -2,9 +2,8 @@
 -- read, and how a spec is told from a path, is this project's choice.
 use Rattle.std.specs.Prelude.{ℕ, ◌==◌, ◌||◌, not, if◌then◌else◌, Bool, List, [], ◌∷◌, ◌++◌, length, take, drop, Option, Some, None, option_and_then, is_ok, position, codes}
 use Rattle.std.specs.List.{slice_split, list_any, prefix_len}
-use Rattle.std.specs.Result.{result_ok}
 use Rattle.text_cuts.specs.Cuts.{Cut}
-use Rattle.pkg_path.specs.Paths.{PathValue, path_of}
+use Rattle.pkg_path.specs.Paths.{PathValue, path_if_one}
 use Rattle.pkg_spec.specs.Alternatives.{spec_of}
 
 -- what an item asks for: the path of a port, and the text of a spec of the packages that will do
@@ -66,10 +65,7 @@ spec_text None (sign ∷ versions) = Some (codes "STEM-" ++ sign ∷ versions)
 spec_text (Some spec) [] = Some spec
 spec_text (Some spec) (sign ∷ versions) = None
 
--- the path that a text names, and the text of a spec, if they are such
-abbrev pub path_if_one : List ℕ → Option PathValue
-path_if_one text = result_ok (path_of text)
-
+-- the text of a spec, if it is one
 abbrev pub spec_if_one : List ℕ → Option (List ℕ)
 spec_if_one text = if is_ok (spec_of text) then Some text else None
 

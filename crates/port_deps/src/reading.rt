@@ -7,7 +7,7 @@ ghost use Rattle.port_deps.specs.Reading as reading;
 ghost use Rattle.port_deps.specs.Seen.{parts_seen};
 
 use crate::wanting::Wanted;
-use pkg_path::{PkgPath, PkgPathFault};
+use pkg_path::PkgPath;
 use pkg_spec::{Spec, SpecFault};
 use std::alloc::{AllocError, Global};
 
@@ -92,7 +92,7 @@ fn wanted_in(alloc: Global, spec: Option<&str>, path: &str) -> Result<Option<Wan
     let Some(spec) = spec_text(alloc, spec, versions)? else {
         return Ok(None);
     };
-    let Some(path) = read_path(alloc, path)? else {
+    let Some(path) = PkgPath::read_if_one(alloc, path)? else {
         return Ok(None);
     };
     let Some(spec) = read_spec(alloc, spec.as_str())? else {
@@ -139,19 +139,6 @@ fn spec_text(
         Some(_) => Ok(None),
         None if versions.is_empty() => Ok(Some(String::from_str(alloc, "STEM-*")?)),
         None => Ok(Some(format!(in alloc; "STEM-{versions}")?)),
-    }
-}
-
-/// The path that a text is, if it is one.
-fn read_path(alloc: Global, text: &str) -> Result<Option<PkgPath>, AllocError>
-    ensures { IfOk result (λ path. path ≡ reading.path_if_one text.now) }
-{
-    match PkgPath::read(alloc, text) {
-        Ok(path) => Ok(Some(path)),
-        Err(PkgPathFault::Empty) => Ok(None),
-        Err(PkgPathFault::TwoSubpackages) => Ok(None),
-        Err(PkgPathFault::BadCharacter) => Ok(None),
-        Err(PkgPathFault::Memory) => Err(AllocError),
     }
 }
 

@@ -16,3 +16,4 @@ pub use flavors::PortFlavors;
 pub use packages::Package;
 pub use port::PortRecord;
 pub use recording::{Recorded, record};
+pub use values::words_in;

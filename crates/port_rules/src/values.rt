@@ -168,8 +168,8 @@ fn text_of(alloc: Global, found: Option<String>) -> String
     }
 }
 
-/// The words of a text, each of its own.
-fn words_in(alloc: Global, text: &str) -> Result<Vec<String>, AllocError>
+/// The words of a text, each a text of its own. It fails where no memory is left.
+pub fn words_in(alloc: Global, text: &str) -> Result<Vec<String>, AllocError>
     ensures { IfOk result (λ found. map string_bytes found.items ≡ words_of text.now) }
 {
     let mut found = Vec::new(alloc);

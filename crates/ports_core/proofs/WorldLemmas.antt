@@ -1,19 +1,80 @@
--- The worlds after a change of one of them.
-use Rattle.std.proofs.Common.{◌≡◌, ◌<◌, ℕ, List, length, Some}
-use Rattle.std.specs.Prelude.{slice_get}
-use Rattle.std.proofs.Math.ListN.{set}
-use Rattle.mk_paths.specs.World.{World}
+-- The tenants' worlds, as the store holds them.
+use Rattle.std.proofs.Common.{◌≡◌, ◌≢◌, ◌<◌, ◌≤◌, ◌∙◌, ℕ, ◌+◌, ◌∷◌, length, map, true, false, inl, inr, Option, Some, Result, Ok, Err, IfOk, refl, sym, ap, subst, arith, nat_lt, zero, suc}
+use Rattle.std.specs.Prelude.{slice_get, option_map, replicate}
+use Rattle.std.specs.List.{range_with_len}
+use Rattle.std.proofs.lemmas.Bool.{cases_Bool}
+use Rattle.std.proofs.lemmas.Bool.Decides.{nat_tests}
+use Rattle.std.proofs.lemmas.List.FromFn.{length-range_with_len, get_or-range_with_len}
+use Rattle.std.proofs.lemmas.Option.{slice_get-map, slice_get-get_or, slice_get_past}
+use Rattle.mk_paths.specs.World.{World, opening_world}
+use Rattle.mk_paths.specs.declared.search_path.Settings.{Settings}
 use Rattle.ports_http.specs.Messages.{RequestMessage, ReplyMessage}
-use Rattle.ports_core.specs.Slices.{Answers, AnswersFor}
-use Rattle.ports_core.proofs.Lists.{slice_get-set_same, slice_get-set_other}
+use Rattle.ports_plain.specs.declared.changing.Change.{Change}
+use Rattle.ports_plain.specs.Changing.{settled}
+use Rattle.ports_plain.specs.Plain.{Served, answer}
+use Rattle.tenant_store.specs.Holdings.{Holdings, nothing, files_of, path_of}
+use Rattle.ports_core.specs.Slices.{Answers, AnswersFor, asked_of, plain_answer}
+use Rattle.ports_core.specs.Stored.{world_in, worlds_in, KeepsOtherWorlds}
+use Rattle.ports_core.proofs.Lists.{length-map}
 
-pub answers_for : (worlds : List World) (t : ℕ) (world after : World) (request : RequestMessage) (reply : ReplyMessage) → t < length worlds → slice_get worlds t ≡ Some world
-    → Answers world request reply after → AnswersFor t request reply worlds (set worlds t after)
-answers_for worlds t world after request reply within was answers = record {
-  world = world;
-  was = was;
-  after = after;
-  becomes = slice_get-set_same worlds t after within;
+pub if_ok : {A E : Type 0} {P Q : A → Type 0} (r : Result A E) → ((a : A) → P a → Q a) → IfOk r P → IfOk r Q
+if_ok (Ok a) f p = f a p
+if_ok (Err e) f p = tt
+
+-- what becomes of what was prepared over a tenant's files and settings is the plain answer over its world
+pub served : (held asked_in mid : Holdings) (tenant : ℕ) (settings : Settings) (request : RequestMessage) (reply : ReplyMessage) (change : Option Change) (end : Served)
+    → asked_in ≡ held → mid ≡ asked_in → settings.path ≡ path_of tenant held → (reply, change) ≡ answer ((world_in asked_in tenant).0, settings) (asked_of request)
+    → settled (world_in mid tenant) reply change ≡ end → plain_answer (world_in held tenant) request ≡ end
+served held asked_in mid tenant settings request reply change end e0 e1 path was is =
+    let world : World = world_in held tenant in
+    let same : ◌≡◌ {A = World} ((world_in asked_in tenant).0, settings) world = λ i. (files_of tenant (e0 i), record { path = path i }) in
+    let prepared = was ∙ ap (λ (w : World). answer w (asked_of request)) same in
+    ap (λ (a : ReplyMessage × Option Change). settled world a.0 a.1) (sym prepared) ∙ ap (λ (h : Holdings). settled (world_in h tenant) reply change) (sym (e1 ∙ e0)) ∙ is
+
+opening_from : (first count : ℕ) → map (world_in nothing) (range_with_len first count) ≡ replicate count opening_world
+opening_from first zero = refl
+opening_from first (suc count) = ap (λ worlds. opening_world ∷ worlds) (opening_from (first + 1) count)
+
+-- the worlds of a store that holds nothing
+pub opening_worlds : (count : ℕ) → worlds_in nothing count ≡ replicate count opening_world
+opening_worlds count = opening_from 0 count
+
+pub length-worlds_in : (held : Holdings) (count : ℕ) → length (worlds_in held count) ≡ count
+length-worlds_in held count = length-map (world_in held) (range_with_len 0 count) ∙ length-range_with_len 0 count
+
+zero_plus : (t : ℕ) → 0 + t ≡ t
+zero_plus t = omega arith
+
+pub world_there : (held : Holdings) (count t : ℕ) → t < count → slice_get (worlds_in held count) t ≡ Some (world_in held t)
+world_there held count t within =
+    let inside : t < length (range_with_len 0 count) = subst (λ n. t < n) (sym (length-range_with_len 0 count)) within in
+    slice_get-map (world_in held) (range_with_len 0 count) t
+    ∙ ap (option_map (world_in held)) (slice_get-get_or (range_with_len 0 count) t 0 inside ∙ ap Some (get_or-range_with_len 0 count t 0 within ∙ zero_plus t))
+
+within_is : (u count : ℕ) → nat_lt u count ≡ true → u < count
+within_is u count is = grind (arith, nat_tests)
+
+past_is : (u count : ℕ) → nat_lt u count ≡ false → count ≤ u
+past_is u count is = grind (arith, nat_tests)
+
+world_kept : (old new : Holdings) (count t u : ℕ) → KeepsOtherWorlds t old new → u ≢ t → slice_get (worlds_in new count) u ≡ slice_get (worlds_in old count) u
+world_kept old new count t u keeps ne = elim (cases_Bool (nat_lt u count)) [
+  | inl is ↦
+      let within = within_is u count is in
+      world_there new count u within ∙ ap Some (keeps u ne) ∙ sym (world_there old count u within)
+  | inr is ↦
+      let past = past_is u count is in
+      slice_get_past (worlds_in new count) u (subst (λ n. n ≤ u) (sym (length-worlds_in new count)) past)
+      ∙ sym (slice_get_past (worlds_in old count) u (subst (λ n. n ≤ u) (sym (length-worlds_in old count)) past))
+]
+
+pub answers_for : (old new : Holdings) (count t : ℕ) (request : RequestMessage) (reply : ReplyMessage) → t < count → Answers (world_in old t) request reply (world_in new t) → KeepsOtherWorlds t old new
+    → AnswersFor t request reply (worlds_in old count) (worlds_in new count)
+answers_for old new count t request reply within answers keeps = record {
+  world = world_in old t;
+  was = world_there old count t within;
+  after = world_in new t;
+  becomes = world_there new count t within;
   answers = answers;
-  others = λ u ne. slice_get-set_other worlds t u after ne;
+  others = λ u ne. world_kept old new count t u keeps ne;
 }

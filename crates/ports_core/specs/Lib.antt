@@ -1,5 +1,7 @@
 pub mod Keys
 pub mod Slices
+pub mod Stored
+pub mod Beginning
 pub mod Lines
 pub mod Telling
 pub mod Taking

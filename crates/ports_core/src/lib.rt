@@ -6,6 +6,7 @@
 //! whole list of events.
 #![tactic(auto)]
 
+mod asking;
 mod event;
 mod history;
 mod intake;

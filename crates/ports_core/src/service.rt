@@ -1,6 +1,7 @@
 //! The service, one event at a time.
 ghost use Rattle.std.specs.Prelude.{◌≡◌, ◌<◌, ◌↔◌, false, Bool, [], IsTrue, IfOk, IsErrOf, length, replicate};
 ghost use Rattle.ports_core.specs.declared.service.NewFault.TheVariants.{Memory};
+ghost use Rattle.ports_core.specs.Beginning.{new_fault};
 
 use crate::event::{Event, Refused, Tell, Told};
 use crate::keys::Config;
@@ -9,6 +10,7 @@ use crate::lines::{Lines, MOST_CONNECTIONS, answer_line, close_done, closes, hea
 use crate::queue::{Queue, Waiter};
 use crate::worlds::Worlds;
 use arrayvec::ArrayVec;
+use mk_paths::FilesFault;
 use ports_plain::Plain;
 use std::alloc::{AllocError, Global};
 use std::collections::BTreeMap;
@@ -30,6 +32,17 @@ impl From<AllocError> for NewFault {
 
     fn from(_error: AllocError) -> NewFault {
         NewFault::Memory
+    }
+}
+
+impl From<FilesFault> for NewFault {
+    ghost from_gives = { λ why fault. fault ≡ new_fault why };
+
+    fn from(why: FilesFault) -> NewFault {
+        match why {
+            FilesFault::Store => NewFault::Store,
+            FilesFault::Memory => NewFault::Memory,
+        }
     }
 }
 
@@ -141,6 +154,14 @@ impl Service {
             Some(line) => line.pending.bytes(),
             None => &[],
         }
+    }
+
+    /// Limits the steps of each later statement of the store, or limits them no more: a request whose statement
+    /// would take more is answered 503. It changes nothing that a contract sees.
+    pub fn limit_steps(&mut self, limit: Option<u64>)
+        ensures { self.new ≡ self.old }
+    {
+        self.worlds.limit_steps(limit);
     }
 
     /// How many requests wait in a tenant's queue; 0 where there is no such tenant.

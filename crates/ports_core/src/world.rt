@@ -1,107 +1,131 @@
-//! The world of one tenant, in memory.
-ghost use Rattle.std.specs.Prelude.{◌≡◌, IfOk, OnOk, OnErr};
-ghost use Rattle.mk_paths.specs.World.{opening_world};
+//! A request over the world of one tenant in the store.
+ghost use Rattle.std.specs.Prelude.{◌≡◌, false, IfOk, IsErrOf, IsTrue, OnOk, OnErr};
 ghost use Rattle.ports_http.specs.Replies.{reply_text};
-ghost use Rattle.ports_plain.specs.Changing.{changed};
-ghost use Rattle.ports_core.specs.Slices.{plain_answer, Answers};
-ghost use Rattle.ports_core.specs.Telling.{AreBytesOf};
+ghost use Rattle.ports_plain.specs.Changing.{changed, overfills, settled};
+ghost use Rattle.ports_plain.specs.Plain.{answer};
+ghost use Rattle.ports_plain.specs.Replies.{full as full_reply};
+ghost use Rattle.ports_core.specs.Slices.{asked_of, plain_answer};
+ghost use Rattle.ports_core.specs.Stored.{world_in, KeepsOtherWorlds};
 
-use mk_files::MemoryFiles;
-use mk_paths::{SearchPath, Settings};
+use crate::asking::Asking;
+use mk_paths::Settings;
 use ports_http::{Reply, Request, write_reply};
-use ports_plain::{Change, Plain, Prepared, Refused};
+use ports_plain::{Change, Plain, Prepared, Refused, full};
 use std::alloc::{AllocError, Global};
-use std::marker::Model;
+use tenant_store::{PutFault, TenantStore};
 
-/// A tenant's files and settings.
-#[derive(Drop)]
-pub(crate) struct TenantWorld {
-    files: MemoryFiles,
-    settings: Settings,
+/// The reply to a request over a tenant's world, and its bytes, which say whether the connection closes and are
+/// made before the world changes. No other tenant's world changes. Err: the store failed, or there was no
+/// memory, and nothing has changed.
+pub(crate) fn reply_to(
+    store: &mut TenantStore,
+    alloc: Global,
+    plain: &Plain,
+    tenant: u32,
+    request: Request,
+    close: bool,
+) -> Result<(Reply, Vec<u8>), Refused>
+    ensures reply { IfOk result (λ r. plain_answer (world_in store.old tenant) request ≡ (r.0, world_in store.new tenant)) }
+    ensures others { OnOk result (KeepsOtherWorlds tenant store.old store.new) }
+    ensures bytes { IfOk result (λ r. r.1.items ≡ reply_text r.0 close) }
+    ensures err { OnErr result (store.new ≡ store.old) }
+{
+    let settings = store.settings(alloc, tenant)?;
+    let prepared = prepare(store, alloc, plain, tenant, &settings, request)?;
+    settle(store, alloc, tenant, prepared, close)
 }
 
-impl Model for TenantWorld {
-    ghost use Rattle.mk_paths.specs.World.{World, world_code};
-
-    ghost Value = { World };
-
-    ghost coded = { world_code };
-
-    ghost view = { λ world. (world.files.files, world.settings) };
+/// What a request over a tenant's files is answered, with nothing changed yet.
+fn prepare(
+    store: &mut TenantStore,
+    alloc: Global,
+    plain: &Plain,
+    tenant: u32,
+    settings: &Settings,
+    request: Request,
+) -> Result<Prepared, Refused>
+    ensures ok { IfOk result (λ p. (p.reply, p.change) ≡ answer ((world_in store.old tenant).0, settings.now) (asked_of request)) }
+    ensures same { store.new ≡ store.old }
+{
+    let Request {
+        method,
+        target,
+        body,
+        ..
+    } = request;
+    let mut asking = Asking {
+        alloc,
+        plain,
+        settings,
+        method,
+        target: target.as_str(),
+        body,
+        prepared: Err(Refused::Memory),
+    };
+    store.ask(alloc, tenant, &mut asking);
+    asking.prepared
 }
 
-impl TenantWorld {
-    /// The world with which a tenant begins. The one error is want of memory.
-    pub(crate) fn new(alloc: Global) -> Result<TenantWorld, AllocError>
-        ensures { IfOk result (λ world. world ≡ opening_world) }
-    {
-        Ok(TenantWorld {
-            files: MemoryFiles::new(alloc),
-            settings: Settings {
-                path: SearchPath::standard(alloc)?,
-            },
-        })
+/// Carries out what a request changes, and gives its reply with its bytes: 409 where a file isn't stored since
+/// the tenant would have more than it may. Err: the store failed, or there was no memory, and nothing has
+/// changed.
+fn settle(
+    store: &mut TenantStore,
+    alloc: Global,
+    tenant: u32,
+    prepared: Prepared,
+    close: bool,
+) -> Result<(Reply, Vec<u8>), Refused>
+    ensures settled { IfOk result (λ r. settled (world_in store.old tenant) prepared.reply prepared.change ≡ (r.0, world_in store.new tenant)) }
+    ensures others { OnOk result (KeepsOtherWorlds tenant store.old store.new) }
+    ensures bytes { IfOk result (λ r. r.1.items ≡ reply_text r.0 close) }
+    ensures err { OnErr result (store.new ≡ store.old) }
+{
+    let Prepared { reply, change } = prepared;
+    let bytes = write_reply(alloc, &reply, close)?;
+    let Some(change) = change else {
+        return Ok((reply, bytes));
+    };
+    match carry_out(store, alloc, tenant, change) {
+        Ok(()) => Ok((reply, bytes)),
+        Err(PutFault::Full) => Ok(full_with_bytes(alloc, close)?),
+        Err(PutFault::Store) => Err(Refused::Store),
+        Err(PutFault::Memory) => Err(Refused::Memory),
     }
+}
 
-    /// The reply to a request over the world, and its bytes, which say whether the connection closes and are
-    /// made before the world changes. Where there is no memory the world is unchanged, and the reply is the
-    /// fixed one that says so, without bytes.
-    pub(crate) fn answer(
-        &mut self,
-        alloc: Global,
-        plain: &Plain,
-        request: Request,
-        close: bool,
-    ) -> (Reply, Option<Vec<u8>>)
-        ensures answers { Answers self.old request result.0 self.new }
-        ensures bytes { AreBytesOf result.0 close result.1 }
-    {
-        match self.reply_to(alloc, plain, request, close) {
-            Ok((reply, bytes)) => (reply, Some(bytes)),
-            Err(_refused) => (Reply::store_failed(), None),
-        }
-    }
+/// The reply that a file isn't stored, and its bytes.
+fn full_with_bytes(alloc: Global, close: bool) -> Result<(Reply, Vec<u8>), AllocError>
+    ensures reply { IfOk result (λ r. r.0 ≡ full_reply) }
+    ensures bytes { IfOk result (λ r. r.1.items ≡ reply_text r.0 close) }
+{
+    let reply = full(alloc)?;
+    let bytes = write_reply(alloc, &reply, close)?;
+    Ok((reply, bytes))
+}
 
-    /// The reply to a request, and its bytes. Err: there was no memory, and the world is unchanged.
-    fn reply_to(
-        &mut self,
-        alloc: Global,
-        plain: &Plain,
-        request: Request,
-        close: bool,
-    ) -> Result<(Reply, Vec<u8>), Refused>
-        ensures reply { IfOk result (λ r. plain_answer self.old request ≡ (r.0, self.new)) }
-        ensures bytes { IfOk result (λ r. r.1.items ≡ reply_text r.0 close) }
-        ensures err { OnErr result (self.new ≡ self.old) }
-    {
-        let Request {
-            method,
-            target,
-            body,
-            ..
-        } = request;
-        let TenantWorld { files, settings } = self;
-        let prepared = plain.prepare(alloc, files, settings, method, target.as_str(), body)?;
-        let Prepared { reply, change } = prepared;
-        let bytes = write_reply(alloc, &reply, close)?;
-        if let Some(change) = change {
-            self.carry_out(change)?;
+/// Carries out a change of a tenant's world. Err: `Full` where the tenant would have more than it may, the
+/// others where the store failed or there was no memory, and nothing has changed.
+fn carry_out(
+    store: &mut TenantStore,
+    alloc: Global,
+    tenant: u32,
+    change: Change,
+) -> Result<(), PutFault>
+    ensures fits { OnOk result (overfills (world_in store.old tenant) change ≡ false) }
+    ensures changes { OnOk result (world_in store.new tenant ≡ changed (world_in store.old tenant) change) }
+    ensures others { OnOk result (KeepsOtherWorlds tenant store.old store.new) }
+    ensures full { IsErrOf result PutFault.Full → IsTrue (overfills (world_in store.old tenant) change) }
+    ensures err { OnErr result (store.new ≡ store.old) }
+{
+    match change {
+        Change::PutFile(name, content) => {
+            store.put_file(alloc, tenant, &name, content.as_slice())
         }
-        Ok((reply, bytes))
-    }
-
-    /// Carries out what a request changes. Err: there was no memory, and the world is unchanged.
-    fn carry_out(&mut self, change: Change) -> Result<(), AllocError>
-        ensures ok { OnOk result (self.new ≡ changed self.old change) }
-        ensures err { OnErr result (self.new ≡ self.old) }
-    {
-        match change {
-            Change::PutFile(name, content) => self.files.put(name, content)?,
-            Change::RemoveFile(name) => {
-                let _was_there = self.files.remove(&name);
-            }
-            Change::SetPath(path) => self.settings.path = path,
+        Change::RemoveFile(name) => {
+            let _was_there = store.remove_file(alloc, tenant, &name)?;
+            Ok(())
         }
-        Ok(())
+        Change::SetPath(path) => Ok(store.set_path(alloc, tenant, &path)?),
     }
 }

@@ -1,24 +1,29 @@
 //! The tenants' worlds.
-ghost use Rattle.std.specs.Prelude.{◌≡◌, ◌<◌, length, replicate, IfOk};
+ghost use Rattle.std.specs.Prelude.{◌≡◌, ◌<◌, ◌≤◌, length, replicate, IfOk};
 ghost use Rattle.mk_paths.specs.World.{opening_world};
 ghost use Rattle.ports_core.specs.Slices.{AnswersFor};
 ghost use Rattle.ports_core.specs.Telling.{AreBytesOf};
 
-use crate::world::TenantWorld;
+use crate::world::reply_to;
+use mk_paths::FilesFault;
 use ports_http::{Reply, Request};
 use ports_plain::Plain;
-use std::alloc::{AllocError, Global};
+use std::alloc::Global;
 use std::marker::Model;
+use tenant_store::TenantStore;
 
-/// The world of each tenant, by the tenants' numbers. A contract sees the list of the worlds.
+/// The world of each tenant, by the tenants' numbers, all in one store. A contract sees the list of the
+/// worlds.
 #[derive(Drop)]
 pub(crate) struct Worlds {
-    worlds: Vec<TenantWorld>,
+    store: TenantStore,
+    count: usize,
 }
 
 impl Model for Worlds {
     ghost use Rattle.std.specs.Prelude.{List};
     ghost use Rattle.mk_paths.specs.World.{World};
+    ghost use Rattle.ports_core.specs.Stored.{worlds_in};
 
     ghost Value = { List World };
 
@@ -27,24 +32,27 @@ impl Model for Worlds {
 
     ghost coded = { Prim.hlevel (codes, world_code) };
 
-    ghost view = { λ w. w.worlds.items };
+    ghost view = { λ w. worlds_in w.store w.count };
+
+    ghost use Rattle.std.specs.Prelude.{◌≤◌};
+
+    ghost invariant = { λ w. w.count ≤ 64 };
 }
 
 impl Worlds {
-    /// So many tenants' worlds, as each begins. The one error is want of memory.
-    pub(crate) fn new(alloc: Global, count: usize) -> Result<Worlds, AllocError>
+    /// So many tenants' worlds, at most 64, as each begins. The error is a refusal of the store's database, or want of
+    /// memory.
+    pub(crate) fn new(alloc: Global, count: usize) -> Result<Worlds, FilesFault>
+        requires { count ≤ 64 }
         ensures { IfOk result (λ worlds. worlds ≡ replicate count opening_world) }
     {
-        let mut worlds = Vec::with_capacity(alloc, count)?;
-        for _ in 0..count {
-            worlds.push(TenantWorld::new(alloc)?)?;
-        }
-        Ok(Worlds { worlds })
+        let store = TenantStore::open_in_memory(alloc)?;
+        Ok(Worlds { store, count })
     }
 
     /// The reply to a request over a tenant's world, and its bytes, which say whether the connection closes
-    /// and are made before the world changes. Where there is no memory the world is unchanged, and the reply
-    /// is the fixed one that says so, without bytes.
+    /// and are made before the world changes. Where the store fails, or there is no memory, the world is
+    /// unchanged, and the reply is the fixed one that says so, without bytes.
     pub(crate) fn answer(
         &mut self,
         alloc: Global,
@@ -58,7 +66,16 @@ impl Worlds {
         ensures bytes { AreBytesOf result.0 close result.1 }
         ensures count { length self.new ≡ length self.old }
     {
-        let world = &mut self.worlds[tenant];
-        world.answer(alloc, plain, request, close)
+        match reply_to(&mut self.store, alloc, plain, tenant as u32, request, close) {
+            Ok((reply, bytes)) => (reply, Some(bytes)),
+            Err(_refused) => (Reply::store_failed(), None),
+        }
+    }
+
+    /// Limits the steps of each later statement of the store, or limits them no more. It changes no world.
+    pub(crate) fn limit_steps(&mut self, limit: Option<u64>)
+        ensures { self.new ≡ self.old }
+    {
+        self.store.limit_steps(limit);
     }
 }

@@ -1,64 +1,146 @@
 -- Rows that are filled in, path after path.
-use Rattle.std.proofs.Common.{◌≡◌, ◌∙◌, sym, ap, refl, ℕ, Bool, true, false, if◌then◌else◌, List, [], ◌∷◌, ◌++◌, Option, Some, None, is_some}
+use Rattle.std.proofs.Common.{◌≡◌, ◌∙◌, sym, ap, subst, refl, ℕ, Bool, true, false, ◌||◌, if◌then◌else◌, List, [], ◌∷◌, ◌++◌, Option, Some, None, is_some}
 use Rattle.std.proofs.lemmas.Bool.{false≢true}
 use Rattle.std.proofs.lemmas.Slice.Eq.{bytes_eq-Decides}
+use Rattle.std.specs.List.{AllByRecursion}
 use Rattle.std.specs.Str.{bytes_eq}
+use Rattle.text_order.specs.Order.{in_order}
+use Rattle.text_order.specs.Ordered.{among-in_order}
 use Rattle.mk_paths.specs.World.{World}
-use Rattle.ports_index.specs.Rows.{RowValue, row_at}
-use Rattle.ports_index.specs.Filling.{AreRight, AreKnown, Fills}
+use Rattle.ports_index.specs.Standings.{Standing, standing_at}
+use Rattle.ports_index.specs.Filling.{AreRight, Stay, is_one_of, Fills}
 
 abbrev pub Held : Type 0
-Held = List ℕ → Option RowValue
+Held = List ℕ → Option Standing
+
+-- each of these paths has its row
+abbrev pub AreKnown : World → Held → List (List ℕ) → Type 0
+AreKnown world held paths = AllByRecursion (λ path. held path ≡ Some (standing_at world path)) paths
+
+pub Stay-nothing : (held : Held) → Stay held held
+Stay-nothing held = record { stay = λ path row is. is }
+
+pub Stay-on : (first middle last : Held) → Stay first middle → Stay middle last → Stay first last
+Stay-on first middle last one more = record { stay = λ path row is. more.stay path row (one.stay path row is) }
+
+-- rows that no path lost or got
+pub Stay-same : (old new : Held) → ((path : List ℕ) → new path ≡ old path) → Stay old new
+Stay-same old new same = record { stay = λ path row is. same path ∙ is }
+
+or_more : (a b : Bool) → b ≡ true → (a || b) ≡ true
+or_more true b is = refl
+or_more false b is = is
+
+regroup : (a b c : Bool) → (a || (b || c)) ≡ ((a || b) || c)
+regroup true b c = refl
+regroup false b c = refl
+
+pub one_of-append : (path : List ℕ) (paths more : List (List ℕ)) → is_one_of path (paths ++ more) ≡ (is_one_of path paths || is_one_of path more)
+one_of-append path [] more = refl
+one_of-append path (first ∷ paths) more =
+    ap (λ b. bytes_eq first path || b) (one_of-append path paths more) ∙ regroup (bytes_eq first path) (is_one_of path paths) (is_one_of path more)
+
+-- a path is one of two lists of paths, which are put in order
+one_of-in_order : (path : List ℕ) (paths more : List (List ℕ)) → is_one_of path (in_order (paths ++ more)) ≡ (is_one_of path paths || is_one_of path more)
+one_of-in_order path paths more = among-in_order (λ one. bytes_eq one path) (paths ++ more) ∙ one_of-append path paths more
+
+or_true : (a : Bool) → (a || true) ≡ true
+or_true true = refl
+or_true false = refl
+
+absorbed : (a b c : Bool) → b ≡ (c || a) → (a || b) ≡ b
+absorbed true b c is = sym (is ∙ or_true c)
+absorbed false b c is = refl
+
+-- paths before a list that has them
+pub one_of-absorbed : (path : List ℕ) (named paths : List (List ℕ)) → is_one_of path (paths ++ in_order (named ++ paths)) ≡ is_one_of path (in_order (named ++ paths))
+one_of-absorbed path named paths =
+    one_of-append path paths (in_order (named ++ paths))
+    ∙ absorbed (is_one_of path paths) (is_one_of path (in_order (named ++ paths))) (is_one_of path named) (one_of-in_order path named paths)
+
+-- two looks, one after the other
+in_turn : (a b : Bool) (row old middle new : Option Standing) → middle ≡ (if a then row else old) → new ≡ (if b then row else middle) → new ≡ (if a || b then row else old)
+in_turn true true row old middle new first second = second
+in_turn true false row old middle new first second = second ∙ first
+in_turn false true row old middle new first second = second
+in_turn false false row old middle new first second = second ∙ first
 
 module _ (world : World) where
-  known-append : (held : Held) (paths more : List (List ℕ)) → AreKnown world held paths → AreKnown world held more → AreKnown world held (paths ++ more)
-  known-append held [] more first second = second
-  known-append held (path ∷ paths) more first second = (first.0, known-append held paths more first.1 second)
-
-  -- paths whose rows stay have them still
-  pub known-stays : (old new : Held) (paths : List (List ℕ)) → ((path : List ℕ) (row : RowValue) → old path ≡ Some row → new path ≡ Some row)
-      → AreKnown world old paths → AreKnown world new paths
-  known-stays old new [] stay known = tt
-  known-stays old new (path ∷ paths) stay known = (stay path (row_at world path) known.0, known-stays old new paths stay known.1)
-
   pub Fills-nothing : (held : Held) → Fills world [] held held
-  Fills-nothing held = record { stay = λ path row is. is; known = tt }
+  Fills-nothing held = record { filled = λ path. refl }
 
   pub Fills-on : (paths more : List (List ℕ)) (old middle new : Held) → Fills world paths old middle → Fills world more middle new → Fills world (paths ++ more) old new
   Fills-on paths more old middle new first second = record {
-    stay = λ path row is. second.stay path row (first.stay path row is);
-    known = known-append new paths more (known-stays middle new paths second.stay first.known) second.known;
+    filled = λ path.
+        in_turn (is_one_of path paths) (is_one_of path more) (Some (standing_at world path)) (old path) (middle path) (new path) (first.filled path) (second.filled path)
+        ∙ ap (λ b. if b then Some (standing_at world path) else old path) (sym (one_of-append path paths more));
   }
 
+  -- the same paths, in another list
+  pub Fills-same : (paths others : List (List ℕ)) (old new : Held) → ((path : List ℕ) → is_one_of path paths ≡ is_one_of path others) → Fills world paths old new → Fills world others old new
+  Fills-same paths others old new same fills = record { filled = λ path. fills.filled path ∙ ap (λ b. if b then Some (standing_at world path) else old path) (same path) }
+
+  -- a path that is one of these has its row
+  pub row-filled : (paths : List (List ℕ)) (old new : Held) → Fills world paths old new → (path : List ℕ) → is_one_of path paths ≡ true → new path ≡ Some (standing_at world path)
+  row-filled paths old new fills path is = fills.filled path ∙ ap (λ b. if b then Some (standing_at world path) else old path) is
+
+  pub known-of : (paths : List (List ℕ)) (held : Held) → ((path : List ℕ) → is_one_of path paths ≡ true → held path ≡ Some (standing_at world path)) → AreKnown world held paths
+  known-of [] held are = tt
+  known-of (path ∷ paths) held are = (
+    are path (ap (λ b. b || is_one_of path paths) ((bytes_eq-Decides path path).1 refl)),
+    known-of paths held (λ other is. are other (or_more (bytes_eq path other) (is_one_of other paths) is)),
+  )
+
+  -- two lists of paths that are filled together
+  pub known-first : (paths more : List (List ℕ)) (old new : Held) → Fills world (in_order (paths ++ more)) old new → AreKnown world new paths
+  known-first paths more old new fills =
+      known-of paths new (λ path is. row-filled (in_order (paths ++ more)) old new fills path (one_of-in_order path paths more ∙ ap (λ b. b || is_one_of path more) is))
+
+  pub known-second : (paths more : List (List ℕ)) (old new : Held) → Fills world (in_order (paths ++ more)) old new → AreKnown world new more
+  known-second paths more old new fills =
+      known-of more new (λ path is. row-filled (in_order (paths ++ more)) old new fills path (one_of-in_order path paths more ∙ or_more (is_one_of path paths) (is_one_of path more) is))
+
+  pub known-filled : (paths : List (List ℕ)) (old new : Held) → Fills world paths old new → AreKnown world new paths
+  known-filled paths old new fills = known-of paths new (row-filled paths old new fills)
+
 module _ (world : World) (held : Held) (right : AreRight world held) (path : List ℕ) where
-  there : (row : Option RowValue) → held path ≡ row → is_some row ≡ true → held path ≡ Some (row_at world path)
+  there : (row : Option Standing) → held path ≡ row → is_some row ≡ true → held path ≡ Some (standing_at world path)
   there None e is = absurd (false≢true is)
   there (Some row) e is = e ∙ ap Some (right path row e)
 
+  there-at : (other : List ℕ) (same : Bool) → bytes_eq path other ≡ same → held path ≡ Some (standing_at world path)
+      → held other ≡ (if same || false then Some (standing_at world other) else held other)
+  there-at other true same is = subst (λ at. held at ≡ Some (standing_at world at)) ((bytes_eq-Decides path other).0 same) is
+  there-at other false same is = refl
+
   -- a path that has its row
   pub Fills-there : is_some (held path) ≡ true → Fills world (path ∷ []) held held
-  Fills-there is = record { stay = λ other row e. e; known = (there (held path) refl is, tt) }
+  Fills-there is = record { filled = λ other. there-at other (bytes_eq path other) refl (there (held path) refl is) }
 
   -- a path that is given its row
-  module _ (new : Held) (row : RowValue) (is : row ≡ row_at world path) (put : (other : List ℕ) → new other ≡ (if bytes_eq path other then Some row else held other)) where
-    right-at : (other : List ℕ) (same : Bool) → bytes_eq path other ≡ same → (found : RowValue) → new other ≡ Some found → found ≡ row_at world other
+  module _ (new : Held) (row : Standing) (is : row ≡ standing_at world path) (put : (other : List ℕ) → new other ≡ (if bytes_eq path other then Some row else held other)) where
+    right-at : (other : List ℕ) (same : Bool) → bytes_eq path other ≡ same → (found : Standing) → new other ≡ Some found → found ≡ standing_at world other
     right-at other true same found e =
         let here : new other ≡ Some row = put other ∙ ap (λ b. if b then Some row else held other) same in
         let the_row : found ≡ row = cc in
-        the_row ∙ is ∙ ap (row_at world) ((bytes_eq-Decides path other).0 same)
+        the_row ∙ is ∙ ap (standing_at world) ((bytes_eq-Decides path other).0 same)
     right-at other false same found e = right other found (sym (put other ∙ ap (λ b. if b then Some row else held other) same) ∙ e)
 
-    stay-at : (other : List ℕ) (same : Bool) → bytes_eq path other ≡ same → (found : RowValue) → held other ≡ Some found → new other ≡ Some found
+    stay-at : (other : List ℕ) (same : Bool) → bytes_eq path other ≡ same → (found : Standing) → held other ≡ Some found → new other ≡ Some found
     stay-at other true same found e =
         put other ∙ ap (λ b. if b then Some row else held other) same
-        ∙ ap Some (is ∙ ap (row_at world) ((bytes_eq-Decides path other).0 same) ∙ sym (right other found e))
+        ∙ ap Some (is ∙ ap (standing_at world) ((bytes_eq-Decides path other).0 same) ∙ sym (right other found e))
     stay-at other false same found e = put other ∙ ap (λ b. if b then Some row else held other) same ∙ e
+
+    put-at : (other : List ℕ) (same : Bool) → bytes_eq path other ≡ same → (if same then Some row else held other) ≡ (if same || false then Some (standing_at world other) else held other)
+    put-at other true same = ap Some (is ∙ ap (standing_at world) ((bytes_eq-Decides path other).0 same))
+    put-at other false same = refl
 
     pub AreRight-put : AreRight world new
     AreRight-put other found e = right-at other (bytes_eq path other) refl found e
 
+    pub Stay-put : Stay held new
+    Stay-put = record { stay = λ other found e. stay-at other (bytes_eq path other) refl found e }
+
     pub Fills-put : Fills world (path ∷ []) held new
-    Fills-put = record {
-      stay = λ other found e. stay-at other (bytes_eq path other) refl found e;
-      known = (put path ∙ ap (λ b. if b then Some row else held path) ((bytes_eq-Decides path path).1 refl) ∙ ap Some is, tt);
-    }
+    Fills-put = record { filled = λ other. put other ∙ put-at other (bytes_eq path other) refl }

@@ -2,17 +2,17 @@
 use Rattle.std.specs.Prelude.{ℕ, List, [], Option, Some, None, option_map, map, Result, Ok, Err}
 use Rattle.std.specs.List.{filter_map, flat_map}
 use Rattle.mk_base.specs.FaultAt.{FaultAt}
+use Rattle.pkg_path.specs.Paths.{port_path}
 use Rattle.port_rules.specs.Ports.{PortValue}
 use Rattle.port_deps.specs.Items.{ItemValue, WantedValue, item_of}
 use Rattle.port_deps.specs.Statuses.{FoundValue}
 use Rattle.port_deps.specs.Statuses as found
 use Rattle.port_deps.specs.Edges.{edge_of}
 use Rattle.port_deps.specs.Lists.{RootValue, RootEdgeValue}
-use Rattle.ports_index.specs.Rows.{RowValue, Absent, Faulty, Port, Lists, BadList, Other}
-use Rattle.ports_index.specs.Naming.{key_of}
+use Rattle.ports_index.specs.Standings.{Standing, Absent, Faulty, Port, Lists, BadList, Other}
 
--- what a row is as a root: a port, or a fault, that of SUBDIR too
-abbrev pub state_of : RowValue → Option (Result PortValue FaultAt)
+-- the root that stands at a path: a port, or a fault, that of SUBDIR too
+abbrev pub state_of : Standing → Option (Result PortValue FaultAt)
 state_of Absent = None
 state_of (Faulty fault) = Some (Err fault)
 state_of (Port port) = Some (Ok port)
@@ -25,11 +25,11 @@ root_with path None = None
 root_with path (Some state) = Some (record { path = path; state = state })
 
 -- the root at a path, if there is one
-abbrev pub root_at : (List ℕ → RowValue) → List ℕ → Option RootValue
-root_at rows path = root_with path (state_of (rows path))
+abbrev pub root_at : (List ℕ → Standing) → List ℕ → Option RootValue
+root_at stands path = root_with path (state_of (stands path))
 
-abbrev pub roots_among : (List ℕ → RowValue) → List (List ℕ) → List RootValue
-roots_among rows paths = filter_map (root_at rows) paths
+abbrev pub roots_among : (List ℕ → Standing) → List (List ℕ) → List RootValue
+roots_among stands paths = filter_map (root_at stands) paths
 
 -- an item of the port at a path
 pub record RootItemValue : Type 0 where
@@ -40,25 +40,25 @@ abbrev pub item_at : List ℕ → ItemValue → RootItemValue
 item_at root item = record { root = root; item = item }
 
 -- the items of what stands at a path: those of a port
-abbrev pub items_in : List ℕ → RowValue → List RootItemValue
+abbrev pub items_in : List ℕ → Standing → List RootItemValue
 items_in path (Port port) = map (item_at path) (map item_of port.depends)
-items_in path row = []
+items_in path standing = []
 
-abbrev pub items_at : (List ℕ → RowValue) → List ℕ → List RootItemValue
-items_at rows path = items_in path (rows path)
+abbrev pub items_at : (List ℕ → Standing) → List ℕ → List RootItemValue
+items_at stands path = items_in path (stands path)
 
-abbrev pub items_among : (List ℕ → RowValue) → List (List ℕ) → List RootItemValue
-items_among rows paths = flat_map (items_at rows) paths
+abbrev pub items_among : (List ℕ → Standing) → List (List ℕ) → List RootItemValue
+items_among stands paths = flat_map (items_at stands) paths
 
 -- the path that an item names, without its subpackage, if it can be read
 abbrev pub target_in : ItemValue → Option (List ℕ)
-target_in item = option_map (λ (wanted : WantedValue). key_of wanted.path) item.wanted
+target_in item = option_map (λ (wanted : WantedValue). port_path wanted.path) item.wanted
 
 abbrev pub target_of : RootItemValue → Option (List ℕ)
 target_of rooted = target_in rooted.item
 
--- what a row is for an item whose path it is: a list is no port, whatever its SUBDIR does
-abbrev pub found_of : RowValue → FoundValue
+-- what an item finds that names the path: a list is no port, whatever its SUBDIR does
+abbrev pub found_of : Standing → FoundValue
 found_of Absent = found.NotThere
 found_of (Faulty fault) = found.Faulted fault.kind
 found_of (Port port) = found.Port port
@@ -66,13 +66,13 @@ found_of (Lists words) = found.NotPort
 found_of (BadList fault) = found.NotPort
 found_of Other = found.NotPort
 
-abbrev pub found_at : (List ℕ → RowValue) → Option (List ℕ) → FoundValue
-found_at rows None = found.NotThere
-found_at rows (Some path) = found_of (rows path)
+abbrev pub found_at : (List ℕ → Standing) → Option (List ℕ) → FoundValue
+found_at stands None = found.NotThere
+found_at stands (Some path) = found_of (stands path)
 
 -- the dependency that an item is: its status is by what stands where its path says
-abbrev pub edge_at : (List ℕ → RowValue) → RootItemValue → RootEdgeValue
-edge_at rows rooted = record { root = rooted.root; edge = edge_of rooted.item (found_at rows (target_of rooted)) }
+abbrev pub edge_at : (List ℕ → Standing) → RootItemValue → RootEdgeValue
+edge_at stands rooted = record { root = rooted.root; edge = edge_of rooted.item (found_at stands (target_of rooted)) }
 
-abbrev pub edges_among : (List ℕ → RowValue) → List (List ℕ) → List RootEdgeValue
-edges_among rows paths = map (edge_at rows) (items_among rows paths)
+abbrev pub edges_among : (List ℕ → Standing) → List (List ℕ) → List RootEdgeValue
+edges_among stands paths = map (edge_at stands) (items_among stands paths)

@@ -1,24 +1,28 @@
 -- Rows that are right, and how they are filled in.
-use Rattle.std.specs.Prelude.{◌≡◌, ℕ, List, Option, Some}
-use Rattle.std.specs.List.{AllByRecursion}
+use Rattle.std.specs.Prelude.{◌≡◌, ℕ, if◌then◌else◌, Bool, List, Option, Some}
+use Rattle.std.specs.List.{list_any}
 use Rattle.std.specs.List.Sorted.{IsStrictlySortedBy}
 use Rattle.std.specs.Cmp.Lexicographic.{slice_cmp}
 use Rattle.std.specs.Ordering.{nat_cmp}
+use Rattle.std.specs.Str.{bytes_eq}
 use Rattle.mk_paths.specs.World.{World}
-use Rattle.ports_index.specs.Rows.{RowValue, row_at}
+use Rattle.ports_index.specs.Standings.{Standing, standing_at}
 
 -- each row says what stands at its path
-abbrev pub AreRight : World → (List ℕ → Option RowValue) → Type 0
-AreRight world held = (path : List ℕ) (row : RowValue) → held path ≡ Some row → row ≡ row_at world path
+abbrev pub AreRight : World → (List ℕ → Option Standing) → Type 0
+AreRight world held = (path : List ℕ) (row : Standing) → held path ≡ Some row → row ≡ standing_at world path
 
--- each of these paths has its row
-abbrev pub AreKnown : World → (List ℕ → Option RowValue) → List (List ℕ) → Type 0
-AreKnown world held paths = AllByRecursion (λ path. held path ≡ Some (row_at world path)) paths
+-- the rows that were there are there still
+pub record Stay (old new : List ℕ → Option Standing) : Type 0 where
+  pub stay : (path : List ℕ) (row : Standing) → old path ≡ Some row → new path ≡ Some row
 
--- these paths have their rows now, and those that had one have it still
-pub record Fills (world : World) (paths : List (List ℕ)) (old new : List ℕ → Option RowValue) : Type 0 where
-  pub stay : (path : List ℕ) (row : RowValue) → old path ≡ Some row → new path ≡ Some row
-  pub known : AreKnown world new paths
+-- a path is one of these
+abbrev pub is_one_of : List ℕ → List (List ℕ) → Bool
+is_one_of path paths = list_any (λ one. bytes_eq one path) paths
+
+-- these paths have their rows now, and each other path has the row that it had, or none as before
+pub record Fills (world : World) (paths : List (List ℕ)) (old new : List ℕ → Option Standing) : Type 0 where
+  pub filled : (path : List ℕ) → new path ≡ (if is_one_of path paths then Some (standing_at world path) else old path)
 
 -- paths in the order of their bytes, each once
 abbrev pub IsListed : List (List ℕ) → Type 0

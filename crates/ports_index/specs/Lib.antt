@@ -1,5 +1,5 @@
 pub mod Keeping
-pub mod Rows
+pub mod Standings
 pub mod Naming
 pub mod Depending
 pub mod Index

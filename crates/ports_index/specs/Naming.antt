@@ -3,13 +3,12 @@
 use Rattle.std.specs.Prelude.{ℕ, ◌==◌, ◌&&◌, ◌||◌, if◌then◌else◌, Bool, true, false, List, [], ◌∷◌, ◌++◌, Option, Some, None, option_and_then, option_map, is_none, codes}
 use Rattle.std.specs.List.{filter_map, flat_map, list_any}
 use Rattle.std.specs.FinMap.{keys}
-use Rattle.std.specs.Result.{result_ok}
 use Rattle.std.specs.Str.{bytes_eq}
 use Rattle.text_cuts.specs.Cuts.{Cut, cut_where}
 use Rattle.text_order.specs.Order.{in_order}
 use Rattle.mk_paths.specs.World.{FileMap}
-use Rattle.pkg_path.specs.Paths.{PathValue, path_of, canonical, without_subpackage, slash, comma}
-use Rattle.ports_index.specs.Rows.{RowValue, Lists, own}
+use Rattle.pkg_path.specs.Paths.{PathValue, path_if_one, port_path, slash, comma}
+use Rattle.ports_index.specs.Standings.{Standing, Lists, own}
 
 -- a text cut at its first slash, and what stands behind that
 abbrev pub at_slash : List ℕ → Option Cut
@@ -40,10 +39,6 @@ directory_in name = option_and_then directory_below (behind_slash name)
 abbrev pub makefile_directory : List ℕ → Option (List ℕ)
 makefile_directory name = option_and_then directory_in (behind_slash name)
 
--- the path that a text names, if it names one
-abbrev pub path_if_one : List ℕ → Option PathValue
-path_if_one text = result_ok (path_of text)
-
 -- a path that chooses no flavors and names no subpackage
 abbrev pub names_directory : PathValue → Bool
 names_directory path = is_none path.flavors && is_none path.subpackage
@@ -71,23 +66,19 @@ directories files = in_order (filter_map directory_of (keys files))
 abbrev pub joined : List ℕ → List ℕ → List ℕ
 joined directory word = if bytes_eq directory own then word else directory ++ slash ∷ word
 
--- the canonical path without its subpackage
-abbrev pub key_of : PathValue → List ℕ
-key_of path = canonical (without_subpackage path)
-
 -- the path that a word of a directory's SUBDIR names: one with a comma
 abbrev pub path_of_word : List ℕ → List ℕ → Option (List ℕ)
-path_of_word directory word = if list_any (λ byte. byte == comma) word then option_map key_of (path_if_one (joined directory word)) else None
+path_of_word directory word = if list_any (λ byte. byte == comma) word then option_map port_path (path_if_one (joined directory word)) else None
 
 -- the paths that a directory names, by what stands there
-abbrev pub named_in : List ℕ → RowValue → List (List ℕ)
+abbrev pub named_in : List ℕ → Standing → List (List ℕ)
 named_in directory (Lists words) = filter_map (path_of_word directory) words
-named_in directory row = []
+named_in directory standing = []
 
 -- the same by what stands at each path
-abbrev pub named_at : (List ℕ → RowValue) → List ℕ → List (List ℕ)
-named_at rows directory = named_in directory (rows directory)
+abbrev pub named_at : (List ℕ → Standing) → List ℕ → List (List ℕ)
+named_at stands directory = named_in directory (stands directory)
 
 -- directories, and the paths that they name
-abbrev pub listed_from : (List ℕ → RowValue) → List (List ℕ) → List (List ℕ)
-listed_from rows directories = in_order (flat_map (named_at rows) directories ++ directories)
+abbrev pub listed_from : (List ℕ → Standing) → List (List ℕ) → List (List ℕ)
+listed_from stands directories = in_order (flat_map (named_at stands) directories ++ directories)

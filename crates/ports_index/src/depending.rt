@@ -85,10 +85,7 @@ fn target_of(alloc: Global, item: &Item) -> Result<Option<String>, AllocError>
     ensures { IfOk result (λ path. option_map string_bytes path ≡ depending.target_in item.now) }
 {
     match item.wanted() {
-        Some(wanted) => {
-            let path = wanted.path().copy(alloc)?.without_sub();
-            Ok(Some(path.canonical(alloc)?))
-        }
+        Some(wanted) => Ok(Some(wanted.path().port_path(alloc)?)),
         None => Ok(None),
     }
 }

@@ -1,22 +1,20 @@
 //! What stands at a path.
-ghost use Rattle.std.specs.Prelude.{◌≡◌, IfOk, map, string_bytes, codes};
+ghost use Rattle.std.specs.Prelude.{◌≡◌, IfOk, codes};
 ghost use Rattle.std.specs.Result.{result_err};
 ghost use Rattle.mk_eval.specs.Meaning.{means, value_of};
-ghost use Rattle.mk_text.specs.Words.{words_of};
 ghost use Rattle.port_rules.specs.Records.{record_of};
 ghost use Rattle.mk_eval.specs.Views.{flavors_in};
 ghost use Rattle.mk_paths.specs.Place.{place};
 ghost use Rattle.ports_index.specs.Keeping.{Keeps};
-ghost use Rattle.ports_index.specs.Rows as rows;
+ghost use Rattle.ports_index.specs.Standings as standings;
 ghost use Rattle.ports_index.specs.Seen.{row_seen};
 
 use mk_base::{Fault, Stop};
 use mk_eval::{Evaluated, Kind, evaluate, value};
 use mk_files::Files;
 use mk_paths::{FilesFault, Name, Settings, find};
-use mk_text::words;
-use pkg_path::{Flavors, PkgPath, PkgPathFault};
-use port_rules::{PortRecord, record};
+use pkg_path::PkgPath;
+use port_rules::{PortRecord, record, words_in};
 use std::alloc::{AllocError, Global};
 
 /// What a makefile describes that a path names.
@@ -40,35 +38,22 @@ pub enum Row {
 ///
 /// The makefile that the path names is evaluated with the flavors of the path. A text that is no path has
 /// none. The errors are those of the files, and want of memory.
-#[tactic(auto, unfolding(crate::specs::Rows::row_at))]
+#[tactic(auto, unfolding(crate::specs::Standings::standing_at))]
 pub fn evaluate_path<F: Files>(
     alloc: Global,
     files: &mut F,
     settings: &Settings,
     path: &str,
 ) -> Result<Row, FilesFault>
-    ensures row { IfOk result (λ row. row_seen row ≡ rows.row_at ((F.shelf files.old).files, settings.now) path.now) }
+    ensures row { IfOk result (λ row. row_seen row ≡ standings.standing_at ((F.shelf files.old).files, settings.now) path.now) }
     ensures keeps { Keeps (result_err result) (F.shelf files.old) (F.shelf files.new) }
 {
     if path == "." {
         return row_in(alloc, files, settings, path, None);
     }
-    match PkgPath::read(alloc, path) {
-        Ok(path) => row_in(alloc, files, settings, path.directory(), chosen(&path)),
-        Err(PkgPathFault::Memory) => Err(FilesFault::Memory),
-        Err(PkgPathFault::Empty) => Ok(Row::Absent),
-        Err(PkgPathFault::TwoSubpackages) => Ok(Row::Absent),
-        Err(PkgPathFault::BadCharacter) => Ok(Row::Absent),
-    }
-}
-
-// The flavors that a path chooses, if it chooses any.
-fn chosen(path: &PkgPath) -> Option<&[String]>
-    ensures { flavors_in result ≡ path.now.flavors }
-{
-    match path.flavors() {
-        Flavors::Default => None,
-        Flavors::Explicit(names) => Some(names.as_slice()),
+    match PkgPath::read_if_one(alloc, path)? {
+        Some(path) => row_in(alloc, files, settings, path.directory(), path.flavors()),
+        None => Ok(Row::Absent),
     }
 }
 
@@ -80,7 +65,7 @@ fn row_in<F: Files>(
     directory: &str,
     flavors: Option<&[String]>,
 ) -> Result<Row, FilesFault>
-    ensures row { IfOk result (λ row. row_seen row ≡ rows.row_in ((F.shelf files.old).files, settings.now) directory.now (flavors_in flavors.entry)) }
+    ensures row { IfOk result (λ row. row_seen row ≡ standings.standing_in ((F.shelf files.old).files, settings.now) directory.now (flavors_in flavors.entry)) }
     ensures keeps { Keeps (result_err result) (F.shelf files.old) (F.shelf files.new) }
 {
     match find(alloc, files, &settings.path, directory)? {
@@ -97,7 +82,7 @@ fn row_of<F: Files>(
     makefile: &Name,
     flavors: Option<&[String]>,
 ) -> Result<Row, FilesFault>
-    ensures row { IfOk result (λ row. row_seen row ≡ rows.described makefile.now (flavors_in flavors.entry) (means ((F.shelf files.old).files, settings.now) makefile.now (flavors_in flavors.entry))) }
+    ensures row { IfOk result (λ row. row_seen row ≡ standings.described makefile.now (flavors_in flavors.entry) (means ((F.shelf files.old).files, settings.now) makefile.now (flavors_in flavors.entry))) }
     ensures keeps { Keeps (result_err result) (F.shelf files.old) (F.shelf files.new) }
 {
     match evaluate(alloc, files, settings, makefile, flavors) {
@@ -115,7 +100,7 @@ fn row_after(
     makefile: &Name,
     flavors: Option<&[String]>,
 ) -> Result<Row, AllocError>
-    ensures { IfOk result (λ row. row_seen row ≡ rows.row_after makefile.now (flavors_in flavors.entry) evaluated.now) }
+    ensures { IfOk result (λ row. row_seen row ≡ standings.standing_after makefile.now (flavors_in flavors.entry) evaluated.now) }
 {
     match evaluated.kind {
         Kind::Port => port_row(alloc, evaluated, makefile),
@@ -129,7 +114,7 @@ fn row_after(
 
 // A port, or the fault of its record.
 fn port_row(alloc: Global, evaluated: &Evaluated, makefile: &Name) -> Result<Row, AllocError>
-    ensures { IfOk result (λ row. row_seen row ≡ rows.port_row (record_of evaluated.now.env makefile.now)) }
+    ensures { IfOk result (λ row. row_seen row ≡ standings.port_standing (record_of evaluated.now.env makefile.now)) }
 {
     match record(alloc, evaluated, makefile) {
         Ok(recorded) => Ok(Row::Port(recorded.port)),
@@ -141,7 +126,7 @@ fn port_row(alloc: Global, evaluated: &Evaluated, makefile: &Name) -> Result<Row
 
 // A list of directories, or the fault of its SUBDIR.
 fn list_row(alloc: Global, evaluated: &Evaluated, makefile: &Name) -> Result<Row, AllocError>
-    ensures { IfOk result (λ row. row_seen row ≡ rows.list_row (value_of evaluated.now.env makefile.now (codes "SUBDIR"))) }
+    ensures { IfOk result (λ row. row_seen row ≡ standings.list_standing (value_of evaluated.now.env makefile.now (codes "SUBDIR"))) }
 {
     match value(alloc, evaluated, makefile, "SUBDIR") {
         Ok(Some(found)) => Ok(Row::Lists(words_in(alloc, found.text())?)),
@@ -150,15 +135,4 @@ fn list_row(alloc: Global, evaluated: &Evaluated, makefile: &Name) -> Result<Row
         Err(Stop::Store) => Err(AllocError),
         Err(Stop::Memory) => Err(AllocError),
     }
-}
-
-// The words of a text, each of its own.
-fn words_in(alloc: Global, text: &str) -> Result<Vec<String>, AllocError>
-    ensures { IfOk result (λ found. map string_bytes found.items ≡ words_of text.now) }
-{
-    let mut found = Vec::new(alloc);
-    for span in &words(alloc, text)? {
-        found.push(String::from_str(alloc, span.of(text))?)?;
-    }
-    Ok(found)
 }

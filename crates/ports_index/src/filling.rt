@@ -1,7 +1,7 @@
 //! Finding what stands at paths that have no row yet.
 ghost use Rattle.std.specs.Prelude.{◌∷◌, [], map, string_bytes, OnOk};
 ghost use Rattle.std.specs.Result.{result_err};
-ghost use Rattle.ports_index.specs.Filling.{AreRight, Fills};
+ghost use Rattle.ports_index.specs.Filling.{AreRight, Stay, Fills};
 ghost use Rattle.ports_index.specs.Keeping.{Keeps};
 
 use crate::evaluating::evaluate_path;
@@ -11,10 +11,9 @@ use mk_paths::{FilesFault, Settings};
 use std::alloc::Global;
 
 /// Gives each of these paths a row that has none yet: what stands there. Where all rows were right before,
-/// so they are then, and the paths that had a row have it still.
+/// so they are then; those that were there stay, and no other path gets one.
 ///
-/// The errors are those of the files, and want of memory; the rows that were made until
-/// then stay.
+/// The errors are those of the files, and want of memory; the rows that were made until then stay.
 pub fn fill<F: Files, R: Rows>(
     alloc: Global,
     files: &mut F,
@@ -24,6 +23,7 @@ pub fn fill<F: Files, R: Rows>(
 ) -> Result<(), FilesFault>
     requires { AreRight ((F.shelf files.old).files, settings.now) (R.held rows.old) }
     ensures right { AreRight ((F.shelf files.old).files, settings.now) (R.held rows.new) }
+    ensures stay { Stay (R.held rows.old) (R.held rows.new) }
     ensures fills { OnOk result (Fills ((F.shelf files.old).files, settings.now) (map string_bytes paths.now) (R.held rows.old) (R.held rows.new)) }
     ensures keeps { Keeps (result_err result) (F.shelf files.old) (F.shelf files.new) }
 {
@@ -43,6 +43,7 @@ pub(crate) fn fill_one<F: Files, R: Rows>(
 ) -> Result<(), FilesFault>
     requires { AreRight ((F.shelf files.old).files, settings.now) (R.held rows.old) }
     ensures right { AreRight ((F.shelf files.old).files, settings.now) (R.held rows.new) }
+    ensures stay { Stay (R.held rows.old) (R.held rows.new) }
     ensures fills { OnOk result (Fills ((F.shelf files.old).files, settings.now) (path.now ∷ []) (R.held rows.old) (R.held rows.new)) }
     ensures keeps { Keeps (result_err result) (F.shelf files.old) (F.shelf files.new) }
 {

@@ -1,17 +1,18 @@
 //! The index of a ports tree.
-ghost use Rattle.std.specs.Prelude.{◌≡◌, map, string_bytes, IfOk};
+ghost use Rattle.std.specs.Prelude.{◌≡◌, map, string_bytes, IfOk, OnOk};
 ghost use Rattle.std.specs.Result.{result_err};
-ghost use Rattle.ports_index.specs.Filling.{AreRight, AreKnown, IsListed};
-ghost use Rattle.ports_index.specs.Depending.{roots_among, edges_among};
-ghost use Rattle.ports_index.specs.Rows.{row_at};
+ghost use Rattle.ports_index.specs.Filling.{AreRight, Stay, Fills};
+ghost use Rattle.ports_index.specs.Depending.{items_among};
+ghost use Rattle.ports_index.specs.Standings.{standing_at};
 ghost use Rattle.ports_index.specs.Index as indexed;
 ghost use Rattle.ports_index.specs.Keeping.{Keeps};
+ghost use Rattle.ports_index.specs.Seen.{item_seen};
 
-use crate::depending::{edges_of_all, items_of_all, roots_of_all, targets_of};
+use crate::depending::{RootItem, edges_of_all, items_of_all, roots_of_all, targets_of};
 use crate::filling::fill;
 use crate::keeping::{MemoryRows, Rows};
 use crate::naming::{directories, listed};
-use mk_files::{Files, Listing};
+use mk_files::Listing;
 use mk_paths::{FilesFault, Settings};
 use port_deps::{Root, RootEdge};
 use std::alloc::Global;
@@ -44,11 +45,61 @@ pub fn index_files<F: Listing>(
     ensures keeps { Keeps (result_err result) (F.shelf files.old) (F.shelf files.new) }
 {
     let mut rows = MemoryRows::new(alloc);
-    let paths = list(alloc, files, settings, &mut rows)?;
-    index_paths(alloc, files, settings, &paths, &mut rows)
+    let walked = walk(alloc, files, settings, &mut rows)?;
+    let edges = edges_of_all(alloc, walked.items, &rows)?;
+    let roots = roots_of_all(alloc, &walked.paths, &mut rows)?;
+    Ok(Index { roots, edges })
 }
 
-// The listed paths, with a row for each.
+/// The ports of these files under these settings, and the faults met where they should be: the roots of
+/// `index_files`, without the work for their dependencies. The errors are the same.
+pub fn index_roots<F: Listing>(
+    alloc: Global,
+    files: &mut F,
+    settings: &Settings,
+) -> Result<Vec<Root>, FilesFault>
+    ensures roots { IfOk result (λ roots. roots.items ≡ indexed.roots ((F.shelf files.old).files, settings.now)) }
+    ensures keeps { Keeps (result_err result) (F.shelf files.old) (F.shelf files.new) }
+{
+    let mut rows = MemoryRows::new(alloc);
+    let paths = list(alloc, files, settings, &mut rows)?;
+    let roots = roots_of_all(alloc, &paths, &mut rows)?;
+    Ok(roots)
+}
+
+/// What a walk found.
+#[derive(Drop)]
+pub(crate) struct Walked {
+    /// The listed paths.
+    paths: Vec<String>,
+    /// The items of the ports there.
+    items: Vec<RootItem>,
+}
+
+/// Gives each path on which the index rests a row that has none yet, and no other path. Where all rows were
+/// right before, so they are then, and those that were there stay.
+fn walk<F: Listing, R: Rows>(
+    alloc: Global,
+    files: &mut F,
+    settings: &Settings,
+    rows: &mut R,
+) -> Result<Walked, FilesFault>
+    requires { AreRight ((F.shelf files.old).files, settings.now) (R.held rows.old) }
+    ensures right { AreRight ((F.shelf files.old).files, settings.now) (R.held rows.new) }
+    ensures stay { Stay (R.held rows.old) (R.held rows.new) }
+    ensures fills { OnOk result (Fills ((F.shelf files.old).files, settings.now) (indexed.rests ((F.shelf files.old).files, settings.now)) (R.held rows.old) (R.held rows.new)) }
+    ensures paths { IfOk result (λ walked. map string_bytes walked.paths.items ≡ indexed.listed ((F.shelf files.old).files, settings.now)) }
+    ensures items { IfOk result (λ walked. map item_seen walked.items.items ≡ items_among (standing_at ((F.shelf files.old).files, settings.now)) (indexed.listed ((F.shelf files.old).files, settings.now))) }
+    ensures keeps { Keeps (result_err result) (F.shelf files.old) (F.shelf files.new) }
+{
+    let paths = list(alloc, files, settings, rows)?;
+    let items = items_of_all(alloc, &paths, rows)?;
+    let targets = targets_of(alloc, &items)?;
+    fill(alloc, files, settings, &targets, rows)?;
+    Ok(Walked { paths, items })
+}
+
+/// The listed paths, with a row for each.
 fn list<F: Listing, R: Rows>(
     alloc: Global,
     files: &mut F,
@@ -57,8 +108,9 @@ fn list<F: Listing, R: Rows>(
 ) -> Result<Vec<String>, FilesFault>
     requires { AreRight ((F.shelf files.old).files, settings.now) (R.held rows.old) }
     ensures right { AreRight ((F.shelf files.old).files, settings.now) (R.held rows.new) }
+    ensures stay { Stay (R.held rows.old) (R.held rows.new) }
+    ensures fills { OnOk result (Fills ((F.shelf files.old).files, settings.now) (indexed.listed ((F.shelf files.old).files, settings.now)) (R.held rows.old) (R.held rows.new)) }
     ensures listed { IfOk result (λ paths. map string_bytes paths.items ≡ indexed.listed ((F.shelf files.old).files, settings.now)) }
-    ensures known { IfOk result (λ paths. AreKnown ((F.shelf files.old).files, settings.now) (R.held rows.new) (map string_bytes paths.items)) }
     ensures keeps { Keeps (result_err result) (F.shelf files.old) (F.shelf files.new) }
 {
     let directories = directories(alloc, files)?;
@@ -66,27 +118,4 @@ fn list<F: Listing, R: Rows>(
     let paths = listed(alloc, directories, rows)?;
     fill(alloc, files, settings, &paths, rows)?;
     Ok(paths)
-}
-
-// The index of listed paths that have their rows.
-fn index_paths<F: Files, R: Rows>(
-    alloc: Global,
-    files: &mut F,
-    settings: &Settings,
-    paths: &[String],
-    rows: &mut R,
-) -> Result<Index, FilesFault>
-    requires right { AreRight ((F.shelf files.old).files, settings.now) (R.held rows.old) }
-    requires known { AreKnown ((F.shelf files.old).files, settings.now) (R.held rows.old) (map string_bytes paths.now) }
-    requires listed { IsListed (map string_bytes paths.now) }
-    ensures roots { IfOk result (λ index. index.roots.items ≡ roots_among (row_at ((F.shelf files.old).files, settings.now)) (map string_bytes paths.now)) }
-    ensures edges { IfOk result (λ index. index.edges.items ≡ edges_among (row_at ((F.shelf files.old).files, settings.now)) (map string_bytes paths.now)) }
-    ensures keeps { Keeps (result_err result) (F.shelf files.old) (F.shelf files.new) }
-{
-    let items = items_of_all(alloc, paths, rows)?;
-    let targets = targets_of(alloc, &items)?;
-    fill(alloc, files, settings, &targets, rows)?;
-    let edges = edges_of_all(alloc, items, rows)?;
-    let roots = roots_of_all(alloc, paths, rows)?;
-    Ok(Index { roots, edges })
 }

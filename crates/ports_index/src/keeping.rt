@@ -2,7 +2,7 @@
 ghost use Rattle.std.specs.Prelude.{◌≡◌, ℕ, List, Option, Some, None, option_map, if◌then◌else◌, string_bytes, OnOk, OnErr};
 ghost use Rattle.std.specs.Str.{bytes_eq};
 ghost use Rattle.std.specs.BTreeMap.{get_by_text};
-ghost use Rattle.ports_index.specs.Rows.{RowValue};
+ghost use Rattle.ports_index.specs.Standings.{Standing};
 ghost use Rattle.ports_index.specs.Seen.{row_seen, held_in};
 
 use crate::evaluating::Row;
@@ -13,7 +13,7 @@ use std::collections::BTreeMap;
 ///
 /// Its meaning is a map from canonical paths to rows.
 pub trait Rows {
-    ghost held: { Self → List ℕ → Option RowValue };
+    ghost held: { Self → List ℕ → Option Standing };
 
     /// The row of this path, where there is one.
     fn get(&self, path: &str) -> Option<&Row>

@@ -11,5 +11,5 @@ mod naming;
 
 pub use evaluating::{Row, evaluate_path};
 pub use filling::fill;
-pub use indexing::{Index, index_files};
+pub use indexing::{Index, index_files, index_roots};
 pub use keeping::{MemoryRows, Rows};

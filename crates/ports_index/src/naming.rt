@@ -11,7 +11,7 @@ use crate::evaluating::Row;
 use crate::keeping::Rows;
 use mk_files::Listing;
 use mk_paths::FilesFault;
-use pkg_path::{Flavors, PkgPath, PkgPathFault};
+use pkg_path::PkgPath;
 use std::alloc::{AllocError, Global};
 use text_cuts::cut_where;
 use text_order::put_in_order;
@@ -139,7 +139,7 @@ fn is_makefile(text: &[u8]) -> bool
 fn is_bare(alloc: Global, text: &str) -> Result<bool, AllocError>
     ensures { IfOk result (λ is. is ≡ naming.is_bare text.now) }
 {
-    match read_path(alloc, text)? {
+    match PkgPath::read_if_one(alloc, text)? {
         Some(path) => Ok(names_directory(&path)),
         None => Ok(false),
     }
@@ -149,23 +149,7 @@ fn is_bare(alloc: Global, text: &str) -> Result<bool, AllocError>
 fn names_directory(path: &PkgPath) -> bool
     ensures { result ≡ naming.names_directory path.now }
 {
-    match path.flavors() {
-        Flavors::Default => path.subpackage().is_none(),
-        Flavors::Explicit(_names) => false,
-    }
-}
-
-// The path that a text is, if it is one.
-fn read_path(alloc: Global, text: &str) -> Result<Option<PkgPath>, AllocError>
-    ensures { IfOk result (λ path. path ≡ naming.path_if_one text.now) }
-{
-    match PkgPath::read(alloc, text) {
-        Ok(path) => Ok(Some(path)),
-        Err(PkgPathFault::Empty) => Ok(None),
-        Err(PkgPathFault::TwoSubpackages) => Ok(None),
-        Err(PkgPathFault::BadCharacter) => Ok(None),
-        Err(PkgPathFault::Memory) => Err(AllocError),
-    }
+    path.flavors().is_none() && path.subpackage().is_none()
 }
 
 /// These directories, and the paths that those of them name which are lists: in the order of their bytes,
@@ -246,8 +230,8 @@ fn path_of_word(alloc: Global, directory: &str, word: &str) -> Result<Option<Str
         return Ok(None);
     }
     let text = joined(alloc, directory, word)?;
-    match read_path(alloc, text.as_str())? {
-        Some(path) => Ok(Some(path.without_sub().canonical(alloc)?)),
+    match PkgPath::read_if_one(alloc, text.as_str())? {
+        Some(path) => Ok(Some(path.port_path(alloc)?)),
         None => Ok(None),
     }
 }

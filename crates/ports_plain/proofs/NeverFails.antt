@@ -15,7 +15,7 @@ use Rattle.ports_http.specs.declared.method.Method.{Method}
 use Rattle.ports_http.specs.declared.method.Method.TheVariants.{Get, Put, Delete}
 use Rattle.ports_plain.specs.declared.routing.Route.{Route}
 use Rattle.ports_plain.specs.declared.routing.Route.TheVariants.{Deps, Faults, File, List as AllPackages, Match, Path, Port, Rdeps, Var}
-use Rattle.pkg_path.specs.Paths.{PathValue, path_of}
+use Rattle.pkg_path.specs.Paths.{PathValue, path_of, port_path}
 use Rattle.pkg_path.specs.declared.faults.PkgPathFault.{PkgPathFault}
 use Rattle.port_rules.specs.declared.recording.Recorded.{Recorded}
 use Rattle.ports_plain.specs.Routes.{route_of}
@@ -27,7 +27,6 @@ use Rattle.ports_plain.specs.declared.dependencies.Question.{Question}
 use Rattle.ports_plain.specs.declared.depth.Depth.{Depth}
 use Rattle.ports_query.specs.Conditions.{ConditionValue, query_of}
 use Rattle.ports_query.specs.Kinds.{kinds_of}
-use Rattle.ports_query.specs.Edges.{root_of}
 use Rattle.ports_query.specs.declared.kinds.Kinds.{Kinds}
 use Rattle.ports_index.specs.Index.{roots, edges}
 use Rattle.port_deps.specs.Lists.{RootValue, RootEdgeValue}
@@ -37,9 +36,11 @@ use Rattle.mk_base.specs.FaultAt.{FaultAt}
 use Rattle.std.specs.Result.{is_ok}
 use Rattle.ports_http.specs.Messages.{ReplyMessage}
 use Rattle.ports_plain.specs.Trimming.{trimmed}
-use Rattle.ports_plain.specs.Replies.{bad_path, json_reply, no_file, no_subpackage, removed, port_shown}
+use Rattle.ports_plain.specs.Replies.{bad_path, full, json_reply, no_file, no_subpackage, removed, port_shown}
 use Rattle.ports_plain.specs.Plain.{Asked, told, content_shown, on_named_file, on_resolved, on_file, set_trees, set_path, value_after, valued, variable_at, variable_of, get_variable, record_after, described, port_at, port_of, get_port, question_in, got, on_query, on_path, answer_on, answer, plain}
+use Rattle.ports_plain.specs.declared.changing.Change.{Change}
 use Rattle.ports_plain.specs.declared.changing.Change.TheVariants.{RemoveFile}
+use Rattle.ports_plain.specs.Changing.{changed, overfills, settled}
 
 content-fine : (content : Option (List ℕ)) → ((content_shown content).status == 503) ≡ false
 content-fine (Some content) = refl
@@ -143,7 +144,7 @@ dependencies_of_root-fine edges question (Some root) = dependencies_with-fine ed
 dependencies_of_root-fine edges question None = refl
 
 dependencies_of-fine : (world : World) (question : Question) → ((dependencies_of world question).status == 503) ≡ false
-dependencies_of-fine world question = dependencies_of_root-fine (edges world) question (root_named (roots world) (root_of question.path))
+dependencies_of-fine world question = dependencies_of_root-fine (edges world) question (root_named (roots world) (port_path question.path))
 
 dependents_of-fine : (world : World) (question : Question) → ((dependents_of world question).status == 503) ≡ false
 dependents_of-fine world question = refl
@@ -210,6 +211,17 @@ answer_on-fine world request (Some Port) = on_query-fine world (query_of_target 
 answer_on-fine world request (Some Rdeps) = on_query-fine world (query_of_target request.target) Rdeps request.method
 answer_on-fine world request (Some Var) = on_query-fine world (query_of_target request.target) Var request.method
 
-pub never_503 : (world : World) (request : Asked) → ((plain world request).0.status == 503) ≡ false
+settled-fine : (world : World) (reply : ReplyMessage) (change : Option Change) → (reply.status == 503) ≡ false → ((settled world reply change).0.status == 503) ≡ false
+settled-fine world reply None fine = fine
+settled-fine world reply (Some change) fine =
+    elim (overfills world change) as (λ b. ((if◌then◌else◌ {A = ReplyMessage × World} b (full, world) (reply, changed world change)).0.status == 503) ≡ false) [
+      | true ↦ refl
+      | false ↦ fine
+    ]
+
+answer-fine : (world : World) (request : Asked) → ((answer world request).0.status == 503) ≡ false
 unfolding answer
-never_503 world request = answer_on-fine world request (route_of (target_path request.target))
+answer-fine world request = answer_on-fine world request (route_of (target_path request.target))
+
+pub never_503 : (world : World) (request : Asked) → ((plain world request).0.status == 503) ≡ false
+never_503 world request = settled-fine world (answer world request).0 (answer world request).1 (answer-fine world request)

@@ -4,7 +4,7 @@ use Rattle.std.specs.Result.{is_ok}
 use Rattle.std.specs.Str.{bytes_eq}
 use Rattle.mk_base.specs.FaultAt.{FaultAt}
 use Rattle.mk_paths.specs.World.{World}
-use Rattle.pkg_path.specs.Paths.{PathValue, path_of}
+use Rattle.pkg_path.specs.Paths.{PathValue, path_of, port_path}
 use Rattle.pkg_path.specs.declared.faults.PkgPathFault.{PkgPathFault}
 use Rattle.pkg_spec.specs.Alternatives.{spec_of}
 use Rattle.port_rules.specs.Ports.{PortValue}
@@ -13,7 +13,7 @@ use Rattle.ports_index.specs.Index.{roots, edges}
 use Rattle.ports_query.specs.Conditions.{ConditionValue, query_of}
 use Rattle.ports_query.specs.Listing.{answer_of, admitted_of}
 use Rattle.ports_query.specs.Kinds.{kinds_of}
-use Rattle.ports_query.specs.Edges.{root_of, first_edges_of, edges_to_of}
+use Rattle.ports_query.specs.Edges.{first_edges_of, edges_to_of}
 use Rattle.ports_query.specs.Reaching.{reached_of, reaching_of}
 use Rattle.ports_query.specs.declared.kinds.Kinds.{Kinds}
 use Rattle.serde_json.specs.Data.{Data}
@@ -108,7 +108,7 @@ root_named roots path = find (λ (root : RootValue). bytes_eq root.path path) ro
 
 -- what a port of these depends on
 abbrev pub dependencies_in : List RootValue → List RootEdgeValue → Question → ReplyMessage
-dependencies_in roots edges question = dependencies_of_root edges question (root_named roots (root_of question.path))
+dependencies_in roots edges question = dependencies_of_root edges question (root_named roots (port_path question.path))
 
 -- GET /v1/deps
 abbrev pub dependencies_of : World → Question → ReplyMessage

@@ -33,7 +33,7 @@ use Rattle.ports_plain.specs.Trimming.{trimmed}
 use Rattle.ports_plain.specs.Routes.{route_of}
 use Rattle.ports_plain.specs.Subpackages.{has_named}
 use Rattle.ports_plain.specs.Replies.{no_route, not_allowed, bad_parameter, bad_name, bad_path, no_file, no_port, no_subpackage, faulty, file_shown, stored, removed, path_set, variable, port_shown}
-use Rattle.ports_plain.specs.Changing.{behind}
+use Rattle.ports_plain.specs.Changing.{settled}
 
 -- what is asked
 pub record Asked : Type 0 where
@@ -189,4 +189,4 @@ Served = ReplyMessage × World
 
 -- The plain service: the reply to a request, and the world behind it.
 abbrev pub plain : World → Asked → Served
-plain world request = ((answer world request).0, behind world (answer world request).1)
+plain world request = settled world (answer world request).0 (answer world request).1

@@ -67,6 +67,10 @@ no_port = refusal 404 (codes "NoPort")
 abbrev pub no_subpackage : ReplyMessage
 no_subpackage = refusal 404 (codes "NoSubpackage")
 
+-- a file that isn't stored, since the tenant would have more than it may
+abbrev pub full : ReplyMessage
+full = refusal 409 (codes "Full")
+
 -- a makefile at fault
 abbrev pub faulty : FaultAt → ReplyMessage
 faulty fault = json_reply 422 (fault_body (number_of fault.kind) fault.line fault.name)

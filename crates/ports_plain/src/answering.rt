@@ -40,7 +40,8 @@ impl Plain {
     /// `GET /v1/file?name=N` shows the bytes of the file that N names, 404 `{"error":"NoFile"}` where it
     /// isn't there; `PUT` stores the body, in bytes, as that file: 200 `{"stored":true}`; `DELETE` removes
     /// it: 200 `{"removed":true}`, 404 `{"error":"NoFile"}` where it isn't there. Each is 400
-    /// `{"error":"Name"}` where N names no file. `PUT /v1/path` makes the trees that the body names, without
+    /// `{"error":"Name"}` where N names no file; whoever carries out a `PUT` answers `full` in its place where
+    /// the tenant would have more than it may. `PUT /v1/path` makes the trees that the body names, without
     /// the blanks and line feeds at its ends, those that are searched for ports: 200 `{"path":P}`; 400
     /// `{"error":"Path"}` where it names no search path. `GET /v1/var?path=P&name=V` shows the variable V
     /// of the port with the package path P, in the first tree that has its directory, evaluated with P's
@@ -49,11 +50,14 @@ impl Plain {
     /// its makefile; 422 `{"error":"Fault","kind":K,"line":L,"name":N}` where the makefile or the value is at
     /// fault. `GET /v1/port?path=P` shows what the port is: 200 with its record (`docs/PACKAGES.md`); refused
     /// in the same way, and 404 `{"error":"NoPort"}` where the makefile describes no port, 422 where its
-    /// record is at fault, then 404 `{"error":"NoSubpackage"}` where it hasn't P's subpackage.
+    /// record is at fault, then 404 `{"error":"NoSubpackage"}` where it hasn't P's subpackage. `GET` of
+    /// `/v1/list`, `/v1/match`, `/v1/deps`, `/v1/rdeps` and `/v1/faults` asks all ports at once
+    /// (`docs/HTTP.md`).
     ///
     /// Before that any other path is 404 `{"error":"Route"}`, then any other method 405
     /// `{"error":"Method"}` with the route's methods, then a parameter of the route that is missing, empty
-    /// or there twice 400 `{"error":"Parameter"}`. Parameters are read as forms are (URL Standard), statuses
+    /// or there twice 400 `{"error":"Parameter"}`, but that `where`, `kind` and `depth` may be missing or
+    /// empty. Parameters are read as forms are (URL Standard), statuses
     /// are those of RFC 9110. All these are answers.
     ///
     /// `Store` comes where reading the files failed, which then count one more failure; `Memory` where no

@@ -7,7 +7,8 @@ use ports_http::Reply;
 /// all its memory is taken but for a file's place among the others.
 #[derive(Debug, Drop)]
 pub enum Change {
-    /// The file of this name has this content from now on, whether or not it was there.
+    /// The file of this name has this content from now on, whether or not it was there. Where the tenant would
+    /// then have more than it may, nothing is changed, and `full` is answered.
     PutFile(Name, Content),
     /// The file of this name is there no more.
     RemoveFile(Name),

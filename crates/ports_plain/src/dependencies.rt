@@ -20,7 +20,7 @@ use pkg_path::{PkgPath, PkgPathFault};
 use port_deps::{Root, RootEdge};
 use ports_http::{Reply, StatusCode};
 use ports_index::{Index, index_files};
-use ports_query::{Kinds, edges_to, first_edges, reached, reaching, root_of};
+use ports_query::{Kinds, edges_to, first_edges, reached, reaching};
 use serde_json::Value;
 use std::alloc::{AllocError, Global};
 
@@ -127,7 +127,7 @@ fn dependents_of<F: Listing>(
 fn dependencies_in(alloc: Global, index: &Index, question: &Question) -> Result<Reply, AllocError>
     ensures { IfOk result (λ reply. reply ≡ lists.dependencies_in index.now.roots.items index.now.edges.items question.now) }
 {
-    let path = root_of(alloc, &question.path)?;
+    let path = question.path.port_path(alloc)?;
     let Some(root) = root_named(index.roots.as_slice(), path.as_str()) else {
         return refusal(alloc, StatusCode::NOT_FOUND, "NoPort");
     };

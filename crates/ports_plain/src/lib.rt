@@ -26,3 +26,4 @@ pub use answering::Plain;
 pub use changing::{Change, Prepared};
 pub use laws::never_answers_503;
 pub use refused::Refused;
+pub use replies::full;

@@ -15,7 +15,7 @@ use mk_files::Listing;
 use mk_paths::Settings;
 use pkg_spec::{Spec, SpecFault};
 use ports_http::{Reply, StatusCode};
-use ports_index::index_files;
+use ports_index::index_roots;
 use ports_query::{Query, QueryFault, admitted, answer};
 use std::alloc::Global;
 
@@ -49,8 +49,8 @@ fn list_by<F: Listing>(
     ensures ok { IfOk result (λ reply. reply ≡ lists.listed_by ((F.shelf files.old).files, settings.now) conditions.now) }
     ensures keeps { Keeps (result_err result) (F.shelf files.old) (F.shelf files.new) }
 {
-    let index = index_files(alloc, files, settings)?;
-    let packages = answer(alloc, conditions, index.roots.as_slice())?;
+    let roots = index_roots(alloc, files, settings)?;
+    let packages = answer(alloc, conditions, roots.as_slice())?;
     let body = list_bodies::packages(alloc, packages.as_slice())?;
     Ok(json_reply(alloc, StatusCode::OK, &body)?)
 }
@@ -85,8 +85,8 @@ fn match_by<F: Listing>(
     ensures ok { IfOk result (λ reply. reply ≡ lists.matched_by ((F.shelf files.old).files, settings.now) spec.now) }
     ensures keeps { Keeps (result_err result) (F.shelf files.old) (F.shelf files.new) }
 {
-    let index = index_files(alloc, files, settings)?;
-    let packages = admitted(alloc, spec, index.roots.as_slice())?;
+    let roots = index_roots(alloc, files, settings)?;
+    let packages = admitted(alloc, spec, roots.as_slice())?;
     let body = list_bodies::packages(alloc, packages.as_slice())?;
     Ok(json_reply(alloc, StatusCode::OK, &body)?)
 }
@@ -100,7 +100,7 @@ pub fn get_faults<F: Listing>(
     ensures ok { IfOk result (λ reply. reply ≡ lists.get_faults ((F.shelf files.old).files, settings.now)) }
     ensures keeps { Keeps (result_err result) (F.shelf files.old) (F.shelf files.new) }
 {
-    let index = index_files(alloc, files, settings)?;
-    let body = list_bodies::faults(alloc, index.roots.as_slice())?;
+    let roots = index_roots(alloc, files, settings)?;
+    let body = list_bodies::faults(alloc, roots.as_slice())?;
     Ok(json_reply(alloc, StatusCode::OK, &body)?)
 }

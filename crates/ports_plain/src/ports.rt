@@ -12,7 +12,6 @@ ghost use Rattle.ports_plain.specs.Refusing.{Keeps, refusal_in};
 use crate::parameters::parameter;
 use crate::refused::Refused;
 use crate::replies::{faulty, port, refusal};
-use crate::variables::chosen;
 use mk_base::Stop;
 use mk_eval::{Failed, Kind, evaluate};
 use mk_files::Files;
@@ -92,7 +91,7 @@ fn record_in<F: Files>(
     ensures record { Tells (λ found. found) result (record_after makefile.now (means ((F.shelf files.old).files, settings.now) makefile.now path.now.flavors)) }
     ensures keeps { Keeps (refusal_in result) (F.shelf files.old) (F.shelf files.new) }
 {
-    let evaluated = evaluate(alloc, files, settings, makefile, chosen(path))?;
+    let evaluated = evaluate(alloc, files, settings, makefile, path.flavors())?;
     match evaluated.kind {
         Kind::Port => Ok(Some(record(alloc, &evaluated, makefile)?)),
         Kind::List | Kind::Other => Ok(None),

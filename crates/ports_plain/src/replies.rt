@@ -3,7 +3,7 @@ ghost use Rattle.std.specs.Prelude.{◌≡◌, IfOk, false};
 ghost use Rattle.std.specs.Option.{option_copied};
 ghost use Rattle.serde_json.specs.View.{view};
 ghost use Rattle.serde_json.specs.Written.{has_float};
-ghost use Rattle.ports_plain.specs.Replies.{json_reply as json_reply_of, refusal as refusal_of, not_allowed as not_allowed_on, methods_of, faulty as faulty_at, file_shown as file_shown_as, stored as stored_reply, removed as removed_reply, path_set as path_set_to, variable as variable_reply, port_shown};
+ghost use Rattle.ports_plain.specs.Replies.{json_reply as json_reply_of, refusal as refusal_of, not_allowed as not_allowed_on, methods_of, full as full_reply, faulty as faulty_at, file_shown as file_shown_as, stored as stored_reply, removed as removed_reply, path_set as path_set_to, variable as variable_reply, port_shown};
 
 use crate::routing::Route;
 use crate::{bodies, port_bodies};
@@ -48,6 +48,15 @@ pub fn not_allowed(alloc: Global, route: Route) -> Result<Reply, AllocError>
 {
     let reply = refusal(alloc, StatusCode::METHOD_NOT_ALLOWED, "Method")?;
     Ok(reply.with_allow(methods_of_route(route)))
+}
+
+/// The reply to a PUT of a file that would leave its tenant with more than 2,000 files, or with more than
+/// 8,388,608 bytes of contents: 409 `{"error":"Full"}`. Whoever carries out the change finds that out, and
+/// changes nothing then. Its one error is want of memory.
+pub fn full(alloc: Global) -> Result<Reply, AllocError>
+    ensures { IfOk result (λ reply. reply ≡ full_reply) }
+{
+    refusal(alloc, StatusCode::CONFLICT, "Full")
 }
 
 // A makefile at fault.

@@ -16,7 +16,7 @@ use mk_base::Stop;
 use mk_eval::{Failed, Valued, evaluate, value};
 use mk_files::Files;
 use mk_paths::{Name, Settings, find};
-use pkg_path::{Flavors, PkgPath, PkgPathFault};
+use pkg_path::{PkgPath, PkgPathFault};
 use ports_http::{Reply, StatusCode};
 use std::alloc::Global;
 
@@ -55,19 +55,9 @@ fn variable_of<F: Files>(
 {
     match find(alloc, files, &settings.path, path.directory())? {
         Some(makefile) => {
-            variable_after_makefile(alloc, files, settings, &makefile, chosen(path), name)
+            variable_after_makefile(alloc, files, settings, &makefile, path.flavors(), name)
         }
         None => Ok(refusal(alloc, StatusCode::NOT_FOUND, "NoPort")?),
-    }
-}
-
-// The flavors that a path chooses, if it chooses any.
-pub fn chosen(path: &PkgPath) -> Option<&[String]>
-    ensures { flavors_in result ≡ path.now.flavors }
-{
-    match path.flavors() {
-        Flavors::Default => None,
-        Flavors::Explicit(names) => Some(names.as_slice()),
     }
 }
 

@@ -1,17 +1,13 @@
 -- Which dependencies are told of a port, and which lead to one.
 use Rattle.std.specs.Prelude.{ℕ, ◌&&◌, ◌||◌, Bool, true, false, List, filter, Option, Some, None}
 use Rattle.std.specs.Str.{bytes_eq}
-use Rattle.pkg_path.specs.Paths.{PathValue, canonical, without_subpackage}
+use Rattle.pkg_path.specs.Paths.{PathValue, port_path}
 use Rattle.port_rules.specs.declared.depends.DependKind.{DependKind}
 use Rattle.port_rules.specs.declared.depends.DependKind.TheVariants.{Build, Lib, Run, Test}
 use Rattle.port_deps.specs.Edges.{EdgeValue}
 use Rattle.port_deps.specs.Lists.{RootEdgeValue}
 use Rattle.ports_query.specs.Kinds.{are_asked}
 use Rattle.ports_query.specs.declared.kinds.Kinds.{Kinds}
-
--- the port that a path names: its canonical text without the subpackage
-abbrev pub root_of : PathValue → List ℕ
-root_of path = canonical (without_subpackage path)
 
 -- what is for the port as a whole: to be built and tested
 abbrev pub is_of_port : DependKind → Bool
@@ -27,7 +23,7 @@ keeps (Some subpackage) edge = is_of_port edge.kind || bytes_eq edge.subpackage 
 
 -- a dependency of the port that a path names, and of its subpackage where it names one
 abbrev pub is_of : PathValue → RootEdgeValue → Bool
-is_of path edge = bytes_eq edge.root (root_of path) && keeps path.subpackage edge.edge
+is_of path edge = bytes_eq edge.root (port_path path) && keeps path.subpackage edge.edge
 
 -- the dependencies of these kinds that a path has, in their order
 abbrev pub first_edges_of : Kinds → PathValue → List RootEdgeValue → List RootEdgeValue
@@ -42,11 +38,11 @@ names_it (Some subpackage) (Some named) = bytes_eq named subpackage
 -- a target is the port of this canonical text, and the subpackage where one is named
 abbrev pub is_at : List ℕ → Option (List ℕ) → Option PathValue → Bool
 is_at root subpackage None = false
-is_at root subpackage (Some target) = bytes_eq (root_of target) root && names_it subpackage target.subpackage
+is_at root subpackage (Some target) = bytes_eq (port_path target) root && names_it subpackage target.subpackage
 
 -- a target is the port that a path names, and the subpackage where the path names one
 abbrev pub is_target : PathValue → Option PathValue → Bool
-is_target path target = is_at (root_of path) path.subpackage target
+is_target path target = is_at (port_path path) path.subpackage target
 
 -- the dependencies of these kinds, of whatever status, that lead to a path, in their order
 abbrev pub edges_to_of : Kinds → PathValue → List RootEdgeValue → List RootEdgeValue

@@ -2,14 +2,13 @@
 -- ended (`reached_list` and `reaching_list` of the arrows between texts).
 use Rattle.std.specs.Prelude.{ℕ, ◌&&◌, if◌then◌else◌, Bool, true, false, List, Option, None, option_map, string_bytes}
 use Rattle.std.specs.List.{filter_map}
-use Rattle.pkg_path.specs.Paths.{PathValue}
+use Rattle.pkg_path.specs.Paths.{PathValue, port_path}
 use Rattle.port_deps.specs.Lists.{RootEdgeValue}
 use Rattle.port_deps.specs.declared.statuses.Status.{Status}
 use Rattle.port_deps.specs.declared.statuses.Status.TheVariants as statuses
 use Rattle.text_graph.specs.Arrows.{ArrowValue}
 use Rattle.text_graph.specs.Listed.{reached_list, reaching_list}
 use Rattle.ports_query.specs.Kinds.{are_asked}
-use Rattle.ports_query.specs.Edges.{root_of}
 use Rattle.ports_query.specs.declared.kinds.Kinds.{Kinds}
 use Rattle.ports_query.specs.declared.reach.Step.{Step}
 
@@ -26,7 +25,7 @@ is_met statuses.Ok = true
 -- a dependency of these kinds that is met leads from its port to the port that it names
 abbrev pub arrow_of : Kinds → RootEdgeValue → Option ArrowValue
 arrow_of kinds edge =
-    if are_asked kinds edge.edge.kind && is_met edge.edge.status then option_map (λ (target : PathValue). record { from = edge.root; to = root_of target }) edge.edge.target else None
+    if are_asked kinds edge.edge.kind && is_met edge.edge.status then option_map (λ (target : PathValue). record { from = edge.root; to = port_path target }) edge.edge.target else None
 
 abbrev pub arrows_of : Kinds → List RootEdgeValue → List ArrowValue
 arrows_of kinds edges = filter_map (arrow_of kinds) edges
@@ -38,7 +37,7 @@ reached_of kinds first edges = reached_list (arrows_of kinds first) (arrows_of k
 
 -- the ports, in the order of their paths, that reach the port that a path names so
 abbrev pub reaching_of : Kinds → PathValue → List RootEdgeValue → List (List ℕ)
-reaching_of kinds path edges = reaching_list (arrows_of kinds edges) (root_of path)
+reaching_of kinds path edges = reaching_list (arrows_of kinds edges) (port_path path)
 
 -- a step of the code
 abbrev pub step_seen : Step → ArrowValue

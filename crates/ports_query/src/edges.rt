@@ -1,5 +1,5 @@
 //! The dependencies of a port, and those that lead to one.
-ghost use Rattle.std.specs.Prelude.{◌≡◌, ◌&&◌, IfOk, map, string_bytes};
+ghost use Rattle.std.specs.Prelude.{◌≡◌, ◌&&◌, IfOk, map};
 ghost use Rattle.std.specs.Option.{option_copied};
 ghost use Rattle.std.specs.Str.{bytes_eq};
 ghost use Rattle.ports_query.specs.Edges as asked;
@@ -22,7 +22,7 @@ pub fn first_edges<'a>(
 ) -> Result<Vec<&'a RootEdge>, AllocError>
     ensures { IfOk result (λ found. map (λ edge. edge.now) found.items ≡ asked.first_edges_of kinds path.now edges.now) }
 {
-    let root = root_of(alloc, path)?;
+    let root = path.port_path(alloc)?;
     let mut found = Vec::new(alloc);
     for edge in edges {
         if is_first(kinds, root.as_str(), path.subpackage(), edge) {
@@ -43,7 +43,7 @@ pub fn edges_to<'a>(
 ) -> Result<Vec<&'a RootEdge>, AllocError>
     ensures { IfOk result (λ found. map (λ edge. edge.now) found.items ≡ asked.edges_to_of kinds path.now edges.now) }
 {
-    let root = root_of(alloc, path)?;
+    let root = path.port_path(alloc)?;
     let mut found = Vec::new(alloc);
     for edge in edges {
         if leads_to(alloc, kinds, root.as_str(), path.subpackage(), edge)? {
@@ -51,13 +51,6 @@ pub fn edges_to<'a>(
         }
     }
     Ok(found)
-}
-
-/// The canonical text of a path without its subpackage.
-pub fn root_of(alloc: Global, path: &PkgPath) -> Result<String, AllocError>
-    ensures { IfOk result (λ text. string_bytes text ≡ asked.root_of path.now) }
-{
-    path.copy(alloc)?.without_sub().canonical(alloc)
 }
 
 /// Whether a dependency of these kinds is one of a port, and of its subpackage where one is named.
@@ -100,7 +93,7 @@ fn leads_to(
     let Some(target) = edge.edge().target() else {
         return Ok(false);
     };
-    let target_root = root_of(alloc, target)?;
+    let target_root = target.port_path(alloc)?;
     Ok(target_root.as_str() == root && names_it(subpackage, target.subpackage()))
 }
 

@@ -12,7 +12,7 @@ mod operators;
 mod query;
 mod reach;
 
-pub use edges::{edges_to, first_edges, root_of};
+pub use edges::{edges_to, first_edges};
 pub use faults::QueryFault;
 pub use kinds::Kinds;
 pub use listing::{Listed, admitted, answer};

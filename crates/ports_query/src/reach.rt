@@ -3,7 +3,6 @@ ghost use Rattle.std.specs.Prelude.{◌≡◌, ◌++◌, IfOk, OnOk, map, string
 ghost use Rattle.text_graph.specs.Arrows.{arrows_seen};
 ghost use Rattle.ports_query.specs.Reaching as reaching;
 
-use crate::edges::root_of;
 use crate::kinds::Kinds;
 use pkg_path::PkgPath;
 use port_deps::{RootEdge, Status};
@@ -43,7 +42,7 @@ pub fn reaching(
 ) -> Result<Vec<String>, AllocError>
     ensures { IfOk result (λ paths. map string_bytes paths.items ≡ reaching.reaching_of kinds path.now edges.now) }
 {
-    let goal = root_of(alloc, path)?;
+    let goal = path.port_path(alloc)?;
     let steps = steps_of(alloc, kinds, edges)?;
     let arrows = arrows_over(alloc, &steps)?;
     let paths = text_graph::reaching(alloc, &arrows, goal.as_str())?;
@@ -103,7 +102,7 @@ fn add_step<'a>(
     let Some(target) = edge.edge().target() else {
         return Ok(());
     };
-    let to = root_of(alloc, target)?;
+    let to = target.port_path(alloc)?;
     steps.push(Step {
         from: edge.root(),
         to,

@@ -5,4 +5,5 @@ mod ScriptFacts
 mod PrintFacts
 mod RunFacts
 mod WriteFacts
+mod ServingFacts
 mod CommandFacts

@@ -20,7 +20,7 @@ use Rattle.sqlite_tied.specs.Compute.{everything}
 use Rattle.sqlite.specs.Compile.{table_defined_by}
 use Rattle.sqlite.specs.Listing.{understood, reads_listing}
 use Rattle.sqlite.proofs.Callers.{IsPlain, command_of, statement_of}
-use Rattle.tenant_store.specs.Tables.{store_schema, file_schema, no_schema, file_table, account_table, create_file, create_account, insert_file, update_file, delete_file, select_content, insert_account, delete_account, select_account, file_of, IsFileRow, IsAccountRow, account_of, is_file}
+use Rattle.tenant_store.specs.Tables.{store_schema, file_schema, no_schema, file_table, account_table, create_file, create_account, insert_file, update_file, delete_file, select_content, select_names, insert_account, delete_account, select_account, file_of, IsFileRow, IsAccountRow, account_of, is_file}
 use Rattle.tenant_store.proofs.Statements.{over_table, program, passes}
 
 -- a column of the row equals a parameter
@@ -40,6 +40,10 @@ content_text = (refl, (refl, refl), refl)
 pub account_text : (command_of (understood store_schema select_account) ≡ Select (program (over_table 2 of_tenant (col 1 2 ∷ col 1 3 ∷ col 1 4 ∷ []) [])) (codes "files" ∷ codes "bytes" ∷ codes "path" ∷ [])) × IsPlain (understood store_schema select_account) × (reads_listing store_schema select_account ≡ false)
 unfolding understood everything
 account_text = (refl, (refl, refl), refl)
+
+pub names_text : (command_of (understood store_schema select_names) ≡ Select (program (over_table 0 of_tenant (col 1 2 ∷ []) [])) (codes "name" ∷ [])) × IsPlain (understood store_schema select_names) × (reads_listing store_schema select_names ≡ false)
+unfolding understood everything
+names_text = (refl, (refl, refl), refl)
 
 pub insert_file_text : (command_of (understood store_schema insert_file) ≡ Insert 0 (Values (lit Null ∷ col 0 0 ∷ col 0 1 ∷ col 0 2 ∷ []) 4)) × IsPlain (understood store_schema insert_file)
 unfolding understood everything
@@ -95,13 +99,17 @@ passes_file tenant name more row form = ap (passes of_file (Int (pos tenant) ∷
     here : (a : ℕ) (n : List ℕ) → (is_true (binary (Compare Eq Binary) (Int (pos a)) (Int (pos tenant))) && (is_true (binary (Compare Eq Binary) (Text n) (Text name)) && true)) ≡ ((a == tenant) && is_eq (slice_cmp nat_cmp name n))
     here a n = anded _ _ ∙ ap₂ (λ x y. x && y) (same_tenant a tenant) (same_name n name)
 
+alone : (a : Bool) → (a && true) ≡ a
+alone true = refl
+alone false = refl
+
+own_tenant : (a tenant : ℕ) → (is_true (binary (Compare Eq Binary) (Int (pos a)) (Int (pos tenant))) && true) ≡ (a == tenant)
+own_tenant a tenant = alone _ ∙ same_tenant a tenant
+
 -- a row of `account` passes exactly where it is that of this tenant
 pub passes_account : (tenant : ℕ) (more : Row) (row : Row) → IsAccountRow row → passes of_tenant (Int (pos tenant) ∷ more) row ≡ ((account_of row).tenant == tenant)
-passes_account tenant more row form = ap (passes of_tenant (Int (pos tenant) ∷ more)) form.2 ∙ here (account_of row).tenant
-  where
-    alone : (a : Bool) → (a && true) ≡ a
-    alone true = refl
-    alone false = refl
+passes_account tenant more row form = ap (passes of_tenant (Int (pos tenant) ∷ more)) form.2 ∙ own_tenant (account_of row).tenant tenant
 
-    here : (a : ℕ) → (is_true (binary (Compare Eq Binary) (Int (pos a)) (Int (pos tenant))) && true) ≡ (a == tenant)
-    here a = alone _ ∙ same_tenant a tenant
+-- a row of `file` passes exactly where it is one of this tenant
+pub passes_file_of : (tenant : ℕ) (more : Row) (row : Row) → IsFileRow row → passes of_tenant (Int (pos tenant) ∷ more) row ≡ ((file_of row).tenant == tenant)
+passes_file_of tenant more row form = ap (passes of_tenant (Int (pos tenant) ∷ more)) form.1 ∙ own_tenant (file_of row).tenant tenant

@@ -1,5 +1,5 @@
 -- What holds of the store between its calls goes on to hold.
-use Rattle.std.proofs.Common.{◌≡◌, ◌≢◌, ◌⊎◌, inl, inr, ℕ, ◌+◌, ◌<◌, ◌≤◌, Bool, true, false, eqb, List, Option, None, Some, length, codes, string_bytes, IsTrue, Result, Ok, Err, IfOk, OnErr, OnOk, refl, sym, ap, subst, ◌∙◌, arith}
+use Rattle.std.proofs.Common.{◌≡◌, ◌≢◌, inl, inr, ℕ, ◌+◌, ◌≤◌, Bool, true, false, eqb, List, Option, None, Some, length, codes, string_bytes, IsTrue, Result, Ok, Err, IfOk, OnErr, OnOk, refl, sym, ap, ap₂, subst, ◌∙◌, arith}
 use Rattle.std.specs.Prelude.{option_map, unwrap_or}
 use Rattle.std.specs.Option.{option_map_or}
 use Rattle.std.specs.FinMap as finite
@@ -9,7 +9,8 @@ use Rattle.mk_paths.specs.World.{FileMap}
 use Rattle.mk_paths.specs.SearchPath.{standard_trees, trees_of}
 use Rattle.sqlite.specs.Effect.{Database}
 use Rattle.sqlite.specs.State.{State}
-use Rattle.tenant_store.specs.Holdings.{File, Account, Holdings, files_in, files_of, path_of, account_in, bytes_of, files_with, bytes_with, IsOver, ChangesFiles, ChangesPath}
+use Rattle.tenant_store.specs.Holdings.{File, Account, Holdings, files_in, files_of, path_of, account_in, bytes_of, files_with, bytes_with, is_over, ChangesFiles, ChangesPath}
+use Rattle.tenant_limits.specs.Limits.{passes}
 use Rattle.tenant_store.specs.Tables.{IsKept, IsCounted, IsFormed, Stays, Makes, held_in, holdings_in, accounts_after, files_after, Suits}
 use Rattle.std.specs.Borrow.{Bor}
 use Rattle.tenant_store.specs.Accounts.{shown_account, IsAccountOf}
@@ -144,19 +145,12 @@ put_makes old new tenant n c length_was kept was is fs bs path made =
     let sum : kept.bytes ≡ bytes_of to = bs ∙ ap (λ o. bytes_with (bytes_of m) o (length c.now)) is ∙ sym (bytes_of-insert m n.now c.now) in
     (change_kept old new tenant files kept to was made maps.0 maps.1 count sum, change_files old new tenant files kept to was made maps.0 maps.1 count sum path)
 
--- the limits, of the map that would be
-pub over_is : (m : FileMap) (name content : List ℕ) (files bytes : ℕ) (old : Option ℕ) → old ≡ option_map length (finite.get m name) → files ≡ finite.len m → bytes ≡ bytes_of m
-    → (2000 < files_with files old) ⊎ (8388608 < bytes_with bytes old (length content)) → IsOver (finite.insert m name content)
-over_is m name content files bytes old is fs bs (inl more) = inl (subst (λ n. 2000 < n) (ap (λ f. files_with f old) fs ∙ ap (files_with (finite.len m)) is ∙ sym (len-insert_with m name content)) more)
-over_is m name content files bytes old is fs bs (inr more) =
-    inr (subst (λ n. 8388608 < n) (ap (λ b. bytes_with b old (length content)) bs ∙ ap (λ o. bytes_with (bytes_of m) o (length content)) is ∙ sym (bytes_of-insert m name content)) more)
-
-pub within_is : (m : FileMap) (name content : List ℕ) (old : Option ℕ) (files bytes f b : ℕ) → old ≡ option_map length (finite.get m name) → files ≡ finite.len m → bytes ≡ bytes_of m
-    → f ≡ files_with files old → b ≡ bytes_with bytes old (length content) → f ≤ 2000 → b ≤ 8388608 → ¬ IsOver (finite.insert m name content)
-within_is m name content old files bytes f b is fs bs fe be low few (inl more) =
-    let e : f ≡ finite.len (finite.insert m name content) = fe ∙ ap (λ f. files_with f old) fs ∙ ap (files_with (finite.len m)) is ∙ sym (len-insert_with m name content) in omega arith
-within_is m name content old files bytes f b is fs bs fe be low few (inr more) =
-    let e : b ≡ bytes_of (finite.insert m name content) = be ∙ ap (λ b. bytes_with b old (length content)) bs ∙ ap (λ o. bytes_with (bytes_of m) o (length content)) is ∙ sym (bytes_of-insert m name content) in omega arith
+-- how many files and bytes the map has that would be
+pub would_be : (m : FileMap) (name content : List ℕ) (files bytes : ℕ) (old : Option ℕ) → old ≡ option_map length (finite.get m name) → files ≡ finite.len m → bytes ≡ bytes_of m
+    → passes (files_with files old) (bytes_with bytes old (length content)) ≡ is_over (finite.insert m name content)
+would_be m name content files bytes old is fs bs =
+    ap₂ passes (ap (λ f. files_with f old) fs ∙ ap (files_with (finite.len m)) is ∙ sym (len-insert_with m name content))
+    (ap (λ b. bytes_with b old (length content)) bs ∙ ap (λ o. bytes_with (bytes_of m) o (length content)) is ∙ sym (bytes_of-insert m name content))
 
 -- ---- a file is taken away
 

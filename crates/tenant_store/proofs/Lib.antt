@@ -9,3 +9,4 @@ pub mod Worlds
 pub mod Remapping
 pub mod Keeping
 pub mod Paths
+pub mod Naming

@@ -1,10 +1,10 @@
 -- What the store of all tenants holds: each tenant's files and search path.
-use Rattle.std.specs.Option.{option_map_or}
-use Rattle.std.specs.Prelude.{◌≡◌, ◌⊎◌, ◌≢◌, ℕ, ◌+◌, ◌-◌, ◌<◌, ◌==◌, List, [], map, filter, find, length, sum_by, Option, option_map, unwrap_or, refl}
+use Rattle.std.specs.Prelude.{◌≡◌, ◌≢◌, ℕ, ◌==◌, List, [], map, filter, find, Option, option_map, unwrap_or, refl}
 use Rattle.std.specs.Coded.{Coded, code_by, coded×, coded_list, coded_ℕ}
 use Rattle.std.specs.FinMap as finite
 use Rattle.mk_paths.specs.World.{FileMap}
 use Rattle.mk_paths.specs.SearchPath.{standard_trees}
+pub use Rattle.tenant_limits.specs.Limits.{bytes_of, is_over, files_with, bytes_with}
 
 -- a file of a tenant
 pub record File : Type 0 where
@@ -62,14 +62,6 @@ account_in tenant accounts = find (λ a. a.tenant == tenant) accounts
 abbrev pub path_of : ℕ → Holdings → List (List ℕ)
 path_of tenant held = unwrap_or (option_map (λ a. a.trees) (account_in tenant held.accounts)) standard_trees
 
--- the bytes of all contents together
-abbrev pub bytes_of : FileMap → ℕ
-bytes_of files = sum_by length (finite.values files)
-
--- more than a tenant may have: 2,000 files, or 8,388,608 bytes
-abbrev pub IsOver : FileMap → Type 0
-IsOver files = (2000 < finite.len files) ⊎ (8388608 < bytes_of files)
-
 -- everything is as it was, but that the files of this tenant are these
 pub record ChangesFiles (old new : Holdings) (tenant : ℕ) (files : FileMap) : Type 0 where
   pub own : files_of tenant new ≡ files
@@ -81,11 +73,3 @@ pub record ChangesPath (old new : Holdings) (tenant : ℕ) (path : List (List �
   pub own : path_of tenant new ≡ path
   pub others : (other : ℕ) → other ≢ tenant → path_of other new ≡ path_of other old
   pub files : (any : ℕ) → files_of any new ≡ files_of any old
-
--- how many files a tenant has that had so many, once one is stored in place of another or of none
-abbrev pub files_with : ℕ → Option ℕ → ℕ
-files_with files old = option_map_or (λ _. files) old (files + 1)
-
--- how many bytes its contents have then
-abbrev pub bytes_with : ℕ → Option ℕ → ℕ → ℕ
-bytes_with bytes old length = bytes - unwrap_or old 0 + length

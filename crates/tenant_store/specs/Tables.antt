@@ -10,6 +10,8 @@ use Rattle.sqlite_value.specs.declared.keys.Collation.TheVariants.{Binary}
 use Rattle.sqlite_value.specs.Order.{Row, column}
 use Rattle.sqlite_value.specs.Keys.{plain}
 use Rattle.mk_paths.specs.SearchPath.{trees_of}
+use Rattle.mk_paths.specs.World.{FileMap}
+use Rattle.text_order.specs.Ordered.{among}
 use Rattle.sqlite_trees.specs.Tree.{Trees}
 use Rattle.sqlite_trees.specs.View.{IsShaped}
 use Rattle.sqlite_trees.specs.declared.store.Shape.TheVariants as Shapes
@@ -86,7 +88,7 @@ abbrev pub select_content : List ℕ
 select_content = codes "SELECT content FROM file WHERE tenant = ?1 AND name = ?2"
 
 abbrev pub select_names : List ℕ
-select_names = codes "SELECT name FROM file WHERE tenant = ?1 ORDER BY name"
+select_names = codes "SELECT name FROM file WHERE tenant = ?1"
 
 abbrev pub insert_account : List ℕ
 insert_account = codes "INSERT INTO account (tenant, files, bytes, path) VALUES (?1, ?2, ?3, ?4)"
@@ -138,6 +140,14 @@ pub record Shows {X : Type 0} (IsShown : Row → X → Type 0) (rows : List Row)
 -- the row of one content
 abbrev pub IsContent : Row → List ℕ → Type 0
 IsContent row content = column row 0 ≡ Blob content
+
+-- the name that a row shows
+abbrev pub name_in : Row → List ℕ
+name_in row = bytes_in (column row 0)
+
+-- these are the names of the files, in whatever order
+abbrev pub AreNames : FileMap → List (List ℕ) → Type 0
+AreNames files names = (name : List ℕ) → among name names ≡ finite.contains_key files name
 
 -- the row of the parts of an account
 abbrev pub IsAccount : ℕ → Row → Account → Type 0

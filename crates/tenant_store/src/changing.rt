@@ -1,12 +1,12 @@
 // What the calls of the store do over its statements.
-ghost use Rattle.std.specs.Prelude.{◌≡◌, ◌≤◌, ◌<◌, ◌⊎◌, false, IfOk, IfSome, IfNone, OnOk, OnErr, IsTrue, map, ◌++◌, length, option_map, unwrap_or, string_bytes};
+ghost use Rattle.std.specs.Prelude.{◌≡◌, false, IfOk, OnOk, OnErr, IsTrue, map, ◌++◌, length, option_map, string_bytes};
 ghost use Rattle.std.specs.Option.{option_map_or};
 ghost use Rattle.std.specs.FinMap.{get, insert, remove, contains_key};
 ghost use Rattle.mk_paths.specs.SearchPath.{trees_of, colon};
 ghost use Rattle.text_cuts.specs.Laws.{behind_marks};
 ghost use Rattle.sqlite.specs.Held.{state};
 ghost use Rattle.sqlite.specs.Steps.{over_memory};
-ghost use Rattle.tenant_store.specs.Holdings.{files_of, files_with, bytes_with, IsOver, ChangesFiles, ChangesPath};
+ghost use Rattle.tenant_store.specs.Holdings.{files_of, is_over, ChangesFiles, ChangesPath};
 ghost use Rattle.tenant_store.specs.Accounts.{IsAccountOf};
 ghost use Rattle.tenant_store.specs.Tables.{IsKept, Stays, held_in};
 
@@ -15,32 +15,7 @@ use crate::writing::{Change, write};
 use mk_paths::SearchPath;
 use sqlite::{Connection, Error, MemStore};
 use std::alloc::{AllocError, Global};
-
-/// The most files of a tenant.
-const MOST_FILES: usize = 2000;
-
-/// The most bytes that the contents of a tenant's files have together.
-const MOST_BYTES: usize = 8_388_608;
-
-// How many files and bytes a tenant has once a file of this length is stored in place of one of the old length,
-// or of none; `None` where that is more than a tenant may have.
-fn usage_with(files: u32, bytes: u32, old: Option<usize>, length: usize) -> Option<(u32, u32)>
-    requires { unwrap_or old 0 ≤ bytes }
-    ensures fits { IfSome result (λ usage. (usage.0 ≡ files_with files old) × (usage.1 ≡ bytes_with bytes old length) × (usage.0 ≤ 2000) × (usage.1 ≤ 8388608)) }
-    ensures over { IfNone result ((2000 < files_with files old) ⊎ (8388608 < bytes_with bytes old length)) }
-{
-    if length > MOST_BYTES {
-        return None;
-    }
-    let (files, left) = match old {
-        Some(old) => (files as usize, bytes as usize - old),
-        None => (files as usize + 1, bytes as usize),
-    };
-    if files > MOST_FILES || left + length > MOST_BYTES {
-        return None;
-    }
-    Some((files as u32, (left + length) as u32))
-}
+use tenant_limits::Usage;
 
 /// The account of a tenant, or that of one with no file and the standard path.
 pub(crate) fn account_or_new(
@@ -92,18 +67,19 @@ pub(crate) fn put(
 ) -> Result<bool, Error>
     requires { IsKept (state over_memory conn.old) }
     ensures stored { IfOk result (λ fits. IsTrue fits → IsKept (state over_memory conn.new) × ChangesFiles (held_in (state over_memory conn.old)) (held_in (state over_memory conn.new)) tenant (insert (files_of tenant (held_in (state over_memory conn.old))) name.now content.now)) }
-    ensures fits { IfOk result (λ fits. IsTrue fits → ¬ IsOver (insert (files_of tenant (held_in (state over_memory conn.old))) name.now content.now)) }
-    ensures full { IfOk result (λ fits. fits ≡ false → IsOver (insert (files_of tenant (held_in (state over_memory conn.old))) name.now content.now) × Stays (state over_memory conn.old) (state over_memory conn.new)) }
+    ensures fits { IfOk result (λ fits. IsTrue fits → is_over (insert (files_of tenant (held_in (state over_memory conn.old))) name.now content.now) ≡ false) }
+    ensures full { IfOk result (λ fits. fits ≡ false → IsTrue (is_over (insert (files_of tenant (held_in (state over_memory conn.old))) name.now content.now)) × Stays (state over_memory conn.old) (state over_memory conn.new)) }
     ensures err { OnErr result (Stays (state over_memory conn.old) (state over_memory conn.new)) }
 {
     let (old, account) = look_up(conn, alloc, tenant, name)?;
-    let Some((files, bytes)) = usage_with(account.files, account.bytes, old, content.len()) else {
+    let Account { files, bytes, path } = account;
+    let Some(usage) = (Usage { files, bytes }).with(old, content.len()) else {
         return Ok(false);
     };
     let next = Account {
-        files,
-        bytes,
-        path: account.path,
+        files: usage.files,
+        bytes: usage.bytes,
+        path,
     };
     write(conn, tenant, stored_as(old, name, content), &next)?;
     Ok(true)

@@ -1,14 +1,17 @@
 //! The files and the search path of each tenant, in one database in memory.
 #![tactic(auto)]
 
+mod asking;
 mod changing;
 mod faults;
+mod lent_files;
 mod opening;
 mod reading;
 mod store;
 mod tenant_files;
 mod writing;
 
+pub use asking::Asker;
 pub use faults::PutFault;
 pub use store::TenantStore;
 pub use tenant_files::TenantFiles;

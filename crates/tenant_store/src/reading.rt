@@ -1,13 +1,15 @@
 // The statements that read.
-ghost use Rattle.std.specs.Prelude.{◌≡◌, ◌+◌, ◌≤◌, ℕ, IfOk, option_map};
-ghost use Rattle.std.specs.FinMap.{get};
+ghost use Rattle.std.specs.Prelude.{◌≡◌, ◌+◌, ◌≤◌, ℕ, IfOk, map, option_map, string_bytes};
+ghost use Rattle.std.specs.FinMap.{get, keys};
 ghost use Rattle.sqlite.specs.Held.{state};
 ghost use Rattle.sqlite.specs.Steps.{over_memory};
 ghost use Rattle.tenant_store.specs.Holdings.{files_of, account_in};
-ghost use Rattle.tenant_store.specs.Tables.{IsFormed, IsSettled, Stays, Shows, IsContent, IsAccount, held_in};
+ghost use Rattle.tenant_store.specs.Tables.{IsFormed, IsSettled, Stays, Shows, IsContent, IsAccount, AreNames, name_in, held_in};
 ghost use Rattle.tenant_store.specs.Accounts.{shown_account};
 
 use sqlite::{Connection, Error, MemStore, Row, params};
+use std::alloc::Global;
+use text_order::put_in_order;
 
 /// The account of a tenant: how many files it has, the sum of their contents in bytes, and its search path.
 #[derive(Debug, Drop)]
@@ -102,4 +104,41 @@ pub(crate) fn account_of(
         None => Ok(None),
         Some(row) => Ok(Some(account_from(row)?)),
     }
+}
+
+fn name_rows(conn: &mut Connection<MemStore>, tenant: u32) -> Result<Vec<Row>, Error>
+    requires settled { IsSettled (state over_memory conn.old) }
+    requires formed { IsFormed (state over_memory conn.old).now }
+    ensures rows { IfOk result (λ rows. AreNames (files_of tenant (held_in (state over_memory conn.old))) (map name_in rows.items)) }
+    ensures stays { Stays (state over_memory conn.old) (state over_memory conn.new) }
+{
+    conn.query_all("SELECT name FROM file WHERE tenant = ?1", params![tenant])
+}
+
+// The names that rows show.
+fn names_in(alloc: Global, rows: &[Row]) -> Result<Vec<String>, Error>
+    ensures { IfOk result (λ names. map string_bytes names.items ≡ map name_in rows.now) }
+{
+    let mut names = Vec::with_capacity(alloc, rows.len())?;
+    for row in rows {
+        names.push(row.get(0)?)?;
+    }
+    Ok(names)
+}
+
+/// The names of a tenant's files, in the order of their bytes.
+pub(crate) fn names_of(
+    conn: &mut Connection<MemStore>,
+    alloc: Global,
+    tenant: u32,
+) -> Result<Vec<String>, Error>
+    requires settled { IsSettled (state over_memory conn.old) }
+    requires formed { IsFormed (state over_memory conn.old).now }
+    ensures names { IfOk result (λ names. map string_bytes names.items ≡ keys (files_of tenant (held_in (state over_memory conn.old)))) }
+    ensures stays { Stays (state over_memory conn.old) (state over_memory conn.new) }
+{
+    let rows = name_rows(conn, tenant)?;
+    let mut names = names_in(alloc, &rows)?;
+    put_in_order(&mut names);
+    Ok(names)
 }

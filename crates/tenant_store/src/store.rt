@@ -1,16 +1,16 @@
 // The store as its callers see it.
-ghost use Rattle.std.specs.Prelude.{◌≡◌, IfOk, IsErrOf, OnOk, OnErr};
-ghost use Rattle.std.specs.FinMap.{get, insert, remove, contains_key};
+ghost use Rattle.std.specs.Prelude.{◌≡◌, false, map, string_bytes, IfOk, IsErrOf, IsTrue, OnOk, OnErr};
+ghost use Rattle.std.specs.FinMap.{get, insert, keys, remove, contains_key};
 ghost use Rattle.mk_paths.specs.SearchPath.{trees_of};
 ghost use Rattle.sqlite.specs.Held.{state};
 ghost use Rattle.sqlite.specs.Steps.{over_memory};
-ghost use Rattle.tenant_store.specs.Holdings.{nothing, files_of, path_of, IsOver, ChangesFiles, ChangesPath};
+ghost use Rattle.tenant_store.specs.Holdings.{nothing, files_of, path_of, is_over, ChangesFiles, ChangesPath};
 ghost use Rattle.tenant_store.specs.Tables.{IsKept, Stays, held_in};
 
 use crate::changing::{put, set, take};
 use crate::faults::{PutFault, fault_of};
 use crate::opening::open;
-use crate::reading::{account_of, content_of};
+use crate::reading::{account_of, content_of, names_of};
 use mk_files::Content;
 use mk_paths::{FilesFault, Name, PathFault, SearchPath, Settings};
 use sqlite::{Connection, MemStore};
@@ -67,8 +67,8 @@ impl TenantStore {
         content: &[u8],
     ) -> Result<(), PutFault>
         ensures stored { OnOk result (ChangesFiles self.old self.new tenant (insert (files_of tenant self.old) name.now content.now)) }
-        ensures fits { OnOk result (¬ IsOver (insert (files_of tenant self.old) name.now content.now)) }
-        ensures full { IsErrOf result PutFault.Full → IsOver (insert (files_of tenant self.old) name.now content.now) }
+        ensures fits { OnOk result (is_over (insert (files_of tenant self.old) name.now content.now) ≡ false) }
+        ensures full { IsErrOf result PutFault.Full → IsTrue (is_over (insert (files_of tenant self.old) name.now content.now)) }
         ensures err { OnErr result (self.new ≡ self.old) }
     {
         match put(&mut self.conn, alloc, tenant, name.as_str(), content) {
@@ -114,6 +114,21 @@ impl TenantStore {
         ensures same { self.new ≡ self.old }
     {
         shared_content(&mut self.conn, alloc, tenant, name.as_str())
+    }
+
+    /// The names of a tenant's files, in the order of their bytes.
+    ///
+    /// # Errors
+    ///
+    /// `Store` where the database refuses a statement, `Memory` where none is left.
+    pub fn names(&mut self, alloc: Global, tenant: u32) -> Result<Vec<String>, FilesFault>
+        ensures names { IfOk result (λ names. map string_bytes names.items ≡ keys (files_of tenant self.old)) }
+        ensures same { self.new ≡ self.old }
+    {
+        match names_of(&mut self.conn, alloc, tenant) {
+            Ok(names) => Ok(names),
+            Err(error) => Err(fault_of(&error)),
+        }
     }
 
     /// Gives a tenant this search path.

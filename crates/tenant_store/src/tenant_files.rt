@@ -1,11 +1,11 @@
-// The files of one tenant, as a world that can be read.
-ghost use Rattle.std.specs.Prelude.{◌≡◌, IfOk, OnErr, None};
-ghost use Rattle.std.specs.FinMap.{get};
+// The files of one tenant, as a world that can be read and listed.
+ghost use Rattle.std.specs.Prelude.{◌≡◌, map, string_bytes, IfOk, OnOk, OnErr, None};
+ghost use Rattle.std.specs.FinMap.{get, keys};
 ghost use Rattle.mk_paths.specs.Shelf.{Contents, Presence, Answers, Fails};
 ghost use Rattle.tenant_store.specs.Holdings.{files_of};
 
 use crate::store::TenantStore;
-use mk_files::{Content, Files};
+use mk_files::{Content, Files, Listing};
 use mk_paths::{FilesFault, Name, Names};
 use std::alloc::Global;
 
@@ -34,17 +34,47 @@ impl<'s> TenantFiles<'s> {
         }
     }
 
-    fn content(&mut self, name: &Name) -> Result<Option<Content>, FilesFault>
+    // Counts one more reading that failed, with this fault.
+    fn failed(&mut self, fault: FilesFault) -> FilesFault
+        ensures counted { Fails (shelf_of self.old) (shelf_of self.new) }
+        ensures fault { result ≡ fault }
+        ensures stays { StaysOver self.old self.new }
+    {
+        self.failures = self.failures.saturating_add(1);
+        fault
+    }
+
+    // Whether a file of this name is there.
+    pub(crate) fn holds(&mut self, name: &Name) -> Result<bool, FilesFault>
+        ensures there { IfOk result (λ there. Answers (shelf_of self.old) (shelf_of self.new) name.now (Presence there)) }
+        ensures fault { OnErr result (Fails (shelf_of self.old) (shelf_of self.new)) }
+        ensures stays { StaysOver self.old self.new }
+    {
+        Ok(self.content(name)?.is_some())
+    }
+
+    // The content of the file of this name; `None` where it isn't there.
+    pub(crate) fn content(&mut self, name: &Name) -> Result<Option<Content>, FilesFault>
         ensures content { IfOk result (λ content. Answers (shelf_of self.old) (shelf_of self.new) name.now (Contents content)) }
         ensures fault { OnErr result (Fails (shelf_of self.old) (shelf_of self.new)) }
         ensures stays { StaysOver self.old self.new }
     {
         match self.store.get_file(self.alloc, self.tenant, name) {
             Ok(content) => Ok(content),
-            Err(fault) => {
-                self.failures = self.failures.saturating_add(1);
-                Err(fault)
-            }
+            Err(fault) => Err(self.failed(fault)),
+        }
+    }
+
+    // The names of all files, in the order of their bytes.
+    pub(crate) fn listed(&mut self, alloc: Global) -> Result<Vec<String>, FilesFault>
+        ensures names { IfOk result (λ names. map string_bytes names.items ≡ keys (shelf_of self.old).files) }
+        ensures same { OnOk result (shelf_of self.new ≡ shelf_of self.old) }
+        ensures fault { OnErr result (Fails (shelf_of self.old) (shelf_of self.new)) }
+        ensures stays { StaysOver self.old self.new }
+    {
+        match self.store.names(alloc, self.tenant) {
+            Ok(names) => Ok(names),
+            Err(fault) => Err(self.failed(fault)),
         }
     }
 }
@@ -57,12 +87,18 @@ impl Names for TenantFiles<'_> {
     ghost fails_with = { IsAnyFault };
 
     fn has(&mut self, name: &Name) -> Result<bool, FilesFault> {
-        Ok(self.content(name)?.is_some())
+        self.holds(name)
     }
 }
 
 impl Files for TenantFiles<'_> {
     fn read(&mut self, name: &Name) -> Result<Option<Content>, FilesFault> {
         self.content(name)
+    }
+}
+
+impl Listing for TenantFiles<'_> {
+    fn names(&mut self, alloc: Global) -> Result<Vec<String>, FilesFault> {
+        self.listed(alloc)
     }
 }

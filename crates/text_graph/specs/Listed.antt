@@ -14,7 +14,7 @@ unfoldable pub within : ℕ → List ArrowValue → List (List ℕ) → List (Li
 within zero arrows texts = texts
 within (suc count) arrows texts = texts ++ within count arrows (next_to arrows texts)
 
--- the texts that are reached over a first arrow and maybe further ones; no more of them than there are need be gone
+-- the texts that are reached over a first arrow and maybe further ones; no way need be longer than there are arrows
 abbrev pub reached_list : List ArrowValue → List ArrowValue → List (List ℕ)
 reached_list first arrows = in_order (within (length arrows) arrows (map (λ (arrow : ArrowValue). arrow.to) first))
 

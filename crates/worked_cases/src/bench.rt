@@ -4,12 +4,13 @@ use crate::evaluation::{self, MAKEFILE};
 use crate::line::as_text;
 use crate::world::World;
 use crate::{
-    conditions, dependencies, loops, packages, records, service, stores, streams, texts, trees,
-    trickle,
+    conditions, dependencies, loops, packages, records, served, service, stores, streams, texts,
+    trees, trickle,
 };
 use mk_env::Env;
 use mk_files::Content;
 use mk_paths::Name;
+use ports_core::Service;
 use ports_http::Method;
 use std::alloc::{AllocError, Global};
 use tenant_store::TenantStore;
@@ -23,6 +24,7 @@ pub struct Bench {
     copy: Env,
     world: World,
     store: Option<TenantStore>,
+    service: Option<Service>,
 }
 
 impl Bench {
@@ -33,6 +35,7 @@ impl Bench {
             copy: Env::new(alloc),
             world: World::new(alloc)?,
             store: None,
+            service: None,
         })
     }
 
@@ -45,6 +48,7 @@ impl Bench {
             "put" => evaluation::put(self.alloc, &mut self.world.files, given)?,
             "makefile" => self.put_makefile(given)?,
             "empty store" => self.store = Some(stores::empty(self.alloc)?),
+            "new service" => self.service = Some(served::new(self.alloc)?),
             _ => self.change_variables(call, given)?,
         }
         Ok(())
@@ -99,6 +103,7 @@ impl Bench {
             "open and end" => service::open_and_end(alloc, given),
             "after at" => service::after(alloc, given),
             _ if call.starts_with("store ") => self.answer_of_store(call, given),
+            _ if call.starts_with("service ") => self.answer_of_service(call, given),
             _ => self.answer_of_evaluation(call, given),
         }
     }
@@ -106,6 +111,13 @@ impl Bench {
     fn answer_of_store(&mut self, call: &str, given: &[Vec<u8>]) -> Result<Answer, Trouble> {
         match &mut self.store {
             Some(store) => stores::answer(self.alloc, store, call, given),
+            None => Err(Trouble::NoCase),
+        }
+    }
+
+    fn answer_of_service(&mut self, call: &str, given: &[Vec<u8>]) -> Result<Answer, Trouble> {
+        match &mut self.service {
+            Some(service) => served::answer(self.alloc, service, call, given),
             None => Err(Trouble::NoCase),
         }
     }

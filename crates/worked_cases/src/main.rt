@@ -14,6 +14,7 @@ mod loops;
 mod packages;
 mod quiet;
 mod records;
+mod served;
 mod service;
 mod stores;
 mod streams;

@@ -2,7 +2,7 @@
 use crate::answer::{Answer, Trouble};
 use crate::line::as_text;
 use pkg_name::{NameFault, PkgName, Version, VersionFault};
-use pkg_path::{Flavors, PkgPath, PkgPathFault};
+use pkg_path::{PkgPath, PkgPathFault};
 use pkg_spec::{Spec, SpecFault};
 use std::alloc::Global;
 use std::cmp::Ordering;
@@ -52,8 +52,8 @@ pub fn parts_of_path(alloc: Global, given: &[Vec<u8>]) -> Result<Answer, Trouble
     };
     let mut answer = Answer::of_text(alloc, path.directory())?;
     match path.flavors() {
-        Flavors::Default => answer.word("default")?,
-        Flavors::Explicit(names) => {
+        None => answer.word("default")?,
+        Some(names) => {
             for name in names {
                 answer.text(name.as_bytes())?;
             }

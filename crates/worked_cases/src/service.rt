@@ -116,12 +116,18 @@ pub fn request(
     let Prepared { reply, change } = plain
         .prepare(alloc, files, settings, method, as_text(target)?, body)
         .map_err(of_plain)?;
-    let mut answer = Answer::of_word(alloc, reply.status.as_str())?;
-    answer.word(reply.status.canonical_reason().unwrap_or(""))?;
-    answer.text(reply.body())?;
+    let answer = reply_told(alloc, &reply)?;
     if let Some(change) = change {
         world.carry_out(change)?;
     }
+    Ok(answer)
+}
+
+/// The status of a reply, with its phrase, and its body.
+pub fn reply_told(alloc: Global, reply: &Reply) -> Result<Answer, Trouble> {
+    let mut answer = Answer::of_word(alloc, reply.status.as_str())?;
+    answer.word(reply.status.canonical_reason().unwrap_or(""))?;
+    answer.text(reply.body())?;
     Ok(answer)
 }
 

@@ -7,7 +7,7 @@ use std::alloc::Global;
 use tenant_store::{PutFault, TenantFiles, TenantStore};
 
 /// The most limits of steps that a call is stopped by in turn.
-const MOST_LIMITS: u64 = 10_000;
+pub const MOST_LIMITS: u64 = 10_000;
 
 /// `empty store`
 pub fn empty(alloc: Global) -> Result<TenantStore, Trouble> {
@@ -254,7 +254,7 @@ fn path_stopped(
 }
 
 /// `never` where the first call wasn't stopped, else `kept` or `changed`; and what the last was told.
-fn stops_told(alloc: Global, limit: u64, is_kept: bool, told: &str) -> Result<Answer, Trouble> {
+pub fn stops_told(alloc: Global, limit: u64, is_kept: bool, told: &str) -> Result<Answer, Trouble> {
     let mut answer = Answer::new(alloc);
     answer.word(match (limit, is_kept) {
         (1, _) => "never",

@@ -2,7 +2,7 @@
 use Rattle.std.proofs.Common.{sym, subst, [], ◌∷◌, map, take, None, string_bytes}
 use Rattle.mk_paths.specs.World.{World}
 use Rattle.ports_index.specs.Filling.{AreRight, Fills}
-use Rattle.ports_index.proofs.Filled.{Fills-on}
+use Rattle.ports_index.proofs.Filled.{Stay-on, Fills-on}
 use Rattle.ports_index.proofs.Kept.{Keeps-on}
 use Rattle.ports_index.proofs.More.{map-more}
 use Rattle.ports_index.proofs.filling.fill.Goals as goal
@@ -18,6 +18,7 @@ loop-path-preserved g c =
     (subst (λ files. Fills (files, settings) (c.deref.result.now ∷ []) (held c.loop-path.rows) (held c.fill_one.new.rows)) c.loop-path.invariant.keeps.files c.in_ok-fill_one.ensures.fills) in
     record {
       right = subst (λ files. AreRight (files, settings) (held c.fill_one.new.rows)) c.loop-path.invariant.keeps.files c.in_ok-fill_one.ensures.right;
+      stay = Stay-on (held c.args.rows.now) (held c.loop-path.rows) (held c.fill_one.new.rows) c.loop-path.invariant.stay c.in_ok-fill_one.ensures.stay;
       fills = subst (λ paths. Fills world paths (held c.args.rows.now) (held c.fill_one.new.rows)) (sym (map-more string_bytes c.args.paths.now c.loop-path.path-index item c.loop-path-test.true c.path-item.is))
           (Fills-on world (map string_bytes (take c.loop-path.path-index c.args.paths.now)) (string_bytes item ∷ []) (held c.args.rows.now) (held c.loop-path.rows) (held c.fill_one.new.rows)
           c.loop-path.invariant.fills one);

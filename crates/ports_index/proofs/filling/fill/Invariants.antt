@@ -1,12 +1,13 @@
 -- The paths up to here have their rows, and the files are as they were.
 use Rattle.std.proofs.Common.{map, take, None, string_bytes}
-use Rattle.ports_index.specs.Filling.{AreRight, Fills}
+use Rattle.ports_index.specs.Filling.{AreRight, Stay, Fills}
 use Rattle.ports_index.specs.Keeping.{Keeps}
 use Rattle.ports_index.proofs.filling.fill.Given as goal
 
 abbrev pub invariant-loop-path : goal.invariant-loop-path
 invariant-loop-path g l = record {
   right : AreRight ((g.F.Names.shelf l.initial.files).files, l.settings) (g.R.Rows.held l.rows);
+  stay : Stay (g.R.Rows.held l.initial.rows) (g.R.Rows.held l.rows);
   fills : Fills ((g.F.Names.shelf l.initial.files).files, l.settings) (map string_bytes (take l.path-index l.paths)) (g.R.Rows.held l.initial.rows) (g.R.Rows.held l.rows);
   keeps : Keeps None (g.F.Names.shelf l.initial.files) (g.F.Names.shelf l.files);
 }

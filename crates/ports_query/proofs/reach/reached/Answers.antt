@@ -1,5 +1,5 @@
 -- The arrows are those of the dependencies that are met.
-use Rattle.std.proofs.Common.{◌≡◌, ◌∙◌, sym, ap, subst, map, Bor, string_bytes}
+use Rattle.std.proofs.Common.{◌≡◌, ◌∙◌, ap, map, Bor, string_bytes}
 use Rattle.text_cuts.specs.Cuts.{now_all}
 use Rattle.text_graph.specs.Arrows.{arrows_seen}
 use Rattle.text_graph.specs.Listed.{reached_list}

@@ -1,4 +1,4 @@
-use Rattle.std.proofs.Common.{◌≡◌, ◌++◌, ◌≤◌, length}
+use Rattle.std.proofs.Common.{◌≡◌, ◌++◌}
 use Rattle.ports_core.specs.State.{connections_of}
 use Rattle.ports_core.proofs.service.Service.connections.Given as goal
 

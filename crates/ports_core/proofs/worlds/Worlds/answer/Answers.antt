@@ -1,14 +1,25 @@
-use Rattle.std.proofs.Common.{◌<◌, List, length, refl, sym, subst}
-use Rattle.std.proofs.lemmas.Option.{slice_get_read}
+-- The world of the tenant is the one that changes.
+use Rattle.std.proofs.Common.{◌<◌, List, length, subst, sym, ap, arith, inl, inr}
 use Rattle.mk_paths.specs.World.{World}
-use Rattle.ports_core.proofs.WorldLemmas.{answers_for}
+use Rattle.tenant_store.specs.Holdings.{Holdings}
+use Rattle.ports_core.specs.Stored.{world_in, worlds_in}
+use Rattle.ports_core.proofs.WorldLemmas.{answers_for, length-worlds_in}
 use Rattle.ports_core.proofs.worlds.Worlds.answer.Goals as goal
+use Rattle.ports_core.proofs.worlds.Worlds.answer.Goals.{in-Ok, in-Err}
 
--- the world of the tenant is the one that changes
+pub overflow_cast-tenant : goal.overflow_cast-tenant
+overflow_cast-tenant c =
+    let count = length-worlds_in c.self.inside.store c.self.inside.count in
+    let within : c.args.tenant < length (worlds_in c.self.inside.store c.self.inside.count) = subst (λ (ws : List World). c.args.tenant < length ws) (sym c.self.view_is) c.requires in
+    omega (arith, count, within, c.self.invariant)
+
 pub returns-clause-answers : goal.returns-clause-answers
 returns-clause-answers c =
-    let worlds = c.self.inside.worlds.items in
-    let within : c.args.tenant < length worlds = subst (λ (ws : List World). c.args.tenant < length ws) (sym c.self.view_is) c.requires in
+    let old = c.self.inside.store in
+    let new = c.reply_to.new.store in
+    let within : c.args.tenant < c.self.inside.count = subst (λ n. c.args.tenant < n) (length-worlds_in old c.self.inside.count) (subst (λ (ws : List World). c.args.tenant < length ws) (sym c.self.view_is) c.requires) in
     rw (← c.self.view_is)
-    (answers_for worlds c.args.tenant c.index_mut-world.result.now c.answer.new.self c.args.request c.answer.result.0 within
-    (slice_get_read worlds (length worlds) c.args.tenant c.index_mut-world.result.now refl within c.index_mut-world.ensures.value) c.answer.ensures.answers)
+    (elim c.match-reply_to.branch [
+      | in-Ok w ↦ rw w.result-is (answers_for old new c.self.inside.count c.args.tenant c.args.request _ within (inl w.in-Ok.ensures.reply) w.in-Ok.ensures.others)
+      | in-Err w ↦ rw w.result-is (answers_for old new c.self.inside.count c.args.tenant c.args.request _ within (inr (w.store_failed.ensures.value, ap (λ (h : Holdings). world_in h c.args.tenant) w.in-Err.ensures.err)) (λ other ne. ap (λ (h : Holdings). world_in h other) w.in-Err.ensures.err))
+    ])

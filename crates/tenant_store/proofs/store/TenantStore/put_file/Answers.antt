@@ -1,9 +1,9 @@
 -- A file is stored, or nothing has changed.
-use Rattle.std.proofs.Common.{◌∙◌, subst}
+use Rattle.std.proofs.Common.{◌≡◌, ◌∙◌, false, subst}
 use Rattle.std.specs.FinMap as finite
 use Rattle.sqlite.specs.Held.{state}
 use Rattle.sqlite.specs.Steps.{over_memory}
-use Rattle.tenant_store.specs.Holdings.{Holdings, files_of, IsOver}
+use Rattle.tenant_store.specs.Holdings.{Holdings, files_of, is_over}
 use Rattle.tenant_store.specs.Tables.{held_in}
 use Rattle.tenant_store.proofs.Keeping.{put_kept, still_held}
 use Rattle.tenant_store.proofs.store.TenantStore.put_file.Goals as goal
@@ -16,8 +16,8 @@ pub returns-clause-fits : goal.returns-clause-fits
 returns-clause-fits c =
     let old = state over_memory c.self.inside.conn in
     elim c.match-put.branch [
-      | in-Ok-true w ↦ rw w.result-is (subst (λ (h : Holdings). ¬ IsOver (finite.insert (files_of c.args.tenant h) c.args.name.now c.args.content.now)) c.self.view_is
-          (subst (λ n. ¬ IsOver (finite.insert (files_of c.args.tenant (held_in old)) n c.args.content.now)) c.as_str.ensures.text (w.in-Ok-true.ensures.fits w.in-Ok-true.field-0-test)))
+      | in-Ok-true w ↦ rw w.result-is (subst (λ (h : Holdings). is_over (finite.insert (files_of c.args.tenant h) c.args.name.now c.args.content.now) ≡ false) c.self.view_is
+          (subst (λ n. is_over (finite.insert (files_of c.args.tenant (held_in old)) n c.args.content.now) ≡ false) c.as_str.ensures.text (w.in-Ok-true.ensures.fits w.in-Ok-true.field-0-test)))
       | in-Ok-false w ↦ rw w.result-is tt
       | in-Err w ↦ rw w.result-is tt
     ]

@@ -1,0 +1,86 @@
+// The files of one tenant in a store of which it is known that no question changes it.
+ghost use Rattle.std.specs.Prelude.{◌≡◌};
+ghost use Rattle.std.specs.Coded.{Coded-set};
+ghost use Rattle.tenant_store.specs.Holdings.{holdings_code};
+ghost use Rattle.tenant_store.specs.TenantWorld.{shelf_of, name_of, held_by};
+
+use crate::tenant_files::TenantFiles;
+use mk_files::{Content, Files, Listing};
+use mk_paths::{FilesFault, Name, Names};
+use std::alloc::Global;
+use std::marker::{Brand, PhantomData};
+
+/// Stands for a store that was lent: the reference to it, and what it holds. A caller chooses both where it
+/// passes `Brand`.
+pub(crate) trait Lent {
+    ghost use Rattle.std.specs.Borrow.{GName};
+    ghost use Rattle.tenant_store.specs.Holdings.{Holdings};
+
+    ghost name: { GName };
+
+    ghost held: { Holdings };
+}
+
+impl Lent for Brand {
+    ghost use Rattle.tenant_store.specs.Holdings.{nothing};
+
+    ghost name = { 0 };
+
+    ghost held = { nothing };
+}
+
+/// The files of one tenant, over a store that holds the same as when it was lent, whatever was asked. So more
+/// is known of them behind a function over any `Listing` than that function says.
+#[derive(Drop)]
+pub(crate) struct LentFiles<'s, L: Lent> {
+    files: TenantFiles<'s>,
+    lent: PhantomData<L>,
+    ghost name: { name_of files ≡ L.name },
+    ghost held: { held_by files ≡ L.held } by { Coded-set holdings_code (held_by files) L.held },
+}
+
+impl<'s, L: Lent> LentFiles<'s, L> {
+    /// The same files, over the store that `L` stands for.
+    pub(crate) fn new(files: TenantFiles<'s>) -> LentFiles<'s, L>
+        requires name { name_of files ≡ L.name }
+        requires held { held_by files ≡ L.held }
+        ensures files { shelf_of result.files ≡ shelf_of files.entry }
+    {
+        LentFiles {
+            files,
+            lent: PhantomData,
+        }
+    }
+
+    /// The files as they were before, with the failures counted since.
+    pub(crate) fn into_files(self) -> TenantFiles<'s>
+        ensures name { name_of result ≡ L.name }
+        ensures held { held_by result ≡ L.held }
+    {
+        self.files
+    }
+}
+
+impl<L: Lent> Names for LentFiles<'_, L> {
+    ghost use Rattle.tenant_store.specs.TenantWorld.{shelf_of, IsAnyFault};
+
+    ghost shelf = { λ world. shelf_of world.files };
+
+    ghost fails_with = { IsAnyFault };
+
+    fn has(&mut self, name: &Name) -> Result<bool, FilesFault> {
+        self.files.holds(name)
+    }
+}
+
+impl<L: Lent> Files for LentFiles<'_, L> {
+    fn read(&mut self, name: &Name) -> Result<Option<Content>, FilesFault> {
+        self.files.content(name)
+    }
+}
+
+impl<L: Lent> Listing for LentFiles<'_, L> {
+    fn names(&mut self, alloc: Global) -> Result<Vec<String>, FilesFault> {
+        self.files.listed(alloc)
+    }
+}
