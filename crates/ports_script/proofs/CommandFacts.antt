@@ -1,5 +1,5 @@
 -- What clap reads of the command line.
-use Rattle.std.proofs.Common.{◌≡◌, ◌∙◌, ◌<◌, ◌^◌, ◌&&◌, ℕ, suc, Bool, not, true, false, List, [], Option, Some, None, Result, Ok, Err, refl, sym, ap, arith, codes}
+use Rattle.std.proofs.Common.{◌≡◌, ◌∙◌, ◌<◌, ◌^◌, ◌&&◌, ℕ, suc, Bool, not, true, false, List, [], Option, Some, None, Result, Ok, Err, refl, sym, ap, arith}
 use Rattle.std.specs.Prelude.{if◌then◌else◌, option_map, option_and_then, unwrap_or}
 use Rattle.std.specs.Str.Parse.{ParsesUnsigned}
 use Rattle.clap.specs.Matches.{ReadsOne}
@@ -8,8 +8,7 @@ use Rattle.clap.specs.Faults.{is_simple_and_free}
 use Rattle.clap.specs.declared.builder.value_parser.ValueParser.TheVariants as parser
 use Rattle.clap.proofs.OnLiterals.{clap_on_literals}
 use Rattle.clap.proofs.ValueTestLemmas.{accepts-Accepts, Accepts-accepts}
-use Rattle.ports_script.specs.declared.command_line.Asked.{Asked}
-use Rattle.ports_script.specs.CommandLine.{AsksToReplay, AsksToServe, SubcommandAsks, number_up_to, portsd}
+use Rattle.ports_script.specs.CommandLine.{number_up_to, portsd}
 
 pub portsd_is_simple : is_simple portsd ≡ true
 unfolding clap_on_literals
