@@ -1,8 +1,8 @@
 //! A request that is asked over a world.
 use mk_files::Listing;
-use mk_paths::Settings;
+use mk_paths::{FilesFault, Settings};
 use ports_http::Method;
-use ports_plain::{Plain, Prepared, Refused};
+use ports_plain::{Plain, Prepared};
 use std::alloc::Global;
 use std::mem;
 use tenant_store::Asker;
@@ -16,7 +16,7 @@ pub(crate) struct Asking<'a> {
     pub(crate) method: Method,
     pub(crate) target: &'a str,
     pub(crate) body: Vec<u8>,
-    pub(crate) prepared: Result<Prepared, Refused>,
+    pub(crate) prepared: Result<Prepared, FilesFault>,
 }
 
 impl Asker for Asking<'_> {

@@ -8,9 +8,9 @@ ghost use Rattle.ports_core.specs.Slices.{asked_of, plain_answer};
 ghost use Rattle.ports_core.specs.Stored.{world_in, KeepsOtherWorlds};
 
 use crate::asking::Asking;
-use mk_paths::Settings;
+use mk_paths::{FilesFault, Settings};
 use ports_http::{Reply, Request, write_reply};
-use ports_plain::{Change, Plain, Prepared, Refused, full};
+use ports_plain::{Change, Plain, Prepared, full};
 use std::alloc::{AllocError, Global};
 use tenant_store::{PutFault, TenantStore};
 
@@ -24,7 +24,7 @@ pub(crate) fn reply_to(
     tenant: u32,
     request: Request,
     close: bool,
-) -> Result<(Reply, Vec<u8>), Refused>
+) -> Result<(Reply, Vec<u8>), FilesFault>
     ensures reply { IfOk result (λ r. plain_answer (world_in store.old tenant) request ≡ (r.0, world_in store.new tenant)) }
     ensures others { OnOk result (KeepsOtherWorlds tenant store.old store.new) }
     ensures bytes { IfOk result (λ r. r.1.items ≡ reply_text r.0 close) }
@@ -43,7 +43,7 @@ fn prepare(
     tenant: u32,
     settings: &Settings,
     request: Request,
-) -> Result<Prepared, Refused>
+) -> Result<Prepared, FilesFault>
     ensures ok { IfOk result (λ p. (p.reply, p.change) ≡ answer ((world_in store.old tenant).0, settings.now) (asked_of request)) }
     ensures same { store.new ≡ store.old }
 {
@@ -60,7 +60,7 @@ fn prepare(
         method,
         target: target.as_str(),
         body,
-        prepared: Err(Refused::Memory),
+        prepared: Err(FilesFault::Memory),
     };
     store.ask(alloc, tenant, &mut asking);
     asking.prepared
@@ -75,7 +75,7 @@ fn settle(
     tenant: u32,
     prepared: Prepared,
     close: bool,
-) -> Result<(Reply, Vec<u8>), Refused>
+) -> Result<(Reply, Vec<u8>), FilesFault>
     ensures settled { IfOk result (λ r. settled (world_in store.old tenant) prepared.reply prepared.change ≡ (r.0, world_in store.new tenant)) }
     ensures others { OnOk result (KeepsOtherWorlds tenant store.old store.new) }
     ensures bytes { IfOk result (λ r. r.1.items ≡ reply_text r.0 close) }
@@ -89,8 +89,8 @@ fn settle(
     match carry_out(store, alloc, tenant, change) {
         Ok(()) => Ok((reply, bytes)),
         Err(PutFault::Full) => Ok(full_with_bytes(alloc, close)?),
-        Err(PutFault::Store) => Err(Refused::Store),
-        Err(PutFault::Memory) => Err(Refused::Memory),
+        Err(PutFault::Store) => Err(FilesFault::Store),
+        Err(PutFault::Memory) => Err(FilesFault::Memory),
     }
 }
 

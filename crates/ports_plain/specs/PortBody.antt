@@ -1,6 +1,6 @@
 -- What a port is, as JSON: the members of each object in the order of their names' bytes (RFC 8259).
 use Rattle.std.specs.Prelude.{ℕ, List, map, codes}
-use Rattle.pkg_path.specs.Paths.{PathValue, canonical, without_subpackage}
+use Rattle.pkg_path.specs.Paths.{PathValue, port_path}
 use Rattle.pkg_name.specs.Name.{name_text}
 use Rattle.port_rules.specs.Packages.{PackageValue}
 use Rattle.port_rules.specs.Depends.{DependValue, word_of}
@@ -35,5 +35,5 @@ port_body path port =
     (member (codes "flavors") (texts_body port.flavors.proper)
     (member (codes "maintainer") (string port.maintainer)
     (member (codes "packages") (array (items_of (map package_body port.packages)))
-    (member (codes "path") (string (canonical (without_subpackage path)))
+    (member (codes "path") (string (port_path path))
     (member (codes "pseudo") (texts_body port.flavors.pseudo) no_members))))))))

@@ -2,7 +2,7 @@
 ghost use Rattle.std.specs.Prelude.{◌≡◌, IfOk};
 ghost use Rattle.std.specs.Result.{result_err};
 ghost use Rattle.ports_plain.specs.Plain.{answer, asked, got, on_query as on_query_of};
-ghost use Rattle.ports_plain.specs.Refusing.{Keeps};
+ghost use Rattle.ports_index.specs.Keeping.{Keeps};
 
 use crate::changing::Prepared;
 use crate::dependencies::{get_dependencies, get_dependents};
@@ -10,13 +10,12 @@ use crate::files::on_file;
 use crate::lists::{get_faults, get_list, get_match};
 use crate::paths::on_path;
 use crate::ports::get_port;
-use crate::refused::Refused;
 use crate::replies::{not_allowed, refusal};
 use crate::routing::{Route, Routes};
 use crate::target::path_and_query;
 use crate::variables::get_variable;
 use mk_files::Listing;
-use mk_paths::Settings;
+use mk_paths::{FilesFault, Settings};
 use ports_http::{Method, Reply, StatusCode};
 use std::alloc::{AllocError, Global};
 
@@ -71,7 +70,7 @@ impl Plain {
         method: Method,
         target: &str,
         body: Vec<u8>,
-    ) -> Result<Prepared, Refused>
+    ) -> Result<Prepared, FilesFault>
         ensures ok { IfOk result (λ prepared. (prepared.reply, prepared.change) ≡ answer ((F.shelf files.old).files, settings.now) (asked method target.now body.items)) }
         ensures keeps { Keeps (result_err result) (F.shelf files.old) (F.shelf files.new) }
     {
@@ -102,7 +101,7 @@ fn on_query<F: Listing>(
     route: Route,
     method: Method,
     query: &str,
-) -> Result<Prepared, Refused>
+) -> Result<Prepared, FilesFault>
     ensures ok { IfOk result (λ prepared. (prepared.reply, prepared.change) ≡ on_query_of ((F.shelf files.old).files, settings.now) query.now route method) }
     ensures keeps { Keeps (result_err result) (F.shelf files.old) (F.shelf files.new) }
 {
@@ -119,7 +118,7 @@ fn get<F: Listing>(
     settings: &Settings,
     route: Route,
     query: &str,
-) -> Result<Reply, Refused>
+) -> Result<Reply, FilesFault>
     ensures ok { IfOk result (λ reply. reply ≡ got ((F.shelf files.old).files, settings.now) query.now route) }
     ensures keeps { Keeps (result_err result) (F.shelf files.old) (F.shelf files.new) }
 {

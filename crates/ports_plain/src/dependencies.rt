@@ -6,16 +6,15 @@ ghost use Rattle.serde_json.specs.View.{view};
 ghost use Rattle.ports_query.specs.Kinds.{kinds_of};
 ghost use Rattle.ports_plain.specs.Lists as lists;
 ghost use Rattle.ports_plain.specs.Parameters.{parameter as parameter_of, optional as optional_of};
-ghost use Rattle.ports_plain.specs.Refusing.{Keeps};
+ghost use Rattle.ports_index.specs.Keeping.{Keeps};
 
 use crate::depth::Depth;
 use crate::list_bodies;
 use crate::parameters::{optional, parameter};
 use crate::ports::has_named;
-use crate::refused::Refused;
 use crate::replies::{faulty, json_reply, refusal};
 use mk_files::Listing;
-use mk_paths::Settings;
+use mk_paths::{FilesFault, Settings};
 use pkg_path::{PkgPath, PkgPathFault};
 use port_deps::{Root, RootEdge};
 use ports_http::{Reply, StatusCode};
@@ -70,7 +69,7 @@ pub fn get_dependencies<F: Listing>(
     files: &mut F,
     settings: &Settings,
     query: &str,
-) -> Result<Reply, Refused>
+) -> Result<Reply, FilesFault>
     ensures ok { IfOk result (λ reply. reply ≡ lists.answered (lists.dependencies_of ((F.shelf files.old).files, settings.now)) (lists.question_of (parameter_of (codes "path") query.now) (optional_of (codes "kind") query.now) (optional_of (codes "depth") query.now))) }
     ensures keeps { Keeps (result_err result) (F.shelf files.old) (F.shelf files.new) }
 {
@@ -86,7 +85,7 @@ pub fn get_dependents<F: Listing>(
     files: &mut F,
     settings: &Settings,
     query: &str,
-) -> Result<Reply, Refused>
+) -> Result<Reply, FilesFault>
     ensures ok { IfOk result (λ reply. reply ≡ lists.answered (lists.dependents_of ((F.shelf files.old).files, settings.now)) (lists.question_of (parameter_of (codes "path") query.now) (optional_of (codes "kind") query.now) (optional_of (codes "depth") query.now))) }
     ensures keeps { Keeps (result_err result) (F.shelf files.old) (F.shelf files.new) }
 {
@@ -101,7 +100,7 @@ fn dependencies_of<F: Listing>(
     files: &mut F,
     settings: &Settings,
     question: &Question,
-) -> Result<Reply, Refused>
+) -> Result<Reply, FilesFault>
     ensures ok { IfOk result (λ reply. reply ≡ lists.dependencies_of ((F.shelf files.old).files, settings.now) question.now) }
     ensures keeps { Keeps (result_err result) (F.shelf files.old) (F.shelf files.new) }
 {
@@ -114,7 +113,7 @@ fn dependents_of<F: Listing>(
     files: &mut F,
     settings: &Settings,
     question: &Question,
-) -> Result<Reply, Refused>
+) -> Result<Reply, FilesFault>
     ensures ok { IfOk result (λ reply. reply ≡ lists.dependents_of ((F.shelf files.old).files, settings.now) question.now) }
     ensures keeps { Keeps (result_err result) (F.shelf files.old) (F.shelf files.new) }
 {

@@ -4,14 +4,13 @@ ghost use Rattle.std.specs.Result.{result_err};
 ghost use Rattle.ports_plain.specs.Plain.{on_file as on_file_of, on_named_file as on_named_file_of, told};
 ghost use Rattle.ports_plain.specs.Parameters.{parameter as parameter_of};
 ghost use Rattle.ports_plain.specs.Replies.{refusal as refusal_of, no_file as no_file_reply};
-ghost use Rattle.ports_plain.specs.Refusing.{Keeps};
+ghost use Rattle.ports_index.specs.Keeping.{Keeps};
 
 use crate::changing::{Change, Prepared};
 use crate::parameters::parameter;
-use crate::refused::Refused;
 use crate::replies::{file_shown, refusal, removed, stored};
-use mk_files::{Content, Files, look_has, look_read};
-use mk_paths::{Name, NameFault};
+use mk_files::{Content, Files};
+use mk_paths::{FilesFault, Name, NameFault};
 use ports_http::{Method, StatusCode};
 use std::alloc::{AllocError, Global};
 
@@ -22,7 +21,7 @@ pub fn on_file<F: Files>(
     method: Method,
     query: &str,
     body: Vec<u8>,
-) -> Result<Prepared, Refused>
+) -> Result<Prepared, FilesFault>
     ensures ok { IfOk result (λ prepared. (prepared.reply, prepared.change) ≡ on_file_of (F.shelf files.old).files method body.items (parameter_of (codes "name") query.now)) }
     ensures keeps { Keeps (result_err result) (F.shelf files.old) (F.shelf files.new) }
 {
@@ -31,7 +30,7 @@ pub fn on_file<F: Files>(
     };
     match Name::read(alloc, text.as_str()) {
         Ok(name) => on_named_file(alloc, files, method, name, body),
-        Err(NameFault::Memory) => Err(Refused::Memory),
+        Err(NameFault::Memory) => Err(FilesFault::Memory),
         Err(NameFault::BadName | NameFault::Above) => {
             Ok(refused(alloc, StatusCode::BAD_REQUEST, "Name")?)
         }
@@ -44,12 +43,12 @@ fn on_named_file<F: Files>(
     method: Method,
     name: Name,
     body: Vec<u8>,
-) -> Result<Prepared, Refused>
+) -> Result<Prepared, FilesFault>
     ensures ok { IfOk result (λ prepared. (prepared.reply, prepared.change) ≡ on_named_file_of (F.shelf files.old).files method body.items name) }
     ensures keeps { Keeps (result_err result) (F.shelf files.old) (F.shelf files.new) }
 {
     match method {
-        Method::Get => match look_read(files, &name)? {
+        Method::Get => match files.read(&name)? {
             Some(content) => Ok(Prepared::told(file_shown(alloc, content.as_slice())?)),
             None => Ok(no_file(alloc)?),
         },
@@ -60,7 +59,7 @@ fn on_named_file<F: Files>(
             Ok(Prepared { reply, change })
         }
         Method::Delete => {
-            let there = look_has(files, &name)?;
+            let there = files.has(&name)?;
             if !there {
                 return Ok(no_file(alloc)?);
             }

@@ -5,14 +5,13 @@ ghost use Rattle.ports_query.specs.Conditions.{query_of};
 ghost use Rattle.pkg_spec.specs.Alternatives.{spec_of};
 ghost use Rattle.ports_plain.specs.Lists as lists;
 ghost use Rattle.ports_plain.specs.Parameters.{parameter as parameter_of, optional as optional_of};
-ghost use Rattle.ports_plain.specs.Refusing.{Keeps};
+ghost use Rattle.ports_index.specs.Keeping.{Keeps};
 
 use crate::list_bodies;
 use crate::parameters::{optional, parameter};
-use crate::refused::Refused;
 use crate::replies::{json_reply, refusal};
 use mk_files::Listing;
-use mk_paths::Settings;
+use mk_paths::{FilesFault, Settings};
 use pkg_spec::{Spec, SpecFault};
 use ports_http::{Reply, StatusCode};
 use ports_index::index_roots;
@@ -25,7 +24,7 @@ pub fn get_list<F: Listing>(
     files: &mut F,
     settings: &Settings,
     query: &str,
-) -> Result<Reply, Refused>
+) -> Result<Reply, FilesFault>
     ensures ok { IfOk result (λ reply. reply ≡ lists.get_list ((F.shelf files.old).files, settings.now) (optional_of (codes "where") query.now)) }
     ensures keeps { Keeps (result_err result) (F.shelf files.old) (F.shelf files.new) }
 {
@@ -34,7 +33,7 @@ pub fn get_list<F: Listing>(
     };
     match Query::read(alloc, text.as_str()) {
         Ok(conditions) => list_by(alloc, files, settings, &conditions),
-        Err(QueryFault::Memory) => Err(Refused::Memory),
+        Err(QueryFault::Memory) => Err(FilesFault::Memory),
         Err(QueryFault::BadQuery) => Ok(refusal(alloc, StatusCode::BAD_REQUEST, "Query")?),
     }
 }
@@ -45,7 +44,7 @@ fn list_by<F: Listing>(
     files: &mut F,
     settings: &Settings,
     conditions: &Query,
-) -> Result<Reply, Refused>
+) -> Result<Reply, FilesFault>
     ensures ok { IfOk result (λ reply. reply ≡ lists.listed_by ((F.shelf files.old).files, settings.now) conditions.now) }
     ensures keeps { Keeps (result_err result) (F.shelf files.old) (F.shelf files.new) }
 {
@@ -61,7 +60,7 @@ pub fn get_match<F: Listing>(
     files: &mut F,
     settings: &Settings,
     query: &str,
-) -> Result<Reply, Refused>
+) -> Result<Reply, FilesFault>
     ensures ok { IfOk result (λ reply. reply ≡ lists.get_match ((F.shelf files.old).files, settings.now) (parameter_of (codes "spec") query.now)) }
     ensures keeps { Keeps (result_err result) (F.shelf files.old) (F.shelf files.new) }
 {
@@ -70,7 +69,7 @@ pub fn get_match<F: Listing>(
     };
     match Spec::read(alloc, text.as_str()) {
         Ok(spec) => match_by(alloc, files, settings, &spec),
-        Err(SpecFault::Memory) => Err(Refused::Memory),
+        Err(SpecFault::Memory) => Err(FilesFault::Memory),
         Err(_) => Ok(refusal(alloc, StatusCode::BAD_REQUEST, "Spec")?),
     }
 }
@@ -81,7 +80,7 @@ fn match_by<F: Listing>(
     files: &mut F,
     settings: &Settings,
     spec: &Spec,
-) -> Result<Reply, Refused>
+) -> Result<Reply, FilesFault>
     ensures ok { IfOk result (λ reply. reply ≡ lists.matched_by ((F.shelf files.old).files, settings.now) spec.now) }
     ensures keeps { Keeps (result_err result) (F.shelf files.old) (F.shelf files.new) }
 {
@@ -96,7 +95,7 @@ pub fn get_faults<F: Listing>(
     alloc: Global,
     files: &mut F,
     settings: &Settings,
-) -> Result<Reply, Refused>
+) -> Result<Reply, FilesFault>
     ensures ok { IfOk result (λ reply. reply ≡ lists.get_faults ((F.shelf files.old).files, settings.now)) }
     ensures keeps { Keeps (result_err result) (F.shelf files.old) (F.shelf files.new) }
 {

@@ -3,7 +3,6 @@ ghost use Rattle.std.specs.Prelude.{◌≡◌, IfOk, map, string_bytes};
 ghost use Rattle.serde_json.specs.View.{view};
 ghost use Rattle.serde_json.specs.Data.{array};
 ghost use Rattle.serde_json.specs.View.{items_of};
-ghost use Rattle.pkg_path.specs.Paths.{canonical, without_subpackage};
 ghost use Rattle.ports_plain.specs.PortBody.{texts_body, package_body, depend_body, port_body};
 
 use pkg_path::PkgPath;
@@ -21,7 +20,7 @@ pub fn port(alloc: Global, path: &PkgPath, port: &PortRecord) -> Result<Value, A
     let chosen = texts(alloc, flavors.chosen())?;
     let proper = texts(alloc, flavors.proper())?;
     let packages = packages(alloc, port.packages())?;
-    let path = path_text(alloc, path)?;
+    let path = path.port_path(alloc)?;
     let pseudo = texts(alloc, flavors.pseudo())?;
     json!(in alloc; {
         "categories": categories,
@@ -33,13 +32,6 @@ pub fn port(alloc: Global, path: &PkgPath, port: &PortRecord) -> Result<Value, A
         "path": path.as_str(),
         "pseudo": pseudo
     })
-}
-
-// The canonical text of a path without its subpackage.
-fn path_text(alloc: Global, path: &PkgPath) -> Result<String, AllocError>
-    ensures { IfOk result (λ text. string_bytes text ≡ canonical (without_subpackage path.now)) }
-{
-    path.copy(alloc)?.without_sub().canonical(alloc)
 }
 
 // A list of texts.

@@ -7,15 +7,15 @@ ghost use Rattle.mk_paths.specs.Place.{place};
 ghost use Rattle.ports_plain.specs.Plain.{get_port as get_port_of, port_at as port_at_place, record_after, described};
 ghost use Rattle.ports_plain.specs.Subpackages.{has_named as has_named_in};
 ghost use Rattle.ports_plain.specs.Parameters.{parameter as parameter_of};
-ghost use Rattle.ports_plain.specs.Refusing.{Keeps, refusal_in};
+ghost use Rattle.ports_index.specs.Keeping.{Keeps};
+ghost use Rattle.ports_plain.specs.Refusing.{refusal_in};
 
 use crate::parameters::parameter;
-use crate::refused::Refused;
 use crate::replies::{faulty, port, refusal};
 use mk_base::Stop;
 use mk_eval::{Failed, Kind, evaluate};
 use mk_files::Files;
-use mk_paths::{Name, Settings, find};
+use mk_paths::{FilesFault, Name, Settings, find};
 use pkg_path::{PkgPath, PkgPathFault};
 use port_rules::{PortRecord, Recorded, record};
 use ports_http::{Reply, StatusCode};
@@ -27,7 +27,7 @@ pub fn get_port<F: Files>(
     files: &mut F,
     settings: &Settings,
     query: &str,
-) -> Result<Reply, Refused>
+) -> Result<Reply, FilesFault>
     ensures ok { IfOk result (λ reply. reply ≡ get_port_of ((F.shelf files.old).files, settings.now) (parameter_of (codes "path") query.now)) }
     ensures keeps { Keeps (result_err result) (F.shelf files.old) (F.shelf files.new) }
 {
@@ -36,7 +36,7 @@ pub fn get_port<F: Files>(
     };
     match PkgPath::read(alloc, path.as_str()) {
         Ok(path) => port_at(alloc, files, settings, &path),
-        Err(PkgPathFault::Memory) => Err(Refused::Memory),
+        Err(PkgPathFault::Memory) => Err(FilesFault::Memory),
         Err(_) => Ok(refusal(alloc, StatusCode::BAD_REQUEST, "Path")?),
     }
 }
@@ -47,7 +47,7 @@ fn port_at<F: Files>(
     files: &mut F,
     settings: &Settings,
     path: &PkgPath,
-) -> Result<Reply, Refused>
+) -> Result<Reply, FilesFault>
     ensures ok { IfOk result (λ reply. reply ≡ port_at_place ((F.shelf files.old).files, settings.now) path.now (place ((F.shelf files.old).files, settings.now) path.now.directory)) }
     ensures keeps { Keeps (result_err result) (F.shelf files.old) (F.shelf files.new) }
 {
@@ -64,7 +64,7 @@ fn port_of_makefile<F: Files>(
     settings: &Settings,
     path: &PkgPath,
     makefile: &Name,
-) -> Result<Reply, Refused>
+) -> Result<Reply, FilesFault>
     ensures ok { IfOk result (λ reply. reply ≡ described path.now (record_after makefile.now (means ((F.shelf files.old).files, settings.now) makefile.now path.now.flavors))) }
     ensures keeps { Keeps (result_err result) (F.shelf files.old) (F.shelf files.new) }
 {
@@ -75,8 +75,8 @@ fn port_of_makefile<F: Files>(
         Ok(Some(found)) => Ok(port(alloc, path, &found.port)?),
         Ok(None) => Ok(refusal(alloc, StatusCode::NOT_FOUND, "NoPort")?),
         Err(Stop::Fault(failed)) => Ok(faulty(alloc, &failed.fault)?),
-        Err(Stop::Store) => Err(Refused::Store),
-        Err(Stop::Memory) => Err(Refused::Memory),
+        Err(Stop::Store) => Err(FilesFault::Store),
+        Err(Stop::Memory) => Err(FilesFault::Memory),
     }
 }
 

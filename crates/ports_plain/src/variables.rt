@@ -7,15 +7,15 @@ ghost use Rattle.mk_eval.specs.Views.{flavors_in};
 ghost use Rattle.mk_paths.specs.Place.{place};
 ghost use Rattle.ports_plain.specs.Plain.{get_variable as get_variable_of, variable_at, valued, value_after};
 ghost use Rattle.ports_plain.specs.Parameters.{parameter as parameter_of};
-ghost use Rattle.ports_plain.specs.Refusing.{Keeps, refusal_in};
+ghost use Rattle.ports_index.specs.Keeping.{Keeps};
+ghost use Rattle.ports_plain.specs.Refusing.{refusal_in};
 
 use crate::parameters::parameter;
-use crate::refused::Refused;
 use crate::replies::{faulty, refusal, variable};
 use mk_base::Stop;
 use mk_eval::{Failed, Valued, evaluate, value};
 use mk_files::Files;
-use mk_paths::{Name, Settings, find};
+use mk_paths::{FilesFault, Name, Settings, find};
 use pkg_path::{PkgPath, PkgPathFault};
 use ports_http::{Reply, StatusCode};
 use std::alloc::Global;
@@ -26,7 +26,7 @@ pub fn get_variable<F: Files>(
     files: &mut F,
     settings: &Settings,
     query: &str,
-) -> Result<Reply, Refused>
+) -> Result<Reply, FilesFault>
     ensures ok { IfOk result (λ reply. reply ≡ get_variable_of ((F.shelf files.old).files, settings.now) (parameter_of (codes "path") query.now) (parameter_of (codes "name") query.now)) }
     ensures keeps { Keeps (result_err result) (F.shelf files.old) (F.shelf files.new) }
 {
@@ -37,7 +37,7 @@ pub fn get_variable<F: Files>(
     };
     match PkgPath::read(alloc, path.as_str()) {
         Ok(path) => variable_of(alloc, files, settings, &path, name.as_str()),
-        Err(PkgPathFault::Memory) => Err(Refused::Memory),
+        Err(PkgPathFault::Memory) => Err(FilesFault::Memory),
         Err(_) => Ok(refusal(alloc, StatusCode::BAD_REQUEST, "Path")?),
     }
 }
@@ -49,7 +49,7 @@ fn variable_of<F: Files>(
     settings: &Settings,
     path: &PkgPath,
     name: &str,
-) -> Result<Reply, Refused>
+) -> Result<Reply, FilesFault>
     ensures ok { IfOk result (λ reply. reply ≡ variable_at ((F.shelf files.old).files, settings.now) name.now path.now.flavors (place ((F.shelf files.old).files, settings.now) path.now.directory)) }
     ensures keeps { Keeps (result_err result) (F.shelf files.old) (F.shelf files.new) }
 {
@@ -69,7 +69,7 @@ fn variable_after_makefile<F: Files>(
     makefile: &Name,
     flavors: Option<&[String]>,
     name: &str,
-) -> Result<Reply, Refused>
+) -> Result<Reply, FilesFault>
     ensures ok { IfOk result (λ reply. reply ≡ valued (value_after makefile.now name.now (means ((F.shelf files.old).files, settings.now) makefile.now (flavors_in flavors.entry)))) }
     ensures keeps { Keeps (result_err result) (F.shelf files.old) (F.shelf files.new) }
 {
@@ -77,8 +77,8 @@ fn variable_after_makefile<F: Files>(
         Ok(Some(known)) => Ok(variable(alloc, Some(known.text()))?),
         Ok(None) => Ok(variable(alloc, None)?),
         Err(Stop::Fault(failed)) => Ok(faulty(alloc, &failed.fault)?),
-        Err(Stop::Store) => Err(Refused::Store),
-        Err(Stop::Memory) => Err(Refused::Memory),
+        Err(Stop::Store) => Err(FilesFault::Store),
+        Err(Stop::Memory) => Err(FilesFault::Memory),
     }
 }
 

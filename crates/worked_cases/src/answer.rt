@@ -1,4 +1,5 @@
 //! What a call gives, in the words of a case.
+use mk_paths::FilesFault;
 use std::alloc::{AllocError, AllocFailed, Global};
 use std::fmt::Write;
 
@@ -20,6 +21,15 @@ impl From<AllocError> for Trouble {
 impl<T: Drop> From<AllocFailed<T>> for Trouble {
     fn from(_error: AllocFailed<T>) -> Trouble {
         Trouble::Memory
+    }
+}
+
+impl From<FilesFault> for Trouble {
+    fn from(fault: FilesFault) -> Trouble {
+        match fault {
+            FilesFault::Store => Trouble::NoCase,
+            FilesFault::Memory => Trouble::Memory,
+        }
     }
 }
 

@@ -1,6 +1,6 @@
 //! The layer of dependencies: items, what meets them, and questions about lists of ports.
 use crate::answer::{Answer, Trouble};
-use crate::evaluation::{MAKEFILE, evaluated, given_name, of_files};
+use crate::evaluation::{MAKEFILE, evaluated, given_name};
 use crate::line::as_text;
 use crate::packages::read_path;
 use crate::world::World;
@@ -21,13 +21,13 @@ const ROOT: &str = "a/b";
 
 /// `names`: of all files.
 pub fn names(alloc: Global, world: &mut World) -> Result<Answer, Trouble> {
-    texts(alloc, &world.files.names(alloc).map_err(of_files)?)
+    texts(alloc, &world.files.names(alloc)?)
 }
 
 /// `index`: the roots of the world, each with its path and whether a fault is met there, and then each
 /// item of a root with its status.
 pub fn index(alloc: Global, world: &mut World) -> Result<Answer, Trouble> {
-    let index = index_files(alloc, &mut world.files, &world.settings).map_err(of_files)?;
+    let index = index_files(alloc, &mut world.files, &world.settings)?;
     let mut answer = Answer::new(alloc);
     for root in &index.roots {
         answer.text(root.path().as_bytes())?;

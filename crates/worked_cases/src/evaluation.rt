@@ -6,7 +6,7 @@ use mk_base::{Budget, Fault, FaultKind, Stop, UNITS};
 use mk_env::{Env, expand, expand_inside, expand_now, expand_variable, modify};
 use mk_eval::{Evaluated, Failed, Kind, evaluate, value};
 use mk_files::{Content, Files, MemoryFiles, ask_has, ask_read, look_has, look_read};
-use mk_paths::{FilesFault, Name, NameFault, Names, PathFault, SearchPath, Settings, find};
+use mk_paths::{Name, NameFault, Names, PathFault, SearchPath, Settings, find};
 use std::alloc::Global;
 
 /// The file that `makefile`, `cost`, `value`, `stored` and `flavored` are about.
@@ -235,13 +235,6 @@ pub fn given_name(alloc: Global, text: &[u8]) -> Result<Name, Trouble> {
     })
 }
 
-pub fn of_files(fault: FilesFault) -> Trouble {
-    match fault {
-        FilesFault::Store => Trouble::NoCase,
-        FilesFault::Memory => Trouble::Memory,
-    }
-}
-
 /// `put NAME BYTES`: stores a file.
 pub fn put(alloc: Global, world: &mut MemoryFiles, given: &[Vec<u8>]) -> Result<(), Trouble> {
     let [name, bytes] = given else {
@@ -274,9 +267,9 @@ pub fn read(alloc: Global, world: &mut MemoryFiles, given: &[Vec<u8>]) -> Result
     let Ok(is_there) = look_has::<MemoryFiles, FaultKind>(world, &name) else {
         return Err(Trouble::Memory);
     };
-    let has = world.has(&name).map_err(of_files)?;
+    let has = world.has(&name)?;
     let is_held = world.get(&name).is_some();
-    let read = world.read(&name).map_err(of_files)?;
+    let read = world.read(&name)?;
     let seen = match look_read::<MemoryFiles, FaultKind>(world, &name) {
         Ok(seen) => seen,
         Err(_) => return Err(Trouble::Memory),
@@ -356,7 +349,7 @@ pub fn place(alloc: Global, world: &mut MemoryFiles, given: &[Vec<u8>]) -> Resul
     let Ok(path) = SearchPath::read(alloc, as_text(path)?) else {
         return Err(Trouble::NoCase);
     };
-    match find(alloc, world, &path, as_text(directory)?).map_err(of_files)? {
+    match find(alloc, world, &path, as_text(directory)?)? {
         Some(name) => Answer::of_text(alloc, name.as_str()),
         None => Answer::of_word(alloc, "none"),
     }

@@ -6,7 +6,7 @@ use crate::world::World;
 use http::StatusCode;
 use ports_core::{Config, Transcript, replay};
 use ports_http::{Content, HeadFault, Method, Reply, StreamEnd, decode, write_fixed, write_reply};
-use ports_plain::{Plain, Prepared, Refused};
+use ports_plain::{Plain, Prepared};
 use ports_script::{read_script, run_command};
 use std::alloc::Global;
 use std::fmt::Write;
@@ -113,9 +113,8 @@ pub fn request(
     };
     let plain = Plain::new(alloc)?;
     let World { files, settings } = world;
-    let Prepared { reply, change } = plain
-        .prepare(alloc, files, settings, method, as_text(target)?, body)
-        .map_err(of_plain)?;
+    let target = as_text(target)?;
+    let Prepared { reply, change } = plain.prepare(alloc, files, settings, method, target, body)?;
     let answer = reply_told(alloc, &reply)?;
     if let Some(change) = change {
         world.carry_out(change)?;
@@ -129,13 +128,6 @@ pub fn reply_told(alloc: Global, reply: &Reply) -> Result<Answer, Trouble> {
     answer.word(reply.status.canonical_reason().unwrap_or(""))?;
     answer.text(reply.body())?;
     Ok(answer)
-}
-
-fn of_plain(refused: Refused) -> Trouble {
-    match refused {
-        Refused::Store => Trouble::NoCase,
-        Refused::Memory => Trouble::Memory,
-    }
 }
 
 /// What a run of the program gave.

@@ -1,8 +1,9 @@
 //! The store of all tenants: calls in a row.
 use crate::answer::{Answer, Trouble};
+use crate::evaluation::given_name;
 use crate::line::{as_number, as_text};
 use mk_files::Files;
-use mk_paths::{FilesFault, Name, NameFault, Names, PathFault, SearchPath};
+use mk_paths::{FilesFault, Name, Names, PathFault, SearchPath};
 use std::alloc::Global;
 use tenant_store::{PutFault, TenantFiles, TenantStore};
 
@@ -11,25 +12,11 @@ pub const MOST_LIMITS: u64 = 10_000;
 
 /// `empty store`
 pub fn empty(alloc: Global) -> Result<TenantStore, Trouble> {
-    TenantStore::open_in_memory(alloc).map_err(trouble_of)
-}
-
-fn trouble_of(fault: FilesFault) -> Trouble {
-    match fault {
-        FilesFault::Store => Trouble::NoCase,
-        FilesFault::Memory => Trouble::Memory,
-    }
+    Ok(TenantStore::open_in_memory(alloc)?)
 }
 
 fn tenant_of(number: &[u8]) -> Result<u32, Trouble> {
     u32::try_from(as_number(number)?).map_err(|_| Trouble::NoCase)
-}
-
-fn name_of(alloc: Global, text: &str) -> Result<Name, Trouble> {
-    Name::read(alloc, text).map_err(|fault| match fault {
-        NameFault::Memory => Trouble::Memory,
-        _ => Trouble::NoCase,
-    })
 }
 
 fn path_of(alloc: Global, text: &[u8]) -> Result<SearchPath, Trouble> {
@@ -48,18 +35,18 @@ pub fn answer(
 ) -> Result<Answer, Trouble> {
     match (call, given) {
         ("store put", [tenant, name, bytes]) => {
-            let name = name_of(alloc, as_text(name)?)?;
+            let name = given_name(alloc, name)?;
             Answer::of_word(alloc, put(alloc, store, tenant_of(tenant)?, &name, bytes)?)
         }
         ("store fill", [tenant, count, bytes]) => {
             fill(alloc, store, tenant_of(tenant)?, as_number(count)?, bytes)
         }
         ("store remove", [tenant, name]) => {
-            let name = name_of(alloc, as_text(name)?)?;
+            let name = given_name(alloc, name)?;
             Answer::of_word(alloc, remove(alloc, store, tenant_of(tenant)?, &name)?)
         }
         ("store get", [tenant, name]) => {
-            let name = name_of(alloc, as_text(name)?)?;
+            let name = given_name(alloc, name)?;
             got(alloc, store, tenant_of(tenant)?, &name)
         }
         ("store path", [tenant, text]) => {
@@ -136,7 +123,7 @@ fn fill(
 ) -> Result<Answer, Trouble> {
     let mut answer = Answer::new(alloc);
     for stored in 0..count {
-        let name = name_of(alloc, format!(in alloc; "/fill/file-{stored}")?.as_str())?;
+        let name = given_name(alloc, format!(in alloc; "/fill/file-{stored}")?.as_bytes())?;
         let told = put(alloc, store, tenant, &name, bytes)?;
         if told != "stored" {
             answer.number(stored)?;
@@ -157,10 +144,10 @@ fn got(
     name: &Name,
 ) -> Result<Answer, Trouble> {
     let mut files = TenantFiles::new(alloc, store, tenant);
-    let has = files.has(name).map_err(trouble_of)?;
-    let read = files.read(name).map_err(trouble_of)?;
+    let has = files.has(name)?;
+    let read = files.read(name)?;
     drop(files);
-    let held = store.get_file(alloc, tenant, name).map_err(trouble_of)?;
+    let held = store.get_file(alloc, tenant, name)?;
     match (held, read) {
         (Some(held), Some(read)) if has => {
             let mut answer = Answer::new(alloc);
@@ -177,7 +164,7 @@ fn got(
 
 /// `store settings TENANT`: the trees of its search path.
 fn settings(alloc: Global, store: &mut TenantStore, tenant: u32) -> Result<Answer, Trouble> {
-    let settings = store.settings(alloc, tenant).map_err(trouble_of)?;
+    let settings = store.settings(alloc, tenant)?;
     let mut answer = Answer::new(alloc);
     for tree in settings.path.trees() {
         answer.text(tree.as_bytes())?;
@@ -194,7 +181,7 @@ fn put_stopped(
     name: &[u8],
     bytes: &[u8],
 ) -> Result<Answer, Trouble> {
-    let name = name_of(alloc, as_text(name)?)?;
+    let name = given_name(alloc, name)?;
     let was = got(alloc, store, tenant, &name)?;
     let mut is_kept = true;
     for limit in 1..MOST_LIMITS {
@@ -216,7 +203,7 @@ fn remove_stopped(
     tenant: u32,
     name: &[u8],
 ) -> Result<Answer, Trouble> {
-    let name = name_of(alloc, as_text(name)?)?;
+    let name = given_name(alloc, name)?;
     let was = got(alloc, store, tenant, &name)?;
     let mut is_kept = true;
     for limit in 1..MOST_LIMITS {
