@@ -3,7 +3,7 @@ use crate::answer::{Answer, Trouble};
 use std::alloc::Global;
 
 /// The most copies of a part that a text may ask for.
-const MOST_COPIES: usize = 100_000;
+const MOST_COPIES: usize = 2_000_000;
 
 /// A line: what is called, what that is given, and what it must give.
 #[derive(Drop)]

@@ -2,32 +2,11 @@
 use crate::answer::{Answer, Trouble};
 use crate::line::as_number;
 use crate::quiet::QuietPorts;
+use failing_streams::{FailingReader, FailingWriter};
 use ports_core::{Config, Refused, Step, Tell, Told};
 use ports_http::Reply;
 use ports_script::{ScriptFault, Serving, read_script, run_config, run_serving, transcript_text};
 use std::alloc::Global;
-use std::io::{self, ErrorKind, Read, Write};
-
-/// An input that gives at most five bytes at a read, and fails after so many reads.
-#[derive(Drop)]
-struct Failing<'a> {
-    rest: &'a [u8],
-    reads: u64,
-}
-
-impl Read for Failing<'_> {
-    fn read(&mut self, buf: &mut [u8]) -> io::Result<usize> {
-        if self.reads == 0 {
-            return Err(io::Error::from(ErrorKind::ConnectionReset));
-        }
-        self.reads -= 1;
-        let count = self.rest.len().min(buf.len()).min(5);
-        let (given, rest) = self.rest.split_at(count);
-        buf[..count].copy_from_slice(given);
-        self.rest = rest;
-        Ok(count)
-    }
-}
 
 /// `input SCRIPT failing after N`: the fault of a script whose input gives five bytes at a read and
 /// fails after so many, or how many events were read.
@@ -35,7 +14,7 @@ pub fn failing_input(alloc: Global, given: &[Vec<u8>]) -> Result<Answer, Trouble
     let [script, reads] = given else {
         return Err(Trouble::NoCase);
     };
-    let mut input = Failing {
+    let mut input = FailingReader {
         rest: script.as_slice(),
         reads: as_number(reads)?,
     };
@@ -49,31 +28,6 @@ pub fn failing_input(alloc: Global, given: &[Vec<u8>]) -> Result<Answer, Trouble
         Err(ScriptFault::Memory) => return Err(Trouble::Memory),
     }
     Ok(answer)
-}
-
-/// An output that takes one byte at a write, and fails after so many writes.
-#[derive(Drop)]
-struct Narrow {
-    taken: Vec<u8>,
-    writes: usize,
-}
-
-impl Write for Narrow {
-    fn write(&mut self, buf: &[u8]) -> io::Result<usize> {
-        if self.writes == 0 {
-            return Err(io::Error::from(ErrorKind::BrokenPipe));
-        }
-        self.writes -= 1;
-        let Some(first) = buf.first() else {
-            return Ok(0);
-        };
-        self.taken.push(*first)?;
-        Ok(1)
-    }
-
-    fn flush(&mut self) -> io::Result<()> {
-        Ok(())
-    }
 }
 
 /// `narrow output SCRIPT PRINTED`: how many bytes were written by a run whose output takes one byte at
@@ -116,7 +70,7 @@ pub fn narrow_serving(alloc: Global, given: &[Vec<u8>]) -> Result<Answer, Troubl
         rounds: 3,
         config: config_of_one(alloc)?,
     };
-    let mut out = Narrow {
+    let mut out = FailingWriter {
         taken: Vec::new(alloc),
         writes: as_number(writes)? as usize,
     };
@@ -148,14 +102,14 @@ fn run_narrow(
     writes: usize,
 ) -> Result<(u8, Vec<u8>, Vec<u8>), Trouble> {
     let config = config_of_one(alloc)?;
-    let mut out = Narrow {
+    let mut out = FailingWriter {
         taken: Vec::new(alloc),
         writes,
     };
     let mut said = Vec::new(alloc);
     let mut input = script;
     let status = run_config(alloc, config, &mut input, &mut out, &mut said);
-    let Narrow { taken, .. } = out;
+    let FailingWriter { taken, .. } = out;
     Ok((status, taken, said))
 }
 
