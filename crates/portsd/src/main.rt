@@ -3,14 +3,10 @@
 //! and sent.
 #![tactic(auto)]
 
-mod sockets;
-mod words;
-
+use ports_host::{Loopback, words_given};
 use ports_script::run_command;
-use sockets::Loopback;
 use std::io;
 use std::process::ExitCode;
-use words::words_given;
 
 fn main(rt: HostRuntime) -> ExitCode {
     let alloc = rt.alloc();

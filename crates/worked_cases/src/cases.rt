@@ -2,8 +2,10 @@
 use crate::answer::{Answer, Trouble};
 use crate::bench::Bench;
 use crate::line::Line;
+use crate::loopback;
 use crate::service::run_program;
 use std::alloc::{AllocError, Global};
+use std::net::Net;
 
 /// The cases of an input, as far as they were taken.
 #[derive(Drop)]
@@ -55,11 +57,11 @@ impl Cases {
 
     /// Takes the next line; gives what is to be told of it, where its case differs or it is none. The
     /// error: there was no memory.
-    pub fn take(&mut self, text: &str) -> Result<Option<String>, AllocError> {
+    pub fn take(&mut self, net: &impl Net, text: &str) -> Result<Option<String>, AllocError> {
         self.line = self.line.saturating_add(1);
         let told = match self.script.take() {
             Some(script) => self.take_script(script, text),
-            None => self.take_line(text),
+            None => self.take_line(net, text),
         };
         match told {
             Ok(told) => Ok(told),
@@ -72,7 +74,7 @@ impl Cases {
         }
     }
 
-    fn take_line(&mut self, text: &str) -> Result<Option<String>, Trouble> {
+    fn take_line(&mut self, net: &impl Net, text: &str) -> Result<Option<String>, Trouble> {
         if text.is_empty() || text.starts_with('#') {
             return Ok(None);
         }
@@ -90,7 +92,10 @@ impl Cases {
             self.bench.set_up(line.call.as_str(), given)?;
             return Ok(None);
         };
-        let answer = self.bench.answer(line.call.as_str(), given)?;
+        let answer = match line.call.as_str() {
+            "loopback" => loopback::answered(self.alloc, net, given)?,
+            call => self.bench.answer(call, given)?,
+        };
         self.judge(answer.as_str(), wanted.as_str())
     }
 

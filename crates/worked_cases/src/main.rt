@@ -10,6 +10,7 @@ mod conditions;
 mod dependencies;
 mod evaluation;
 mod line;
+mod loopback;
 mod loops;
 mod packages;
 mod quiet;
@@ -31,7 +32,7 @@ fn main(rt: HostRuntime) -> io::Result<()> {
     let input = io::read_to_string(alloc, rt.reader())?;
     let mut cases = Cases::new(alloc)?;
     for line in input.lines() {
-        if let Some(wrong) = cases.take(line)? {
+        if let Some(wrong) = cases.take(&rt, line)? {
             println!(rt; "{wrong}")?;
         }
     }

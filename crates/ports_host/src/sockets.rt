@@ -27,6 +27,7 @@ pub struct Loopback<'a, R> {
 }
 
 impl<'a, R> Loopback<'a, R> {
+    /// Over what the host has of networks.
     pub fn new(net: &'a R) -> Loopback<'a, R> {
         Loopback { net }
     }
@@ -77,6 +78,11 @@ pub struct Sockets {
 }
 
 impl Sockets {
+    /// The address that is listened on. The error is what the host told where it can't be had.
+    pub fn address(&self) -> io::Result<SocketAddr> {
+        self.listener.local_addr()
+    }
+
     fn client(&mut self, conn: u64) -> Option<&mut Client> {
         self.clients.iter_mut().find(|client| client.conn == conn)
     }
@@ -147,94 +153,4 @@ impl Wire for Sockets {
 /// Whether the call is to be tried again later.
 fn is_later(error: &io::Error) -> bool {
     matches!(error.kind(), ErrorKind::WouldBlock | ErrorKind::Interrupted)
-}
-
-#[cfg(test)]
-mod tests {
-    use super::*;
-    use ports_core::{Config, Service};
-    use ports_serve::serve;
-
-    const UPLOAD: &str =
-        "PUT /v1/file?name=/ports/editors/vim/Makefile HTTP/1.1\r\nHost: x\r\nX-Ports-Key: alpha\r\nContent-Length: 28\r\n\r\nV = 9.1\nDISTNAME = vim-${V}\n";
-
-    const QUESTION: &str =
-        "GET /v1/var?path=editors/vim&name=DISTNAME HTTP/1.1\r\nHost: x\r\nX-Ports-Key: alpha\r\n\r\n";
-
-    const REPLIES: &str =
-        "HTTP/1.1 200 OK\r\nContent-Type: application/json\r\nContent-Length: 15\r\n\r\n{\"stored\":true}HTTP/1.1 200 OK\r\nContent-Type: application/json\r\nContent-Length: 34\r\n\r\n{\"defined\":true,\"value\":\"vim-9.1\"}";
-
-    /// What listens, and one client of it, which does one step at each accept.
-    #[derive(Drop)]
-    struct Pair {
-        sockets: Sockets,
-        client: TcpStream,
-        unsent: Vec<u8>,
-        taken: Vec<u8>,
-    }
-
-    impl Pair {
-        /// Sends what the socket takes, and takes what has come.
-        fn step(&mut self) {
-            if let Ok(count) = self.client.write(self.unsent.as_slice()) {
-                self.unsent.drain(..count);
-            }
-            let mut bytes = [0; 256];
-            if let Ok(count) = self.client.read(&mut bytes) {
-                let _ = self.taken.extend_from_slice(&bytes[..count]);
-            }
-        }
-    }
-
-    impl Wire for Pair {
-        ghost after = { λ old call new. Unit {0} };
-
-        fn accept(&mut self, conn: u64, _idle: bool) -> Outcome<()> {
-            self.step();
-            self.sockets.accept(conn, false)
-        }
-
-        fn read(&mut self, conn: u64, buffer: &mut [u8]) -> Outcome<usize> {
-            self.sockets.read(conn, buffer)
-        }
-
-        fn write(&mut self, conn: u64, bytes: &[u8]) -> Outcome<usize> {
-            self.sockets.write(conn, bytes)
-        }
-
-        fn shut(&mut self, conn: u64) {
-            self.sockets.shut(conn);
-        }
-    }
-
-    #[test]
-    fn a_client_is_answered(rt: HostRuntime) -> io::Result<()> {
-        let alloc = rt.alloc();
-        let Ok(sockets) = Loopback::new(&rt).listen(alloc, 0) else {
-            assert!(rt; false, "nothing listens");
-            return Ok(());
-        };
-        let client = TcpStream::connect(&rt, sockets.listener.local_addr()?)?;
-        let mut unsent = Vec::from_slice(alloc, UPLOAD.as_bytes())?;
-        unsent.extend_from_slice(QUESTION.as_bytes())?;
-        let mut pair = Pair {
-            sockets,
-            client,
-            unsent,
-            taken: Vec::new(alloc),
-        };
-        let keys = vec![in alloc; String::from_str(alloc, "alpha")?]?;
-        let config = Config {
-            keys,
-            parses: 1,
-            evals: 1,
-        };
-        let Ok(service) = Service::new(alloc, config) else {
-            assert!(rt; false, "no service begins");
-            return Ok(());
-        };
-        let _service = serve(alloc, &mut pair, service, 200)?;
-        assert_eq!(rt; pair.taken.as_slice(), REPLIES.as_bytes());
-        Ok(())
-    }
 }
