@@ -1,5 +1,5 @@
 // The routes of dependencies, both ways.
-ghost use Rattle.std.specs.Prelude.{◌≡◌, IfOk, Ok, codes};
+ghost use Rattle.std.specs.Prelude.{◌≡◌, IfOk, Ok, Some, codes};
 ghost use Rattle.std.specs.Option.{option_copied};
 ghost use Rattle.std.specs.Result.{result_err};
 ghost use Rattle.serde_json.specs.View.{view};
@@ -38,11 +38,23 @@ fn read_question(alloc: Global, query: &str) -> Result<Result<Question, Reply>, 
     let path = parameter(alloc, query, "path")?;
     let kind = optional(alloc, query, "kind")?;
     let depth = optional(alloc, query, "depth")?;
-    let (Some(path), Some(kind), Some(depth)) = (path, kind, depth) else {
-        return Ok(Err(refusal(alloc, StatusCode::BAD_REQUEST, "Parameter")?));
-    };
-    match PkgPath::read(alloc, path.as_str()) {
-        Ok(path) => question_on(alloc, path, kind.as_str(), depth.as_str()),
+    match (&path, &kind, &depth) {
+        (Some(path), Some(kind), Some(depth)) => question_of(alloc, path, kind, depth),
+        _ => Ok(Err(refusal(alloc, StatusCode::BAD_REQUEST, "Parameter")?)),
+    }
+}
+
+// The question that these texts ask; or the refusal.
+fn question_of(
+    alloc: Global,
+    path: &str,
+    kind: &str,
+    depth: &str,
+) -> Result<Result<Question, Reply>, AllocError>
+    ensures { IfOk result (λ asked. asked ≡ lists.question_of (Some path.now) (Some kind.now) (Some depth.now)) }
+{
+    match PkgPath::read(alloc, path) {
+        Ok(path) => question_on(alloc, path, kind, depth),
         Err(PkgPathFault::Memory) => Err(AllocError),
         Err(_) => Ok(Err(refusal(alloc, StatusCode::BAD_REQUEST, "Path")?)),
     }

@@ -1,9 +1,11 @@
 // The route of files.
-ghost use Rattle.std.specs.Prelude.{◌≡◌, IfOk, codes};
+ghost use Rattle.std.specs.Prelude.{◌≡◌, if◌then◌else◌, IfOk, Some, codes};
+ghost use Rattle.std.specs.FinMap.{get, contains_key};
 ghost use Rattle.std.specs.Result.{result_err};
-ghost use Rattle.ports_plain.specs.Plain.{on_file as on_file_of, on_named_file as on_named_file_of, told};
+ghost use Rattle.ports_plain.specs.Plain.{Answer, on_file as on_file_of, on_named_file as on_named_file_of, content_shown, told};
 ghost use Rattle.ports_plain.specs.Parameters.{parameter as parameter_of};
-ghost use Rattle.ports_plain.specs.Replies.{refusal as refusal_of, no_file as no_file_reply};
+ghost use Rattle.ports_plain.specs.Replies.{refusal as refusal_of, no_file as no_file_reply, removed as removed_reply, stored as stored_reply};
+ghost use Rattle.ports_plain.specs.declared.changing.Change.TheVariants.{PutFile, RemoveFile};
 ghost use Rattle.ports_index.specs.Keeping.{Keeps};
 
 use crate::changing::{Change, Prepared};
@@ -48,26 +50,44 @@ fn on_named_file<F: Files>(
     ensures keeps { Keeps (result_err result) (F.shelf files.old) (F.shelf files.new) }
 {
     match method {
-        Method::Get => match files.read(&name)? {
-            Some(content) => Ok(Prepared::told(file_shown(alloc, content.as_slice())?)),
-            None => Ok(no_file(alloc)?),
-        },
-        Method::Put => {
-            let reply = stored(alloc)?;
-            let content = Content::new(alloc, body)?;
-            let change = Some(Change::PutFile(name, content));
-            Ok(Prepared { reply, change })
-        }
-        Method::Delete => {
-            let there = files.has(&name)?;
-            if !there {
-                return Ok(no_file(alloc)?);
-            }
-            let reply = removed(alloc)?;
-            let change = Some(Change::RemoveFile(name));
-            Ok(Prepared { reply, change })
-        }
+        Method::Get => show(alloc, files, &name),
+        Method::Put => Ok(put(alloc, name, body)?),
+        Method::Delete => remove(alloc, files, name),
     }
+}
+
+// The file's bytes, if it is there.
+fn show<F: Files>(alloc: Global, files: &mut F, name: &Name) -> Result<Prepared, FilesFault>
+    ensures ok { IfOk result (λ prepared. (prepared.reply, prepared.change) ≡ told (content_shown (get (F.shelf files.old).files name.now))) }
+    ensures keeps { Keeps (result_err result) (F.shelf files.old) (F.shelf files.new) }
+{
+    match files.read(name)? {
+        Some(content) => Ok(Prepared::told(file_shown(alloc, content.as_slice())?)),
+        None => Ok(no_file(alloc)?),
+    }
+}
+
+// A file is stored, whether it was there or not.
+fn put(alloc: Global, name: Name, body: Vec<u8>) -> Result<Prepared, AllocError>
+    ensures { IfOk result (λ prepared. ◌≡◌ {A = Answer} (prepared.reply, prepared.change) (stored_reply, Some (PutFile name body.items))) }
+{
+    let reply = stored(alloc)?;
+    let content = Content::new(alloc, body)?;
+    let change = Some(Change::PutFile(name, content));
+    Ok(Prepared { reply, change })
+}
+
+// A file is removed, if it is there.
+fn remove<F: Files>(alloc: Global, files: &mut F, name: Name) -> Result<Prepared, FilesFault>
+    ensures ok { IfOk result (λ prepared. (prepared.reply, prepared.change) ≡ if contains_key (F.shelf files.old).files name then (removed_reply, Some (RemoveFile name)) else told no_file_reply) }
+    ensures keeps { Keeps (result_err result) (F.shelf files.old) (F.shelf files.new) }
+{
+    if !files.has(&name)? {
+        return Ok(no_file(alloc)?);
+    }
+    let reply = removed(alloc)?;
+    let change = Some(Change::RemoveFile(name));
+    Ok(Prepared { reply, change })
 }
 
 fn no_file(alloc: Global) -> Result<Prepared, AllocError>

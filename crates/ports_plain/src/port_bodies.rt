@@ -15,22 +15,15 @@ pub fn port(alloc: Global, path: &PkgPath, port: &PortRecord) -> Result<Value, A
     ensures { IfOk result (λ value. view value ≡ port_body path.now port.now) }
 {
     let flavors = port.flavors();
-    let categories = texts(alloc, port.categories())?;
-    let depends = depends(alloc, port.depends())?;
-    let chosen = texts(alloc, flavors.chosen())?;
-    let proper = texts(alloc, flavors.proper())?;
-    let packages = packages(alloc, port.packages())?;
-    let path = path.port_path(alloc)?;
-    let pseudo = texts(alloc, flavors.pseudo())?;
     json!(in alloc; {
-        "categories": categories,
-        "depends": depends,
-        "flavor": chosen,
-        "flavors": proper,
+        "categories": texts(alloc, port.categories())?,
+        "depends": depends(alloc, port.depends())?,
+        "flavor": texts(alloc, flavors.chosen())?,
+        "flavors": texts(alloc, flavors.proper())?,
         "maintainer": port.maintainer(),
-        "packages": packages,
-        "path": path.as_str(),
-        "pseudo": pseudo
+        "packages": packages(alloc, port.packages())?,
+        "path": path.port_path(alloc)?.as_str(),
+        "pseudo": texts(alloc, flavors.pseudo())?
     })
 }
 

@@ -1,5 +1,5 @@
 // The route of variables.
-ghost use Rattle.std.specs.Prelude.{◌≡◌, IfOk, codes};
+ghost use Rattle.std.specs.Prelude.{◌≡◌, IfOk, Some, codes};
 ghost use Rattle.std.specs.Result.{result_err};
 ghost use Rattle.mk_eval.specs.Meaning.{means};
 ghost use Rattle.mk_eval.specs.Telling.{Tells};
@@ -32,11 +32,25 @@ pub fn get_variable<F: Files>(
 {
     let path = parameter(alloc, query, "path")?;
     let name = parameter(alloc, query, "name")?;
-    let (Some(path), Some(name)) = (path, name) else {
-        return Ok(refusal(alloc, StatusCode::BAD_REQUEST, "Parameter")?);
-    };
-    match PkgPath::read(alloc, path.as_str()) {
-        Ok(path) => variable_of(alloc, files, settings, &path, name.as_str()),
+    match (&path, &name) {
+        (Some(path), Some(name)) => variable_named(alloc, files, settings, path, name),
+        _ => Ok(refusal(alloc, StatusCode::BAD_REQUEST, "Parameter")?),
+    }
+}
+
+// The variable of this name, of the port whose path a text is.
+fn variable_named<F: Files>(
+    alloc: Global,
+    files: &mut F,
+    settings: &Settings,
+    path: &str,
+    name: &str,
+) -> Result<Reply, FilesFault>
+    ensures ok { IfOk result (λ reply. reply ≡ get_variable_of ((F.shelf files.old).files, settings.now) (Some path.now) (Some name.now)) }
+    ensures keeps { Keeps (result_err result) (F.shelf files.old) (F.shelf files.new) }
+{
+    match PkgPath::read(alloc, path) {
+        Ok(path) => variable_of(alloc, files, settings, &path, name),
         Err(PkgPathFault::Memory) => Err(FilesFault::Memory),
         Err(_) => Ok(refusal(alloc, StatusCode::BAD_REQUEST, "Path")?),
     }

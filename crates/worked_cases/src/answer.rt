@@ -1,7 +1,8 @@
 //! What a call gives, in the words of a case.
+use mk_base::{FaultKind, Stop};
 use mk_paths::FilesFault;
 use std::alloc::{AllocError, AllocFailed, Global};
-use std::fmt::Write;
+use std::fmt::{Debug, Display, Write};
 
 /// Why a line has no answer.
 #[derive(Clone, Copy, Debug, PartialEq, Eq)]
@@ -33,74 +34,117 @@ impl From<FilesFault> for Trouble {
     }
 }
 
-/// Words, numbers and quoted texts, with one blank between two of them.
+/// Words, numbers and quoted texts, with one blank between two of them. That there was no memory
+/// for a part is told once, by `whole`.
 #[derive(Drop)]
 pub struct Answer {
     said: String,
+    /// Whether there was memory for every part.
+    is_whole: bool,
 }
 
 impl Answer {
     pub fn new(alloc: Global) -> Answer {
         Answer {
             said: String::new(alloc),
+            is_whole: true,
         }
     }
 
     /// An answer of one word.
-    pub fn of_word(alloc: Global, word: &str) -> Result<Answer, Trouble> {
+    pub fn of_word(alloc: Global, word: &str) -> Answer {
         let mut answer = Answer::new(alloc);
-        answer.word(word)?;
-        Ok(answer)
+        answer.word(word);
+        answer
     }
 
     /// An answer of one quoted text.
-    pub fn of_text(alloc: Global, text: &str) -> Result<Answer, Trouble> {
+    pub fn of_text(alloc: Global, text: &str) -> Answer {
         let mut answer = Answer::new(alloc);
-        answer.text(text.as_bytes())?;
-        Ok(answer)
+        answer.text(text.as_bytes());
+        answer
     }
 
     /// The first word where that holds, else the second.
-    pub fn of_choice(alloc: Global, holds: bool, so: &str, other: &str) -> Result<Answer, Trouble> {
+    pub fn of_choice(alloc: Global, holds: bool, so: &str, other: &str) -> Answer {
         Answer::of_word(alloc, if holds { so } else { other })
     }
 
     /// Adds a word as it stands.
-    pub fn word(&mut self, word: &str) -> Result<(), Trouble> {
-        self.blank()?;
-        self.said.push_str(word)?;
-        Ok(())
+    pub fn word(&mut self, word: &str) {
+        let said = write!(self.begun(), "{word}");
+        self.note(said);
     }
 
     /// Adds a number.
-    pub fn number(&mut self, number: u64) -> Result<(), Trouble> {
-        self.blank()?;
-        write!(self.said, "{number}")?;
-        Ok(())
+    pub fn number(&mut self, number: u64) {
+        let said = write!(self.begun(), "{number}");
+        self.note(said);
+    }
+
+    /// Adds the name of a kind, as its enum writes it.
+    pub fn kind<K: Debug>(&mut self, kind: &K) {
+        let said = write!(self.begun(), "{kind:?}");
+        self.note(said);
+    }
+
+    /// Adds why work stopped: the kind of its fault, or `Store`.
+    pub fn stop(&mut self, stop: Stop<FaultKind>) {
+        match stop {
+            Stop::Fault(kind) => self.kind(&kind),
+            Stop::Store => self.word("Store"),
+            Stop::Memory => self.is_whole = false,
+        }
     }
 
     /// Adds bytes in quotes: those from 32 to 126 as they are but for the quote and the backslash,
     /// others as escapes.
-    pub fn text(&mut self, bytes: &[u8]) -> Result<(), Trouble> {
-        self.blank()?;
-        self.said.push('"')?;
+    pub fn text(&mut self, bytes: &[u8]) {
+        let said = self.quote(bytes);
+        self.note(said);
+    }
+
+    /// Adds in quotes what a value prints.
+    pub fn printed<V: Display>(&mut self, alloc: Global, value: &V) {
+        match format!(in alloc; "{value}") {
+            Ok(printed) => self.text(printed.as_bytes()),
+            Err(_) => self.is_whole = false,
+        }
+    }
+
+    /// All that was said. The error: there was no memory for a part of it.
+    pub fn whole(&self) -> Result<&str, Trouble> {
+        if self.is_whole {
+            Ok(self.said.as_str())
+        } else {
+            Err(Trouble::Memory)
+        }
+    }
+
+    /// Whether the other says the same. The error: there was no memory for a part of one.
+    pub fn is_same(&self, other: &Answer) -> Result<bool, Trouble> {
+        Ok(self.whole()? == other.whole()?)
+    }
+
+    fn note(&mut self, said: Result<(), AllocError>) {
+        self.is_whole = self.is_whole && said.is_ok();
+    }
+
+    /// What was said, with a blank behind it where something was.
+    fn begun(&mut self) -> &mut String {
+        if !self.said.is_empty() {
+            let said = self.said.push(' ');
+            self.note(said);
+        }
+        &mut self.said
+    }
+
+    fn quote(&mut self, bytes: &[u8]) -> Result<(), AllocError> {
+        self.begun().push('"')?;
         for byte in bytes {
             self.byte(*byte)?;
         }
-        self.said.push('"')?;
-        Ok(())
-    }
-
-    /// All that was said.
-    pub fn as_str(&self) -> &str {
-        self.said.as_str()
-    }
-
-    fn blank(&mut self) -> Result<(), AllocError> {
-        if self.said.is_empty() {
-            return Ok(());
-        }
-        self.said.push(' ')
+        self.said.push('"')
     }
 
     fn byte(&mut self, byte: u8) -> Result<(), AllocError> {

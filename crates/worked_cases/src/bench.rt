@@ -1,15 +1,13 @@
 //! The things that lines of a case set up and ask, and which call each line means.
 use crate::answer::{Answer, Trouble};
-use crate::evaluation::{self, MAKEFILE};
 use crate::line::as_text;
 use crate::world::World;
 use crate::{
-    conditions, dependencies, loops, packages, records, served, service, stores, streams, texts,
-    trees, trickle,
+    conditions, dependencies, evaluation, loops, packages, records, served, service, stores,
+    streams, texts, trees, trickle,
 };
 use mk_env::Env;
 use mk_files::Content;
-use mk_paths::Name;
 use ports_core::Service;
 use ports_http::Method;
 use std::alloc::{AllocError, Global};
@@ -59,22 +57,29 @@ impl Bench {
         let [bytes] = given else {
             return Err(Trouble::NoCase);
         };
-        let Ok(name) = Name::read(self.alloc, MAKEFILE) else {
-            return Err(Trouble::Memory);
-        };
-        self.world
-            .files
-            .put(name, Content::new(self.alloc, bytes.clone()?)?)?;
+        let name = evaluation::makefile(self.alloc)?;
+        let content = Content::new(self.alloc, bytes.clone()?)?;
+        self.world.files.put(name, content)?;
         Ok(())
     }
 
     /// `set NAME TEXT`, `append NAME TEXT`, `default NAME TEXT`, `undef NAME`
     fn change_variables(&mut self, call: &str, given: &[Vec<u8>]) -> Result<(), Trouble> {
-        match (call, given) {
-            ("set", [name, text]) => self.variables.set(as_text(name)?, as_text(text)?)?,
-            ("append", [name, text]) => self.variables.append(as_text(name)?, as_text(text)?)?,
-            ("default", [name, text]) => self.variables.default(as_text(name)?, as_text(text)?)?,
-            ("undef", [name]) => self.variables.undef(as_text(name)?),
+        match given {
+            [name, text] => self.change_variable(call, as_text(name)?, as_text(text)?),
+            [name] if call == "undef" => {
+                self.variables.undef(as_text(name)?);
+                Ok(())
+            }
+            _ => Err(Trouble::NoCase),
+        }
+    }
+
+    fn change_variable(&mut self, call: &str, name: &str, text: &str) -> Result<(), Trouble> {
+        match call {
+            "set" => self.variables.set(name, text)?,
+            "append" => self.variables.append(name, text)?,
+            "default" => self.variables.default(name, text)?,
             _ => return Err(Trouble::NoCase),
         }
         Ok(())
@@ -124,51 +129,65 @@ impl Bench {
 
     fn answer_of_evaluation(&mut self, call: &str, given: &[Vec<u8>]) -> Result<Answer, Trouble> {
         let alloc = self.alloc;
+        let variables = &self.variables;
         match call {
-            "numbers of kinds" => evaluation::numbers_of_kinds(alloc),
+            "numbers of kinds" => Ok(evaluation::numbers_of_kinds(alloc)),
             "budget pays asks" => evaluation::budget(alloc, given),
             "blame" => evaluation::blamed(alloc, given),
             "expand" | "expand within" | "expand now" | "variable" | "inside" | "inside within" => {
-                evaluation::expansion(alloc, &self.variables, call, given)
+                evaluation::expansion(alloc, variables, call, given)
             }
-            "modify on" | "modify on within" => {
-                evaluation::modified(alloc, &self.variables, given)
-            }
+            "modify on" | "modify on within" => evaluation::modified(alloc, variables, given),
             "truth" | "truth within after" => {
-                conditions::truth_told(alloc, &self.variables, &mut self.world.files, given)
+                conditions::truth_told(alloc, variables, &mut self.world.files, given)
             }
-            "turns of on" | "turns of on within" => loops::turns_of(alloc, &self.variables, given),
+            "turns of on" | "turns of on within" => loops::turns_of(alloc, variables, given),
             "put words into" | "put words into of" => {
-                loops::put_words_told(alloc, &self.variables, false, given)
+                loops::put_words_told(alloc, variables, false, given)
             }
-            "put words within into of" => {
-                loops::put_words_told(alloc, &self.variables, true, given)
-            }
-            "ask has after" => evaluation::ask_has_told(alloc, &mut self.world.files, given),
-            "ask read after" => evaluation::ask_read_told(alloc, &mut self.world.files, given),
-            "get" => evaluation::text_of_variable(alloc, &self.variables, given),
+            "put words within into of" => loops::put_words_told(alloc, variables, true, given),
+            "get" => evaluation::text_of_variable(alloc, variables, given),
             "get from copy" => evaluation::text_of_variable(alloc, &self.copy, given),
+            _ => self.answer_of_files(call, given),
+        }
+    }
+
+    fn answer_of_files(&mut self, call: &str, given: &[Vec<u8>]) -> Result<Answer, Trouble> {
+        let alloc = self.alloc;
+        let files = &mut self.world.files;
+        match call {
+            "ask has after" => evaluation::ask_has_told(alloc, files, given),
+            "ask read after" => evaluation::ask_read_told(alloc, files, given),
             "name" | "name under" => evaluation::name_of(alloc, given),
             "directory of" => evaluation::directory_of(alloc, given),
             "search path" => evaluation::trees_of(alloc, given),
             "standard search path" => evaluation::standard_trees(alloc),
-            "remove" => evaluation::remove(alloc, &mut self.world.files, given),
-            "read" => evaluation::read(alloc, &mut self.world.files, given),
-            "place of on" => evaluation::place(alloc, &mut self.world.files, given),
-            "cost" => evaluation::cost(alloc, &mut self.world),
-            "evaluate" => evaluation::evaluated_whole(alloc, &mut self.world, given),
-            "stored" => evaluation::stored(alloc, &mut self.world, given),
-            "flavored" => evaluation::flavored(alloc, &mut self.world, given),
-            "value" => evaluation::value_of(alloc, &mut self.world, given),
-            "record" => records::record_told(alloc, &mut self.world, given),
-            "names" => dependencies::names(alloc, &mut self.world),
-            "index" => dependencies::index(alloc, &mut self.world),
-            "items" => dependencies::items_told(alloc, &mut self.world),
-            "statuses" => dependencies::statuses(alloc, &mut self.world, given),
+            "remove" => evaluation::remove(alloc, files, given),
+            "read" => evaluation::read(alloc, files, given),
+            "place of on" => evaluation::place(alloc, files, given),
+            "names" => dependencies::names(alloc, files),
+            _ => self.answer_of_world(call, given),
+        }
+    }
+
+    fn answer_of_world(&mut self, call: &str, given: &[Vec<u8>]) -> Result<Answer, Trouble> {
+        let alloc = self.alloc;
+        let world = &mut self.world;
+        match call {
+            "cost" => evaluation::cost(alloc, world),
+            "evaluate" => evaluation::evaluated_whole(alloc, world, given),
+            "stored" => evaluation::stored(alloc, world, given),
+            "flavored" => evaluation::flavored(alloc, world, given),
+            "value" => evaluation::value_of(alloc, world, given),
+            "record" => records::record_told(alloc, world, given),
+            "index" => dependencies::index(alloc, world),
+            "items" => dependencies::items_told(alloc, world),
+            "statuses" => dependencies::statuses(alloc, world, given),
             "first" | "to" | "reached" | "reaching" => {
-                dependencies::over_edges(alloc, &mut self.world, call, given)
+                dependencies::over_edges(alloc, world, call, given)
             }
-            "list" | "match" => dependencies::listed(alloc, &mut self.world, call, given),
+            "list" => dependencies::listed(alloc, world, given),
+            "match" => dependencies::matched(alloc, world, given),
             _ => answer_of_text(alloc, call, given),
         }
     }
@@ -180,7 +199,7 @@ fn answer_of_text(alloc: Global, call: &str, given: &[Vec<u8>]) -> Result<Answer
         "words" => texts::words_of(alloc, given),
         "trim" => texts::without_blanks(alloc, given, true),
         "skip" => texts::without_blanks(alloc, given, false),
-        "blanks" => texts::blanks(alloc),
+        "blanks" => Ok(texts::blanks(alloc)),
         "pieces" => texts::pieces_of(alloc, given),
         "number of pieces" => texts::number_of_pieces(alloc, given),
         "glob" => texts::fits(alloc, given),

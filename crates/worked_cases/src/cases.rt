@@ -3,7 +3,7 @@ use crate::answer::{Answer, Trouble};
 use crate::bench::Bench;
 use crate::line::Line;
 use crate::loopback;
-use crate::service::run_program;
+use crate::service::{Ran, run_program};
 use std::alloc::{AllocError, Global};
 use std::net::Net;
 
@@ -78,15 +78,22 @@ impl Cases {
         if text.is_empty() || text.starts_with('#') {
             return Ok(None);
         }
-        if let Some(words) = text.strip_prefix("script ") {
-            self.script = Some(Script {
-                words: String::from_str(self.alloc, words)?,
-                input: String::new(self.alloc),
-                printed: None,
-            });
-            return Ok(None);
+        match text.strip_prefix("script ") {
+            Some(words) => self.begin_script(words),
+            None => self.take_case(net, &Line::read(self.alloc, text)?),
         }
-        let line = Line::read(self.alloc, text)?;
+    }
+
+    fn begin_script(&mut self, words: &str) -> Result<Option<String>, Trouble> {
+        self.script = Some(Script {
+            words: String::from_str(self.alloc, words)?,
+            input: String::new(self.alloc),
+            printed: None,
+        });
+        Ok(None)
+    }
+
+    fn take_case(&mut self, net: &impl Net, line: &Line) -> Result<Option<String>, Trouble> {
         let given = line.given.as_slice();
         let Some(wanted) = &line.wanted else {
             self.bench.set_up(line.call.as_str(), given)?;
@@ -96,7 +103,7 @@ impl Cases {
             "loopback" => loopback::answered(self.alloc, net, given)?,
             call => self.bench.answer(call, given)?,
         };
-        self.judge(answer.as_str(), wanted.as_str())
+        self.judge(answer.whole()?, wanted.as_str())
     }
 
     /// Takes a line of a script: of its input, or of what must be printed, or its end.
@@ -121,23 +128,13 @@ impl Cases {
     /// something on standard error.
     fn run(&mut self, script: &Script, last: &str) -> Result<Option<String>, Trouble> {
         let ran = run_program(self.alloc, script.words.as_str(), script.input.as_bytes())?;
-        let mut told = Answer::new(self.alloc);
-        told.text(ran.printed.as_slice())?;
-        told.word("status")?;
-        told.number(u64::from(ran.status))?;
-        if !ran.said.is_empty() {
-            told.word("says")?;
-            told.text(ran.said.as_slice())?;
-        }
+        let told = told_of_run(self.alloc, &ran);
         let mut wanted = Answer::new(self.alloc);
-        wanted.text(
-            script
-                .printed
-                .as_ref()
-                .map_or(b"", |printed| printed.as_bytes()),
-        )?;
-        wanted.word(last)?;
-        self.judge(told.as_str(), wanted.as_str())
+        if let Some(printed) = &script.printed {
+            wanted.text(printed.as_bytes());
+        }
+        wanted.word(last);
+        self.judge(told.whole()?, wanted.whole()?)
     }
 
     /// Counts a case, and tells where it differs.
@@ -150,4 +147,18 @@ impl Cases {
         let line = self.line;
         Ok(Some(format!(in self.alloc; "line {line}: {told}, not {wanted}")?))
     }
+}
+
+/// What is told of a run of the program: what it printed, its status, and what it said where it said
+/// something.
+fn told_of_run(alloc: Global, ran: &Ran) -> Answer {
+    let mut told = Answer::new(alloc);
+    told.text(ran.printed.as_slice());
+    told.word("status");
+    told.number(u64::from(ran.status));
+    if !ran.said.is_empty() {
+        told.word("says");
+        told.text(ran.said.as_slice());
+    }
+    told
 }

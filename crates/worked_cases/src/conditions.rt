@@ -1,14 +1,14 @@
 //! The trees of conditions, and whether they hold.
 use crate::answer::{Answer, Trouble};
-use crate::line::{as_number, as_text};
+use crate::evaluation::given_name;
+use crate::line::{as_number, as_text, one_text};
 use cond_grammar::{
     Call, Comparison, Condition, ConditionError, Conjunction, Side, Term, read_condition,
 };
-use mk_base::{Budget, Stop, UNITS};
+use mk_base::{Budget, UNITS};
 use mk_cond::truth;
 use mk_env::Env;
 use mk_files::MemoryFiles;
-use mk_paths::Name;
 use mk_text::Span;
 use std::alloc::{AllocError, Global};
 use std::fmt::Write;
@@ -16,28 +16,26 @@ use std::fmt::Write;
 /// `condition TEXT`: its tree as `or(..)` of `and(..)` of terms: `not(..)`, `group(..)`, a call with its
 /// argument in single quotes, or sides, a quoted one in single quotes; or `unclosed`, `unreadable`.
 pub fn condition(alloc: Global, given: &[Vec<u8>]) -> Result<Answer, Trouble> {
-    let [text] = given else {
-        return Err(Trouble::NoCase);
-    };
-    let text = as_text(text)?;
-    let mut out = String::new(alloc);
+    let text = one_text(given)?;
     match read_condition(alloc, text) {
-        Ok(condition) => show_condition(&mut out, text, &condition)?,
-        Err(ConditionError::Unclosed) => out.push_str("unclosed")?,
-        Err(ConditionError::Unreadable) => out.push_str("unreadable")?,
-        Err(ConditionError::Memory) => return Err(Trouble::Memory),
+        Ok(condition) => condition_told(alloc, text, &condition),
+        Err(ConditionError::Unclosed) => Ok(Answer::of_word(alloc, "unclosed")),
+        Err(ConditionError::Unreadable) => Ok(Answer::of_word(alloc, "unreadable")),
+        Err(ConditionError::Memory) => Err(Trouble::Memory),
     }
-    Answer::of_word(alloc, out.as_str())
+}
+
+fn condition_told(alloc: Global, text: &str, condition: &Condition) -> Result<Answer, Trouble> {
+    let mut out = String::new(alloc);
+    show_condition(&mut out, text, condition)?;
+    Ok(Answer::of_word(alloc, out.as_str()))
 }
 
 /// `conjunctions TEXT`: how many conjunctions the condition has.
 pub fn conjunctions(alloc: Global, given: &[Vec<u8>]) -> Result<Answer, Trouble> {
-    let [text] = given else {
-        return Err(Trouble::NoCase);
-    };
     let mut answer = Answer::new(alloc);
-    if let Ok(condition) = read_condition(alloc, as_text(text)?) {
-        answer.number((condition.more.len() as u64).saturating_add(1))?;
+    if let Ok(condition) = read_condition(alloc, one_text(given)?) {
+        answer.number((condition.more.len() as u64).saturating_add(1));
     }
     Ok(answer)
 }
@@ -63,25 +61,16 @@ pub fn truth_told(
     for _ in 0..count {
         budget.ask().map_err(|_| Trouble::NoCase)?;
     }
-    let Ok(makefile) = Name::read(alloc, MAKEFILE) else {
-        return Err(Trouble::Memory);
-    };
-    let told = truth(
-        alloc,
-        variables,
-        as_text(text)?,
-        &makefile,
-        world,
-        &mut budget,
-    );
-    let mut answer = match told {
-        Ok(held) => Answer::of_choice(alloc, held, "true", "false")?,
-        Err(Stop::Fault(kind)) => Answer::of_word(alloc, format!(in alloc; "{kind:?}")?.as_str())?,
-        Err(Stop::Store) => Answer::of_word(alloc, "Store")?,
-        Err(Stop::Memory) => return Err(Trouble::Memory),
-    };
-    answer.number(budget.spent())?;
-    answer.number(budget.questions())?;
+    let text = as_text(text)?;
+    let makefile = given_name(alloc, MAKEFILE.as_bytes())?;
+    let mut answer = Answer::new(alloc);
+    match truth(alloc, variables, text, &makefile, world, &mut budget) {
+        Ok(true) => answer.word("true"),
+        Ok(false) => answer.word("false"),
+        Err(stop) => answer.stop(stop),
+    }
+    answer.number(budget.spent());
+    answer.number(budget.questions());
     Ok(answer)
 }
 

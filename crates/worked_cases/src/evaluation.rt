@@ -1,6 +1,6 @@
 //! The layers of evaluation: budgets, variables and expansion, names and worlds of files, makefiles.
 use crate::answer::{Answer, Trouble};
-use crate::line::{as_number, as_text};
+use crate::line::{as_number, as_text, one_text};
 use crate::world::World;
 use mk_base::{Budget, Fault, FaultKind, Stop, UNITS};
 use mk_env::{Env, expand, expand_inside, expand_now, expand_variable, modify};
@@ -10,10 +10,10 @@ use mk_paths::{Name, NameFault, Names, PathFault, SearchPath, Settings, find};
 use std::alloc::Global;
 
 /// The file that `makefile`, `cost`, `value`, `stored` and `flavored` are about.
-pub const MAKEFILE: &str = "/a/b";
+const MAKEFILE: &str = "/a/b";
 
 /// `number of KIND`: the number by which replies name a kind of fault, with the kind's place.
-pub fn numbers_of_kinds(alloc: Global) -> Result<Answer, Trouble> {
+pub fn numbers_of_kinds(alloc: Global) -> Answer {
     let mut answer = Answer::new(alloc);
     for kind in [
         FaultKind::Line,
@@ -35,10 +35,10 @@ pub fn numbers_of_kinds(alloc: Global) -> Result<Answer, Trouble> {
         FaultKind::BadName,
         FaultKind::Questions,
     ] {
-        answer.word(format!(in alloc; "{kind:?}")?.as_str())?;
-        answer.number(u64::from(kind.number()))?;
+        answer.kind(&kind);
+        answer.number(u64::from(kind.number()));
     }
-    Ok(answer)
+    answer
 }
 
 /// `budget LIMIT pays N asks M`: pays so many units and asks so many questions, then tells the first
@@ -53,24 +53,20 @@ pub fn budget(alloc: Global, given: &[Vec<u8>]) -> Result<Answer, Trouble> {
     for _ in 0..as_number(units)? {
         fault = fault.or(budget.pay().err());
     }
-    add_fault_kind(alloc, &mut answer, fault)?;
+    add_fault_kind(&mut answer, fault);
     fault = None;
     for _ in 0..as_number(questions)? {
         fault = fault.or(budget.ask().err());
     }
-    add_fault_kind(alloc, &mut answer, fault)?;
-    answer.number(budget.spent())?;
-    answer.number(budget.questions())?;
+    add_fault_kind(&mut answer, fault);
+    answer.number(budget.spent());
+    answer.number(budget.questions());
     Ok(answer)
 }
 
-fn add_fault_kind(
-    alloc: Global,
-    answer: &mut Answer,
-    kind: Option<FaultKind>,
-) -> Result<(), Trouble> {
+fn add_fault_kind(answer: &mut Answer, kind: Option<FaultKind>) {
     match kind {
-        Some(kind) => answer.word(format!(in alloc; "{kind:?}")?.as_str()),
+        Some(kind) => answer.kind(&kind),
         None => answer.word("ok"),
     }
 }
@@ -83,7 +79,7 @@ pub fn blamed(alloc: Global, given: &[Vec<u8>]) -> Result<Answer, Trouble> {
     let stop = Stop::Fault(FaultKind::Reference);
     match stop.blame(alloc, as_text(name)?, as_number(line)?) {
         Stop::Fault(fault) => told_fault(alloc, &fault),
-        Stop::Store => Answer::of_word(alloc, "Store"),
+        Stop::Store => Ok(Answer::of_word(alloc, "Store")),
         Stop::Memory => Err(Trouble::Memory),
     }
 }
@@ -93,10 +89,8 @@ fn told_fault(alloc: Global, fault: &Fault) -> Result<Answer, Trouble> {
     let kind = fault.kind();
     let name = fault.name();
     let line = fault.line();
-    Answer::of_word(
-        alloc,
-        format!(in alloc; "{kind:?} at {name}:{line}")?.as_str(),
-    )
+    let told = format!(in alloc; "{kind:?} at {name}:{line}")?;
+    Ok(Answer::of_word(alloc, told.as_str()))
 }
 
 /// `expand TEXT`, `expand now TEXT`, `variable NAME`, `inside TEXT`: what one of these calls expands a text to, with
@@ -120,7 +114,7 @@ pub fn expansion(
         "inside" | "inside within" => expand_inside(alloc, variables, text, &mut budget),
         _ => expand(alloc, variables, text, &mut budget),
     };
-    told_expansion(alloc, outcome, &budget)
+    Ok(told_expansion(alloc, outcome, &budget))
 }
 
 /// `modify MODIFIERS on TEXT`: what they make of a text that is given, as `expand` tells it. A number
@@ -134,22 +128,21 @@ pub fn modified(alloc: Global, variables: &Env, given: &[Vec<u8>]) -> Result<Ans
     let mut budget = Budget::new(limit);
     let (text, modifiers) = (as_text(text)?, as_text(modifiers)?);
     let outcome = modify(alloc, variables, text, modifiers, &mut budget);
-    told_expansion(alloc, outcome, &budget)
+    Ok(told_expansion(alloc, outcome, &budget))
 }
 
 fn told_expansion(
     alloc: Global,
     outcome: Result<String, Stop<FaultKind>>,
     budget: &Budget,
-) -> Result<Answer, Trouble> {
-    let mut answer = match outcome {
-        Ok(text) => Answer::of_text(alloc, text.as_str())?,
-        Err(Stop::Fault(kind)) => Answer::of_word(alloc, format!(in alloc; "{kind:?}")?.as_str())?,
-        Err(Stop::Store) => Answer::of_word(alloc, "Store")?,
-        Err(Stop::Memory) => return Err(Trouble::Memory),
-    };
-    answer.number(budget.spent())?;
-    Ok(answer)
+) -> Answer {
+    let mut answer = Answer::new(alloc);
+    match outcome {
+        Ok(text) => answer.text(text.as_bytes()),
+        Err(stop) => answer.stop(stop),
+    }
+    answer.number(budget.spent());
+    answer
 }
 
 /// `get NAME`, `get from copy NAME`: the text of a variable, or `undefined`.
@@ -158,15 +151,12 @@ pub fn text_of_variable(
     variables: &Env,
     given: &[Vec<u8>],
 ) -> Result<Answer, Trouble> {
-    let [name] = given else {
-        return Err(Trouble::NoCase);
-    };
-    let name = as_text(name)?;
-    match variables.get(name) {
+    let name = one_text(given)?;
+    Ok(match variables.get(name) {
         Some(text) if variables.defined(name) => Answer::of_text(alloc, text),
         None if !variables.defined(name) => Answer::of_word(alloc, "undefined"),
         _ => Answer::of_word(alloc, "both"),
-    }
+    })
 }
 
 /// `name TEXT`, `name under DIRECTORY TEXT`: the resolved name of a file, or why there is none.
@@ -177,17 +167,19 @@ pub fn name_of(alloc: Global, given: &[Vec<u8>]) -> Result<Answer, Trouble> {
         _ => return Err(Trouble::NoCase),
     };
     match read {
-        Ok(name) => {
-            let mut answer = Answer::of_text(alloc, name.as_str())?;
-            if name.into_text().as_bytes().is_empty() {
-                answer.word("lost")?;
-            }
-            Ok(answer)
-        }
-        Err(NameFault::BadName) => Answer::of_word(alloc, "BadName"),
-        Err(NameFault::Above) => Answer::of_word(alloc, "Above"),
+        Ok(name) => Ok(name_told(alloc, name)),
+        Err(NameFault::BadName) => Ok(Answer::of_word(alloc, "BadName")),
+        Err(NameFault::Above) => Ok(Answer::of_word(alloc, "Above")),
         Err(NameFault::Memory) => Err(Trouble::Memory),
     }
+}
+
+fn name_told(alloc: Global, name: Name) -> Answer {
+    let mut answer = Answer::of_text(alloc, name.as_str());
+    if name.into_text().as_bytes().is_empty() {
+        answer.word("lost");
+    }
+    answer
 }
 
 /// `directory of NAME`: the directory that a file is in.
@@ -196,17 +188,14 @@ pub fn directory_of(alloc: Global, given: &[Vec<u8>]) -> Result<Answer, Trouble>
         return Err(Trouble::NoCase);
     };
     let name = given_name(alloc, name)?;
-    Answer::of_text(alloc, name.directory())
+    Ok(Answer::of_text(alloc, name.directory()))
 }
 
 /// `search path TEXT`: its trees, or `BadPath`.
 pub fn trees_of(alloc: Global, given: &[Vec<u8>]) -> Result<Answer, Trouble> {
-    let [text] = given else {
-        return Err(Trouble::NoCase);
-    };
-    match SearchPath::read(alloc, as_text(text)?) {
-        Ok(path) => trees_told(alloc, &path),
-        Err(PathFault::BadPath) => Answer::of_word(alloc, "BadPath"),
+    match SearchPath::read(alloc, one_text(given)?) {
+        Ok(path) => Ok(trees_told(alloc, &path)),
+        Err(PathFault::BadPath) => Ok(Answer::of_word(alloc, "BadPath")),
         Err(PathFault::Memory) => Err(Trouble::Memory),
     }
 }
@@ -216,15 +205,16 @@ pub fn standard_trees(alloc: Global) -> Result<Answer, Trouble> {
     let settings = Settings {
         path: SearchPath::standard(alloc)?,
     };
-    trees_told(alloc, &settings.path)
+    Ok(trees_told(alloc, &settings.path))
 }
 
-fn trees_told(alloc: Global, path: &SearchPath) -> Result<Answer, Trouble> {
+/// The trees of a search path.
+pub fn trees_told(alloc: Global, path: &SearchPath) -> Answer {
     let mut answer = Answer::new(alloc);
     for tree in path.trees() {
-        answer.text(tree.as_bytes())?;
+        answer.text(tree.as_bytes());
     }
-    Ok(answer)
+    answer
 }
 
 /// A name that a case gives.
@@ -255,7 +245,7 @@ pub fn remove(
         return Err(Trouble::NoCase);
     };
     let removed = world.remove(&given_name(alloc, name)?);
-    Answer::of_choice(alloc, removed, "removed", "absent")
+    Ok(Answer::of_choice(alloc, removed, "removed", "absent"))
 }
 
 /// `read NAME`: the bytes of a file, or `absent`; every way of asking tells the same.
@@ -264,28 +254,37 @@ pub fn read(alloc: Global, world: &mut MemoryFiles, given: &[Vec<u8>]) -> Result
         return Err(Trouble::NoCase);
     };
     let name = given_name(alloc, name)?;
-    let Ok(is_there) = look_has::<MemoryFiles, FaultKind>(world, &name) else {
-        return Err(Trouble::Memory);
-    };
-    let has = world.has(&name)?;
-    let is_held = world.get(&name).is_some();
+    let is_there = is_there(world, &name)?;
     let read = world.read(&name)?;
-    let seen = match look_read::<MemoryFiles, FaultKind>(world, &name) {
-        Ok(seen) => seen,
-        Err(_) => return Err(Trouble::Memory),
-    };
-    match (read, seen) {
-        (Some(read), Some(seen)) if is_there && is_held && has => {
-            let mut answer = Answer::new(alloc);
-            answer.text(read.as_slice())?;
-            if seen.as_slice() != read.as_slice() {
-                answer.text(seen.as_slice())?;
-            }
-            Ok(answer)
-        }
-        (None, None) if !is_there && !is_held && !has => Answer::of_word(alloc, "absent"),
+    let seen = look_read::<MemoryFiles, FaultKind>(world, &name).map_err(|_| Trouble::Memory)?;
+    Ok(match (read, seen) {
+        (Some(read), Some(seen)) if is_there == Some(true) => {
+            two_told(alloc, read.as_slice(), seen.as_slice())
+        },
+        (None, None) if is_there == Some(false) => Answer::of_word(alloc, "absent"),
         _ => Answer::of_word(alloc, "both"),
+    })
+}
+
+/// Whether a file is there; none where two ways of asking tell two things.
+fn is_there(world: &mut MemoryFiles, name: &Name) -> Result<Option<bool>, Trouble> {
+    let has = world.has(name)?;
+    let is_held = world.get(name).is_some();
+    match look_has::<MemoryFiles, FaultKind>(world, name) {
+        Ok(seen) if seen == has && is_held == has => Ok(Some(has)),
+        Ok(_) => Ok(None),
+        Err(_) => Err(Trouble::Memory),
     }
+}
+
+/// The bytes of a content, and those of the other where they aren't the same.
+pub fn two_told(alloc: Global, one: &[u8], other: &[u8]) -> Answer {
+    let mut answer = Answer::new(alloc);
+    answer.text(one);
+    if one != other {
+        answer.text(other);
+    }
+    answer
 }
 
 /// A budget that has counted so many questions.
@@ -308,12 +307,13 @@ pub fn ask_has_told(
         return Err(Trouble::NoCase);
     };
     let mut budget = asked(count)?;
-    let mut answer = match ask_has(world, &given_name(alloc, name)?, &mut budget) {
-        Ok(is_there) => Answer::of_choice(alloc, is_there, "there", "absent")?,
-        Err(Stop::Fault(kind)) => Answer::of_word(alloc, format!(in alloc; "{kind:?}")?.as_str())?,
-        Err(_) => return Err(Trouble::Memory),
-    };
-    answer.number(budget.questions())?;
+    let mut answer = Answer::new(alloc);
+    match ask_has(world, &given_name(alloc, name)?, &mut budget) {
+        Ok(true) => answer.word("there"),
+        Ok(false) => answer.word("absent"),
+        Err(stop) => answer.stop(stop),
+    }
+    answer.number(budget.questions());
     Ok(answer)
 }
 
@@ -327,17 +327,13 @@ pub fn ask_read_told(
         return Err(Trouble::NoCase);
     };
     let mut budget = asked(count)?;
-    let mut answer = match ask_read(world, &given_name(alloc, name)?, &mut budget) {
-        Ok(Some(content)) => {
-            let mut answer = Answer::new(alloc);
-            answer.text(content.as_slice())?;
-            answer
-        }
-        Ok(None) => Answer::of_word(alloc, "absent")?,
-        Err(Stop::Fault(kind)) => Answer::of_word(alloc, format!(in alloc; "{kind:?}")?.as_str())?,
-        Err(_) => return Err(Trouble::Memory),
-    };
-    answer.number(budget.questions())?;
+    let mut answer = Answer::new(alloc);
+    match ask_read(world, &given_name(alloc, name)?, &mut budget) {
+        Ok(Some(content)) => answer.text(content.as_slice()),
+        Ok(None) => answer.word("absent"),
+        Err(stop) => answer.stop(stop),
+    }
+    answer.number(budget.questions());
     Ok(answer)
 }
 
@@ -346,13 +342,19 @@ pub fn place(alloc: Global, world: &mut MemoryFiles, given: &[Vec<u8>]) -> Resul
     let [directory, path] = given else {
         return Err(Trouble::NoCase);
     };
-    let Ok(path) = SearchPath::read(alloc, as_text(path)?) else {
-        return Err(Trouble::NoCase);
-    };
-    match find(alloc, world, &path, as_text(directory)?)? {
+    let path = given_path(alloc, path)?;
+    Ok(match find(alloc, world, &path, as_text(directory)?)? {
         Some(name) => Answer::of_text(alloc, name.as_str()),
         None => Answer::of_word(alloc, "none"),
-    }
+    })
+}
+
+/// A search path that a case gives.
+pub fn given_path(alloc: Global, text: &[u8]) -> Result<SearchPath, Trouble> {
+    SearchPath::read(alloc, as_text(text)?).map_err(|fault| match fault {
+        PathFault::Memory => Trouble::Memory,
+        PathFault::BadPath => Trouble::NoCase,
+    })
 }
 
 /// `cost`: what the makefile costs, or its fault with what it cost until there.
@@ -360,7 +362,7 @@ pub fn cost(alloc: Global, world: &mut World) -> Result<Answer, Trouble> {
     match evaluated(alloc, world)? {
         Ok(evaluated) => {
             let mut answer = Answer::new(alloc);
-            answer.number(evaluated.cost)?;
+            answer.number(evaluated.cost);
             Ok(answer)
         }
         Err(failed) => failure(alloc, &failed),
@@ -377,28 +379,44 @@ pub fn evaluated_whole(
     let [file, variable] = given else {
         return Err(Trouble::NoCase);
     };
-    let evaluated = match evaluated_file(alloc, world, file, None)? {
-        Ok(evaluated) => evaluated,
-        Err(failed) => return failure(alloc, &failed),
-    };
     let name = given_name(alloc, file)?;
-    let mut answer = Answer::of_word(alloc, kind_word(evaluated.kind))?;
-    answer.word("cost")?;
-    answer.number(evaluated.cost)?;
-    match value(alloc, &evaluated, &name, as_text(variable)?) {
+    match evaluated_file(alloc, world, &name, None)? {
+        Ok(evaluated) => {
+            let mut answer = Answer::of_word(alloc, kind_word(evaluated.kind));
+            add_cost(&mut answer, evaluated.cost);
+            add_value(alloc, answer, &evaluated, &name, as_text(variable)?)
+        }
+        Err(failed) => failure(alloc, &failed),
+    }
+}
+
+/// The answer with the value of a variable behind it, and what that cost; or the value's fault alone.
+fn add_value(
+    alloc: Global,
+    mut answer: Answer,
+    evaluated: &Evaluated,
+    name: &Name,
+    variable: &str,
+) -> Result<Answer, Trouble> {
+    match value(alloc, evaluated, name, variable) {
         Ok(Some(valued)) => {
-            answer.text(valued.text().as_bytes())?;
-            answer.word("cost")?;
-            answer.number(valued.cost())?;
+            answer.text(valued.text().as_bytes());
+            add_cost(&mut answer, valued.cost());
             Ok(answer)
         }
         Ok(None) => {
-            answer.word("undefined")?;
+            answer.word("undefined");
             Ok(answer)
         }
         Err(Stop::Fault(failed)) => failure(alloc, &failed),
         Err(_) => Err(Trouble::Memory),
     }
+}
+
+/// Adds a cost behind its word.
+pub fn add_cost(answer: &mut Answer, cost: u64) {
+    answer.word("cost");
+    answer.number(cost);
 }
 
 fn kind_word(kind: Kind) -> &'static str {
@@ -415,7 +433,8 @@ pub fn flavored(alloc: Global, world: &mut World, given: &[Vec<u8>]) -> Result<A
         return Err(Trouble::NoCase);
     };
     let flavors = texts(alloc, flavors)?;
-    match evaluated_file(alloc, world, MAKEFILE.as_bytes(), Some(flavors.as_slice()))? {
+    let makefile = makefile(alloc)?;
+    match evaluated_file(alloc, world, &makefile, Some(flavors.as_slice()))? {
         Ok(evaluated) => text_of_variable(alloc, &evaluated.env, &given[..1]),
         Err(failed) => failure(alloc, &failed),
     }
@@ -440,40 +459,31 @@ pub fn stored(alloc: Global, world: &mut World, given: &[Vec<u8>]) -> Result<Ans
 /// `value NAME`: the value of a variable behind the makefile, with its cost; `undefined`; or its
 /// fault, or the makefile's.
 pub fn value_of(alloc: Global, world: &mut World, given: &[Vec<u8>]) -> Result<Answer, Trouble> {
-    let [variable] = given else {
-        return Err(Trouble::NoCase);
-    };
-    let evaluated = match evaluated(alloc, world)? {
-        Ok(evaluated) => evaluated,
-        Err(failed) => return failure(alloc, &failed),
-    };
-    let name = given_name(alloc, MAKEFILE.as_bytes())?;
-    match value(alloc, &evaluated, &name, as_text(variable)?) {
-        Ok(Some(valued)) => {
-            let mut answer = Answer::of_text(alloc, valued.text())?;
-            answer.word("cost")?;
-            answer.number(valued.cost())?;
-            Ok(answer)
-        }
-        Ok(None) => Answer::of_word(alloc, "undefined"),
-        Err(Stop::Fault(failed)) => failure(alloc, &failed),
-        Err(_) => Err(Trouble::Memory),
+    let variable = one_text(given)?;
+    let makefile = makefile(alloc)?;
+    match evaluated_file(alloc, world, &makefile, None)? {
+        Ok(evaluated) => add_value(alloc, Answer::new(alloc), &evaluated, &makefile, variable),
+        Err(failed) => failure(alloc, &failed),
     }
+}
+
+/// The name of the makefile.
+pub fn makefile(alloc: Global) -> Result<Name, Trouble> {
+    given_name(alloc, MAKEFILE.as_bytes())
 }
 
 /// What the makefile leaves, or its fault.
 pub fn evaluated(alloc: Global, world: &mut World) -> Result<Result<Evaluated, Failed>, Trouble> {
-    evaluated_file(alloc, world, MAKEFILE.as_bytes(), None)
+    evaluated_file(alloc, world, &makefile(alloc)?, None)
 }
 
 fn evaluated_file(
     alloc: Global,
     world: &mut World,
-    file: &[u8],
+    name: &Name,
     flavors: Option<&[String]>,
 ) -> Result<Result<Evaluated, Failed>, Trouble> {
-    let name = given_name(alloc, file)?;
-    match evaluate(alloc, &mut world.files, &world.settings, &name, flavors) {
+    match evaluate(alloc, &mut world.files, &world.settings, name, flavors) {
         Ok(evaluated) => Ok(Ok(evaluated)),
         Err(Stop::Fault(failed)) => Ok(Err(failed)),
         Err(_) => Err(Trouble::Memory),
@@ -483,7 +493,6 @@ fn evaluated_file(
 /// A fault, with what was spent until there.
 pub fn failure(alloc: Global, failed: &Failed) -> Result<Answer, Trouble> {
     let mut answer = told_fault(alloc, &failed.fault)?;
-    answer.word("cost")?;
-    answer.number(failed.cost)?;
+    add_cost(&mut answer, failed.cost);
     Ok(answer)
 }

@@ -36,7 +36,7 @@ impl Line {
             }
         }
         if is_wanted {
-            line.wanted = Some(String::from_str(alloc, wanted.as_str())?);
+            line.wanted = Some(String::from_str(alloc, wanted.whole()?)?);
         }
         Ok(line)
     }
@@ -60,6 +60,14 @@ pub fn as_text(bytes: &[u8]) -> Result<&str, Trouble> {
     str::from_utf8(bytes).map_err(|_| Trouble::NoCase)
 }
 
+/// The one text that a call is given.
+pub fn one_text(given: &[Vec<u8>]) -> Result<&str, Trouble> {
+    match given {
+        [text] => as_text(text),
+        _ => Err(Trouble::NoCase),
+    }
+}
+
 /// The number that the bytes write.
 pub fn as_number(bytes: &[u8]) -> Result<u64, Trouble> {
     as_text(bytes)?.parse::<u64>().map_err(|_| Trouble::NoCase)
@@ -71,6 +79,7 @@ fn want(wanted: &mut Answer, token: Token) -> Result<(), Trouble> {
         Token::Word(word) => wanted.word(as_text(&word)?),
         Token::Text(text) => wanted.text(text.as_slice()),
     }
+    Ok(())
 }
 
 /// A part of a line between two blanks.

@@ -3,8 +3,8 @@ ghost use Rattle.std.specs.Prelude.{ℕ};
 ghost use Rattle.ports_serve.specs.Calls.{Call};
 
 use crate::answer::{Answer, Trouble};
+use crate::service::{bytes_told, service_of_one};
 use mio::net::TcpStream;
-use ports_core::{Config, Service};
 use ports_host::{Loopback, Sockets};
 use ports_script::Listen;
 use ports_serve::{Outcome, Wire, serve};
@@ -78,15 +78,8 @@ pub fn answered(alloc: Global, net: &impl Net, given: &[Vec<u8>]) -> Result<Answ
     let [sent] = given else {
         return Err(Trouble::NoCase);
     };
-    let config = Config {
-        keys: vec![in alloc; String::from_str(alloc, "alpha")?]?,
-        parses: 1,
-        evals: 1,
-    };
-    let service = Service::new(alloc, config).map_err(|_| Trouble::NoCase)?;
+    let service = service_of_one(alloc)?;
     let mut pair = Pair::new(alloc, net, sent.as_slice())?;
     let _service = serve(alloc, &mut pair, service, ROUNDS)?;
-    let mut answer = Answer::new(alloc);
-    answer.text(pair.taken.as_slice())?;
-    Ok(answer)
+    Ok(bytes_told(alloc, pair.taken.as_slice()))
 }

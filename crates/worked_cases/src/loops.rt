@@ -9,6 +9,9 @@ use mk_env::Env;
 use mk_loop::{Scope, Turns, put_words, read_header};
 use std::alloc::Global;
 
+/// A line with words put in; none where it has none to put in.
+type Put = Result<Option<String>, Stop<FaultKind>>;
+
 /// `turns of HEADER on LINE`: the line with the words of each turn put in, with the units spent; of a
 /// fault its kind. A number behind `within` is the limit of the budget.
 pub fn turns_of(alloc: Global, variables: &Env, given: &[Vec<u8>]) -> Result<Answer, Trouble> {
@@ -17,40 +20,28 @@ pub fn turns_of(alloc: Global, variables: &Env, given: &[Vec<u8>]) -> Result<Ans
         [header, line, limit] => (as_number(limit)?, header, line),
         _ => return Err(Trouble::NoCase),
     };
-    let line = as_text(line)?;
+    let (header, line) = (as_text(header)?, as_text(line)?);
     let mut budget = Budget::new(limit);
     let mut answer = Answer::new(alloc);
-    match read_header(alloc, variables, as_text(header)?, &mut budget) {
+    match read_header(alloc, variables, header, &mut budget) {
         Ok(turns) => {
             for index in 0..turns.count() {
                 let scope = Scope::Turn(turns.turn(index), &Scope::Outside);
-                let outcome = put_words(alloc, variables, scope, line, &mut budget);
-                add_outcome(alloc, &mut answer, outcome)?;
+                let put = put_words(alloc, variables, scope, line, &mut budget);
+                add_put(&mut answer, put);
             }
         }
-        Err(stop) => add_stop(alloc, &mut answer, stop)?,
+        Err(stop) => answer.stop(stop),
     }
-    answer.number(budget.spent())?;
+    answer.number(budget.spent());
     Ok(answer)
 }
 
-fn add_outcome(
-    alloc: Global,
-    answer: &mut Answer,
-    outcome: Result<Option<String>, Stop<FaultKind>>,
-) -> Result<(), Trouble> {
-    match outcome {
+fn add_put(answer: &mut Answer, put: Put) {
+    match put {
         Ok(Some(text)) => answer.text(text.as_bytes()),
         Ok(None) => answer.word("unchanged"),
-        Err(stop) => add_stop(alloc, answer, stop),
-    }
-}
-
-fn add_stop(alloc: Global, answer: &mut Answer, stop: Stop<FaultKind>) -> Result<(), Trouble> {
-    match stop {
-        Stop::Fault(kind) => answer.word(format!(in alloc; "{kind:?}")?.as_str()),
-        Stop::Store => answer.word("Store"),
-        Stop::Memory => Err(Trouble::Memory),
+        Err(stop) => answer.stop(stop),
     }
 }
 
@@ -71,27 +62,37 @@ pub fn put_words_told(
         return Err(Trouble::NoCase);
     };
     let mut budget = Budget::new(limit);
-    let line = as_text(line)?;
-    let outcome = match headers {
-        [] => put_words(alloc, variables, Scope::Outside, line, &mut budget),
-        [first] => {
-            let outer = turns(alloc, variables, first)?;
-            let scope = Scope::Turn(outer.turn(0), &Scope::Outside);
-            put_words(alloc, variables, scope, line, &mut budget)
+    let put = put_in(alloc, variables, headers, as_text(line)?, &mut budget)?;
+    let mut answer = Answer::new(alloc);
+    add_put(&mut answer, put);
+    answer.number(budget.spent());
+    Ok(answer)
+}
+
+/// The line in the first turns of these loops.
+fn put_in(
+    alloc: Global,
+    variables: &Env,
+    headers: &[Vec<u8>],
+    line: &str,
+    budget: &mut Budget,
+) -> Result<Put, Trouble> {
+    match headers {
+        [] => Ok(put_words(alloc, variables, Scope::Outside, line, budget)),
+        [header] => {
+            let turns = turns(alloc, variables, header)?;
+            let scope = Scope::Turn(turns.turn(0), &Scope::Outside);
+            Ok(put_words(alloc, variables, scope, line, budget))
         }
         [first, second] => {
             let outer = turns(alloc, variables, first)?;
             let inner = turns(alloc, variables, second)?;
             let around = Scope::Turn(outer.turn(0), &Scope::Outside);
             let scope = Scope::Turn(inner.turn(0), &around);
-            put_words(alloc, variables, scope, line, &mut budget)
+            Ok(put_words(alloc, variables, scope, line, budget))
         }
-        _ => return Err(Trouble::NoCase),
-    };
-    let mut answer = Answer::new(alloc);
-    add_outcome(alloc, &mut answer, outcome)?;
-    answer.number(budget.spent())?;
-    Ok(answer)
+        _ => Err(Trouble::NoCase),
+    }
 }
 
 /// The turns of a loop, one at least.

@@ -28,14 +28,23 @@ use cases::Cases;
 use std::io;
 
 fn main(rt: HostRuntime) -> io::Result<()> {
-    let alloc = rt.alloc();
-    let input = io::read_to_string(alloc, rt.reader())?;
-    let mut cases = Cases::new(alloc)?;
+    let input = io::read_to_string(rt.alloc(), rt.reader())?;
+    let mut cases = Cases::new(rt.alloc())?;
+    take_all(&rt, &mut cases, input.as_str())?;
+    tell_counts(&rt, &cases)
+}
+
+/// Takes each line of the input, and prints what is to be told of it.
+fn take_all(rt: &HostRuntime, cases: &mut Cases, input: &str) -> io::Result<()> {
     for line in input.lines() {
-        if let Some(wrong) = cases.take(&rt, line)? {
+        if let Some(wrong) = cases.take(rt, line)? {
             println!(rt; "{wrong}")?;
         }
     }
+    Ok(())
+}
+
+fn tell_counts(rt: &HostRuntime, cases: &Cases) -> io::Result<()> {
     let count = cases.count();
     let wrong = cases.wrong();
     if cases.is_open() {

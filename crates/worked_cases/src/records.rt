@@ -1,9 +1,11 @@
 //! The layer of ports: their records.
 use crate::answer::{Answer, Trouble};
-use crate::evaluation::{MAKEFILE, evaluated, failure, given_name};
-use crate::packages::read_path;
+use crate::evaluation::{add_cost, evaluated, failure, makefile};
+use crate::line::one_text;
+use crate::packages::{add_texts, path_of};
 use crate::world::World;
 use mk_base::Stop;
+use mk_eval::Evaluated;
 use pkg_path::PkgPath;
 use port_rules::{Depend, Package, PortFlavors, PortRecord, record};
 use std::alloc::Global;
@@ -11,22 +13,20 @@ use std::alloc::Global;
 /// `record PATH`: what the port at this path is, by the makefile, with its cost; or its fault, or the
 /// makefile's.
 pub fn record_told(alloc: Global, world: &mut World, given: &[Vec<u8>]) -> Result<Answer, Trouble> {
-    let [path] = given else {
-        return Err(Trouble::NoCase);
-    };
-    let Ok(path) = read_path(alloc, path)? else {
-        return Err(Trouble::NoCase);
-    };
-    let evaluated = match evaluated(alloc, world)? {
-        Ok(evaluated) => evaluated,
-        Err(failed) => return failure(alloc, &failed),
-    };
-    let name = given_name(alloc, MAKEFILE.as_bytes())?;
-    match record(alloc, &evaluated, &name) {
+    let path = path_of(alloc, one_text(given)?)?.without_sub();
+    match evaluated(alloc, world)? {
+        Ok(evaluated) => port_told(alloc, &path, &evaluated),
+        Err(failed) => failure(alloc, &failed),
+    }
+}
+
+fn port_told(alloc: Global, path: &PkgPath, evaluated: &Evaluated) -> Result<Answer, Trouble> {
+    match record(alloc, evaluated, &makefile(alloc)?) {
         Ok(recorded) => {
-            let mut answer = told_port(alloc, &path.without_sub(), &recorded.port)?;
-            answer.word("cost")?;
-            answer.number(recorded.cost)?;
+            let mut answer = Answer::new(alloc);
+            answer.text(path.canonical(alloc)?.as_bytes());
+            add_port(alloc, &mut answer, &recorded.port);
+            add_cost(&mut answer, recorded.cost);
             Ok(answer)
         }
         Err(Stop::Fault(failed)) => failure(alloc, &failed),
@@ -35,50 +35,44 @@ pub fn record_told(alloc: Global, world: &mut World, given: &[Vec<u8>]) -> Resul
 }
 
 /// A port, what is empty of it left out.
-fn told_port(alloc: Global, path: &PkgPath, port: &PortRecord) -> Result<Answer, Trouble> {
-    let mut answer = Answer::of_text(alloc, path.canonical(alloc)?.as_str())?;
-    add_flavors(&mut answer, port.flavors())?;
+fn add_port(alloc: Global, answer: &mut Answer, port: &PortRecord) {
+    add_flavors(answer, port.flavors());
     if !port.maintainer().is_empty() {
-        answer.word("maintainer")?;
-        answer.text(port.maintainer().as_bytes())?;
+        answer.word("maintainer");
+        answer.text(port.maintainer().as_bytes());
     }
-    add_texts(&mut answer, "categories", port.categories())?;
+    add_named(answer, "categories", port.categories());
     for package in port.packages() {
-        add_package(alloc, &mut answer, package)?;
+        add_package(alloc, answer, package);
     }
     for depend in port.depends() {
-        add_depend(&mut answer, depend)?;
+        add_depend(answer, depend);
     }
-    Ok(answer)
 }
 
-fn add_flavors(answer: &mut Answer, flavors: &PortFlavors) -> Result<(), Trouble> {
-    add_texts(answer, "flavor", flavors.chosen())?;
-    add_texts(answer, "flavors", flavors.proper())?;
-    add_texts(answer, "pseudo", flavors.pseudo())
+fn add_flavors(answer: &mut Answer, flavors: &PortFlavors) {
+    add_named(answer, "flavor", flavors.chosen());
+    add_named(answer, "flavors", flavors.proper());
+    add_named(answer, "pseudo", flavors.pseudo());
 }
 
 /// Adds texts behind a word; where there are none, not even the word.
-fn add_texts(answer: &mut Answer, word: &str, texts: &[String]) -> Result<(), Trouble> {
+fn add_named(answer: &mut Answer, word: &str, texts: &[String]) {
     if !texts.is_empty() {
-        answer.word(word)?;
+        answer.word(word);
+        add_texts(answer, texts);
     }
-    for text in texts {
-        answer.text(text.as_bytes())?;
-    }
-    Ok(())
 }
 
-fn add_package(alloc: Global, answer: &mut Answer, package: &Package) -> Result<(), Trouble> {
-    let name = package.name();
-    answer.word("package")?;
-    answer.text(package.subpackage().as_bytes())?;
-    answer.text(format!(in alloc; "{name}")?.as_bytes())?;
-    answer.text(package.comment().as_bytes())
+fn add_package(alloc: Global, answer: &mut Answer, package: &Package) {
+    answer.word("package");
+    answer.text(package.subpackage().as_bytes());
+    answer.printed(alloc, package.name());
+    answer.text(package.comment().as_bytes());
 }
 
-fn add_depend(answer: &mut Answer, depend: &Depend) -> Result<(), Trouble> {
-    answer.word(depend.kind().as_str())?;
-    answer.text(depend.subpackage().as_bytes())?;
-    answer.text(depend.item().as_bytes())
+fn add_depend(answer: &mut Answer, depend: &Depend) {
+    answer.word(depend.kind().as_str());
+    answer.text(depend.subpackage().as_bytes());
+    answer.text(depend.item().as_bytes());
 }

@@ -2,9 +2,9 @@
 use crate::answer::{Answer, Trouble};
 use crate::line::{as_number, as_text};
 use crate::service::reply_told;
-use crate::stores::{MOST_LIMITS, stops_told};
+use crate::stores::{MOST_LIMITS, filled, stops_told};
 use http::StatusCode;
-use ports_core::{Config, Event, Service, Tell, Told};
+use ports_core::{Config, Event, Service};
 use ports_http::{Method, Reply};
 use std::alloc::Global;
 
@@ -57,52 +57,50 @@ pub fn answer(
     call: &str,
     given: &[Vec<u8>],
 ) -> Result<Answer, Trouble> {
-    match (call, given) {
-        ("service GET", [tenant, target]) => {
-            let asked = Asked::read(Method::Get, tenant, target, &[])?;
-            reply_told(alloc, &ask(alloc, service, asked)?)
-        }
-        ("service PUT", [tenant, target, body]) => {
-            let asked = Asked::read(Method::Put, tenant, target, body)?;
-            reply_told(alloc, &ask(alloc, service, asked)?)
-        }
-        ("service DELETE", [tenant, target]) => {
-            let asked = Asked::read(Method::Delete, tenant, target, &[])?;
-            reply_told(alloc, &ask(alloc, service, asked)?)
-        }
-        ("service fill", [tenant, count, body]) => fill(alloc, service, tenant, count, body),
-        ("service PUT stopped by", [tenant, target, body, probe]) => {
-            let asked = Asked::read(Method::Put, tenant, target, body)?;
-            let probe = Asked::read(Method::Get, tenant, probe, &[])?;
-            stopped(alloc, service, asked, probe)
-        }
-        ("service DELETE stopped by", [tenant, target, probe]) => {
-            let asked = Asked::read(Method::Delete, tenant, target, &[])?;
-            let probe = Asked::read(Method::Get, tenant, probe, &[])?;
-            stopped(alloc, service, asked, probe)
-        }
+    match call {
+        "service GET" => asked_told(alloc, service, Method::Get, given),
+        "service PUT" => asked_told(alloc, service, Method::Put, given),
+        "service DELETE" => asked_told(alloc, service, Method::Delete, given),
+        "service fill" => fill(alloc, service, given),
+        "service PUT stopped by" => stopped(alloc, service, Method::Put, given),
+        "service DELETE stopped by" => stopped(alloc, service, Method::Delete, given),
         _ => Err(Trouble::NoCase),
     }
+}
+
+/// `service METHOD TENANT TARGET [BODY]`: the reply.
+fn asked_told(
+    alloc: Global,
+    service: &mut Service,
+    method: Method,
+    given: &[Vec<u8>],
+) -> Result<Answer, Trouble> {
+    let asked = match given {
+        [tenant, target] => Asked::read(method, tenant, target, &[])?,
+        [tenant, target, body] => Asked::read(method, tenant, target, body)?,
+        _ => return Err(Trouble::NoCase),
+    };
+    let reply = ask(alloc, service, asked)?;
+    Ok(reply_told(alloc, &reply))
 }
 
 /// The reply to a request on a new connection, which is lost behind it.
 fn ask(alloc: Global, service: &mut Service, asked: Asked<'_>) -> Result<Reply, Trouble> {
     let conn = service.next_conn();
-    let _opened = happen(service, &Event::Open(conn))?;
-    let _heard = happen(service, &Event::Piece(conn, stream_of(alloc, asked)?))?;
-    let Told { reply, .. } = happen(service, &Event::Turn(asked.tenant))?;
-    let _lost = happen(service, &Event::Fault(conn))?;
-    match reply {
-        Some(Tell { reply, .. }) => Ok(reply),
-        None => Err(Trouble::NoCase),
-    }
+    let piece = Event::Piece(conn, stream_of(alloc, asked)?);
+    happen(service, &Event::Open(conn))?;
+    happen(service, &piece)?;
+    let reply = happen(service, &Event::Turn(asked.tenant))?;
+    happen(service, &Event::Fault(conn))?;
+    reply.ok_or(Trouble::NoCase)
 }
 
-fn happen(service: &mut Service, event: &Event) -> Result<Told, Trouble> {
+/// The reply that an event tells.
+fn happen(service: &mut Service, event: &Event) -> Result<Option<Reply>, Trouble> {
     if !service.allows(event) {
         return Err(Trouble::NoCase);
     }
-    Ok(service.step(event))
+    Ok(service.step(event).reply.map(|tell| tell.reply))
 }
 
 /// The bytes of a request.
@@ -121,35 +119,44 @@ fn stream_of(alloc: Global, asked: Asked<'_>) -> Result<Vec<u8>, Trouble> {
 
 /// `service fill TENANT N BYTES`: how many of N files of these bytes are stored, and what the first that
 /// isn't is told.
-fn fill(
-    alloc: Global,
-    service: &mut Service,
-    tenant: &[u8],
-    count: &[u8],
-    body: &[u8],
-) -> Result<Answer, Trouble> {
-    let mut answer = Answer::new(alloc);
+fn fill(alloc: Global, service: &mut Service, given: &[Vec<u8>]) -> Result<Answer, Trouble> {
+    let [tenant, count, body] = given else {
+        return Err(Trouble::NoCase);
+    };
     let count = as_number(count)?;
     for number in 0..count {
         let target = format!(in alloc; "/v1/file?name=/f/{number}")?;
         let asked = Asked::read(Method::Put, tenant, target.as_bytes(), body)?;
         let reply = ask(alloc, service, asked)?;
         if reply.status != StatusCode::OK {
-            answer.number(number)?;
-            answer.word(reply.status.as_str())?;
-            answer.text(reply.body())?;
+            let mut answer = filled(alloc, number, reply.status.as_str());
+            answer.text(reply.body());
             return Ok(answer);
         }
     }
-    answer.number(count)?;
-    answer.word("stored")?;
-    Ok(answer)
+    Ok(filled(alloc, count, "stored"))
 }
 
 /// `service PUT stopped TENANT TARGET BODY by PROBE`, `service DELETE stopped TENANT TARGET by PROBE`: the
 /// request under a limit of 1, 2, 3 .. steps of the store until it isn't answered 503; whether a GET of the
 /// probe gave behind each 503 what it gave before, and the last status.
 fn stopped(
+    alloc: Global,
+    service: &mut Service,
+    method: Method,
+    given: &[Vec<u8>],
+) -> Result<Answer, Trouble> {
+    let (tenant, target, body, probe) = match given {
+        [tenant, target, probe] => (tenant, target, b"".as_slice(), probe),
+        [tenant, target, body, probe] => (tenant, target, body.as_slice(), probe),
+        _ => return Err(Trouble::NoCase),
+    };
+    let asked = Asked::read(method, tenant, target, body)?;
+    let probe = Asked::read(Method::Get, tenant, probe, &[])?;
+    stopped_by(alloc, service, asked, probe)
+}
+
+fn stopped_by(
     alloc: Global,
     service: &mut Service,
     asked: Asked<'_>,
@@ -162,7 +169,7 @@ fn stopped(
         let reply = ask(alloc, service, asked)?;
         service.limit_steps(None);
         if reply.status != StatusCode::SERVICE_UNAVAILABLE {
-            return stops_told(alloc, limit, is_kept, reply.status.as_str());
+            return Ok(stops_told(alloc, limit, is_kept, reply.status.as_str()));
         }
         is_kept = is_kept && ask(alloc, service, probe)?.body() == was.body();
     }

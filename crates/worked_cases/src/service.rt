@@ -4,11 +4,13 @@ use crate::line::{as_number, as_text};
 use crate::quiet::QuietPorts;
 use crate::world::World;
 use http::StatusCode;
-use ports_core::{Config, Transcript, replay};
-use ports_http::{Content, HeadFault, Method, Reply, StreamEnd, decode, write_fixed, write_reply};
+use ports_core::{Config, Service, Transcript, replay};
+use ports_http::{
+    Content, HeadFault, Method, Reply, Request, StreamEnd, decode, write_fixed, write_reply,
+};
 use ports_plain::{Plain, Prepared};
 use ports_script::{read_script, run_command};
-use std::alloc::Global;
+use std::alloc::{AllocError, Global};
 use std::fmt::Write;
 
 /// `stream PIECE..`: the requests of a stream that comes in these pieces, each as its method, target
@@ -17,23 +19,27 @@ pub fn stream(alloc: Global, given: &[Vec<u8>]) -> Result<Answer, Trouble> {
     let decoded = decode(alloc, given)?;
     let mut answer = Answer::new(alloc);
     for request in &decoded.requests {
-        answer.word(request.method.as_str())?;
-        answer.text(request.target.as_bytes())?;
-        answer.text(request.body.as_slice())?;
-        if let Some(key) = &request.key {
-            answer.word("key")?;
-            answer.text(key.as_slice())?;
-        }
-        if request.close {
-            answer.word("closes")?;
-        }
+        add_request(&mut answer, request);
     }
     match decoded.end {
-        StreamEnd::Waiting => answer.word("waiting")?,
-        StreamEnd::Closed => answer.word("closed")?,
-        StreamEnd::Refused(fault) => answer.word(format!(in alloc; "{fault:?}")?.as_str())?,
+        StreamEnd::Waiting => answer.word("waiting"),
+        StreamEnd::Closed => answer.word("closed"),
+        StreamEnd::Refused(fault) => answer.kind(&fault),
     }
     Ok(answer)
+}
+
+fn add_request(answer: &mut Answer, request: &Request) {
+    answer.word(request.method.as_str());
+    answer.text(request.target.as_bytes());
+    answer.text(request.body.as_slice());
+    if let Some(key) = &request.key {
+        answer.word("key");
+        answer.text(key.as_slice());
+    }
+    if request.close {
+        answer.word("closes");
+    }
 }
 
 /// `stream by bytes TEXT`: the same, each byte being a piece.
@@ -54,7 +60,7 @@ pub fn file_reply(alloc: Global, given: &[Vec<u8>]) -> Result<Answer, Trouble> {
         return Err(Trouble::NoCase);
     };
     let reply = Reply::of_bytes(StatusCode::OK, Some(Content::Octets), bytes.clone()?);
-    bytes_told(alloc, write_reply(alloc, &reply, false)?.as_slice())
+    Ok(bytes_told(alloc, write_reply(alloc, &reply, false)?.as_slice()))
 }
 
 /// `reply method`: a 405 of a route that has every method, behind which the connection closes.
@@ -65,7 +71,7 @@ pub fn method_reply(alloc: Global) -> Result<Answer, Trouble> {
         Some(Content::Json),
         text,
     ).with_allow(&[Method::Get, Method::Put, Method::Delete]);
-    bytes_told(alloc, write_reply(alloc, &reply, true)?.as_slice())
+    Ok(bytes_told(alloc, write_reply(alloc, &reply, true)?.as_slice()))
 }
 
 /// `reply head`: a head that is too large.
@@ -73,7 +79,7 @@ pub fn method_reply(alloc: Global) -> Result<Answer, Trouble> {
 pub fn head_reply(alloc: Global) -> Result<Answer, Trouble> {
     let mut out = Vec::with_capacity(alloc, 256)?;
     write_fixed(&HeadFault::HeadTooLarge.reply(), true, &mut out);
-    bytes_told(alloc, out.as_slice())
+    Ok(bytes_told(alloc, out.as_slice()))
 }
 
 /// `reply key`: a request without a known key.
@@ -81,7 +87,7 @@ pub fn head_reply(alloc: Global) -> Result<Answer, Trouble> {
 pub fn key_reply(alloc: Global) -> Result<Answer, Trouble> {
     let mut out = Vec::with_capacity(alloc, 256)?;
     write_fixed(&Reply::unknown_key(), false, &mut out);
-    bytes_told(alloc, out.as_slice())
+    Ok(bytes_told(alloc, out.as_slice()))
 }
 
 /// `reply store`: a request for which there was no memory.
@@ -89,13 +95,14 @@ pub fn key_reply(alloc: Global) -> Result<Answer, Trouble> {
 pub fn store_reply(alloc: Global) -> Result<Answer, Trouble> {
     let mut out = Vec::with_capacity(alloc, 256)?;
     write_fixed(&Reply::store_failed(), false, &mut out);
-    bytes_told(alloc, out.as_slice())
+    Ok(bytes_told(alloc, out.as_slice()))
 }
 
-fn bytes_told(alloc: Global, bytes: &[u8]) -> Result<Answer, Trouble> {
+/// An answer of one text that may be no UTF-8.
+pub fn bytes_told(alloc: Global, bytes: &[u8]) -> Answer {
     let mut answer = Answer::new(alloc);
-    answer.text(bytes)?;
-    Ok(answer)
+    answer.text(bytes);
+    answer
 }
 
 /// `GET TARGET`, `PUT TARGET BODY`, `DELETE TARGET`: the status and the body of the plain reply over
@@ -115,7 +122,7 @@ pub fn request(
     let World { files, settings } = world;
     let target = as_text(target)?;
     let Prepared { reply, change } = plain.prepare(alloc, files, settings, method, target, body)?;
-    let answer = reply_told(alloc, &reply)?;
+    let answer = reply_told(alloc, &reply);
     if let Some(change) = change {
         world.carry_out(change)?;
     }
@@ -123,11 +130,11 @@ pub fn request(
 }
 
 /// The status of a reply, with its phrase, and its body.
-pub fn reply_told(alloc: Global, reply: &Reply) -> Result<Answer, Trouble> {
-    let mut answer = Answer::of_word(alloc, reply.status.as_str())?;
-    answer.word(reply.status.canonical_reason().unwrap_or(""))?;
-    answer.text(reply.body())?;
-    Ok(answer)
+pub fn reply_told(alloc: Global, reply: &Reply) -> Answer {
+    let mut answer = Answer::of_word(alloc, reply.status.as_str());
+    answer.word(reply.status.canonical_reason().unwrap_or(""));
+    answer.text(reply.body());
+    answer
 }
 
 /// What a run of the program gave.
@@ -136,6 +143,13 @@ pub struct Ran {
     pub status: u8,
     pub printed: Vec<u8>,
     pub said: Vec<u8>,
+}
+
+impl Ran {
+    /// Whether it ended with this status, printed just these bytes and said just those.
+    pub fn is(&self, status: u8, printed: &[u8], said: &[u8]) -> bool {
+        self.status == status && self.printed.as_slice() == printed && self.said.as_slice() == said
+    }
 }
 
 /// Runs the program on an input, with the words of its command line behind its own name.
@@ -171,11 +185,17 @@ pub fn run(alloc: Global, given: &[Vec<u8>]) -> Result<Answer, Trouble> {
         return Err(Trouble::NoCase);
     };
     let ran = run_program(alloc, as_text(words)?, input)?;
-    let mut answer = Answer::of_word(alloc, "status")?;
-    answer.number(u64::from(ran.status))?;
-    answer.text(ran.printed.as_slice())?;
-    answer.text(ran.said.as_slice())?;
+    let mut answer = status_told(alloc, ran.status);
+    answer.text(ran.printed.as_slice());
+    answer.text(ran.said.as_slice());
     Ok(answer)
+}
+
+/// The status with which a program ended.
+pub fn status_told(alloc: Global, status: u8) -> Answer {
+    let mut answer = Answer::of_word(alloc, "status");
+    answer.number(u64::from(status));
+    answer
 }
 
 /// `open and end N`: how many connections close where so many are opened and ended one after another
@@ -184,25 +204,26 @@ pub fn open_and_end(alloc: Global, given: &[Vec<u8>]) -> Result<Answer, Trouble>
     let [count] = given else {
         return Err(Trouble::NoCase);
     };
-    let count = as_number(count)?;
+    let script = opening_and_ending(alloc, as_number(count)?)?;
+    let ran = run_program(alloc, "replay alpha", script.as_bytes())?;
+    let printed = as_text(&ran.printed)?;
+    let closed = printed.lines().filter(|line| line.contains(" closed "));
+    let mut answer = Answer::new(alloc);
+    answer.number(closed.count() as u64);
+    if printed.contains("refused") {
+        answer.word("refused");
+    }
+    Ok(answer)
+}
+
+/// A script that opens and ends so many connections, and opens one more.
+fn opening_and_ending(alloc: Global, count: u64) -> Result<String, AllocError> {
     let mut script = String::new(alloc);
     for conn in 0..count {
         write!(script, "open {conn}\nend {conn}\n")?;
     }
     write!(script, "open {count}\n")?;
-    let ran = run_program(alloc, "replay alpha", script.as_bytes())?;
-    let mut answer = Answer::new(alloc);
-    let printed = as_text(&ran.printed)?;
-    answer.number(
-        printed
-            .lines()
-            .filter(|line| line.contains(" closed "))
-            .count() as u64,
-    )?;
-    if printed.contains("refused") {
-        answer.word("refused")?;
-    }
-    Ok(answer)
+    Ok(script)
 }
 
 /// `after SCRIPT at CONN TENANT`: the service of one tenant with the key `alpha` behind a script: the
@@ -213,24 +234,36 @@ pub fn after(alloc: Global, given: &[Vec<u8>]) -> Result<Answer, Trouble> {
         return Err(Trouble::NoCase);
     };
     let (conn, tenant) = (as_number(conn)?, as_number(tenant)?);
-    let mut input = script.as_slice();
-    let Ok(script) = read_script(alloc, &mut input) else {
-        return Err(Trouble::NoCase);
-    };
-    let mut keys = Vec::new(alloc);
-    keys.push(String::from_str(alloc, "alpha")?)?;
-    let config = Config {
-        keys,
+    let service = replayed(alloc, script)?;
+    let mut answer = Answer::new(alloc);
+    answer.number(service.next_conn());
+    answer.number(service.room(conn) as u64);
+    answer.text(service.pending(conn));
+    answer.number(service.waiting(tenant as usize) as u64);
+    Ok(answer)
+}
+
+/// The service of one tenant behind a script.
+fn replayed(alloc: Global, script: &[u8]) -> Result<Service, Trouble> {
+    let mut input = script;
+    let script = read_script(alloc, &mut input).map_err(|_| Trouble::NoCase)?;
+    match replay(alloc, config_of_one(alloc)?, script.events.as_slice()) {
+        Ok(Transcript { service, .. }) => Ok(service),
+        Err(_) => Err(Trouble::NoCase),
+    }
+}
+
+/// The config of one tenant with the key `alpha`.
+pub fn config_of_one(alloc: Global) -> Result<Config, Trouble> {
+    let key = String::from_str(alloc, "alpha")?;
+    Ok(Config {
+        keys: vec![in alloc; key]?,
         parses: 1,
         evals: 1,
-    };
-    let Ok(Transcript { service, .. }) = replay(alloc, config, script.events.as_slice()) else {
-        return Err(Trouble::NoCase);
-    };
-    let mut answer = Answer::new(alloc);
-    answer.number(service.next_conn())?;
-    answer.number(service.room(conn) as u64)?;
-    answer.text(service.pending(conn))?;
-    answer.number(service.waiting(tenant as usize) as u64)?;
-    Ok(answer)
+    })
+}
+
+/// The service of one tenant with the key `alpha`.
+pub fn service_of_one(alloc: Global) -> Result<Service, Trouble> {
+    Service::new(alloc, config_of_one(alloc)?).map_err(|_| Trouble::NoCase)
 }

@@ -1,9 +1,9 @@
 //! The store of all tenants: calls in a row.
 use crate::answer::{Answer, Trouble};
-use crate::evaluation::given_name;
-use crate::line::{as_number, as_text};
+use crate::evaluation::{given_name, given_path, trees_told, two_told};
+use crate::line::as_number;
 use mk_files::Files;
-use mk_paths::{FilesFault, Name, Names, PathFault, SearchPath};
+use mk_paths::{FilesFault, Name, Names, SearchPath};
 use std::alloc::Global;
 use tenant_store::{PutFault, TenantFiles, TenantStore};
 
@@ -19,13 +19,6 @@ fn tenant_of(number: &[u8]) -> Result<u32, Trouble> {
     u32::try_from(as_number(number)?).map_err(|_| Trouble::NoCase)
 }
 
-fn path_of(alloc: Global, text: &[u8]) -> Result<SearchPath, Trouble> {
-    SearchPath::read(alloc, as_text(text)?).map_err(|fault| match fault {
-        PathFault::Memory => Trouble::Memory,
-        PathFault::BadPath => Trouble::NoCase,
-    })
-}
-
 /// What a call of the store gives.
 pub fn answer(
     alloc: Global,
@@ -33,41 +26,76 @@ pub fn answer(
     call: &str,
     given: &[Vec<u8>],
 ) -> Result<Answer, Trouble> {
-    match (call, given) {
-        ("store put", [tenant, name, bytes]) => {
-            let name = given_name(alloc, name)?;
-            Answer::of_word(alloc, put(alloc, store, tenant_of(tenant)?, &name, bytes)?)
-        }
-        ("store fill", [tenant, count, bytes]) => {
-            fill(alloc, store, tenant_of(tenant)?, as_number(count)?, bytes)
-        }
-        ("store remove", [tenant, name]) => {
-            let name = given_name(alloc, name)?;
-            Answer::of_word(alloc, remove(alloc, store, tenant_of(tenant)?, &name)?)
-        }
-        ("store get", [tenant, name]) => {
-            let name = given_name(alloc, name)?;
-            got(alloc, store, tenant_of(tenant)?, &name)
-        }
-        ("store path", [tenant, text]) => {
-            let path = path_of(alloc, text)?;
-            Answer::of_word(alloc, set(alloc, store, tenant_of(tenant)?, &path)?)
-        }
-        ("store settings", [tenant]) => settings(alloc, store, tenant_of(tenant)?),
-        ("store put stopped", [tenant, name, bytes]) => {
-            put_stopped(alloc, store, tenant_of(tenant)?, name, bytes)
-        }
-        ("store remove stopped", [tenant, name]) => {
-            remove_stopped(alloc, store, tenant_of(tenant)?, name)
-        }
-        ("store path stopped", [tenant, text]) => {
-            path_stopped(alloc, store, tenant_of(tenant)?, text)
-        }
+    match call {
+        "store put" => put_told(alloc, store, given),
+        "store fill" => fill(alloc, store, given),
+        "store remove" => remove_told(alloc, store, given),
+        "store get" => get_told(alloc, store, given),
+        "store path" => set_told(alloc, store, given),
+        "store settings" => settings_told(alloc, store, given),
+        "store put stopped" => put_stopped(alloc, store, given),
+        "store remove stopped" => remove_stopped(alloc, store, given),
+        "store path stopped" => path_stopped(alloc, store, given),
         _ => Err(Trouble::NoCase),
     }
 }
 
-/// `store put TENANT NAME BYTES`: `stored`, `Full` or `Store`.
+/// `store put TENANT NAME BYTES`
+fn put_told(alloc: Global, store: &mut TenantStore, given: &[Vec<u8>]) -> Result<Answer, Trouble> {
+    let [tenant, name, bytes] = given else {
+        return Err(Trouble::NoCase);
+    };
+    let name = given_name(alloc, name)?;
+    let told = put(alloc, store, tenant_of(tenant)?, &name, bytes)?;
+    Ok(Answer::of_word(alloc, told))
+}
+
+/// `store remove TENANT NAME`
+fn remove_told(
+    alloc: Global,
+    store: &mut TenantStore,
+    given: &[Vec<u8>],
+) -> Result<Answer, Trouble> {
+    let [tenant, name] = given else {
+        return Err(Trouble::NoCase);
+    };
+    let name = given_name(alloc, name)?;
+    let told = remove(alloc, store, tenant_of(tenant)?, &name)?;
+    Ok(Answer::of_word(alloc, told))
+}
+
+/// `store get TENANT NAME`
+fn get_told(alloc: Global, store: &mut TenantStore, given: &[Vec<u8>]) -> Result<Answer, Trouble> {
+    let [tenant, name] = given else {
+        return Err(Trouble::NoCase);
+    };
+    let name = given_name(alloc, name)?;
+    got(alloc, store, tenant_of(tenant)?, &name)
+}
+
+/// `store path TENANT TEXT`
+fn set_told(alloc: Global, store: &mut TenantStore, given: &[Vec<u8>]) -> Result<Answer, Trouble> {
+    let [tenant, text] = given else {
+        return Err(Trouble::NoCase);
+    };
+    let path = given_path(alloc, text)?;
+    let told = set(alloc, store, tenant_of(tenant)?, &path)?;
+    Ok(Answer::of_word(alloc, told))
+}
+
+/// `store settings TENANT`: the trees of its search path.
+fn settings_told(
+    alloc: Global,
+    store: &mut TenantStore,
+    given: &[Vec<u8>],
+) -> Result<Answer, Trouble> {
+    let [tenant] = given else {
+        return Err(Trouble::NoCase);
+    };
+    settings(alloc, store, tenant_of(tenant)?)
+}
+
+/// A put: `stored`, `Full` or `Store`.
 fn put(
     alloc: Global,
     store: &mut TenantStore,
@@ -83,7 +111,7 @@ fn put(
     }
 }
 
-/// `store remove TENANT NAME`: `removed`, `absent` or `Store`.
+/// A removal: `removed`, `absent` or `Store`.
 fn remove(
     alloc: Global,
     store: &mut TenantStore,
@@ -98,7 +126,7 @@ fn remove(
     }
 }
 
-/// `store path TENANT TEXT`: `set` or `Store`.
+/// A path that is set: `set` or `Store`.
 fn set(
     alloc: Global,
     store: &mut TenantStore,
@@ -114,29 +142,30 @@ fn set(
 
 /// `store fill TENANT N BYTES`: puts that many files of these bytes, and tells how many were stored before
 /// the first that wasn't, and what that one was told.
-fn fill(
-    alloc: Global,
-    store: &mut TenantStore,
-    tenant: u32,
-    count: u64,
-    bytes: &[u8],
-) -> Result<Answer, Trouble> {
-    let mut answer = Answer::new(alloc);
+fn fill(alloc: Global, store: &mut TenantStore, given: &[Vec<u8>]) -> Result<Answer, Trouble> {
+    let [tenant, count, bytes] = given else {
+        return Err(Trouble::NoCase);
+    };
+    let (tenant, count) = (tenant_of(tenant)?, as_number(count)?);
     for stored in 0..count {
         let name = given_name(alloc, format!(in alloc; "/fill/file-{stored}")?.as_bytes())?;
         let told = put(alloc, store, tenant, &name, bytes)?;
         if told != "stored" {
-            answer.number(stored)?;
-            answer.word(told)?;
-            return Ok(answer);
+            return Ok(filled(alloc, stored, told));
         }
     }
-    answer.number(count)?;
-    answer.word("stored")?;
-    Ok(answer)
+    Ok(filled(alloc, count, "stored"))
 }
 
-/// `store get TENANT NAME`: the bytes of a file, or `absent`; every way of asking tells the same.
+/// How many files were stored, and what was told then.
+pub fn filled(alloc: Global, stored: u64, told: &str) -> Answer {
+    let mut answer = Answer::new(alloc);
+    answer.number(stored);
+    answer.word(told);
+    answer
+}
+
+/// The bytes of a file, or `absent`; every way of asking tells the same.
 fn got(
     alloc: Global,
     store: &mut TenantStore,
@@ -148,28 +177,17 @@ fn got(
     let read = files.read(name)?;
     drop(files);
     let held = store.get_file(alloc, tenant, name)?;
-    match (held, read) {
-        (Some(held), Some(read)) if has => {
-            let mut answer = Answer::new(alloc);
-            answer.text(held.as_slice())?;
-            if held.as_slice() != read.as_slice() {
-                answer.text(read.as_slice())?;
-            }
-            Ok(answer)
-        }
+    Ok(match (held, read) {
+        (Some(held), Some(read)) if has => two_told(alloc, held.as_slice(), read.as_slice()),
         (None, None) if !has => Answer::of_word(alloc, "absent"),
         _ => Answer::of_word(alloc, "both"),
-    }
+    })
 }
 
-/// `store settings TENANT`: the trees of its search path.
+/// The trees of a search path that is held.
 fn settings(alloc: Global, store: &mut TenantStore, tenant: u32) -> Result<Answer, Trouble> {
     let settings = store.settings(alloc, tenant)?;
-    let mut answer = Answer::new(alloc);
-    for tree in settings.path.trees() {
-        answer.text(tree.as_bytes())?;
-    }
-    Ok(answer)
+    Ok(trees_told(alloc, &settings.path))
 }
 
 /// `store put stopped TENANT NAME BYTES`: the put under a limit of 1, 2, 3 .. steps until it isn't stopped;
@@ -177,10 +195,12 @@ fn settings(alloc: Global, store: &mut TenantStore, tenant: u32) -> Result<Answe
 fn put_stopped(
     alloc: Global,
     store: &mut TenantStore,
-    tenant: u32,
-    name: &[u8],
-    bytes: &[u8],
+    given: &[Vec<u8>],
 ) -> Result<Answer, Trouble> {
+    let [tenant, name, bytes] = given else {
+        return Err(Trouble::NoCase);
+    };
+    let tenant = tenant_of(tenant)?;
     let name = given_name(alloc, name)?;
     let was = got(alloc, store, tenant, &name)?;
     let mut is_kept = true;
@@ -189,9 +209,9 @@ fn put_stopped(
         let told = put(alloc, store, tenant, &name, bytes)?;
         store.limit_steps(None);
         if told != "Store" {
-            return stops_told(alloc, limit, is_kept, told);
+            return Ok(stops_told(alloc, limit, is_kept, told));
         }
-        is_kept = is_kept && got(alloc, store, tenant, &name)?.as_str() == was.as_str();
+        is_kept = is_kept && got(alloc, store, tenant, &name)?.is_same(&was)?;
     }
     Err(Trouble::NoCase)
 }
@@ -200,9 +220,12 @@ fn put_stopped(
 fn remove_stopped(
     alloc: Global,
     store: &mut TenantStore,
-    tenant: u32,
-    name: &[u8],
+    given: &[Vec<u8>],
 ) -> Result<Answer, Trouble> {
+    let [tenant, name] = given else {
+        return Err(Trouble::NoCase);
+    };
+    let tenant = tenant_of(tenant)?;
     let name = given_name(alloc, name)?;
     let was = got(alloc, store, tenant, &name)?;
     let mut is_kept = true;
@@ -211,9 +234,9 @@ fn remove_stopped(
         let told = remove(alloc, store, tenant, &name)?;
         store.limit_steps(None);
         if told != "Store" {
-            return stops_told(alloc, limit, is_kept, told);
+            return Ok(stops_told(alloc, limit, is_kept, told));
         }
-        is_kept = is_kept && got(alloc, store, tenant, &name)?.as_str() == was.as_str();
+        is_kept = is_kept && got(alloc, store, tenant, &name)?.is_same(&was)?;
     }
     Err(Trouble::NoCase)
 }
@@ -222,10 +245,13 @@ fn remove_stopped(
 fn path_stopped(
     alloc: Global,
     store: &mut TenantStore,
-    tenant: u32,
-    text: &[u8],
+    given: &[Vec<u8>],
 ) -> Result<Answer, Trouble> {
-    let path = path_of(alloc, text)?;
+    let [tenant, text] = given else {
+        return Err(Trouble::NoCase);
+    };
+    let tenant = tenant_of(tenant)?;
+    let path = given_path(alloc, text)?;
     let was = settings(alloc, store, tenant)?;
     let mut is_kept = true;
     for limit in 1..MOST_LIMITS {
@@ -233,21 +259,23 @@ fn path_stopped(
         let told = set(alloc, store, tenant, &path)?;
         store.limit_steps(None);
         if told != "Store" {
-            return stops_told(alloc, limit, is_kept, told);
+            return Ok(stops_told(alloc, limit, is_kept, told));
         }
-        is_kept = is_kept && settings(alloc, store, tenant)?.as_str() == was.as_str();
+        is_kept = is_kept && settings(alloc, store, tenant)?.is_same(&was)?;
     }
     Err(Trouble::NoCase)
 }
 
 /// `never` where the first call wasn't stopped, else `kept` or `changed`; and what the last was told.
-pub fn stops_told(alloc: Global, limit: u64, is_kept: bool, told: &str) -> Result<Answer, Trouble> {
-    let mut answer = Answer::new(alloc);
-    answer.word(match (limit, is_kept) {
-        (1, _) => "never",
-        (_, true) => "kept",
-        (_, false) => "changed",
-    })?;
-    answer.word(told)?;
-    Ok(answer)
+pub fn stops_told(alloc: Global, limit: u64, is_kept: bool, told: &str) -> Answer {
+    let mut answer = Answer::of_word(
+        alloc,
+        match (limit, is_kept) {
+            (1, _) => "never",
+            (_, true) => "kept",
+            (_, false) => "changed",
+        },
+    );
+    answer.word(told);
+    answer
 }

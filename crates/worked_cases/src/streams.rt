@@ -2,8 +2,9 @@
 use crate::answer::{Answer, Trouble};
 use crate::line::as_number;
 use crate::quiet::QuietPorts;
+use crate::service::{Ran, config_of_one, status_told};
 use failing_streams::{FailingReader, FailingWriter};
-use ports_core::{Config, Refused, Step, Tell, Told};
+use ports_core::{Refused, Step, Tell, Told};
 use ports_http::Reply;
 use ports_script::{ScriptFault, Serving, read_script, run_config, run_serving, transcript_text};
 use std::alloc::Global;
@@ -20,10 +21,10 @@ pub fn failing_input(alloc: Global, given: &[Vec<u8>]) -> Result<Answer, Trouble
     };
     let mut answer = Answer::new(alloc);
     match read_script(alloc, &mut input) {
-        Ok(script) => answer.number(script.events.len() as u64)?,
+        Ok(script) => answer.number(script.events.len() as u64),
         Err(ScriptFault::BadEvent(line)) => {
-            answer.word("BadEvent")?;
-            answer.number(line)?;
+            answer.word("BadEvent");
+            answer.number(line);
         }
         Err(ScriptFault::Memory) => return Err(Trouble::Memory),
     }
@@ -40,18 +41,17 @@ pub fn narrow_output(alloc: Global, given: &[Vec<u8>]) -> Result<Answer, Trouble
     };
     let mut answer = Answer::new(alloc);
     for writes in 0..printed.len() {
-        let (status, written, said) = run_narrow(alloc, script, writes)?;
-        let is_front = written.as_slice() == &printed[..writes];
-        if status != 1 || !is_front || said.as_slice() != b"portsd: cannot write\n".as_slice() {
-            answer.word("wrong")?;
-            answer.number(writes as u64)?;
+        let ran = run_narrow(alloc, script, writes)?;
+        if !ran.is(1, &printed[..writes], b"portsd: cannot write\n") {
+            answer.word("wrong");
+            answer.number(writes as u64);
         }
     }
-    let (status, written, said) = run_narrow(alloc, script, printed.len())?;
-    if status != 0 || written.as_slice() != printed.as_slice() || !said.is_empty() {
-        answer.word("wrong")?;
+    let ran = run_narrow(alloc, script, printed.len())?;
+    if !ran.is(0, printed, b"") {
+        answer.word("wrong");
     }
-    answer.number(written.len() as u64)?;
+    answer.number(ran.printed.len() as u64);
     Ok(answer)
 }
 
@@ -62,9 +62,7 @@ pub fn narrow_serving(alloc: Global, given: &[Vec<u8>]) -> Result<Answer, Troubl
     let [port, writes] = given else {
         return Err(Trouble::NoCase);
     };
-    let Ok(port) = u16::try_from(as_number(port)?) else {
-        return Err(Trouble::NoCase);
-    };
+    let port = u16::try_from(as_number(port)?).map_err(|_| Trouble::NoCase)?;
     let serving = Serving {
         port,
         rounds: 3,
@@ -76,31 +74,14 @@ pub fn narrow_serving(alloc: Global, given: &[Vec<u8>]) -> Result<Answer, Troubl
     };
     let mut said = Vec::new(alloc);
     let status = run_serving(alloc, serving, &QuietPorts, &mut out, &mut said);
-    let mut answer = Answer::of_word(alloc, "status")?;
-    answer.number(u64::from(status))?;
-    answer.text(out.taken.as_slice())?;
-    answer.text(said.as_slice())?;
+    let mut answer = status_told(alloc, status);
+    answer.text(out.taken.as_slice());
+    answer.text(said.as_slice());
     Ok(answer)
 }
 
-/// The config of one tenant with the key `alpha`.
-pub fn config_of_one(alloc: Global) -> Result<Config, Trouble> {
-    let mut keys = Vec::new(alloc);
-    keys.push(String::from_str(alloc, "alpha")?)?;
-    Ok(Config {
-        keys,
-        parses: 1,
-        evals: 1,
-    })
-}
-
-/// A run for one tenant whose output takes so many bytes: its status, what was written, and what was
-/// said.
-fn run_narrow(
-    alloc: Global,
-    script: &[u8],
-    writes: usize,
-) -> Result<(u8, Vec<u8>, Vec<u8>), Trouble> {
+/// A run for one tenant whose output takes so many bytes.
+fn run_narrow(alloc: Global, script: &[u8], writes: usize) -> Result<Ran, Trouble> {
     let config = config_of_one(alloc)?;
     let mut out = FailingWriter {
         taken: Vec::new(alloc),
@@ -110,7 +91,11 @@ fn run_narrow(
     let mut input = script;
     let status = run_config(alloc, config, &mut input, &mut out, &mut said);
     let FailingWriter { taken, .. } = out;
-    Ok((status, taken, said))
+    Ok(Ran {
+        status,
+        printed: taken,
+        said,
+    })
 }
 
 /// `print SENT`: what is printed of two events: the first refused for memory and closed connection 7,
@@ -120,14 +105,12 @@ pub fn printed_steps(alloc: Global, given: &[Vec<u8>]) -> Result<Answer, Trouble
         return Err(Trouble::NoCase);
     };
     let mut input = b"open 0\nwrote 0 all".as_slice();
-    let Ok(script) = read_script(alloc, &mut input) else {
-        return Err(Trouble::NoCase);
-    };
-    let mut steps = Vec::new(alloc);
-    steps.push(step(Vec::new(alloc), Some(7)))?;
-    steps.push(step(sent.clone()?, None))?;
+    let script = read_script(alloc, &mut input).map_err(|_| Trouble::NoCase)?;
+    let first = step(Vec::new(alloc), Some(7));
+    let second = step(sent.clone()?, None);
+    let steps = vec![in alloc; first, second]?;
     let text = transcript_text(alloc, &script, steps.as_slice())?;
-    Answer::of_text(alloc, text.as_str())
+    Ok(Answer::of_text(alloc, text.as_str()))
 }
 
 fn step(sent: Vec<u8>, closed: Option<u64>) -> Step {

@@ -11,13 +11,20 @@ pub fn tree_of(alloc: Global, given: &[Vec<u8>]) -> Result<Answer, Trouble> {
     let [bytes] = given else {
         return Err(Trouble::NoCase);
     };
-    let mut out = String::new(alloc);
-    match parse(alloc, bytes) {
-        Ok(makefile) => show_block(&mut out, &makefile.nodes)?,
-        Err(ParseError::Fault(ParseFault { kind, line })) => write!(out, "{kind:?} at {line}")?,
+    let shown = match parse(alloc, bytes) {
+        Ok(makefile) => shown_block(alloc, &makefile.nodes)?,
+        Err(ParseError::Fault(ParseFault { kind, line })) => {
+            format!(in alloc; "{kind:?} at {line}")?
+        }
         Err(ParseError::Memory) => return Err(Trouble::Memory),
-    }
-    Answer::of_word(alloc, out.as_str())
+    };
+    Ok(Answer::of_word(alloc, shown.as_str()))
+}
+
+fn shown_block(alloc: Global, nodes: &[Node]) -> Result<String, AllocError> {
+    let mut out = String::new(alloc);
+    show_block(&mut out, nodes)?;
+    Ok(out)
 }
 
 #[cycle(show)]

@@ -3,8 +3,7 @@ ghost use Rattle.std.specs.Prelude.{ℕ};
 ghost use Rattle.ports_serve.specs.Calls.{Call};
 
 use crate::answer::{Answer, Trouble};
-use crate::streams::config_of_one;
-use ports_core::Service;
+use crate::service::service_of_one;
 use ports_serve::{Outcome, Wire, serve};
 use std::alloc::Global;
 
@@ -82,19 +81,17 @@ pub fn trickled(alloc: Global, given: &[Vec<u8>]) -> Result<Answer, Trouble> {
     for lost in 1..=whole.calls {
         let wire = served(alloc, stream.as_slice(), lost)?;
         if !whole.taken.starts_with(wire.taken.as_slice()) || !wire.shut {
-            answer.word("wrong")?;
-            answer.number(lost)?;
+            answer.word("wrong");
+            answer.number(lost);
         }
     }
-    answer.text(whole.taken.as_slice())?;
+    answer.text(whole.taken.as_slice());
     Ok(answer)
 }
 
 /// The wire of a client that was served.
 fn served<'a>(alloc: Global, stream: &'a [u8], lost: u64) -> Result<Trickle<'a>, Trouble> {
-    let Ok(service) = Service::new(alloc, config_of_one(alloc)?) else {
-        return Err(Trouble::NoCase);
-    };
+    let service = service_of_one(alloc)?;
     let mut wire = Trickle {
         waits: true,
         unread: stream,
