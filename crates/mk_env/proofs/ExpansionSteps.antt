@@ -19,7 +19,7 @@ use Rattle.mk_mods.specs.Actions.{Symbol, Byte}
 use Rattle.mk_env.specs.declared.scope.Undefined.{Undefined}
 use Rattle.mk_env.specs.declared.scope.Undefined.TheVariants as kept
 use Rattle.mk_env.specs.Texts.{Variables}
-use Rattle.mk_env.specs.Expansion.{References, bounded, join_piece, where_whole, text_meaning, symbol_meaning, join_symbol, by_name, reference}
+use Rattle.mk_env.specs.Expansion.{References, bounded, join_piece, where_whole, text_meaning, symbol_meaning, join_symbol, by_name, begin, reference}
 use Rattle.mk_env.specs.Refusals.{IsUncut, IsTooLong}
 use Rattle.mk_env.proofs.Walks.{each-nothing, each-one}
 
@@ -83,13 +83,36 @@ first-name undefined_gives levels variables active written name modifiers m m' u
 
 -- a reference that is paid for means what follows the meaning of its name
 pub reference-name : (undefined_gives : Undefined) (levels : ℕ) (variables : Variables) (active : List (List ℕ)) (written name : List ℕ) (modifiers : Option (List ℕ))
-    (m m' : Meter) (unit : Unit {0}) → levels ≢ 0 → pay m ≡ Ok (unit, m')
+    (m m' : Meter) (unit : Unit {0}) → levels ≢ 0 → begin levels m ≡ Ok (unit, m')
     → reference undefined_gives levels variables active written name modifiers m
     ≡ after (text_meaning (reference kept.Empty (levels - 1) variables active) name m') (by_name undefined_gives (reference kept.Empty (levels - 1) variables) variables active written modifiers)
+unfolding begin
 reference-name undefined_gives zero variables active written name modifiers m m' unit some paid = absurd (some refl)
 reference-name undefined_gives (suc levels) variables active written name modifiers m m' unit some paid =
     first-name undefined_gives levels variables active written name modifiers m m' unit paid
     ∙ (let same : suc levels - 1 ≡ levels = omega arith in rw same refl)
+
+abbrev with-text : Result (Unit {0} × Meter) (FaultKind × Meter) → Result (List ℕ × Meter) (FaultKind × Meter)
+with-text (Ok end) = Ok ([], end.1)
+with-text (Err stop) = Err stop
+
+abbrev deep-unit : Result (Unit {0} × Meter) (FaultKind × Meter) → Result (Unit {0} × Meter) (FaultKind × Meter)
+deep-unit paid = after paid (λ _. fail kinds.Depth)
+
+abbrev deep-text : Result (Unit {0} × Meter) (FaultKind × Meter) → Result (List ℕ × Meter) (FaultKind × Meter)
+deep-text paid = after paid (λ _. fail kinds.Depth)
+
+too-deep : (paid : Result (Unit {0} × Meter) (FaultKind × Meter)) → deep-text paid ≡ with-text (deep-unit paid)
+too-deep (Ok end) = refl
+too-deep (Err stop) = refl
+
+-- a reference that isn't paid for, or stands too deep, stops there
+pub reference-unbegun : (undefined_gives : Undefined) (levels : ℕ) (variables : Variables) (active : List (List ℕ)) (written name : List ℕ) (modifiers : Option (List ℕ))
+    (m : Meter) (stop : FaultKind × Meter) → begin levels m ≡ Err stop → reference undefined_gives levels variables active written name modifiers m ≡ Err stop
+unfolding begin reference
+reference-unbegun undefined_gives zero variables active written name modifiers m stop stops = too-deep (pay m) ∙ ap with-text stops
+reference-unbegun undefined_gives (suc levels) variables active written name modifiers m stop stops =
+    ap (λ end. after end (λ _ m'. after (text_meaning (reference kept.Empty levels variables active) name m') (by_name undefined_gives (reference kept.Empty levels variables) variables active written modifiers))) stops
 
 stops-long : (text : List ℕ) (m : Meter) (stop : Stop FaultKind) (outcome : Result (List ℕ × Meter) (FaultKind × Meter)) → IsTooLong text stop → outcome ≡ bounded text m → StopsAt stop m outcome
 stops-long text m (stops.Fault kind) outcome long is = is ∙ bounded-long text m long.1 ∙ ap (λ found. Err (found, m)) (sym long.0)

@@ -105,13 +105,16 @@ value_meaning references (Some value) = text_meaning references value
 abbrev pub is_among : List ℕ → List (List ℕ) → Bool
 is_among name names = list_any (bytes_eq name) names
 
+-- the modifiers of a reference to this name, unless its value is being expanded
+abbrev pub modifiers_for : List (List ℕ) → List ℕ → Option (List ℕ) → Work Meter FaultKind (List Action)
+modifiers_for active name modifiers = if is_among name active then fail kinds.Recursive else readable (actions_of modifiers)
+
 -- What a reference means once its name is known, where `references` says what others mean while the values of some names are being
 -- expanded: its modifiers are read, its value is expanded, and the modifiers are applied from left to right.
 abbrev pub named : (List (List ℕ) → References) → Variables → List (List ℕ) → List ℕ → Option (List ℕ) → Work Meter FaultKind (List ℕ)
 named references variables active name modifiers =
-    if is_among name active then fail kinds.Recursive
-    else (readable (actions_of modifiers) >>= λ actions. value_meaning (references (name ∷ active)) (finite.get variables name)
-    >>= λ value. each (modified (references active)) value actions)
+    modifiers_for active name modifiers >>= λ actions. value_meaning (references (name ∷ active)) (finite.get variables name)
+    >>= λ value. each (modified (references active)) value actions
 
 -- whether a reference to a variable with this text, or with none, is kept as it is written
 abbrev pub is_kept : Undefined → Option (List ℕ) → Bool
@@ -124,8 +127,13 @@ abbrev pub by_name : Undefined → (List (List ℕ) → References) → Variable
 by_name undefined_gives references variables active written modifiers name =
     if is_kept undefined_gives (finite.get variables name) then give written else named references variables active name modifiers
 
+-- the unit of a reference, which comes before anything else is looked at, where so many may stand one inside another
+unfoldable pub begin : ℕ → Work Meter FaultKind (Unit {0})
+begin zero m = (pay >>= λ _. fail kinds.Depth) m
+begin (suc levels) m = pay m
+
 -- What a reference means, where so many may stand one inside another, and while the values of these names are being expanded. It costs a
--- unit, before anything else is looked at; then its name is expanded. The first argument says what becomes of it where that is undefined.
+-- unit; then its name is expanded. The first argument says what becomes of it where that is undefined.
 unfoldable pub reference : Undefined → ℕ → Variables → List (List ℕ) → References
 reference undefined_gives zero variables active written name modifiers m = (pay >>= λ _. fail kinds.Depth) m
 reference undefined_gives (suc levels) variables active written name modifiers m =

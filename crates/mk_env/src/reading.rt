@@ -15,7 +15,7 @@ use mk_base::{FaultKind, Stop};
 use mk_mods::{Modifier, Mods, ModsFault, Substitution, apply, substitute};
 use mk_ref::{Piece, PiecesFault, Reference, pieces};
 use mk_text::TextFault;
-use std::alloc::Global;
+use std::alloc::{AllocError, Global};
 
 /// A reference by its texts.
 #[derive(Clone, Copy, Debug)]
@@ -44,6 +44,13 @@ pub(crate) fn mentioned<'a>(text: &'a str, reference: &Reference) -> Mention<'a>
         name: reference.name.of(text),
         modifiers,
     }
+}
+
+/// A copy of all that a reference is written as.
+pub(crate) fn as_written(alloc: Global, mention: Mention<'_>) -> Result<String, AllocError>
+    ensures { IfOk result (λ text. string_bytes text ≡ mention.entry.written.now) }
+{
+    String::from_str(alloc, mention.written)
 }
 
 /// The pieces of a text. A reference that doesn't end is a fault.

@@ -3,7 +3,7 @@ ghost use Rattle.std.specs.Prelude.{◌≡◌, ◌≢◌, ◌≤◌, ◌-◌, �
 ghost use Rattle.std.specs.List.{flat_map};
 ghost use Rattle.std.specs.FinMap as finite;
 ghost use Rattle.mk_base.specs.Outcome.{each};
-ghost use Rattle.mk_base.specs.Meter.{IsLater};
+ghost use Rattle.mk_base.specs.Meter.{Meter, IsLater};
 ghost use Rattle.mk_base.specs.Stopping.{Gives, NeverStore};
 ghost use Rattle.mk_ref.specs.Places.{shown, IsPieceIn};
 ghost use Rattle.mk_mods.specs.Actions.{action_of, symbols_of};
@@ -12,7 +12,9 @@ ghost use Rattle.mk_env.specs.Expansion as meaning;
 ghost use Rattle.mk_env.specs.ActiveNames.{references_in, names_of};
 
 use crate::joining::{copy_bounded, has_dollar, push_bounded};
-use crate::reading::{Mention, apply_expanded, apply_substitution, cut, mentioned, read_modifiers};
+use crate::reading::{
+    Mention, apply_expanded, apply_substitution, as_written, cut, mentioned, read_modifiers,
+};
 use crate::scope::{Active, Scope};
 use mk_base::{Budget, FaultKind, Stop};
 use mk_mods::{Modifier, Part};
@@ -83,16 +85,28 @@ pub(crate) fn expand_reference(
     ensures gives { Gives string_bytes result budget.new
         (references_in scope.entry mention.entry.written.now mention.entry.name.now (option_map (λ t. t.now) mention.entry.modifiers) budget.old) }
 {
-    budget.pay()?;
-    if scope.levels == 0 {
-        return Err(Stop::Fault(FaultKind::Depth));
-    }
+    begin_reference(scope, budget)?;
     // Most names have no reference in them: no copy is made of such a name.
     if !has_dollar(mention.name) && mention.name.len() <= TEXT_LIMIT {
         return expand_by_name(alloc, scope, mention, mention.name, budget);
     }
     let name = expand_text(alloc, scope.inside(), mention.name, budget)?;
     expand_by_name(alloc, scope, mention, name.as_str(), budget)
+}
+
+/// Spends the unit of a reference, and looks whether it stands too deep.
+#[tactic(auto, unfolding(crate::specs::Expansion::begin))]
+fn begin_reference(scope: Scope<'_>, budget: &mut Budget) -> Result<(), Stop<FaultKind>>
+    ensures store { NeverStore result }
+    ensures later { IsLater budget.old budget.new }
+    ensures inside { IfOk result (λ _. scope.entry.levels ≢ 0) }
+    ensures gives { Gives (λ _. tt) result budget.new (meaning.begin scope.entry.levels budget.old) }
+{
+    budget.pay()?;
+    if scope.levels == 0 {
+        return Err(Stop::Fault(FaultKind::Depth));
+    }
+    Ok(())
 }
 
 /// What a reference that is paid for means, once its name is known.
@@ -111,7 +125,7 @@ fn expand_by_name(
         (meaning.by_name scope.entry.undefined (meaning.reference kept.Empty (scope.entry.levels - 1) scope.entry.variables.now) scope.entry.variables.now (names_of scope.entry.active) mention.entry.written.now (option_map (λ t. t.now) mention.entry.modifiers) name.now budget.old) }
 {
     if scope.keeps(name) {
-        return Ok(String::from_str(alloc, mention.written)?);
+        return Ok(as_written(alloc, mention)?);
     }
     expand_named(alloc, scope.inside(), name, mention.modifiers, budget)
 }
@@ -131,12 +145,25 @@ pub(crate) fn expand_named(
     ensures gives { Gives string_bytes result budget.new
         (meaning.named (meaning.reference kept.Empty scope.entry.levels scope.entry.variables.now) scope.entry.variables.now (names_of scope.entry.active) name.now (option_map (λ t. t.now) modifiers.entry) budget.old) }
 {
+    let modifiers = modifiers_for(alloc, scope, name, modifiers)?;
+    let value = expand_value(alloc, scope, name, budget)?;
+    apply_modifiers(alloc, scope, value, modifiers.as_slice(), budget)
+}
+
+/// The modifiers of a reference to this name, unless its value is being expanded.
+fn modifiers_for(
+    alloc: Global,
+    scope: Scope<'_>,
+    name: &str,
+    modifiers: Option<&str>,
+) -> Result<Vec<Modifier>, Stop<FaultKind>>
+    ensures store { NeverStore result }
+    ensures gives { (m : Meter) → Gives (λ found. map action_of found.items) result m (meaning.modifiers_for (names_of scope.entry.active) name.now (option_map (λ t. t.now) modifiers.entry) m) }
+{
     if scope.active.contains(name) {
         return Err(Stop::Fault(FaultKind::Recursive));
     }
-    let modifiers = read_modifiers(alloc, modifiers)?;
-    let value = expand_value(alloc, scope, name, budget)?;
-    apply_modifiers(alloc, scope, value, modifiers.as_slice(), budget)
+    read_modifiers(alloc, modifiers)
 }
 
 /// What the value of a variable means.

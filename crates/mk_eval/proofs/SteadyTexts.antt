@@ -66,9 +66,9 @@ module _ (references : References) (are : AreSteady references) where
 module _ (references : List (List ℕ) → References) (are : (active : List (List ℕ)) → AreSteady (references active)) (variables : Variables) (active : List (List ℕ)) where
   pub steady-named : (name : List ℕ) (modifiers : Option (List ℕ)) → Steady (named references variables active name modifiers)
   steady-named name modifiers =
-      either (is_among name active) (steady-fail kinds.Recursive)
-      (bind (steady-readable (actions_of modifiers)) (λ actions. bind (steady-value (references (name ∷ active)) (are (name ∷ active)) (finite.get variables name))
-      (λ value. over (steady-modified (references active) (are active)) value actions)))
+      bind (either (is_among name active) (steady-fail kinds.Recursive) (steady-readable (actions_of modifiers)))
+      (λ actions. bind (steady-value (references (name ∷ active)) (are (name ∷ active)) (finite.get variables name))
+      (λ value. over (steady-modified (references active) (are active)) value actions))
 
   pub steady-by_name : (undefined_gives : _) (written : List ℕ) (modifiers : Option (List ℕ)) (name : List ℕ) → Steady (by_name undefined_gives references variables active written modifiers name)
   steady-by_name undefined_gives written modifiers name =

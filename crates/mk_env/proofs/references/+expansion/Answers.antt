@@ -14,7 +14,7 @@ use Rattle.mk_env.specs.declared.scope.Undefined.TheVariants as kept
 use Rattle.mk_env.specs.Expansion as meaning
 use Rattle.mk_env.specs.ActiveNames.{references_in, names_of}
 use Rattle.mk_env.proofs.Walks.{each-front, each-front-stop, each-nothing}
-use Rattle.mk_env.proofs.ExpansionSteps.{text_meaning-pieces, text_meaning-uncut, join-bytes, join-found, join-stops, Gives-joined, reference-name, text_meaning-small, text_meaning-plain}
+use Rattle.mk_env.proofs.ExpansionSteps.{text_meaning-pieces, text_meaning-uncut, join-bytes, join-found, join-stops, Gives-joined, reference-name, reference-unbegun, text_meaning-small, text_meaning-plain}
 use Rattle.mk_env.proofs.references.+expansion.Goals as goal
 
 pub apply_modifiers-returns-in_err-value-clause-gives : goal.apply_modifiers-returns-in_err-value-clause-gives
@@ -177,10 +177,20 @@ expand_reference-returns-then-mention-le-TEXT_LIMIT-clause-gives t c =
     let name = c.args.mention.name.now in
     let modifiers = option_map (λ text. text.now) c.args.mention.modifiers in
     let references = meaning.reference kept.Empty (scope.levels - 1) variables in
-    let value = text_meaning-small (references active) name c.pay.new.self (sym c.has_dollar.ensures ∙ c.if-not-has_dollar.true) c.if-mention-le-TEXT_LIMIT.true in
-    let whole = reference-name scope.undefined scope.levels variables active written name modifiers c.args.budget.now c.pay.new.self tt (omega arith) c.in_ok-pay.ensures.gives
+    let value = text_meaning-small (references active) name c.begin_reference.new.budget (sym c.has_dollar.ensures ∙ c.if-not-has_dollar.true) c.if-mention-le-TEXT_LIMIT.true in
+    let whole = reference-name scope.undefined scope.levels variables active written name modifiers c.args.budget.now c.begin_reference.new.budget tt c.in_ok-begin_reference.ensures.inside c.in_ok-begin_reference.ensures.gives
     ∙ ap (λ end. after end (meaning.by_name scope.undefined references variables active written modifiers)) value in
     subst (λ outcome. Gives string_bytes c.expand_by_name.result c.expand_by_name.new.budget outcome) (sym whole) c.expand_by_name.ensures.gives
+
+pub expand_reference-returns-in_err-begin_reference-clause-gives : goal.expand_reference-returns-in_err-begin_reference-clause-gives
+expand_reference-returns-in_err-begin_reference-clause-gives t c =
+    let scope = c.args.scope in
+    let mention = c.args.mention in
+    let p = err_from_is_err_and c.from_residual.result c.from_residual.ensures.1 in
+    rw (p.1, p.2)
+    (StopsAt-whole c.in_err-begin_reference.field-0.0 c.begin_reference.new.budget _ _
+    (λ end stops. reference-unbegun scope.undefined scope.levels scope.variables.now (names_of scope.active) mention.written.now mention.name.now (option_map (λ text. text.now) mention.modifiers) c.args.budget.now end stops)
+    c.in_err-begin_reference.ensures.gives)
 
 pub expand_reference-returns-in_err-name-clause-gives : goal.expand_reference-returns-in_err-name-clause-gives
 expand_reference-returns-in_err-name-clause-gives t c =
@@ -193,9 +203,9 @@ expand_reference-returns-in_err-name-clause-gives t c =
     rw (p.1, p.2)
     (StopsAt-whole c.in_err-name.field-0.0 c.expand_text.new.budget _ _
     (λ end stops.
-    reference-name scope.undefined scope.levels variables active written c.args.mention.name.now modifiers c.args.budget.now c.pay.new.self tt (omega arith) c.in_ok-pay.ensures.gives ∙
+    reference-name scope.undefined scope.levels variables active written c.args.mention.name.now modifiers c.args.budget.now c.begin_reference.new.budget tt c.in_ok-begin_reference.ensures.inside c.in_ok-begin_reference.ensures.gives ∙
     ap (λ end'. after end' (meaning.by_name scope.undefined (meaning.reference kept.Empty (scope.levels - 1) variables) variables active written modifiers)) stops)
-    (subst (λ inside. StopsAt c.in_err-name.field-0.0 c.expand_text.new.budget (meaning.text_meaning (references_in inside) c.args.mention.name.now c.pay.new.self)) c.inside.ensures c.in_err-name.ensures.gives))
+    (subst (λ inside. StopsAt c.in_err-name.field-0.0 c.expand_text.new.budget (meaning.text_meaning (references_in inside) c.args.mention.name.now c.begin_reference.new.budget)) c.inside.ensures c.in_err-name.ensures.gives))
 
 pub expand_reference-returns-clause-gives : goal.expand_reference-returns-clause-gives
 expand_reference-returns-clause-gives t c =
@@ -207,8 +217,8 @@ expand_reference-returns-clause-gives t c =
     let references = meaning.reference kept.Empty (scope.levels - 1) variables in
     let behind = meaning.by_name scope.undefined references variables active written modifiers in
     let found = string_bytes c.in_ok-name.name in
-    let value = subst (λ inside. meaning.text_meaning (references_in inside) c.args.mention.name.now c.pay.new.self ≡ Ok (found, c.expand_text.new.budget)) c.inside.ensures c.in_ok-name.ensures.gives in
-    let whole = reference-name scope.undefined scope.levels variables active written c.args.mention.name.now modifiers c.args.budget.now c.pay.new.self tt (omega arith) c.in_ok-pay.ensures.gives
+    let value = subst (λ inside. meaning.text_meaning (references_in inside) c.args.mention.name.now c.begin_reference.new.budget ≡ Ok (found, c.expand_text.new.budget)) c.inside.ensures c.in_ok-name.ensures.gives in
+    let whole = reference-name scope.undefined scope.levels variables active written c.args.mention.name.now modifiers c.args.budget.now c.begin_reference.new.budget tt c.in_ok-begin_reference.ensures.inside c.in_ok-begin_reference.ensures.gives
     ∙ ap (λ end. after end behind) value in
     subst (λ outcome. Gives string_bytes c.expand_by_name-2.result c.expand_by_name-2.new.budget outcome)
     (ap (λ name. behind name c.expand_text.new.budget) c.as_str.ensures.value ∙ sym whole)
