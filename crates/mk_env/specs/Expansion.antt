@@ -127,7 +127,8 @@ abbrev pub by_name : Undefined → (List (List ℕ) → References) → Variable
 by_name undefined_gives references variables active written modifiers name =
     if is_kept undefined_gives (finite.get variables name) then give written else named references variables active name modifiers
 
--- the unit of a reference, which comes before anything else is looked at, where so many may stand one inside another
+-- the beginning of a reference, where so many may stand one inside another: its unit, before anything else is looked at, and the fault of
+-- one that stands too deep
 unfoldable pub begin : ℕ → Work Meter FaultKind (Unit {0})
 begin zero m = (pay >>= λ _. fail kinds.Depth) m
 begin (suc levels) m = pay m
