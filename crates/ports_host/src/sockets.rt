@@ -4,7 +4,7 @@ ghost use Rattle.ports_serve.specs.Calls.{Call};
 
 use mio::net::{TcpListener, TcpStream};
 use mio::{Events, Interest, Poll, Token};
-use ports_script::{Listen, ListenFault};
+use ports_program::{Listen, ListenFault};
 use ports_serve::{Outcome, Wire};
 use std::alloc::Global;
 use std::io::{self, ErrorKind, Read, Write};

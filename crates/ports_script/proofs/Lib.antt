@@ -3,7 +3,4 @@ mod EscapeFacts
 mod EntryFacts
 mod ScriptFacts
 mod PrintFacts
-mod RunFacts
 mod WriteFacts
-mod ServingFacts
-mod CommandFacts

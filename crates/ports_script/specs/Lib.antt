@@ -3,6 +3,5 @@ pub mod Escapes
 pub mod Entries
 pub mod Scripts
 pub mod Printing
-pub mod Running
-pub mod Serving
-pub mod CommandLine
+pub mod Writing
+pub mod Failures

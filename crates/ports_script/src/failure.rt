@@ -2,7 +2,8 @@
 ghost use Rattle.std.specs.Prelude.{◌≡◌, ◌++◌, OnOk, OnErr, codes, decimal};
 ghost use Rattle.std.specs.Io.KnownBytes.{Appends};
 ghost use Rattle.ports_script.specs.declared.failure.Failure.TheVariants as failures;
-ghost use Rattle.ports_script.specs.Running.{failure_status, failure_text, script_failure, new_failure, AppendsFront, AppendsUpTo};
+ghost use Rattle.ports_script.specs.Writing.{AppendsFront, AppendsUpTo};
+ghost use Rattle.ports_script.specs.Failures.{failure_status, failure_text, script_failure, new_failure};
 
 use crate::script::ScriptFault;
 use crate::writing::write_whole;
@@ -23,12 +24,19 @@ pub const REFUSED: u8 = 2;
 /// Why a run ended early.
 #[derive(Clone, Copy, Debug)]
 pub enum Failure {
+    /// A key can't be one, is given twice, or is one too many; or a size is out of its limits.
     BadKey,
+    /// This line of the script is in no form of one, or couldn't be read.
     BadEvent(u64),
+    /// The event of this line of the script isn't allowed.
     NotAllowed(u64),
+    /// Nothing listens on the port.
     CannotListen,
+    /// What was to be printed can't be.
     CannotWrite,
+    /// The store of the tenants' files failed.
     StoreFailed,
+    /// There was no memory.
     OutOfMemory,
 }
 

@@ -1,22 +1,16 @@
-//! The program: what its command line asks for is a run of a script of events, whose telling and sending is
-//! printed, or a service for clients.
+//! The texts of the program: scripts of events, which it reads, and what it writes: what a run of events told
+//! and sent, and why a run ended early.
 #![tactic(auto)]
 
-mod command_line;
 mod entries;
 mod failure;
 mod input;
 mod numerals;
 mod printing;
-mod program;
-mod running;
 mod script;
-mod serving;
 mod writing;
 
-pub use command_line::Serving;
+pub use failure::{DONE, Failure, REFUSED, report};
 pub use printing::transcript_text;
-pub use program::run_command;
-pub use running::run_config;
 pub use script::{Script, ScriptFault, read_script};
-pub use serving::{Listen, ListenFault, run_serving};
+pub use writing::write_whole;

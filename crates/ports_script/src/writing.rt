@@ -1,7 +1,7 @@
 //! Bytes written to their end.
 ghost use Rattle.std.specs.Prelude.{OnOk, OnErr};
 ghost use Rattle.std.specs.Io.KnownBytes.{Appends};
-ghost use Rattle.ports_script.specs.Running.{AppendsFront};
+ghost use Rattle.ports_script.specs.Writing.{AppendsFront};
 
 use std::io::{self, ErrorKind, Write};
 

@@ -4,7 +4,7 @@
 #![tactic(auto)]
 
 use ports_host::{Loopback, words_given};
-use ports_script::run_command;
+use ports_program::run_command;
 use std::io;
 use std::process::ExitCode;
 

@@ -6,7 +6,7 @@ use crate::answer::{Answer, Trouble};
 use crate::service::{bytes_told, service_of_one};
 use mio::net::TcpStream;
 use ports_host::{Loopback, Sockets};
-use ports_script::Listen;
+use ports_program::Listen;
 use ports_serve::{Outcome, Wire, serve};
 use std::alloc::Global;
 use std::io::{Read, Write};

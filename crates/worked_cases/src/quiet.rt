@@ -2,7 +2,7 @@
 ghost use Rattle.std.specs.Prelude.{ℕ};
 ghost use Rattle.ports_serve.specs.Calls.{Call};
 
-use ports_script::{Listen, ListenFault};
+use ports_program::{Listen, ListenFault};
 use ports_serve::{Outcome, Wire};
 use std::alloc::Global;
 

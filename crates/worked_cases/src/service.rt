@@ -9,7 +9,8 @@ use ports_http::{
     Content, HeadFault, Method, Reply, Request, StreamEnd, decode, write_fixed, write_reply,
 };
 use ports_plain::{Plain, Prepared};
-use ports_script::{read_script, run_command};
+use ports_program::run_command;
+use ports_script::read_script;
 use std::alloc::{AllocError, Global};
 use std::fmt::Write;
 

@@ -6,7 +6,8 @@ use crate::service::{Ran, config_of_one, status_told};
 use failing_streams::{FailingReader, FailingWriter};
 use ports_core::{Refused, Step, Tell, Told};
 use ports_http::Reply;
-use ports_script::{ScriptFault, Serving, read_script, run_config, run_serving, transcript_text};
+use ports_program::{Serving, run_config, run_serving};
+use ports_script::{ScriptFault, read_script, transcript_text};
 use std::alloc::Global;
 
 /// `input SCRIPT failing after N`: the fault of a script whose input gives five bytes at a read and

@@ -1,4 +1,4 @@
-use Rattle.ports_script.specs.Running.{failure_text}
+use Rattle.ports_script.specs.Failures.{failure_text}
 use Rattle.ports_script.proofs.WriteFacts.{up_to}
 use Rattle.ports_script.proofs.failure.report.Goals as goal
 

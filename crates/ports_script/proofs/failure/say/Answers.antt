@@ -1,5 +1,5 @@
 use Rattle.ports_script.specs.declared.failure.Failure.TheVariants as failures
-use Rattle.ports_script.specs.Running.{failure_text}
+use Rattle.ports_script.specs.Failures.{failure_text}
 use Rattle.ports_script.proofs.WriteFacts.{front_along}
 use Rattle.ports_script.proofs.failure.say.Goals as goal
 

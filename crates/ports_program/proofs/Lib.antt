@@ -1,0 +1,3 @@
+mod RunFacts
+mod ServingFacts
+mod CommandFacts

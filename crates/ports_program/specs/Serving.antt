@@ -1,0 +1,56 @@
+-- How a service for clients ends.
+use Rattle.std.specs.Prelude.{◌≡◌, ◌⊎◌, ℕ, true, false, List, codes, Option}
+use Rattle.std.specs.Io.KnownBytes.{Appends, Keeps}
+use Rattle.ports_core.specs.Keys.{is_fit, key_texts}
+use Rattle.ports_core.specs.State.{State, new_state}
+use Rattle.ports_serve.specs.Calls.{Call}
+use Rattle.ports_serve.specs.Rounds.{IsServed}
+use Rattle.ports_program.specs.declared.command_line.Serving.{Serving}
+use Rattle.ports_program.specs.declared.serving.ListenFault.{ListenFault}
+use Rattle.ports_program.specs.declared.serving.ListenFault.TheVariants as fault
+use Rattle.ports_script.specs.declared.failure.Failure.{Failure}
+use Rattle.ports_script.specs.declared.failure.Failure.TheVariants.{BadKey, BadEvent, NotAllowed, CannotListen, CannotWrite, StoreFailed, OutOfMemory}
+use Rattle.ports_script.specs.Writing.{AppendsFront, AppendsUpTo}
+use Rattle.ports_script.specs.Failures.{failure_status, failure_text}
+
+-- what is printed once it listens
+abbrev pub ready_text : List ℕ
+ready_text = codes "portsd: ready\n"
+
+-- the failure where nothing listens
+abbrev pub listen_failure : ListenFault → Failure
+listen_failure fault.Port = CannotListen
+listen_failure fault.Memory = OutOfMemory
+
+-- A service that begins with the config serves all rounds, over a wire that listens on the port, and it is said to be
+-- ready.
+pub record Serves {W : Type 0} (After : W → Call → W → Type 0) (ListensOn : ℕ → W → Type 0) (serving : Serving)
+    (held holds : Option (List ℕ)) : Type 0 where
+  pub fit : is_fit serving.config ≡ true
+  pub wire : W
+  pub listens : ListensOn serving.port wire
+  pub ready : Appends held holds ready_text
+  pub wire_left : W
+  pub left : State
+  pub served : IsServed After serving.rounds wire (new_state (key_texts serving.config.keys.items)) wire_left left
+
+-- why it ends early. Keys are looked at first; nothing is printed before something listens, and only that it is ready
+-- before memory is wanting for the rounds.
+abbrev pub EndsServing : Serving → Option (List ℕ) → Option (List ℕ) → Failure → Type 0
+EndsServing serving held holds BadKey = (is_fit serving.config ≡ false) × Keeps held holds
+EndsServing serving held holds (BadEvent line) = ⊥
+EndsServing serving held holds (NotAllowed line) = ⊥
+EndsServing serving held holds CannotListen = (is_fit serving.config ≡ true) × Keeps held holds
+EndsServing serving held holds CannotWrite = (is_fit serving.config ≡ true) × AppendsFront held holds ready_text
+EndsServing serving held holds StoreFailed = (is_fit serving.config ≡ true) × Keeps held holds
+EndsServing serving held holds OutOfMemory =
+    (is_fit serving.config ≡ true) × (Keeps held holds ⊎ Appends held holds ready_text)
+
+-- How it ends: with status 0 after the last round, and nothing is said; or a failure ended it, whose status it is, and
+-- whose text is said, as far as standard error takes it.
+abbrev pub FinishesServing : {W : Type 0} → (W → Call → W → Type 0) → (ℕ → W → Type 0) → Serving → Option (List ℕ)
+    → Option (List ℕ) → Option (List ℕ) → Option (List ℕ) → ℕ → Type 0
+FinishesServing After ListensOn serving held holds unsaid said status =
+    ((status ≡ 0) × Serves After ListensOn serving held holds × Keeps unsaid said)
+    ⊎ ((failure : Failure) × (status ≡ failure_status failure) × EndsServing serving held holds failure
+    × AppendsUpTo unsaid said (failure_text failure))

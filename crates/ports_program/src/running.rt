@@ -1,0 +1,77 @@
+//! One run of a script.
+ghost use Rattle.std.specs.Prelude.{◌≡◌, OnOk, IfErr};
+ghost use Rattle.std.specs.Io.KnownBytes.{Appends};
+ghost use Rattle.ports_script.specs.Scripts.{numbered};
+ghost use Rattle.ports_script.specs.Printing.{transcript};
+ghost use Rattle.ports_program.specs.Running.{Completes, Ends, Finishes, FailsToPrint};
+
+use ports_core::{Config, ReplayFault, Step, replay};
+use ports_script::{DONE, Failure, Script, read_script, report, transcript_text, write_whole};
+use std::alloc::Global;
+use std::io::{Read, Write};
+
+/// Runs a script that it reads to its end over a service that begins with the config. What was told
+/// and sent goes to `out`, the text of a failure to `err`. Gives the exit status: 0; 1 where memory or
+/// the output failed; 2 for a fault of a key or of the script.
+///
+/// Failures are found in this order: keys, the script, the start of the service, the run, the output.
+/// An event that isn't allowed stops the run, after what the earlier ones printed. Each byte is written
+/// once, from the first on, up to where the output failed.
+pub fn run_config<R: Read, O: Write, E: Write>(
+    alloc: Global,
+    config: Config,
+    reader: &mut R,
+    out: &mut O,
+    err: &mut E,
+) -> u8
+    ensures { Finishes config (record { unread = R.remaining reader.old; left = R.remaining reader.new; held = O.contents out.old; holds = O.contents out.new }) (E.contents err.old) (E.contents err.new) result }
+{
+    match run(alloc, config, reader, out) {
+        Ok(()) => DONE,
+        Err(failure) => report(failure, err),
+    }
+}
+
+/// Reads a script, runs it over a service that begins with the config, and prints what was told and
+/// sent; the failure that ends it early.
+fn run<R: Read, O: Write>(
+    alloc: Global,
+    config: Config,
+    reader: &mut R,
+    out: &mut O,
+) -> Result<(), Failure>
+    ensures done { OnOk result (Completes config (record { unread = R.remaining reader.old; left = R.remaining reader.new; held = O.contents out.old; holds = O.contents out.new })) }
+    ensures failed { IfErr result (Ends config (record { unread = R.remaining reader.old; left = R.remaining reader.new; held = O.contents out.old; holds = O.contents out.new })) }
+{
+    if !config.is_fit() {
+        return Err(Failure::BadKey);
+    }
+    let script = read_script(alloc, reader)?;
+    match replay(alloc, config, script.events.as_slice()) {
+        Ok(done) => print(alloc, &script, done.steps.as_slice(), out),
+        Err(ReplayFault::NotAllowed { index, done }) => {
+            print(alloc, &script, done.steps.as_slice(), out)?;
+            let line = script.lines.get(index).copied().unwrap_or(0);
+            Err(Failure::NotAllowed(line))
+        }
+        Err(ReplayFault::New(fault)) => Err(Failure::from(fault)),
+        Err(ReplayFault::Memory) => Err(Failure::OutOfMemory),
+    }
+}
+
+/// Prints what the steps told and sent.
+fn print<O: Write>(
+    alloc: Global,
+    script: &Script,
+    steps: &[Step],
+    out: &mut O,
+) -> Result<(), Failure>
+    ensures done { OnOk result (Appends (O.contents out.old) (O.contents out.new) (transcript (numbered script.now) steps.now)) }
+    ensures failed { IfErr result (FailsToPrint (O.contents out.old) (O.contents out.new) (transcript (numbered script.now) steps.now)) }
+{
+    let text = transcript_text(alloc, script, steps)?;
+    match write_whole(out, text.as_bytes()) {
+        Ok(()) => Ok(()),
+        Err(_) => Err(Failure::CannotWrite),
+    }
+}

@@ -1,0 +1,39 @@
+-- Why a run ends early: the status that tells it, and what is said.
+use Rattle.std.specs.Prelude.{ℕ, List, ◌++◌, codes, decimal}
+use Rattle.ports_core.specs.declared.service.NewFault.{NewFault}
+use Rattle.ports_core.specs.declared.service.NewFault.TheVariants as new
+use Rattle.ports_script.specs.declared.script.ScriptFault.{ScriptFault}
+use Rattle.ports_script.specs.declared.script.ScriptFault.TheVariants as fault
+use Rattle.ports_script.specs.declared.failure.Failure.{Failure}
+use Rattle.ports_script.specs.declared.failure.Failure.TheVariants.{BadKey, BadEvent, NotAllowed, CannotListen, CannotWrite, StoreFailed, OutOfMemory}
+
+-- the exit status: 2 where what was asked can't be done, 1 where something outside failed
+abbrev pub failure_status : Failure → ℕ
+failure_status BadKey = 2
+failure_status (BadEvent line) = 2
+failure_status (NotAllowed line) = 2
+failure_status CannotListen = 1
+failure_status CannotWrite = 1
+failure_status StoreFailed = 1
+failure_status OutOfMemory = 1
+
+-- what is said of a failure on standard error
+abbrev pub failure_text : Failure → List ℕ
+failure_text BadKey = codes "portsd: bad key\n"
+failure_text (BadEvent line) = codes "portsd: line " ++ (decimal line ++ codes ": bad event\n")
+failure_text (NotAllowed line) = codes "portsd: line " ++ (decimal line ++ codes ": event not allowed\n")
+failure_text CannotListen = codes "portsd: cannot listen\n"
+failure_text CannotWrite = codes "portsd: cannot write\n"
+failure_text StoreFailed = codes "portsd: store failed\n"
+failure_text OutOfMemory = codes "portsd: out of memory\n"
+
+-- the failure where a script isn't read
+abbrev pub script_failure : ScriptFault → Failure
+script_failure (fault.BadEvent line) = BadEvent line
+script_failure fault.Memory = OutOfMemory
+
+-- the failure where a service can't begin
+abbrev pub new_failure : NewFault → Failure
+new_failure new.Config = BadKey
+new_failure new.Store = StoreFailed
+new_failure new.Memory = OutOfMemory
