@@ -7,13 +7,13 @@ use Rattle.ports_core.specs.declared.keys.Config.{Config}
 use Rattle.ports_core.specs.Keys.{is_fit}
 use Rattle.ports_core.specs.Replays.{IsRun, TellsPlainly, ConversesOnEach, EndsEarly}
 use Rattle.ports_script.specs.declared.script.Script.{Script}
-use Rattle.ports_script.specs.declared.script.ScriptFault.TheVariants as fault
+use Rattle.ports_script.specs.declared.script.ScriptFault.{ScriptFault}
 use Rattle.ports_script.specs.declared.failure.Failure.{Failure}
 use Rattle.ports_script.specs.declared.failure.Failure.TheVariants.{BadKey, BadEvent, NotAllowed, CannotListen, CannotWrite, StoreFailed, OutOfMemory}
 use Rattle.ports_script.specs.Scripts.{numbered, ReadsScript, FailsToRead}
 use Rattle.ports_script.specs.Printing.{transcript}
 use Rattle.ports_script.specs.Writing.{AppendsFront, AppendsUpTo}
-use Rattle.ports_script.specs.Failures.{failure_status, failure_text}
+use Rattle.ports_script.specs.Failures.{failure_status, failure_text, script_failure}
 
 -- the bytes that an input has left and an output holds, where they are known, before a run and behind it
 pub record Streams : Type 0 where
@@ -33,46 +33,64 @@ HappensWhole config script done =
 abbrev pub HappensUpTo : Config → Script → ℕ → Transcript → Type 0
 HappensUpTo config script index done = EndsEarly config script.events.items (replay.NotAllowed index done)
 
--- a script is read, its events happen, and what was told and sent is printed
+-- the events of a script happen, and what they told and sent is printed
+abbrev pub PrintsWhole : Config → Script → Option (List ℕ) → Option (List ℕ) → Type 0
+PrintsWhole config script held holds =
+    (done : Transcript) × HappensWhole config script done
+    × Appends held holds (transcript (numbered script) done.steps.items)
+
+-- the event of a line isn't allowed; those before it happen, and what they told and sent is printed
+abbrev pub PrintsUpTo : Config → Script → ℕ → Option (List ℕ) → Option (List ℕ) → Type 0
+PrintsUpTo config script line held holds =
+    (index : ℕ) × (done : Transcript) × HappensUpTo config script index done
+    × (slice_get script.lines.items index ≡ Some line)
+    × Appends held holds (transcript (numbered script) done.steps.items)
+
+-- the events of a script happen, all or those before one that isn't allowed, and of what they told and sent a
+-- front is printed
+abbrev pub PrintsFront : Config → Script → Option (List ℕ) → Option (List ℕ) → Type 0
+PrintsFront config script held holds =
+    (done : Transcript) × (HappensWhole config script done ⊎ ((index : ℕ) × HappensUpTo config script index done))
+    × AppendsFront held holds (transcript (numbered script) done.steps.items)
+
+-- why the events of a script end early: but for one that isn't allowed, and an output that fails, nothing is printed
+abbrev pub EventsEnd : Config → Script → Option (List ℕ) → Option (List ℕ) → Failure → Type 0
+EventsEnd config script held holds BadKey = ⊥
+EventsEnd config script held holds (BadEvent line) = ⊥
+EventsEnd config script held holds (NotAllowed line) = PrintsUpTo config script line held holds
+EventsEnd config script held holds CannotListen = ⊥
+EventsEnd config script held holds CannotWrite = PrintsFront config script held holds
+EventsEnd config script held holds StoreFailed = Keeps held holds
+EventsEnd config script held holds OutOfMemory = Keeps held holds
+
+-- the keys are fit, a script is read, its events happen, and what they told and sent is printed
 abbrev pub Completes : Config → Streams → Type 0
 Completes config streams =
-    (script : Script) × (done : Transcript)
-    × ReadsScript streams.unread streams.left (numbered script)
-    × HappensWhole config script done
-    × Appends streams.held streams.holds (transcript (numbered script) done.steps.items)
+    (is_fit config ≡ true) × (script : Script) × ReadsScript streams.unread streams.left (numbered script)
+    × PrintsWhole config script streams.held streams.holds
 
--- a script is read, and the event of a line isn't allowed; those before it happen, and what they told and sent
--- is printed
-abbrev pub StopsAt : Config → Streams → ℕ → Type 0
-StopsAt config streams line =
-    (script : Script) × (index : ℕ) × (done : Transcript)
-    × ReadsScript streams.unread streams.left (numbered script)
-    × HappensUpTo config script index done
-    × (slice_get script.lines.items index ≡ Some line)
-    × Appends streams.held streams.holds (transcript (numbered script) done.steps.items)
+-- a key is at fault, and nothing is read or printed
+abbrev pub EndsUnfit : Config → Streams → Failure → Type 0
+EndsUnfit config streams failure =
+    (failure ≡ BadKey) × (is_fit config ≡ false)
+    × Keeps streams.unread streams.left × Keeps streams.held streams.holds
 
--- a script is read and its events happen, all or those before one that isn't allowed, and of what they told and
--- sent a front is printed
-abbrev pub FailsToWrite : Config → Streams → Type 0
-FailsToWrite config streams =
-    (script : Script) × (done : Transcript)
-    × ReadsScript streams.unread streams.left (numbered script)
-    × (HappensWhole config script done ⊎ ((index : ℕ) × HappensUpTo config script index done))
-    × AppendsFront streams.held streams.holds (transcript (numbered script) done.steps.items)
+-- the keys are fit, no script can be read, and nothing is printed
+abbrev pub EndsUnread : Config → Streams → Failure → Type 0
+EndsUnread config streams failure =
+    (is_fit config ≡ true) × (why : ScriptFault) × (failure ≡ script_failure why)
+    × FailsToRead streams.unread streams.left why × Keeps streams.held streams.holds
 
--- why a run ends early. Keys are looked at before the script is read; but for an event that isn't allowed, and an
--- output that fails, nothing is printed.
+-- the keys are fit, a script is read, and its events end early
+abbrev pub EndsUndone : Config → Streams → Failure → Type 0
+EndsUndone config streams failure =
+    (is_fit config ≡ true) × (script : Script) × ReadsScript streams.unread streams.left (numbered script)
+    × EventsEnd config script streams.held streams.holds failure
+
+-- why a run ends early: its keys are looked at before the script is read, and that before an event happens
 abbrev pub Ends : Config → Streams → Failure → Type 0
-Ends config streams BadKey =
-    (is_fit config ≡ false) × Keeps streams.unread streams.left × Keeps streams.held streams.holds
-Ends config streams (BadEvent line) =
-    (is_fit config ≡ true) × FailsToRead streams.unread streams.left (fault.BadEvent line)
-    × Keeps streams.held streams.holds
-Ends config streams (NotAllowed line) = (is_fit config ≡ true) × StopsAt config streams line
-Ends config streams CannotListen = ⊥
-Ends config streams CannotWrite = (is_fit config ≡ true) × FailsToWrite config streams
-Ends config streams StoreFailed = (is_fit config ≡ true) × Keeps streams.held streams.holds
-Ends config streams OutOfMemory = (is_fit config ≡ true) × Keeps streams.held streams.holds
+Ends config streams failure =
+    EndsUnfit config streams failure ⊎ (EndsUnread config streams failure ⊎ EndsUndone config streams failure)
 
 -- How a run ends: with status 0, whole, and nothing is said; or a failure ended it, whose status it is, and whose
 -- text is said, as far as standard error takes it.

@@ -1,9 +1,10 @@
 //! One run of a script.
-ghost use Rattle.std.specs.Prelude.{◌≡◌, OnOk, IfErr};
+ghost use Rattle.std.specs.Prelude.{◌≡◌, true, OnOk, IfErr, vec_len};
 ghost use Rattle.std.specs.Io.KnownBytes.{Appends};
+ghost use Rattle.ports_core.specs.Keys.{is_fit};
 ghost use Rattle.ports_script.specs.Scripts.{numbered};
 ghost use Rattle.ports_script.specs.Printing.{transcript};
-ghost use Rattle.ports_program.specs.Running.{Completes, Ends, Finishes, FailsToPrint};
+ghost use Rattle.ports_program.specs.Running.{Completes, Ends, PrintsWhole, EventsEnd, Finishes, FailsToPrint};
 
 use ports_core::{Config, ReplayFault, Step, replay};
 use ports_script::{DONE, Failure, Script, read_script, report, transcript_text, write_whole};
@@ -47,10 +48,26 @@ fn run<R: Read, O: Write>(
         return Err(Failure::BadKey);
     }
     let script = read_script(alloc, reader)?;
+    run_script(alloc, config, &script, out)
+}
+
+/// Runs a script over a service that begins with a config that is fit, and prints what was told and
+/// sent; the failure that ends it early.
+fn run_script<O: Write>(
+    alloc: Global,
+    config: Config,
+    script: &Script,
+    out: &mut O,
+) -> Result<(), Failure>
+    requires fit { is_fit config ≡ true }
+    requires paired { vec_len script.now.lines ≡ vec_len script.now.events }
+    ensures done { OnOk result (PrintsWhole config script.now (O.contents out.old) (O.contents out.new)) }
+    ensures failed { IfErr result (EventsEnd config script.now (O.contents out.old) (O.contents out.new)) }
+{
     match replay(alloc, config, script.events.as_slice()) {
-        Ok(done) => print(alloc, &script, done.steps.as_slice(), out),
+        Ok(done) => print(alloc, script, done.steps.as_slice(), out),
         Err(ReplayFault::NotAllowed { index, done }) => {
-            print(alloc, &script, done.steps.as_slice(), out)?;
+            print(alloc, script, done.steps.as_slice(), out)?;
             let line = script.lines.get(index).copied().unwrap_or(0);
             Err(Failure::NotAllowed(line))
         }

@@ -1,9 +1,8 @@
 //! Cases, taken line by line.
-use crate::answer::{Answer, Trouble};
 use crate::bench::Bench;
-use crate::line::Line;
 use crate::loopback;
 use crate::service::{Ran, run_program};
+use case_lines::{Answer, Line, Trouble};
 use std::alloc::{AllocError, Global};
 use std::net::Net;
 

@@ -2,8 +2,8 @@
 ghost use Rattle.std.specs.Prelude.{ℕ};
 ghost use Rattle.ports_serve.specs.Calls.{Call};
 
-use crate::answer::{Answer, Trouble};
 use crate::service::{bytes_told, service_of_one};
+use case_lines::{Answer, Trouble};
 use mio::net::TcpStream;
 use ports_host::{Loopback, Sockets};
 use ports_program::Listen;
@@ -22,6 +22,7 @@ struct Pair {
     client: TcpStream,
     unsent: Vec<u8>,
     taken: Vec<u8>,
+    is_closed: bool,
 }
 
 impl Pair {
@@ -36,16 +37,18 @@ impl Pair {
             client,
             unsent: Vec::from_slice(alloc, sent)?,
             taken: Vec::new(alloc),
+            is_closed: false,
         })
     }
 
-    /// Sends what the socket takes, and takes what has come.
+    /// Sends what the socket takes, and takes what has come, or learns that nothing more will.
     fn step(&mut self) {
         if let Ok(count) = self.client.write(self.unsent.as_slice()) {
             self.unsent.drain(..count);
         }
         let mut bytes = [0; 256];
         if let Ok(count) = self.client.read(&mut bytes) {
+            self.is_closed |= count == 0;
             let _ = self.taken.extend_from_slice(&bytes[..count]);
         }
     }
@@ -73,7 +76,7 @@ impl Wire for Pair {
 }
 
 /// `loopback BYTES`: what a client that sends these bytes over a socket is sent, within 200 rounds of a service
-/// with the key `alpha`.
+/// with the key `alpha`, and whether its connection is then `open` or `closed`.
 pub fn answered(alloc: Global, net: &impl Net, given: &[Vec<u8>]) -> Result<Answer, Trouble> {
     let [sent] = given else {
         return Err(Trouble::NoCase);
@@ -81,5 +84,7 @@ pub fn answered(alloc: Global, net: &impl Net, given: &[Vec<u8>]) -> Result<Answ
     let service = service_of_one(alloc)?;
     let mut pair = Pair::new(alloc, net, sent.as_slice())?;
     let _service = serve(alloc, &mut pair, service, ROUNDS)?;
-    Ok(bytes_told(alloc, pair.taken.as_slice()))
+    let mut answer = bytes_told(alloc, pair.taken.as_slice());
+    answer.word(if pair.is_closed { "closed" } else { "open" });
+    Ok(answer)
 }

@@ -3,26 +3,15 @@
 //! lies beside this program, the file `stdin`.
 #![tactic(auto)]
 
-mod answer;
 mod bench;
 mod cases;
-mod conditions;
-mod dependencies;
-mod evaluation;
-mod line;
 mod loopback;
-mod loops;
-mod packages;
 mod quiet;
-mod records;
 mod served;
 mod service;
 mod stores;
 mod streams;
-mod texts;
-mod trees;
 mod trickle;
-mod world;
 
 use cases::Cases;
 use std::io;

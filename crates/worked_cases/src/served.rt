@@ -1,8 +1,7 @@
 //! The service over its store: requests in a row, each on a connection of its own.
-use crate::answer::{Answer, Trouble};
-use crate::line::{as_number, as_text};
 use crate::service::reply_told;
 use crate::stores::{MOST_LIMITS, filled, stops_told};
+use case_lines::{Answer, Trouble, as_number, as_text};
 use http::StatusCode;
 use ports_core::{Config, Event, Service};
 use ports_http::{Method, Reply};
@@ -68,16 +67,19 @@ pub fn answer(
     }
 }
 
-/// `service METHOD TENANT TARGET [BODY]`: the reply.
+/// `service GET TENANT TARGET`, `service PUT TENANT TARGET BODY`, `service DELETE TENANT TARGET`: the
+/// reply.
 fn asked_told(
     alloc: Global,
     service: &mut Service,
     method: Method,
     given: &[Vec<u8>],
 ) -> Result<Answer, Trouble> {
-    let asked = match given {
-        [tenant, target] => Asked::read(method, tenant, target, &[])?,
-        [tenant, target, body] => Asked::read(method, tenant, target, body)?,
+    let asked = match (method, given) {
+        (Method::Put, [tenant, target, body]) => Asked::read(method, tenant, target, body)?,
+        (Method::Get | Method::Delete, [tenant, target]) => {
+            Asked::read(method, tenant, target, &[])?
+        }
         _ => return Err(Trouble::NoCase),
     };
     let reply = ask(alloc, service, asked)?;
@@ -146,9 +148,9 @@ fn stopped(
     method: Method,
     given: &[Vec<u8>],
 ) -> Result<Answer, Trouble> {
-    let (tenant, target, body, probe) = match given {
-        [tenant, target, probe] => (tenant, target, b"".as_slice(), probe),
-        [tenant, target, body, probe] => (tenant, target, body.as_slice(), probe),
+    let (tenant, target, body, probe) = match (method, given) {
+        (Method::Put, [tenant, target, body, probe]) => (tenant, target, body.as_slice(), probe),
+        (Method::Delete, [tenant, target, probe]) => (tenant, target, b"".as_slice(), probe),
         _ => return Err(Trouble::NoCase),
     };
     let asked = Asked::read(method, tenant, target, body)?;

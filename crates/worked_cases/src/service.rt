@@ -1,14 +1,13 @@
 //! The layers of the service: streams, replies, requests over a tenant's files, whole runs.
-use crate::answer::{Answer, Trouble};
-use crate::line::{as_number, as_text};
 use crate::quiet::QuietPorts;
-use crate::world::World;
+use case_lines::{Answer, Trouble, as_number, as_text};
 use http::StatusCode;
+use make_cases::World;
 use ports_core::{Config, Service, Transcript, replay};
 use ports_http::{
     Content, HeadFault, Method, Reply, Request, StreamEnd, decode, write_fixed, write_reply,
 };
-use ports_plain::{Plain, Prepared};
+use ports_plain::{Change, Plain, Prepared};
 use ports_program::run_command;
 use ports_script::read_script;
 use std::alloc::{AllocError, Global};
@@ -114,9 +113,9 @@ pub fn request(
     method: Method,
     given: &[Vec<u8>],
 ) -> Result<Answer, Trouble> {
-    let (target, body) = match given {
-        [target] => (target, Vec::new(alloc)),
-        [target, body] => (target, body.clone()?),
+    let (target, body) = match (method, given) {
+        (Method::Put, [target, body]) => (target, body.clone()?),
+        (Method::Get | Method::Delete, [target]) => (target, Vec::new(alloc)),
         _ => return Err(Trouble::NoCase),
     };
     let plain = Plain::new(alloc)?;
@@ -125,9 +124,21 @@ pub fn request(
     let Prepared { reply, change } = plain.prepare(alloc, files, settings, method, target, body)?;
     let answer = reply_told(alloc, &reply);
     if let Some(change) = change {
-        world.carry_out(change)?;
+        carry_out(world, change)?;
     }
     Ok(answer)
+}
+
+/// Carries out what a request changes.
+fn carry_out(world: &mut World, change: Change) -> Result<(), AllocError> {
+    match change {
+        Change::PutFile(name, content) => world.files.put(name, content)?,
+        Change::RemoveFile(name) => {
+            let _was_there = world.files.remove(&name);
+        }
+        Change::SetPath(path) => world.settings.path = path,
+    }
+    Ok(())
 }
 
 /// The status of a reply, with its phrase, and its body.

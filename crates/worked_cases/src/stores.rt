@@ -1,7 +1,6 @@
 //! The store of all tenants: calls in a row.
-use crate::answer::{Answer, Trouble};
-use crate::evaluation::{given_name, given_path, trees_told, two_told};
-use crate::line::as_number;
+use case_lines::{Answer, Trouble, as_number};
+use make_cases::{given_name, given_path, trees_told, two_told};
 use mk_files::Files;
 use mk_paths::{FilesFault, Name, Names, SearchPath};
 use std::alloc::Global;

@@ -1,8 +1,7 @@
 //! Inputs and outputs that fail, and steps that no run can be made to take.
-use crate::answer::{Answer, Trouble};
-use crate::line::as_number;
 use crate::quiet::QuietPorts;
 use crate::service::{Ran, config_of_one, status_told};
+use case_lines::{Answer, Trouble, as_number};
 use failing_streams::{FailingReader, FailingWriter};
 use ports_core::{Refused, Step, Tell, Told};
 use ports_http::Reply;

@@ -2,8 +2,8 @@
 ghost use Rattle.std.specs.Prelude.{ℕ};
 ghost use Rattle.ports_serve.specs.Calls.{Call};
 
-use crate::answer::{Answer, Trouble};
 use crate::service::service_of_one;
+use case_lines::{Answer, Trouble};
 use ports_serve::{Outcome, Wire, serve};
 use std::alloc::Global;
 

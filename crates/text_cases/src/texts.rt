@@ -1,6 +1,5 @@
 //! The layers of texts: lines, words, references, patterns, modifiers, kinds of lines.
-use crate::answer::{Answer, Trouble};
-use crate::line::{as_text, one_text};
+use case_lines::{Answer, Trouble, as_text, one_text};
 use mk_ast::{LineKind, is_word, line_kind, plain_kind};
 use mk_glob::glob;
 use mk_mods::{Modifier, Mods, ModsFault, Part, Substitution, apply, substitute};

@@ -1,6 +1,5 @@
 //! The layers of packages: paths, names with versions, specs.
-use crate::answer::{Answer, Trouble};
-use crate::line::{as_text, one_text};
+use case_lines::{Answer, Trouble, as_text, one_text};
 use pkg_name::{NameFault, PkgName, Version, VersionFault};
 use pkg_path::{PkgPath, PkgPathFault};
 use pkg_spec::{Spec, SpecFault};

@@ -1,11 +1,7 @@
 //! The layer of dependencies: items, what meets them, and questions about lists of ports.
-use crate::answer::{Answer, Trouble};
-use crate::evaluation::{evaluated, makefile};
-use crate::line::{as_text, one_text};
-use crate::packages::{add_texts, path_of};
-use crate::world::World;
+use case_lines::{Answer, Trouble, as_text, one_text};
+use make_cases::{World, evaluated, makefile};
 use mk_base::FaultKind;
-use mk_files::{Listing, MemoryFiles};
 use pkg_path::PkgPath;
 use pkg_spec::{Spec, SpecFault};
 use port_deps::{Found, Item, Root, RootEdge, items, resolve};
@@ -15,14 +11,10 @@ use ports_query::{
     Kinds, Listed, Query, QueryFault, admitted, answer, edges_to, first_edges, reached, reaching,
 };
 use std::alloc::{AllocError, Global};
+use text_cases::{add_texts, path_of};
 
 /// The path at which the makefile's port stands.
 const ROOT: &str = "a/b";
-
-/// `names`: of all files.
-pub fn names(alloc: Global, files: &mut MemoryFiles) -> Result<Answer, Trouble> {
-    Ok(texts_told(alloc, &files.names(alloc)?))
-}
 
 /// `index`: the roots of the world, each with its path and whether a fault is met there, and then each
 /// item of a root with its status.

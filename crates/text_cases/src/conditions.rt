@@ -1,14 +1,8 @@
-//! The trees of conditions, and whether they hold.
-use crate::answer::{Answer, Trouble};
-use crate::evaluation::given_name;
-use crate::line::{as_number, as_text, one_text};
+//! The trees of conditions.
+use case_lines::{Answer, Trouble, one_text};
 use cond_grammar::{
     Call, Comparison, Condition, ConditionError, Conjunction, Side, Term, read_condition,
 };
-use mk_base::{Budget, UNITS};
-use mk_cond::truth;
-use mk_env::Env;
-use mk_files::MemoryFiles;
 use mk_text::Span;
 use std::alloc::{AllocError, Global};
 use std::fmt::Write;
@@ -37,40 +31,6 @@ pub fn conjunctions(alloc: Global, given: &[Vec<u8>]) -> Result<Answer, Trouble>
     if let Ok(condition) = read_condition(alloc, one_text(given)?) {
         answer.number((condition.more.len() as u64).saturating_add(1));
     }
-    Ok(answer)
-}
-
-/// The makefile in which conditions stand.
-const MAKEFILE: &str = "/ports/a/b/Makefile";
-
-/// `truth TEXT`: whether the condition holds under its directive, or the kind of its fault; then the units
-/// spent and the questions counted. `truth TEXT within LIMIT after N`: the same with so many units, where so
-/// many questions were counted before.
-pub fn truth_told(
-    alloc: Global,
-    variables: &Env,
-    world: &mut MemoryFiles,
-    given: &[Vec<u8>],
-) -> Result<Answer, Trouble> {
-    let (text, limit, count) = match given {
-        [text] => (text, UNITS, 0),
-        [text, limit, count] => (text, as_number(limit)?, as_number(count)?),
-        _ => return Err(Trouble::NoCase),
-    };
-    let mut budget = Budget::new(limit);
-    for _ in 0..count {
-        budget.ask().map_err(|_| Trouble::NoCase)?;
-    }
-    let text = as_text(text)?;
-    let makefile = given_name(alloc, MAKEFILE.as_bytes())?;
-    let mut answer = Answer::new(alloc);
-    match truth(alloc, variables, text, &makefile, world, &mut budget) {
-        Ok(true) => answer.word("true"),
-        Ok(false) => answer.word("false"),
-        Err(stop) => answer.stop(stop),
-    }
-    answer.number(budget.spent());
-    answer.number(budget.questions());
     Ok(answer)
 }
 

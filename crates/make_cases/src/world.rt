@@ -1,7 +1,6 @@
 //! The world of one tenant, in memory.
 use mk_files::MemoryFiles;
 use mk_paths::{SearchPath, Settings};
-use ports_plain::Change;
 use std::alloc::{AllocError, Global};
 
 /// A tenant's files and settings.
@@ -20,17 +19,5 @@ impl World {
                 path: SearchPath::standard(alloc)?,
             },
         })
-    }
-
-    /// Carries out what a request changes.
-    pub fn carry_out(&mut self, change: Change) -> Result<(), AllocError> {
-        match change {
-            Change::PutFile(name, content) => self.files.put(name, content)?,
-            Change::RemoveFile(name) => {
-                let _was_there = self.files.remove(&name);
-            }
-            Change::SetPath(path) => self.settings.path = path,
-        }
-        Ok(())
     }
 }

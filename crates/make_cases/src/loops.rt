@@ -2,8 +2,7 @@
 ghost use Rattle.std.specs.Prelude.{◌<◌, length, IfOk};
 ghost use Rattle.mk_loop.specs.Scopes.{turns_in};
 
-use crate::answer::{Answer, Trouble};
-use crate::line::{as_number, as_text};
+use case_lines::{Answer, Trouble, as_number, as_text};
 use mk_base::{Budget, FaultKind, Stop, UNITS};
 use mk_env::Env;
 use mk_loop::{Scope, Turns, put_words, read_header};

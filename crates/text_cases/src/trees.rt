@@ -1,5 +1,5 @@
 //! The trees of makefiles.
-use crate::answer::{Answer, Trouble};
+use case_lines::{Answer, Trouble};
 use mk_ast::{Node, ParseError, ParseFault, parse};
 use mk_text::Logical;
 use std::alloc::{AllocError, Global};

@@ -1,14 +1,12 @@
 //! The layer of ports: their records.
-use crate::answer::{Answer, Trouble};
-use crate::evaluation::{add_cost, evaluated, failure, makefile};
-use crate::line::one_text;
-use crate::packages::{add_texts, path_of};
-use crate::world::World;
+use case_lines::{Answer, Trouble, one_text};
+use make_cases::{World, add_cost, evaluated, failure, makefile};
 use mk_base::Stop;
 use mk_eval::Evaluated;
 use pkg_path::PkgPath;
 use port_rules::{Depend, Package, PortFlavors, PortRecord, record};
 use std::alloc::Global;
+use text_cases::{add_texts, path_of};
 
 /// `record PATH`: what the port at this path is, by the makefile, with its cost; or its fault, or the
 /// makefile's.

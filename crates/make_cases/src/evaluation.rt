@@ -1,13 +1,13 @@
 //! The layers of evaluation: budgets, variables and expansion, names and worlds of files, makefiles.
-use crate::answer::{Answer, Trouble};
-use crate::line::{as_number, as_text, one_text};
 use crate::world::World;
+use case_lines::{Answer, Trouble, as_number, as_text, one_text};
 use mk_base::{Budget, Fault, FaultKind, Stop, UNITS};
 use mk_env::{Env, expand, expand_inside, expand_now, expand_variable, modify};
 use mk_eval::{Evaluated, Failed, Kind, evaluate, value};
-use mk_files::{Content, Files, MemoryFiles, ask_has, ask_read, look_has, look_read};
+use mk_files::{Content, Files, Listing, MemoryFiles, ask_has, ask_read, look_has, look_read};
 use mk_paths::{Name, NameFault, Names, PathFault, SearchPath, Settings, find};
 use std::alloc::Global;
+use text_cases::add_texts;
 
 /// The file that `makefile`, `cost`, `value`, `stored` and `flavored` are about.
 const MAKEFILE: &str = "/a/b";
@@ -233,6 +233,13 @@ pub fn put(alloc: Global, world: &mut MemoryFiles, given: &[Vec<u8>]) -> Result<
     let content = Content::new(alloc, bytes.clone()?)?;
     world.put(given_name(alloc, name)?, content.share()?)?;
     Ok(())
+}
+
+/// `names`: of all files.
+pub fn names(alloc: Global, files: &mut MemoryFiles) -> Result<Answer, Trouble> {
+    let mut answer = Answer::new(alloc);
+    add_texts(&mut answer, &files.names(alloc)?);
+    Ok(answer)
 }
 
 /// `remove NAME`: `removed` or `absent`.

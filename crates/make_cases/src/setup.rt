@@ -1,0 +1,133 @@
+//! What lines without `=>` set up, and what the layers of makefiles give over it.
+use crate::truth::truth_told;
+use crate::world::World;
+use crate::{evaluation, loops};
+use case_lines::{Answer, Trouble, as_text};
+use mk_env::Env;
+use mk_files::Content;
+use std::alloc::{AllocError, Global};
+
+/// What lines without `=>` set up for those behind them.
+#[derive(Drop)]
+pub struct Setup {
+    alloc: Global,
+    variables: Env,
+    /// A copy of the variables, as they were when it was made.
+    copy: Env,
+    pub world: World,
+}
+
+impl Setup {
+    /// No variable and no file.
+    pub fn new(alloc: Global) -> Result<Setup, AllocError> {
+        Ok(Setup {
+            alloc,
+            variables: Env::new(alloc),
+            copy: Env::new(alloc),
+            world: World::new(alloc)?,
+        })
+    }
+
+    /// Sets up what a line without `=>` says.
+    pub fn set_up(&mut self, call: &str, given: &[Vec<u8>]) -> Result<(), Trouble> {
+        match call {
+            "no variables" => self.variables = Env::new(self.alloc),
+            "copy" => self.copy = self.variables.copy()?,
+            "no files" => self.world = World::new(self.alloc)?,
+            "put" => evaluation::put(self.alloc, &mut self.world.files, given)?,
+            "makefile" => self.put_makefile(given)?,
+            _ => self.change_variables(call, given)?,
+        }
+        Ok(())
+    }
+
+    /// `makefile BYTES`
+    fn put_makefile(&mut self, given: &[Vec<u8>]) -> Result<(), Trouble> {
+        let [bytes] = given else {
+            return Err(Trouble::NoCase);
+        };
+        let name = evaluation::makefile(self.alloc)?;
+        let content = Content::new(self.alloc, bytes.clone()?)?;
+        self.world.files.put(name, content)?;
+        Ok(())
+    }
+
+    /// `set NAME TEXT`, `append NAME TEXT`, `default NAME TEXT`, `undef NAME`
+    fn change_variables(&mut self, call: &str, given: &[Vec<u8>]) -> Result<(), Trouble> {
+        match given {
+            [name, text] => self.change_variable(call, as_text(name)?, as_text(text)?),
+            [name] if call == "undef" => {
+                self.variables.undef(as_text(name)?);
+                Ok(())
+            }
+            _ => Err(Trouble::NoCase),
+        }
+    }
+
+    fn change_variable(&mut self, call: &str, name: &str, text: &str) -> Result<(), Trouble> {
+        match call {
+            "set" => self.variables.set(name, text)?,
+            "append" => self.variables.append(name, text)?,
+            "default" => self.variables.default(name, text)?,
+            _ => return Err(Trouble::NoCase),
+        }
+        Ok(())
+    }
+
+    /// What the call of a line gives.
+    pub fn answer(&mut self, call: &str, given: &[Vec<u8>]) -> Result<Answer, Trouble> {
+        let alloc = self.alloc;
+        let variables = &self.variables;
+        match call {
+            "numbers of kinds" => Ok(evaluation::numbers_of_kinds(alloc)),
+            "budget pays asks" => evaluation::budget(alloc, given),
+            "blame" => evaluation::blamed(alloc, given),
+            "expand" | "expand within" | "expand now" | "variable" | "inside" | "inside within" => {
+                evaluation::expansion(alloc, variables, call, given)
+            }
+            "modify on" | "modify on within" => evaluation::modified(alloc, variables, given),
+            "truth" | "truth within after" => {
+                truth_told(alloc, variables, &mut self.world.files, given)
+            }
+            "turns of on" | "turns of on within" => loops::turns_of(alloc, variables, given),
+            "put words into" | "put words into of" => {
+                loops::put_words_told(alloc, variables, false, given)
+            }
+            "put words within into of" => loops::put_words_told(alloc, variables, true, given),
+            "get" => evaluation::text_of_variable(alloc, variables, given),
+            "get from copy" => evaluation::text_of_variable(alloc, &self.copy, given),
+            _ => self.answer_of_files(call, given),
+        }
+    }
+
+    fn answer_of_files(&mut self, call: &str, given: &[Vec<u8>]) -> Result<Answer, Trouble> {
+        let alloc = self.alloc;
+        let files = &mut self.world.files;
+        match call {
+            "ask has after" => evaluation::ask_has_told(alloc, files, given),
+            "ask read after" => evaluation::ask_read_told(alloc, files, given),
+            "name" | "name under" => evaluation::name_of(alloc, given),
+            "directory of" => evaluation::directory_of(alloc, given),
+            "search path" => evaluation::trees_of(alloc, given),
+            "standard search path" => evaluation::standard_trees(alloc),
+            "remove" => evaluation::remove(alloc, files, given),
+            "read" => evaluation::read(alloc, files, given),
+            "place of on" => evaluation::place(alloc, files, given),
+            "names" => evaluation::names(alloc, files),
+            _ => self.answer_of_makefile(call, given),
+        }
+    }
+
+    fn answer_of_makefile(&mut self, call: &str, given: &[Vec<u8>]) -> Result<Answer, Trouble> {
+        let alloc = self.alloc;
+        let world = &mut self.world;
+        match call {
+            "cost" => evaluation::cost(alloc, world),
+            "evaluate" => evaluation::evaluated_whole(alloc, world, given),
+            "stored" => evaluation::stored(alloc, world, given),
+            "flavored" => evaluation::flavored(alloc, world, given),
+            "value" => evaluation::value_of(alloc, world, given),
+            _ => text_cases::answer(alloc, call, given),
+        }
+    }
+}

@@ -1,0 +1,42 @@
+//! Whether conditions hold.
+use crate::evaluation::given_name;
+use case_lines::{Answer, Trouble, as_number, as_text};
+use mk_base::{Budget, UNITS};
+use mk_cond::truth;
+use mk_env::Env;
+use mk_files::MemoryFiles;
+use std::alloc::Global;
+
+/// The makefile in which conditions stand.
+const MAKEFILE: &str = "/ports/a/b/Makefile";
+
+/// `truth TEXT`: whether the condition holds under its directive, or the kind of its fault; then the units
+/// spent and the questions counted. `truth TEXT within LIMIT after N`: the same with so many units, where so
+/// many questions were counted before.
+pub fn truth_told(
+    alloc: Global,
+    variables: &Env,
+    world: &mut MemoryFiles,
+    given: &[Vec<u8>],
+) -> Result<Answer, Trouble> {
+    let (text, limit, count) = match given {
+        [text] => (text, UNITS, 0),
+        [text, limit, count] => (text, as_number(limit)?, as_number(count)?),
+        _ => return Err(Trouble::NoCase),
+    };
+    let mut budget = Budget::new(limit);
+    for _ in 0..count {
+        budget.ask().map_err(|_| Trouble::NoCase)?;
+    }
+    let text = as_text(text)?;
+    let makefile = given_name(alloc, MAKEFILE.as_bytes())?;
+    let mut answer = Answer::new(alloc);
+    match truth(alloc, variables, text, &makefile, world, &mut budget) {
+        Ok(true) => answer.word("true"),
+        Ok(false) => answer.word("false"),
+        Err(stop) => answer.stop(stop),
+    }
+    answer.number(budget.spent());
+    answer.number(budget.questions());
+    Ok(answer)
+}

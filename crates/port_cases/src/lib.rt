@@ -1,0 +1,31 @@
+//! Cases of ports: their records, the index of all of them, and questions about it.
+#![tactic(auto)]
+
+mod dependencies;
+mod records;
+
+use case_lines::{Answer, Trouble};
+use make_cases::Setup;
+use std::alloc::Global;
+
+/// What the call of a line gives, over what was set up.
+pub fn answer(
+    alloc: Global,
+    setup: &mut Setup,
+    call: &str,
+    given: &[Vec<u8>],
+) -> Result<Answer, Trouble> {
+    let world = &mut setup.world;
+    match call {
+        "record" => records::record_told(alloc, world, given),
+        "index" => dependencies::index(alloc, world),
+        "items" => dependencies::items_told(alloc, world),
+        "statuses" => dependencies::statuses(alloc, world, given),
+        "first" | "to" | "reached" | "reaching" => {
+            dependencies::over_edges(alloc, world, call, given)
+        }
+        "list" => dependencies::listed(alloc, world, given),
+        "match" => dependencies::matched(alloc, world, given),
+        _ => setup.answer(call, given),
+    }
+}
