@@ -4,7 +4,6 @@ mod KeyLemmas
 mod QueueLemmas
 mod TakingLemmas
 mod OpenedLemmas
-mod WorldLemmas
 mod StepLemmas
 mod RunLemmas
 mod Serving

@@ -1,6 +1,5 @@
 pub mod Keys
 pub mod Slices
-pub mod Stored
 pub mod Beginning
 pub mod Lines
 pub mod Telling

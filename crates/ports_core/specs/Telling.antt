@@ -1,6 +1,5 @@
 -- What an event tells.
-use Rattle.std.specs.Prelude.{◌≡◌, ℕ, Bool, true, ◌==◌, MatchOption, Option, Some, None, Vec}
-use Rattle.ports_http.specs.Replies.{reply_text, IsFixed}
+use Rattle.std.specs.Prelude.{◌≡◌, ℕ, Bool, true, ◌==◌, MatchOption, Some, None}
 use Rattle.ports_http.specs.Messages.{ReplyMessage}
 use Rattle.ports_core.specs.declared.event.Event.{Event}
 use Rattle.ports_core.specs.declared.event.Event.TheVariants.{Open, Piece, End, Fault, Wrote, Turn}
@@ -32,8 +31,3 @@ CountsTurns (Piece c bytes) told = CountsNone told
 CountsTurns (End c) told = CountsNone told
 CountsTurns (Fault c) told = CountsNone told
 CountsTurns (Wrote c count) told = CountsNone told
-
--- the bytes of a reply, or none for a reply that fits what is reserved
-abbrev pub AreBytesOf : {Z : Type 0} → ReplyMessage → Bool → Option (Vec ℕ Z) → Type 0
-AreBytesOf reply close None = IsFixed reply close
-AreBytesOf reply close (Some bytes) = bytes.items ≡ reply_text reply close

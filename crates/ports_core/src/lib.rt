@@ -6,7 +6,6 @@
 //! whole list of events.
 #![tactic(auto)]
 
-mod asking;
 mod event;
 mod history;
 mod intake;
@@ -17,8 +16,6 @@ mod lines;
 mod outbox;
 mod queue;
 mod service;
-mod world;
-mod worlds;
 
 pub use event::{Event, Refused, Tell, Told};
 pub use history::{ReplayFault, Step, Transcript, replay};

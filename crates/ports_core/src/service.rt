@@ -8,13 +8,12 @@ use crate::keys::Config;
 use crate::line::Line;
 use crate::lines::{Lines, MOST_CONNECTIONS, answer_line, close_done, closes, hear_line, may_hear};
 use crate::queue::{Queue, Waiter};
-use crate::worlds::Worlds;
 use arrayvec::ArrayVec;
 use mk_paths::FilesFault;
-use ports_plain::Plain;
 use std::alloc::{AllocError, Global};
 use std::collections::BTreeMap;
 use std::marker::Model;
+use tenant_worlds::Worlds;
 
 /// Why a service can't begin.
 #[derive(Clone, Copy, Debug, PartialEq, Eq)]
@@ -51,7 +50,6 @@ impl From<FilesFault> for NewFault {
 #[derive(Drop)]
 pub struct Service {
     alloc: Global,
-    plain: Plain,
     keys: Vec<String>,
     worlds: Worlds,
     queues: Vec<Queue>,
@@ -99,10 +97,8 @@ impl Service {
         let count = keys.len();
         let worlds = Worlds::new(alloc, count)?;
         let queues = new_queues(alloc, count)?;
-        let plain = Plain::new(alloc)?;
         Ok(Service {
             alloc,
-            plain,
             keys,
             worlds,
             queues,
@@ -241,9 +237,7 @@ impl Service {
             return Told::nothing();
         };
         let close = closes(&self.lines, conn);
-        let (reply, bytes) = self
-            .worlds
-            .answer(self.alloc, &self.plain, tenant, request, close);
+        let (reply, bytes) = self.worlds.answer(self.alloc, tenant, request, close);
         answer_line(&mut self.lines, conn, &reply, bytes);
         let closed = close_done(&mut self.lines, conn);
         let tell = Tell {

@@ -7,7 +7,7 @@ use Rattle.ports_core.proofs.StepLemmas.{new_state_is}
 use Rattle.ports_core.proofs.service.Service.new.Goals as goal
 
 pub returns-clause-ok : goal.returns-clause-ok
-returns-clause-ok c = new_state_is c.args.config.keys.items c.in_ok-worlds.worlds c.in_ok-queues.queues.items c.len-count.result c.new-3.result.entries c.in_ok-worlds.ensures c.in_ok-queues.ensures (omega arith) c.new-3.ensures.empty
+returns-clause-ok c = new_state_is c.args.config.keys.items c.in_ok-worlds.worlds c.in_ok-queues.queues.items c.len-count.result c.new-2.result.entries c.in_ok-worlds.ensures c.in_ok-queues.ensures (omega arith) c.new-2.ensures.empty
 
 pub invariant_of-result : goal.invariant_of-result
 invariant_of-result c =
@@ -15,7 +15,7 @@ invariant_of-result c =
     record {
       worlds = ap length c.in_ok-worlds.ensures ∙ length-replicate c.len-count.result opening_world ∙ omega arith;
       queues = ap length c.in_ok-queues.ensures ∙ length-replicate c.len-count.result none ∙ omega arith;
-      few = let empty = ap length c.new-3.ensures.empty in omega (arith, empty);
-      fresh = λ d above. begun_fresh c.new-3.result.entries c.new-3.ensures.empty d;
-      seated = begun_seats c.len-count.result c.in_ok-queues.queues.items c.new-3.result.entries c.in_ok-queues.ensures;
+      few = let empty = ap length c.new-2.ensures.empty in omega (arith, empty);
+      fresh = λ d above. begun_fresh c.new-2.result.entries c.new-2.ensures.empty d;
+      seated = begun_seats c.len-count.result c.in_ok-queues.queues.items c.new-2.result.entries c.in_ok-queues.ensures;
     }

@@ -1,6 +1,6 @@
 -- What was prepared is settled.
-use Rattle.ports_core.proofs.WorldLemmas.{if_ok, served}
-use Rattle.ports_core.proofs.world.reply_to.Goals as goal
+use Rattle.tenant_worlds.proofs.WorldLemmas.{if_ok, served}
+use Rattle.tenant_worlds.proofs.world.reply_to.Goals as goal
 
 pub returns-clause-reply : goal.returns-clause-reply
 returns-clause-reply c =

@@ -2,10 +2,10 @@
 use Rattle.std.proofs.Common.{◌<◌, List, length, subst, sym, ap, arith, inl, inr}
 use Rattle.mk_paths.specs.World.{World}
 use Rattle.tenant_store.specs.Holdings.{Holdings}
-use Rattle.ports_core.specs.Stored.{world_in, worlds_in}
-use Rattle.ports_core.proofs.WorldLemmas.{answers_for, length-worlds_in}
-use Rattle.ports_core.proofs.worlds.Worlds.answer.Goals as goal
-use Rattle.ports_core.proofs.worlds.Worlds.answer.Goals.{in-Ok, in-Err}
+use Rattle.tenant_worlds.specs.Stored.{world_in, worlds_in}
+use Rattle.tenant_worlds.proofs.WorldLemmas.{answers_for, length-worlds_in}
+use Rattle.tenant_worlds.proofs.worlds.Worlds.answer.Goals as goal
+use Rattle.tenant_worlds.proofs.worlds.Worlds.answer.Goals.{in-Ok, in-Err}
 
 pub overflow_cast-tenant : goal.overflow_cast-tenant
 overflow_cast-tenant c =

@@ -4,7 +4,7 @@ use Rattle.std.specs.Prelude.{slice_get, option_map, replicate}
 use Rattle.std.specs.List.{range_with_len}
 use Rattle.std.proofs.lemmas.Bool.{cases_Bool}
 use Rattle.std.proofs.lemmas.Bool.Decides.{nat_tests}
-use Rattle.std.proofs.lemmas.List.FromFn.{length-range_with_len, get_or-range_with_len}
+use Rattle.std.proofs.lemmas.List.FromFn.{length-range_with_len, length-map-range_with_len, get_or-range_with_len}
 use Rattle.std.proofs.lemmas.Option.{slice_get-map, slice_get-get_or, slice_get_past}
 use Rattle.mk_paths.specs.World.{World, opening_world}
 use Rattle.mk_paths.specs.declared.search_path.Settings.{Settings}
@@ -13,9 +13,8 @@ use Rattle.ports_plain.specs.declared.changing.Change.{Change}
 use Rattle.ports_plain.specs.Changing.{settled}
 use Rattle.ports_plain.specs.Plain.{Served, answer}
 use Rattle.tenant_store.specs.Holdings.{Holdings, nothing, files_of, path_of}
-use Rattle.ports_core.specs.Slices.{Answers, AnswersFor, asked_of, plain_answer}
-use Rattle.ports_core.specs.Stored.{world_in, worlds_in, KeepsOtherWorlds}
-use Rattle.ports_core.proofs.Lists.{length-map}
+use Rattle.tenant_worlds.specs.Answering.{Answers, AnswersFor, asked_of, plain_answer}
+use Rattle.tenant_worlds.specs.Stored.{world_in, worlds_in, KeepsOtherWorlds}
 
 pub if_ok : {A E : Type 0} {P Q : A → Type 0} (r : Result A E) → ((a : A) → P a → Q a) → IfOk r P → IfOk r Q
 if_ok (Ok a) f p = f a p
@@ -40,7 +39,7 @@ pub opening_worlds : (count : ℕ) → worlds_in nothing count ≡ replicate cou
 opening_worlds count = opening_from 0 count
 
 pub length-worlds_in : (held : Holdings) (count : ℕ) → length (worlds_in held count) ≡ count
-length-worlds_in held count = length-map (world_in held) (range_with_len 0 count) ∙ length-range_with_len 0 count
+length-worlds_in held count = length-map-range_with_len (world_in held) 0 count
 
 zero_plus : (t : ℕ) → 0 + t ≡ t
 zero_plus t = omega arith
