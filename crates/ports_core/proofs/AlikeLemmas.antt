@@ -7,7 +7,7 @@ use Rattle.ports_core.specs.declared.event.Event.{Event}
 use Rattle.ports_core.specs.declared.queue.Waiter.{Waiter}
 use Rattle.ports_core.specs.Effects.{Effect}
 use Rattle.mk_paths.specs.World.{World, opening_world}
-use Rattle.tenant_worlds.specs.Answering.{plain_answer}
+use Rattle.ports_core.specs.Answering.{plain_answer}
 use Rattle.ports_core.specs.State.{State}
 use Rattle.ports_core.specs.Plainly.{told_to, answers_of, own_of, plain_run, IsToldPlainly}
 use Rattle.ports_core.specs.Alike.{requests_of, replies_to, AreAlike, own_requests, AreToldAlike}

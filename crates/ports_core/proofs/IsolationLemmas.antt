@@ -9,7 +9,7 @@ use Rattle.ports_core.specs.declared.event.Tell.{Tell}
 use Rattle.ports_core.specs.declared.queue.Waiter.{Waiter}
 use Rattle.ports_core.specs.Effects.{Effect}
 use Rattle.mk_paths.specs.World.{World}
-use Rattle.tenant_worlds.specs.Answering.{asked_of, plain_answer}
+use Rattle.ports_core.specs.Answering.{asked_of, plain_answer}
 use Rattle.ports_core.specs.Slices.{Slice, Queue}
 use Rattle.ports_core.specs.State.{State, world_at, queue_at, waiting_at}
 use Rattle.ports_core.specs.Telling.{is_failure}

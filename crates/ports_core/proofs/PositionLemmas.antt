@@ -7,7 +7,7 @@ use Rattle.ports_core.specs.declared.event.Event.{Event}
 use Rattle.ports_core.specs.declared.queue.Waiter.{Waiter}
 use Rattle.ports_core.specs.Effects.{Effect}
 use Rattle.mk_paths.specs.World.{opening_world}
-use Rattle.tenant_worlds.specs.Answering.{plain_answer}
+use Rattle.ports_core.specs.Answering.{plain_answer}
 use Rattle.ports_core.specs.Slices.{Slice, new_slice}
 use Rattle.ports_core.specs.State.{State, new_state, keys_of, book_of, IsAllowed}
 use Rattle.ports_core.specs.Runs.{Run, Happens}

@@ -6,7 +6,7 @@ use Rattle.ports_core.specs.declared.queue.Waiter.{Waiter}
 use Rattle.ports_http.specs.Messages.{RequestMessage, ReplyMessage}
 use Rattle.ports_plain.specs.Plain.{Served}
 use Rattle.mk_paths.specs.World.{World}
-use Rattle.tenant_worlds.specs.Answering.{Answers, asked_of, plain_answer}
+use Rattle.ports_core.specs.Answering.{Answers, asked_of, plain_answer}
 use Rattle.ports_core.specs.Telling.{is_failure}
 use Rattle.ports_core.specs.Plainly.{answers_of, own_of, plain_run, plain_world}
 use Rattle.ports_plain.proofs.NeverFails.{never_503}

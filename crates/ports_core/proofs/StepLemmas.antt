@@ -9,7 +9,7 @@ use Rattle.ports_core.specs.declared.event.Event.{Event}
 use Rattle.ports_core.specs.declared.event.Told.{Told}
 use Rattle.ports_core.specs.declared.queue.Waiter.{Waiter}
 use Rattle.mk_paths.specs.World.{World, opening_world}
-use Rattle.tenant_worlds.specs.Answering.{AnswersFor}
+use Rattle.ports_core.specs.Answering.{AnswersFor}
 use Rattle.ports_core.specs.Slices.{Queue}
 use Rattle.ports_core.specs.Lines.{new_line, answered, kept, closing}
 use Rattle.ports_core.specs.Telling.{in_turn}

@@ -5,7 +5,7 @@ use Rattle.ports_plain.specs.Plain.{Asked}
 use Rattle.ports_core.specs.declared.event.Event.{Event}
 use Rattle.ports_core.specs.declared.queue.Waiter.{Waiter}
 use Rattle.ports_core.specs.Effects.{Effect}
-use Rattle.tenant_worlds.specs.Answering.{asked_of}
+use Rattle.ports_core.specs.Answering.{asked_of}
 use Rattle.ports_core.specs.State.{State, waiting_at}
 use Rattle.ports_core.specs.Plainly.{IsFrontOf, told_to, answers_of, own_of, IsToldPlainly}
 

@@ -6,7 +6,7 @@ use Rattle.ports_core.specs.declared.event.Told.{Told}
 use Rattle.ports_core.specs.declared.event.Tell.{Tell}
 use Rattle.ports_core.specs.declared.queue.Waiter.{Waiter}
 use Rattle.mk_paths.specs.World.{World}
-use Rattle.tenant_worlds.specs.Answering.{Answers}
+use Rattle.ports_core.specs.Answering.{Answers}
 use Rattle.ports_core.specs.Slices.{Slice, joined, world_of, waiting_of}
 use Rattle.ports_core.specs.Taking.{Taken, Nothing, entering}
 use Rattle.ports_core.specs.State.{State, keys_of, slice_of}

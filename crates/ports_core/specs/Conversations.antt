@@ -16,7 +16,7 @@ use Rattle.ports_core.specs.Telling.{at_once, in_turn}
 use Rattle.ports_core.specs.Taking.{Nothing, TakesOff}
 use Rattle.ports_core.specs.declared.queue.Waiter.{Waiter}
 use Rattle.mk_paths.specs.World.{opening_world}
-use Rattle.tenant_worlds.specs.Answering.{plain_answer}
+use Rattle.ports_core.specs.Answering.{plain_answer}
 use Rattle.ports_core.specs.Opened.{no_lines}
 use Rattle.ports_core.specs.State.{State, new_state, line_of, pending_at}
 use Rattle.ports_core.specs.Runs.{Run}

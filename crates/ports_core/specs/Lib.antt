@@ -1,6 +1,7 @@
 pub mod Keys
 pub mod Slices
 pub mod Beginning
+pub mod Answering
 pub mod Lines
 pub mod Telling
 pub mod Taking
@@ -20,4 +21,4 @@ pub mod Replays
 pub mod OutboxView
 pub mod StepView
 pub mod QueueView
-pub mod ServiceView
+pub mod Standing

@@ -6,7 +6,7 @@ use Rattle.ports_core.specs.declared.event.Tell.{Tell}
 use Rattle.ports_core.specs.declared.queue.Waiter.{Waiter}
 use Rattle.ports_core.specs.Effects.{Effect}
 use Rattle.mk_paths.specs.World.{World, opening_world}
-use Rattle.tenant_worlds.specs.Answering.{plain_answer}
+use Rattle.ports_core.specs.Answering.{plain_answer}
 use Rattle.ports_core.specs.Telling.{is_failure}
 use Rattle.ports_core.specs.Opened.{no_lines}
 use Rattle.ports_core.specs.State.{State, waiting_at}

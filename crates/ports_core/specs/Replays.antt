@@ -1,38 +1,42 @@
 -- What a replay gives.
 use Rattle.std.specs.Prelude.{◌≡◌, ℕ, ◌<◌, false, List, length, take}
 use Rattle.ports_core.specs.declared.event.Event.{Event}
-use Rattle.ports_core.specs.declared.history.Transcript.{Transcript}
 use Rattle.ports_core.specs.declared.history.ReplayFault.{ReplayFault}
 use Rattle.ports_core.specs.declared.history.ReplayFault.TheVariants.{NotAllowed, New, Memory}
 use Rattle.ports_core.specs.declared.service.NewFault.TheVariants as new
 use Rattle.ports_core.specs.declared.keys.Config.{Config}
+use Rattle.ports_core.specs.Effects.{Effect}
 use Rattle.ports_core.specs.Keys.{is_fit, key_texts}
-use Rattle.ports_core.specs.State.{new_state}
+use Rattle.ports_core.specs.State.{State, new_state}
 use Rattle.ports_core.specs.Runs.{Run, Stops}
 use Rattle.ports_core.specs.Plainly.{IsToldPlainly}
 use Rattle.ports_core.specs.Conversations.{ConversesPlainly}
 
 -- the steps are those of the events, from a service that has just begun, and the service is as they leave it
-abbrev pub IsRun : Config → List Event → Transcript → Type 0
-IsRun config events done = Run (new_state (key_texts config.keys.items)) events done.steps.items done.service
+abbrev pub IsRun : Config → List Event → List Effect → State → Type 0
+IsRun config events steps service = Run (new_state (key_texts config.keys.items)) events steps service
 
 -- each tenant is told what a plain service of its own would tell it
-abbrev pub TellsPlainly : Config → List Event → Transcript → Type 0
-TellsPlainly config events done =
-    (t : ℕ) → t < length config.keys.items → IsToldPlainly (key_texts config.keys.items) t events done.steps.items done.service
+abbrev pub TellsPlainly : Config → List Event → List Effect → State → Type 0
+TellsPlainly config events steps service =
+    (t : ℕ) → t < length config.keys.items → IsToldPlainly (key_texts config.keys.items) t events steps service
 
 -- each connection is told, in bytes, the replies to what its stream asks, in order, as far as it isn't lost
-abbrev pub ConversesOnEach : Config → List Event → Transcript → Type 0
-ConversesOnEach config events done =
-    (c : ℕ) → ConversesPlainly (key_texts config.keys.items) c events done.steps.items done.service
+abbrev pub ConversesOnEach : Config → List Event → List Effect → State → Type 0
+ConversesOnEach config events steps service =
+    (c : ℕ) → ConversesPlainly (key_texts config.keys.items) c events steps service
+
+-- an event may not happen, and the steps are those of the events before it
+abbrev pub StopsAt : Config → List Event → ℕ → List Effect → State → Type 0
+StopsAt config events index steps service =
+    IsRun config (take index events) steps service × TellsPlainly config (take index events) steps service
+    × ConversesOnEach config (take index events) steps service × Stops events index service
 
 -- Why a run ends early: an event may not happen, and the transcript is that of the events before it; or the
 -- service can't begin, since its config isn't fit, its store failed, or for want of memory; or there is no memory
 -- for the transcript.
-abbrev pub EndsEarly : Config → List Event → ReplayFault → Type 0
-EndsEarly config events (NotAllowed index done) =
-    IsRun config (take index events) done × TellsPlainly config (take index events) done
-    × ConversesOnEach config (take index events) done × Stops events index done.service
+abbrev pub EndsEarly : {W : Type 0} → Config → List Event → ReplayFault W → Type 0
+EndsEarly config events (NotAllowed index done) = StopsAt config events index done.steps.items done.service
 EndsEarly config events (New new.Config) = is_fit config ≡ false
 EndsEarly config events (New new.Memory) = Unit {0}
 EndsEarly config events (New new.Store) = Unit {0}

@@ -7,7 +7,7 @@ use Rattle.ports_core.specs.declared.event.Event.TheVariants.{Open, Piece, End, 
 use Rattle.ports_core.specs.declared.event.Told.{Told}
 use Rattle.ports_core.specs.declared.event.Refused.TheVariants.{Connections, Memory}
 use Rattle.ports_core.specs.declared.queue.Waiter.{Waiter}
-use Rattle.tenant_worlds.specs.Answering.{AnswersFor}
+use Rattle.ports_core.specs.Answering.{AnswersFor}
 use Rattle.ports_core.specs.Lines.{new_line, answered, closing}
 use Rattle.ports_core.specs.Telling.{in_turn}
 use Rattle.ports_core.specs.Taking.{Taken, Joins}

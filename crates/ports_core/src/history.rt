@@ -8,6 +8,7 @@ ghost use Rattle.ports_core.specs.declared.history.ReplayFault.TheVariants as fa
 use crate::event::{Event, Told};
 use crate::keys::Config;
 use crate::service::{NewFault, Service};
+use crate::worlds::Worlds;
 use std::alloc::{AllocError, AllocFailed, Global};
 use std::marker::Model;
 
@@ -31,47 +32,47 @@ impl Model for Step {
 
 /// A run: one step for each event, and the service as the last event left it.
 #[derive(Drop)]
-pub struct Transcript {
+pub struct Transcript<K: Worlds> {
     pub steps: Vec<Step>,
-    pub service: Service,
+    pub service: Service<K>,
 }
 
 /// Why a run stopped.
 #[derive(Drop)]
-pub enum ReplayFault {
+pub enum ReplayFault<K: Worlds> {
     /// The event at this place isn't allowed; the transcript is that of the events before it.
-    NotAllowed { index: usize, done: Transcript },
+    NotAllowed { index: usize, done: Transcript<K> },
     /// The service couldn't begin.
     New(NewFault),
     /// There was no memory for the transcript.
     Memory,
 }
 
-impl From<NewFault> for ReplayFault {
+impl<K: Worlds> From<NewFault> for ReplayFault<K> {
     ghost from_gives = { λ why fault. fault ≡ faults.New why };
 
-    fn from(fault: NewFault) -> ReplayFault {
+    fn from(fault: NewFault) -> ReplayFault<K> {
         ReplayFault::New(fault)
     }
 }
 
-impl From<AllocError> for ReplayFault {
+impl<K: Worlds> From<AllocError> for ReplayFault<K> {
     ghost from_gives = { λ _ fault. fault ≡ faults.Memory };
 
-    fn from(_error: AllocError) -> ReplayFault {
+    fn from(_error: AllocError) -> ReplayFault<K> {
         ReplayFault::Memory
     }
 }
 
-impl<T: Drop> From<AllocFailed<T>> for ReplayFault {
+impl<K: Worlds, T: Drop> From<AllocFailed<T>> for ReplayFault<K> {
     ghost from_gives = { λ _ fault. fault ≡ faults.Memory };
 
-    fn from(_error: AllocFailed<T>) -> ReplayFault {
+    fn from(_error: AllocFailed<T>) -> ReplayFault<K> {
         ReplayFault::Memory
     }
 }
 
-/// Runs the events over a service that begins with the config.
+/// Runs the events over a service that begins with the config, whose tenants' worlds `K` keeps.
 ///
 /// The replies told to a tenant, other than 503, are, in order, those of a plain service that has only
 /// this tenant's requests, less those that still wait at the end. What is written to a connection, and
@@ -80,10 +81,14 @@ impl<T: Drop> From<AllocFailed<T>> for ReplayFault {
 ///
 /// Ok: the transcript. Err: `NotAllowed` at the first event that isn't allowed, `New` where the service
 /// can't begin, `Memory` where there is none for the transcript.
-pub fn replay(alloc: Global, config: Config, events: &[Event]) -> Result<Transcript, ReplayFault>
-    ensures run { IfOk result (IsRun config events.now) }
-    ensures plainly { IfOk result (TellsPlainly config events.now) }
-    ensures converses { IfOk result (ConversesOnEach config events.now) }
+pub fn replay<K: Worlds>(
+    alloc: Global,
+    config: Config,
+    events: &[Event],
+) -> Result<Transcript<K>, ReplayFault<K>>
+    ensures run { IfOk result (λ done. IsRun config events.now done.steps.items done.service) }
+    ensures plainly { IfOk result (λ done. TellsPlainly config events.now done.steps.items done.service) }
+    ensures converses { IfOk result (λ done. ConversesOnEach config events.now done.steps.items done.service) }
     ensures err { IfErr result (EndsEarly config events.now) }
 {
     let mut service = Service::new(alloc, config)?;
@@ -101,7 +106,11 @@ pub fn replay(alloc: Global, config: Config, events: &[Event]) -> Result<Transcr
 }
 
 /// The bytes that an event takes off its connection.
-fn bytes_sent(alloc: Global, service: &Service, event: &Event) -> Result<Vec<u8>, AllocError>
+fn bytes_sent<K: Worlds>(
+    alloc: Global,
+    service: &Service<K>,
+    event: &Event,
+) -> Result<Vec<u8>, AllocError>
     requires { IsAllowed event.now service.now }
     ensures { IfOk result (λ bytes. bytes.items ≡ sent_by event.now service.now) }
 {

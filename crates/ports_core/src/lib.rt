@@ -1,9 +1,9 @@
 //! The service: connections, the queues of their requests, and the turns that answer them.
 //!
-//! A `Service` holds the worlds of up to 64 tenants and up to 16 connections. It changes by one event
-//! at a time: bytes that came or were written, the end or the loss of a connection, or a turn of a
-//! tenant, which answers the request that stands first in that tenant's queue. `replay` runs a
-//! whole list of events.
+//! A `Service` holds up to 16 connections, and the worlds of up to 64 tenants, wherever these are kept
+//! (`Worlds`). It changes by one event at a time: bytes that came or were written, the end or the loss of
+//! a connection, or a turn of a tenant, which answers the request that stands first in that tenant's
+//! queue. `replay` runs a whole list of events.
 #![tactic(auto)]
 
 mod event;
@@ -16,6 +16,7 @@ mod lines;
 mod outbox;
 mod queue;
 mod service;
+mod worlds;
 
 pub use event::{Event, Refused, Tell, Told};
 pub use history::{ReplayFault, Step, Transcript, replay};
@@ -26,3 +27,4 @@ pub use laws::{
     one_list_is_taken,
 };
 pub use service::{NewFault, Service};
+pub use worlds::Worlds;

@@ -22,7 +22,7 @@ pub(crate) struct Line {
 
 impl Line {
     ghost use Rattle.ports_core.specs.Lines.{new_line, hears, room_on, is_ready, is_done, with_pending, answered, Fits};
-    ghost use Rattle.tenant_worlds.specs.Answering.{AreBytesOf};
+    ghost use Rattle.ports_core.specs.Answering.{AreBytesOf};
 
     /// A connection that has just opened, with all its buffers. The one error is want of memory.
     pub(crate) fn new(alloc: Global) -> Result<Line, AllocError>

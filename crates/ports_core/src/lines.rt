@@ -2,7 +2,7 @@
 ghost use Rattle.std.specs.Prelude.{◌≡◌, ◌≢◌, ◌≤◌, ◌↔◌, ℕ, All, None, IsTrue, length, option_map, option_and_then};
 ghost use Rattle.ports_core.specs.Keys.{key_texts};
 ghost use Rattle.ports_core.specs.Lines.{Fits, answered, closes_on, kept, closing};
-ghost use Rattle.tenant_worlds.specs.Answering.{AreBytesOf};
+ghost use Rattle.ports_core.specs.Answering.{AreBytesOf};
 ghost use Rattle.ports_core.specs.Telling.{CountsNone};
 ghost use Rattle.ports_core.specs.Taking.{Taken, Joins};
 ghost use Rattle.ports_core.specs.Opened.{line_in, book_in, is_line_done, OpenAnd};

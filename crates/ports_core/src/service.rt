@@ -8,12 +8,12 @@ use crate::keys::Config;
 use crate::line::Line;
 use crate::lines::{Lines, MOST_CONNECTIONS, answer_line, close_done, closes, hear_line, may_hear};
 use crate::queue::{Queue, Waiter};
+use crate::worlds::Worlds;
 use arrayvec::ArrayVec;
 use mk_paths::FilesFault;
 use std::alloc::{AllocError, Global};
 use std::collections::BTreeMap;
 use std::marker::Model;
-use tenant_worlds::Worlds;
 
 /// Why a service can't begin.
 #[derive(Clone, Copy, Debug, PartialEq, Eq)]
@@ -45,19 +45,19 @@ impl From<FilesFault> for NewFault {
     }
 }
 
-/// The service. A contract sees the tenants' keys, their worlds, the requests that wait, the open
-/// connections by their numbers, and the next number.
+/// The service, over the tenants' worlds, wherever they are kept. A contract sees the tenants' keys, their
+/// worlds, the requests that wait, the open connections by their numbers, and the next number.
 #[derive(Drop)]
-pub struct Service {
+pub struct Service<K: Worlds> {
     alloc: Global,
     keys: Vec<String>,
-    worlds: Worlds,
+    worlds: K,
     queues: Vec<Queue>,
     lines: Lines,
     next: u64,
 }
 
-impl Model for Service {
+impl<K: Worlds> Model for Service<K> {
     ghost use Rattle.ports_core.specs.State.{State};
 
     ghost Value = { State };
@@ -67,14 +67,17 @@ impl Model for Service {
 
     ghost coded = { Prim.hlevel (codes, world_code) };
 
-    ghost use Rattle.ports_core.specs.ServiceView.{service_view, IsService};
+    ghost use Rattle.std.specs.Prelude.{length};
+    ghost use Rattle.ports_core.specs.Keys.{key_texts};
 
-    ghost view = { service_view };
+    ghost view = { λ s. (key_texts s.keys.items, K.worlds s.worlds, s.queues.items, s.lines.entries, s.next) };
 
-    ghost invariant = { IsService };
+    ghost use Rattle.ports_core.specs.Standing.{IsStanding};
+
+    ghost invariant = { λ s. IsStanding (length s.keys.items) (K.worlds s.worlds) s.queues.items s.lines.entries s.next };
 }
 
-impl Service {
+impl<K: Worlds> Service<K> {
     ghost use Rattle.ports_core.specs.Keys.{is_fit, key_texts};
     ghost use Rattle.ports_core.specs.Opened.{OpenAnd};
     ghost use Rattle.ports_core.specs.State.{new_state, keys_of, next_of, connections_of, line_of, room_at, pending_at, waiting_at, IsAllowed};
@@ -86,7 +89,7 @@ impl Service {
     /// that can wait.
     ///
     /// Err: `Config` exactly where the keys and sizes aren't fit; `Store`; `Memory`.
-    pub fn new(alloc: Global, config: Config) -> Result<Service, NewFault>
+    pub fn new(alloc: Global, config: Config) -> Result<Service<K>, NewFault>
         ensures ok { IfOk result (λ service. service ≡ new_state (key_texts config.keys.items)) }
         ensures unfit { IsErrOf result NewFault.Config ↔ (is_fit config ≡ false) }
     {
@@ -95,7 +98,7 @@ impl Service {
         }
         let Config { keys, .. } = config;
         let count = keys.len();
-        let worlds = Worlds::new(alloc, count)?;
+        let worlds = K::new(alloc, count)?;
         let queues = new_queues(alloc, count)?;
         Ok(Service {
             alloc,
@@ -152,8 +155,8 @@ impl Service {
         }
     }
 
-    /// Limits the steps of each later statement of the store, or limits them no more: a request whose statement
-    /// would take more is answered 503. It changes nothing that a contract sees.
+    /// Limits the steps of each later statement of what keeps the worlds, or limits them no more: a request
+    /// whose statement would take more is answered 503. It changes nothing that a contract sees.
     pub fn limit_steps(&mut self, limit: Option<u64>)
         ensures { self.new ≡ self.old }
     {

@@ -1,11 +1,11 @@
 -- How a run ends.
 use Rattle.std.specs.Prelude.{◌≡◌, ◌⊎◌, ℕ, true, false, List, slice_get, Option, Some}
 use Rattle.std.specs.Io.KnownBytes.{Appends, Keeps}
-use Rattle.ports_core.specs.declared.history.Transcript.{Transcript}
-use Rattle.ports_core.specs.declared.history.ReplayFault.TheVariants as replay
 use Rattle.ports_core.specs.declared.keys.Config.{Config}
+use Rattle.ports_core.specs.Effects.{Effect}
 use Rattle.ports_core.specs.Keys.{is_fit}
-use Rattle.ports_core.specs.Replays.{IsRun, TellsPlainly, ConversesOnEach, EndsEarly}
+use Rattle.ports_core.specs.Replays.{IsRun, TellsPlainly, ConversesOnEach, StopsAt}
+use Rattle.ports_core.specs.State.{State}
 use Rattle.ports_script.specs.declared.script.Script.{Script}
 use Rattle.ports_script.specs.declared.script.ScriptFault.{ScriptFault}
 use Rattle.ports_script.specs.declared.failure.Failure.{Failure}
@@ -24,34 +24,35 @@ pub record Streams : Type 0 where
 
 -- the events of a script happen one after another, each tenant is told what a plain service of its own would
 -- tell it, and each connection is written the replies to what it asks
-abbrev pub HappensWhole : Config → Script → Transcript → Type 0
-HappensWhole config script done =
-    IsRun config script.events.items done × TellsPlainly config script.events.items done
-    × ConversesOnEach config script.events.items done
+abbrev pub HappensWhole : Config → Script → List Effect → State → Type 0
+HappensWhole config script steps service =
+    IsRun config script.events.items steps service × TellsPlainly config script.events.items steps service
+    × ConversesOnEach config script.events.items steps service
 
 -- the same of the events before the one at this place, which isn't allowed
-abbrev pub HappensUpTo : Config → Script → ℕ → Transcript → Type 0
-HappensUpTo config script index done = EndsEarly config script.events.items (replay.NotAllowed index done)
+abbrev pub HappensUpTo : Config → Script → ℕ → List Effect → State → Type 0
+HappensUpTo config script index steps service = StopsAt config script.events.items index steps service
 
 -- the events of a script happen, and what they told and sent is printed
 abbrev pub PrintsWhole : Config → Script → Option (List ℕ) → Option (List ℕ) → Type 0
 PrintsWhole config script held holds =
-    (done : Transcript) × HappensWhole config script done
-    × Appends held holds (transcript (numbered script) done.steps.items)
+    (steps : List Effect) × (service : State) × HappensWhole config script steps service
+    × Appends held holds (transcript (numbered script) steps)
 
 -- the event of a line isn't allowed; those before it happen, and what they told and sent is printed
 abbrev pub PrintsUpTo : Config → Script → ℕ → Option (List ℕ) → Option (List ℕ) → Type 0
 PrintsUpTo config script line held holds =
-    (index : ℕ) × (done : Transcript) × HappensUpTo config script index done
+    (index : ℕ) × (steps : List Effect) × (service : State) × HappensUpTo config script index steps service
     × (slice_get script.lines.items index ≡ Some line)
-    × Appends held holds (transcript (numbered script) done.steps.items)
+    × Appends held holds (transcript (numbered script) steps)
 
 -- the events of a script happen, all or those before one that isn't allowed, and of what they told and sent a
 -- front is printed
 abbrev pub PrintsFront : Config → Script → Option (List ℕ) → Option (List ℕ) → Type 0
 PrintsFront config script held holds =
-    (done : Transcript) × (HappensWhole config script done ⊎ ((index : ℕ) × HappensUpTo config script index done))
-    × AppendsFront held holds (transcript (numbered script) done.steps.items)
+    (steps : List Effect) × (service : State)
+    × (HappensWhole config script steps service ⊎ ((index : ℕ) × HappensUpTo config script index steps service))
+    × AppendsFront held holds (transcript (numbered script) steps)
 
 -- why the events of a script end early: but for one that isn't allowed, and an output that fails, nothing is printed
 abbrev pub EventsEnd : Config → Script → Option (List ℕ) → Option (List ℕ) → Failure → Type 0

@@ -6,19 +6,19 @@ ghost use Rattle.ports_script.specs.Scripts.{numbered};
 ghost use Rattle.ports_script.specs.Printing.{transcript};
 ghost use Rattle.ports_program.specs.Running.{Completes, Ends, PrintsWhole, EventsEnd, Finishes, FailsToPrint};
 
-use ports_core::{Config, ReplayFault, Step, replay};
+use ports_core::{Config, ReplayFault, Step, Worlds, replay};
 use ports_script::{DONE, Failure, Script, read_script, report, transcript_text, write_whole};
 use std::alloc::Global;
 use std::io::{Read, Write};
 
-/// Runs a script that it reads to its end over a service that begins with the config. What was told
-/// and sent goes to `out`, the text of a failure to `err`. Gives the exit status: 0; 1 where memory or
-/// the output failed; 2 for a fault of a key or of the script.
+/// Runs a script that it reads to its end over a service that begins with the config, whose tenants'
+/// worlds `K` keeps. What was told and sent goes to `out`, the text of a failure to `err`. Gives the exit
+/// status: 0; 1 where memory or the output failed; 2 for a fault of a key or of the script.
 ///
 /// Failures are found in this order: keys, the script, the start of the service, the run, the output.
 /// An event that isn't allowed stops the run, after what the earlier ones printed. Each byte is written
 /// once, from the first on, up to where the output failed.
-pub fn run_config<R: Read, O: Write, E: Write>(
+pub fn run_config<K: Worlds, R: Read, O: Write, E: Write>(
     alloc: Global,
     config: Config,
     reader: &mut R,
@@ -27,7 +27,7 @@ pub fn run_config<R: Read, O: Write, E: Write>(
 ) -> u8
     ensures { Finishes config (record { unread = R.remaining reader.old; left = R.remaining reader.new; held = O.contents out.old; holds = O.contents out.new }) (E.contents err.old) (E.contents err.new) result }
 {
-    match run(alloc, config, reader, out) {
+    match run::<K, R, O>(alloc, config, reader, out) {
         Ok(()) => DONE,
         Err(failure) => report(failure, err),
     }
@@ -35,7 +35,7 @@ pub fn run_config<R: Read, O: Write, E: Write>(
 
 /// Reads a script, runs it over a service that begins with the config, and prints what was told and
 /// sent; the failure that ends it early.
-fn run<R: Read, O: Write>(
+fn run<K: Worlds, R: Read, O: Write>(
     alloc: Global,
     config: Config,
     reader: &mut R,
@@ -48,12 +48,12 @@ fn run<R: Read, O: Write>(
         return Err(Failure::BadKey);
     }
     let script = read_script(alloc, reader)?;
-    run_script(alloc, config, &script, out)
+    run_script::<K, O>(alloc, config, &script, out)
 }
 
 /// Runs a script over a service that begins with a config that is fit, and prints what was told and
 /// sent; the failure that ends it early.
-fn run_script<O: Write>(
+fn run_script<K: Worlds, O: Write>(
     alloc: Global,
     config: Config,
     script: &Script,
@@ -64,7 +64,7 @@ fn run_script<O: Write>(
     ensures done { OnOk result (PrintsWhole config script.now (O.contents out.old) (O.contents out.new)) }
     ensures failed { IfErr result (EventsEnd config script.now (O.contents out.old) (O.contents out.new)) }
 {
-    match replay(alloc, config, script.events.as_slice()) {
+    match replay::<K>(alloc, config, script.events.as_slice()) {
         Ok(done) => print(alloc, script, done.steps.as_slice(), out),
         Err(ReplayFault::NotAllowed { index, done }) => {
             print(alloc, script, done.steps.as_slice(), out)?;

@@ -6,7 +6,7 @@ ghost use Rattle.ports_script.specs.Writing.{AppendsFront};
 ghost use Rattle.ports_program.specs.Serving.{ready_text, listen_failure, Serves, EndsServing, FinishesServing};
 
 use crate::command_line::Serving;
-use ports_core::Service;
+use ports_core::{Service, Worlds};
 use ports_script::{DONE, Failure, report, write_whole};
 use ports_serve::{Wire, serve};
 use std::alloc::Global;
@@ -45,13 +45,14 @@ pub trait Listen {
         ensures { IfOk result (listens_on port) };
 }
 
-/// Serves clients, with a service that begins with the config, over a wire that listens on the port.
+/// Serves clients, with a service that begins with the config and whose tenants' worlds `K` keeps, over a wire that
+/// listens on the port.
 /// `portsd: ready` goes to `out` once it listens, the text of a failure to `err`. Gives the exit status: 0 after the last
 /// round; 1 where memory, the store, the listening or the output failed; 2 for a fault of a key.
 ///
 /// Failures are found in this order: keys, the start of the service, listening, the output, and memory for the
 /// rounds.
-pub fn run_serving<L: Listen, O: Write, E: Write>(
+pub fn run_serving<K: Worlds, L: Listen, O: Write, E: Write>(
     alloc: Global,
     serving: Serving,
     net: &L,
@@ -60,14 +61,14 @@ pub fn run_serving<L: Listen, O: Write, E: Write>(
 ) -> u8
     ensures { FinishesServing L.Wire.after L.listens_on serving (O.contents out.old) (O.contents out.new) (E.contents err.old) (E.contents err.new) result }
 {
-    match serve_clients(alloc, serving, net, out) {
+    match serve_clients::<K, L, O>(alloc, serving, net, out) {
         Ok(()) => DONE,
         Err(failure) => report(failure, err),
     }
 }
 
 /// Starts the service, listens, says so, and serves all rounds; the failure that ends it early.
-fn serve_clients<L: Listen, O: Write>(
+fn serve_clients<K: Worlds, L: Listen, O: Write>(
     alloc: Global,
     serving: Serving,
     net: &L,
@@ -81,7 +82,7 @@ fn serve_clients<L: Listen, O: Write>(
         rounds,
         config,
     } = serving;
-    let service = Service::new(alloc, config)?;
+    let service = Service::<K>::new(alloc, config)?;
     let mut wire = net.listen(alloc, port)?;
     say_ready(out)?;
     let _served = serve(alloc, &mut wire, service, rounds)?;

@@ -8,7 +8,7 @@ ghost use Rattle.ports_serve.specs.declared.serving.TheConstants.{READ_SIZE};
 ghost use Rattle.ports_serve.specs.Buffers.{IsBuffer};
 
 use crate::wire::{Outcome, Wire};
-use ports_core::{Event, Refused, Service};
+use ports_core::{Event, Refused, Service, Worlds};
 use std::alloc::{AllocError, Global};
 
 /// The most bytes that are read of a connection at once.
@@ -21,12 +21,12 @@ const READ_SIZE: usize = 16_384;
 ///
 /// Whatever the wire answers, the service changes by `step` alone, at events that may happen. The error is want of
 /// memory for the buffer of what is read, before anything is served.
-pub fn serve<W: Wire>(
+pub fn serve<W: Wire, K: Worlds>(
     alloc: Global,
     wire: &mut W,
-    service: Service,
+    service: Service<K>,
     rounds: u32,
-) -> Result<Service, AllocError>
+) -> Result<Service<K>, AllocError>
     ensures served { IfOk result (λ served. IsServed W.after rounds wire.old service wire.new served) }
     ensures err { OnErr result (wire.new ≡ wire.old) }
 {
@@ -42,9 +42,9 @@ pub fn serve<W: Wire>(
 }
 
 /// One round; and whether nothing came in it and no request waits behind it.
-fn round<W: Wire>(
+fn round<W: Wire, K: Worlds>(
     wire: &mut W,
-    service: &mut Service,
+    service: &mut Service<K>,
     buffer: Vec<u8>,
     idle: bool,
 ) -> (Vec<u8>, bool)
@@ -60,7 +60,7 @@ fn round<W: Wire>(
 }
 
 /// An event happens, and a connection that isn't opened, or that closes, is shut. Whether a reply was told.
-fn happen<W: Wire>(wire: &mut W, service: &mut Service, event: &Event) -> bool
+fn happen<W: Wire, K: Worlds>(wire: &mut W, service: &mut Service<K>, event: &Event) -> bool
     requires { IsAllowed event.now service.old }
     ensures { Goes W.after (HappensOn event.now) wire.old service.old wire.new service.new }
 {
@@ -87,7 +87,7 @@ fn shut_closed<W: Wire>(wire: &mut W, closed: Option<u64>)
 }
 
 /// A client is accepted, if one waits. Whether something came.
-fn accept<W: Wire>(wire: &mut W, service: &mut Service, idle: bool) -> bool
+fn accept<W: Wire, K: Worlds>(wire: &mut W, service: &mut Service<K>, idle: bool) -> bool
     ensures { Goes W.after Accepts wire.old service.old wire.new service.new }
 {
     let conn = service.next_conn();
@@ -101,7 +101,11 @@ fn accept<W: Wire>(wire: &mut W, service: &mut Service, idle: bool) -> bool
 }
 
 /// Each open connection is read. Whether something came.
-fn read_all<W: Wire>(wire: &mut W, service: &mut Service, buffer: Vec<u8>) -> (Vec<u8>, bool)
+fn read_all<W: Wire, K: Worlds>(
+    wire: &mut W,
+    service: &mut Service<K>,
+    buffer: Vec<u8>,
+) -> (Vec<u8>, bool)
     requires { IsBuffer buffer }
     ensures goes { Goes W.after (Each Reads (connections_of service.old)) wire.old service.old wire.new service.new }
     ensures buffer { IsBuffer result.0 }
@@ -118,7 +122,12 @@ fn read_all<W: Wire>(wire: &mut W, service: &mut Service, buffer: Vec<u8>) -> (V
 }
 
 /// A connection is read, if it has room. Whether something came.
-fn read<W: Wire>(wire: &mut W, service: &mut Service, conn: u64, buffer: Vec<u8>) -> (Vec<u8>, bool)
+fn read<W: Wire, K: Worlds>(
+    wire: &mut W,
+    service: &mut Service<K>,
+    conn: u64,
+    buffer: Vec<u8>,
+) -> (Vec<u8>, bool)
     requires { IsBuffer buffer }
     ensures goes { Goes W.after (Reads conn) wire.old service.old wire.new service.new }
     ensures buffer { IsBuffer result.0 }
@@ -155,9 +164,9 @@ fn fill<W: Wire>(wire: &mut W, conn: u64, buffer: &mut Vec<u8>, size: usize) -> 
 }
 
 /// The first bytes of the buffer are a piece of a connection's stream.
-fn take_piece<W: Wire>(
+fn take_piece<W: Wire, K: Worlds>(
     wire: &mut W,
-    service: &mut Service,
+    service: &mut Service<K>,
     conn: u64,
     buffer: Vec<u8>,
     count: usize,
@@ -180,7 +189,7 @@ fn take_piece<W: Wire>(
 }
 
 /// Each connection that has bytes pending is written to. Whether some were taken.
-fn write_all<W: Wire>(wire: &mut W, service: &mut Service) -> bool
+fn write_all<W: Wire, K: Worlds>(wire: &mut W, service: &mut Service<K>) -> bool
     ensures { Goes W.after (Each Writes (connections_of service.old)) wire.old service.old wire.new service.new }
 {
     let mut written = false;
@@ -193,7 +202,7 @@ fn write_all<W: Wire>(wire: &mut W, service: &mut Service) -> bool
 }
 
 /// A connection's pending bytes are written, if there are some. Whether the wire took some.
-fn write<W: Wire>(wire: &mut W, service: &mut Service, conn: u64) -> bool
+fn write<W: Wire, K: Worlds>(wire: &mut W, service: &mut Service<K>, conn: u64) -> bool
     ensures { Goes W.after (Writes conn) wire.old service.old wire.new service.new }
 {
     let pending = service.pending(conn);
@@ -214,7 +223,7 @@ fn write<W: Wire>(wire: &mut W, service: &mut Service, conn: u64) -> bool
 }
 
 /// Each tenant has a turn. Whether a reply was told, or a request waits.
-fn turn_all<W: Wire>(wire: &mut W, service: &mut Service) -> bool
+fn turn_all<W: Wire, K: Worlds>(wire: &mut W, service: &mut Service<K>) -> bool
     ensures { Goes W.after (λ old. Each TakesTurn (numbers_from 0 (length (keys_of old))) old) wire.old service.old wire.new service.new }
 {
     let mut worked = false;

@@ -7,6 +7,7 @@ use ports_host::{Loopback, words_given};
 use ports_program::run_command;
 use std::io;
 use std::process::ExitCode;
+use tenant_worlds::StoredWorlds;
 
 fn main(rt: HostRuntime) -> ExitCode {
     let alloc = rt.alloc();
@@ -14,7 +15,7 @@ fn main(rt: HostRuntime) -> ExitCode {
         let _ = eprintln!(rt; "portsd: out of memory");
         return ExitCode::from(1);
     };
-    let status = run_command(
+    let status = run_command::<StoredWorlds, _, _, _, _>(
         alloc,
         words.as_slice(),
         &mut rt.reader(),

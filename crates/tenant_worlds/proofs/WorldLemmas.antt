@@ -13,7 +13,7 @@ use Rattle.ports_plain.specs.declared.changing.Change.{Change}
 use Rattle.ports_plain.specs.Changing.{settled}
 use Rattle.ports_plain.specs.Plain.{Served, answer}
 use Rattle.tenant_store.specs.Holdings.{Holdings, nothing, files_of, path_of}
-use Rattle.tenant_worlds.specs.Answering.{Answers, AnswersFor, asked_of, plain_answer}
+use Rattle.ports_core.specs.Answering.{Answers, AnswersFor, asked_of, plain_answer}
 use Rattle.tenant_worlds.specs.Stored.{world_in, worlds_in, KeepsOtherWorlds}
 
 pub if_ok : {A E : Type 0} {P Q : A → Type 0} (r : Result A E) → ((a : A) → P a → Q a) → IfOk r P → IfOk r Q

@@ -4,7 +4,7 @@ ghost use Rattle.ports_http.specs.Replies.{reply_text};
 ghost use Rattle.ports_plain.specs.Changing.{changed, overfills, settled};
 ghost use Rattle.ports_plain.specs.Plain.{answer};
 ghost use Rattle.ports_plain.specs.Replies.{full as full_reply};
-ghost use Rattle.tenant_worlds.specs.Answering.{asked_of, plain_answer};
+ghost use Rattle.ports_core.specs.Answering.{asked_of, plain_answer};
 ghost use Rattle.tenant_worlds.specs.Stored.{world_in, KeepsOtherWorlds};
 
 use crate::asking::Asking;

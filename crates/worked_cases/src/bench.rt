@@ -1,8 +1,8 @@
 //! The things that lines of a case set up and ask, and which call each line means.
+use crate::service::StoredService;
 use crate::{served, service, stores, streams, trickle};
 use case_lines::{Answer, Trouble};
 use make_cases::Setup;
-use ports_core::Service;
 use ports_http::Method;
 use std::alloc::{AllocError, Global};
 use tenant_store::TenantStore;
@@ -13,7 +13,7 @@ pub struct Bench {
     alloc: Global,
     setup: Setup,
     store: Option<TenantStore>,
-    service: Option<Service>,
+    service: Option<StoredService>,
 }
 
 impl Bench {

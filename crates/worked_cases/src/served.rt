@@ -1,5 +1,5 @@
 //! The service over its store: requests in a row, each on a connection of its own.
-use crate::service::reply_told;
+use crate::service::{StoredService, reply_told};
 use crate::stores::{MOST_LIMITS, filled, stops_told};
 use case_lines::{Answer, Trouble, as_number, as_text};
 use http::StatusCode;
@@ -36,7 +36,7 @@ impl<'a> Asked<'a> {
 }
 
 /// `new service`: for the tenants 0 and 1.
-pub fn new(alloc: Global) -> Result<Service, Trouble> {
+pub fn new(alloc: Global) -> Result<StoredService, Trouble> {
     let mut keys = Vec::new(alloc);
     for key in KEYS {
         keys.push(String::from_str(alloc, key)?)?;
@@ -52,7 +52,7 @@ pub fn new(alloc: Global) -> Result<Service, Trouble> {
 /// What requests to the service are answered.
 pub fn answer(
     alloc: Global,
-    service: &mut Service,
+    service: &mut StoredService,
     call: &str,
     given: &[Vec<u8>],
 ) -> Result<Answer, Trouble> {
@@ -71,7 +71,7 @@ pub fn answer(
 /// reply.
 fn asked_told(
     alloc: Global,
-    service: &mut Service,
+    service: &mut StoredService,
     method: Method,
     given: &[Vec<u8>],
 ) -> Result<Answer, Trouble> {
@@ -87,7 +87,7 @@ fn asked_told(
 }
 
 /// The reply to a request on a new connection, which is lost behind it.
-fn ask(alloc: Global, service: &mut Service, asked: Asked<'_>) -> Result<Reply, Trouble> {
+fn ask(alloc: Global, service: &mut StoredService, asked: Asked<'_>) -> Result<Reply, Trouble> {
     let conn = service.next_conn();
     let piece = Event::Piece(conn, stream_of(alloc, asked)?);
     happen(service, &Event::Open(conn))?;
@@ -98,7 +98,7 @@ fn ask(alloc: Global, service: &mut Service, asked: Asked<'_>) -> Result<Reply, 
 }
 
 /// The reply that an event tells.
-fn happen(service: &mut Service, event: &Event) -> Result<Option<Reply>, Trouble> {
+fn happen(service: &mut StoredService, event: &Event) -> Result<Option<Reply>, Trouble> {
     if !service.allows(event) {
         return Err(Trouble::NoCase);
     }
@@ -121,7 +121,7 @@ fn stream_of(alloc: Global, asked: Asked<'_>) -> Result<Vec<u8>, Trouble> {
 
 /// `service fill TENANT N BYTES`: how many of N files of these bytes are stored, and what the first that
 /// isn't is told.
-fn fill(alloc: Global, service: &mut Service, given: &[Vec<u8>]) -> Result<Answer, Trouble> {
+fn fill(alloc: Global, service: &mut StoredService, given: &[Vec<u8>]) -> Result<Answer, Trouble> {
     let [tenant, count, body] = given else {
         return Err(Trouble::NoCase);
     };
@@ -144,7 +144,7 @@ fn fill(alloc: Global, service: &mut Service, given: &[Vec<u8>]) -> Result<Answe
 /// probe gave behind each 503 what it gave before, and the last status.
 fn stopped(
     alloc: Global,
-    service: &mut Service,
+    service: &mut StoredService,
     method: Method,
     given: &[Vec<u8>],
 ) -> Result<Answer, Trouble> {
@@ -160,7 +160,7 @@ fn stopped(
 
 fn stopped_by(
     alloc: Global,
-    service: &mut Service,
+    service: &mut StoredService,
     asked: Asked<'_>,
     probe: Asked<'_>,
 ) -> Result<Answer, Trouble> {

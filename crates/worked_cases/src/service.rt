@@ -12,6 +12,10 @@ use ports_program::run_command;
 use ports_script::read_script;
 use std::alloc::{AllocError, Global};
 use std::fmt::Write;
+use tenant_worlds::StoredWorlds;
+
+/// The service over worlds in one store.
+pub type StoredService = Service<StoredWorlds>;
 
 /// `stream PIECE..`: the requests of a stream that comes in these pieces, each as its method, target
 /// and body, with `key` and its key, and `closes` where it does; then how the stream ends.
@@ -176,7 +180,7 @@ pub fn run_program(alloc: Global, words: &str, input: &[u8]) -> Result<Ran, Trou
     let mut printed = Vec::new(alloc);
     let mut said = Vec::new(alloc);
     let mut reader = input;
-    let status = run_command(
+    let status = run_command::<StoredWorlds, _, _, _, _>(
         alloc,
         arguments.as_slice(),
         &mut reader,
@@ -256,7 +260,7 @@ pub fn after(alloc: Global, given: &[Vec<u8>]) -> Result<Answer, Trouble> {
 }
 
 /// The service of one tenant behind a script.
-fn replayed(alloc: Global, script: &[u8]) -> Result<Service, Trouble> {
+fn replayed(alloc: Global, script: &[u8]) -> Result<StoredService, Trouble> {
     let mut input = script;
     let script = read_script(alloc, &mut input).map_err(|_| Trouble::NoCase)?;
     match replay(alloc, config_of_one(alloc)?, script.events.as_slice()) {
@@ -276,6 +280,6 @@ pub fn config_of_one(alloc: Global) -> Result<Config, Trouble> {
 }
 
 /// The service of one tenant with the key `alpha`.
-pub fn service_of_one(alloc: Global) -> Result<Service, Trouble> {
+pub fn service_of_one(alloc: Global) -> Result<StoredService, Trouble> {
     Service::new(alloc, config_of_one(alloc)?).map_err(|_| Trouble::NoCase)
 }

@@ -8,6 +8,7 @@ use ports_http::Reply;
 use ports_program::{Serving, run_config, run_serving};
 use ports_script::{ScriptFault, read_script, transcript_text};
 use std::alloc::Global;
+use tenant_worlds::StoredWorlds;
 
 /// `input SCRIPT failing after N`: the fault of a script whose input gives five bytes at a read and
 /// fails after so many, or how many events were read.
@@ -73,7 +74,13 @@ pub fn narrow_serving(alloc: Global, given: &[Vec<u8>]) -> Result<Answer, Troubl
         writes: as_number(writes)? as usize,
     };
     let mut said = Vec::new(alloc);
-    let status = run_serving(alloc, serving, &QuietPorts, &mut out, &mut said);
+    let status = run_serving::<StoredWorlds, _, _, _>(
+        alloc,
+        serving,
+        &QuietPorts,
+        &mut out,
+        &mut said,
+    );
     let mut answer = status_told(alloc, status);
     answer.text(out.taken.as_slice());
     answer.text(said.as_slice());
@@ -89,7 +96,9 @@ fn run_narrow(alloc: Global, script: &[u8], writes: usize) -> Result<Ran, Troubl
     };
     let mut said = Vec::new(alloc);
     let mut input = script;
-    let status = run_config(alloc, config, &mut input, &mut out, &mut said);
+    let status = run_config::<StoredWorlds, _, _, _>(
+        alloc, config, &mut input, &mut out, &mut said,
+    );
     let FailingWriter { taken, .. } = out;
     Ok(Ran {
         status,

@@ -10,11 +10,11 @@ use Rattle.ports_core.proofs.RunLemmas.{run_next, run_none, run_all}
 use Rattle.ports_core.proofs.history.replay.Goals as goal
 
 pub loop-index-init : goal.loop-index-init
-loop-index-init c = run_none (new_state (key_texts c.args.config.keys.items)) c.in_ok-service.service c.args.events.now c.in_ok-steps.steps.items c.in_ok-service.ensures.ok c.in_ok-steps.ensures.items
+loop-index-init g c = run_none (new_state (key_texts c.args.config.keys.items)) c.in_ok-service.service c.args.events.now c.in_ok-steps.steps.items c.in_ok-service.ensures.ok c.in_ok-steps.ensures.items
 
 -- the event that was tested isn't allowed
 pub returns-then-not-allows-clause-err : goal.returns-then-not-allows-clause-err
-returns-then-not-allows-clause-err c = (
+returns-then-not-allows-clause-err g c = (
   c.loop-index.invariant,
   λ t within. run_plainly (key_texts c.args.config.keys.items) _ _ _ t (omega (arith, length_texts c.args.config.keys.items, within)) c.loop-index.invariant,
   λ d. run_converses (key_texts c.args.config.keys.items) _ _ _ d c.loop-index.invariant,
@@ -26,7 +26,7 @@ returns-then-not-allows-clause-err c = (
 )
 
 pub loop-index-preserved : goal.loop-index-preserved
-loop-index-preserved c =
+loop-index-preserved g c =
     let step : Effect = record { told = c.step-told.result; sent = c.in_ok-sent.sent.items } in
     run_next (new_state (key_texts c.args.config.keys.items)) c.loop-index.service c.step-told.new.self c.args.events.now c.loop-index.index c.index-events-index.result c.loop-index.steps.items c.push.new.self.items step
     c.loop-index-test.true c.index-events-index.is c.loop-index.invariant
@@ -34,14 +34,14 @@ loop-index-preserved c =
     c.in_ok-push.ensures.items
 
 pub returns-clause-run : goal.returns-clause-run
-returns-clause-run c = run_all (new_state (key_texts c.args.config.keys.items)) c.loop-index.service c.args.events.now c.loop-index.index c.loop-index.steps.items c.loop-index-test.false c.loop-index.invariant
+returns-clause-run g c = run_all (new_state (key_texts c.args.config.keys.items)) c.loop-index.service c.args.events.now c.loop-index.index c.loop-index.steps.items c.loop-index-test.false c.loop-index.invariant
 
 pub returns-clause-plainly : goal.returns-clause-plainly
-returns-clause-plainly c = λ t within.
+returns-clause-plainly g c = λ t within.
     run_plainly (key_texts c.args.config.keys.items) c.args.events.now c.loop-index.steps.items c.loop-index.service t (omega (arith, length_texts c.args.config.keys.items, within))
     (run_all (new_state (key_texts c.args.config.keys.items)) c.loop-index.service c.args.events.now c.loop-index.index c.loop-index.steps.items c.loop-index-test.false c.loop-index.invariant)
 
 pub returns-clause-converses : goal.returns-clause-converses
-returns-clause-converses c = λ d.
+returns-clause-converses g c = λ d.
     run_converses (key_texts c.args.config.keys.items) c.args.events.now c.loop-index.steps.items c.loop-index.service d
     (run_all (new_state (key_texts c.args.config.keys.items)) c.loop-index.service c.args.events.now c.loop-index.index c.loop-index.steps.items c.loop-index-test.false c.loop-index.invariant)

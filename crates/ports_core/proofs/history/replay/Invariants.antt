@@ -6,4 +6,4 @@ use Rattle.ports_core.proofs.history.replay.Given as goal
 
 -- the steps so far are a run of the events so far
 abbrev pub invariant-loop-index : goal.invariant-loop-index
-invariant-loop-index l = Run (new_state (key_texts l.fn.config.keys.items)) (take l.index l.events) l.steps.items l.service
+invariant-loop-index g l = Run (new_state (key_texts l.fn.config.keys.items)) (take l.index l.events) l.steps.items l.service

@@ -5,7 +5,7 @@ use Rattle.ports_core.proofs.service.Service.connections.Goals as goal
 
 -- a number is left of those of at most 16 connections
 pub push-requires : goal.push-requires
-push-requires c =
+push-requires g c =
     let lines = c.self.inside.lines.entries in
     let all : length (c.loop-conn.numbers.items ++ c.in-Some.conn.now ∷ c.next.new.self) ≡ length lines =
     ap (λ left. length (c.loop-conn.numbers.items ++ left)) (sym c.in-Some.ensures.steps) ∙ ap length c.loop-conn.invariant.2

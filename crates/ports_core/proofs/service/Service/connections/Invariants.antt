@@ -4,7 +4,7 @@ use Rattle.ports_core.proofs.service.Service.connections.Given as goal
 
 -- the numbers taken so far, before those that are left
 abbrev pub invariant-loop-conn : goal.invariant-loop-conn
-invariant-loop-conn l =
-    (goal.iterator-loop-conn).can_next l.conn-iterator ×
-    (goal.iterator-loop-conn).is_finite l.conn-iterator ×
+invariant-loop-conn g l =
+    (goal.iterator-loop-conn g).can_next l.conn-iterator ×
+    (goal.iterator-loop-conn g).is_finite l.conn-iterator ×
     (l.numbers.items ++ l.conn-iterator ≡ connections_of l.self)

@@ -11,12 +11,12 @@ use Rattle.ports_core.proofs.StepLemmas.{heard}
 use Rattle.ports_core.proofs.service.Service.hear.Goals as goal
 
 pub hear_line-requires-clause-places : goal.hear_line-requires-clause-places
-hear_line-requires-clause-places c =
+hear_line-requires-clause-places g c =
     open_places c.self.inside.queues.items c.deref_mut.result.now c.self.inside.lines.entries c.args.conn (Fits c.args.event.now) c.deref_mut.ensures.value c.self.invariant.few c.self.invariant.seated
     (subst (λ (s : State). OpenAnd (line_of c.args.conn s) (Fits c.args.event.now)) (sym c.self.view_is) c.requires)
 
 pub invariant_of-self : goal.invariant_of-self
-invariant_of-self c =
+invariant_of-self g c =
     let queues = with_items_is c.self.inside.queues c.hear_line.new.queues (c.hear_line.auto.queues ∙ c.deref_mut.ensures.len) in
     record {
       worlds = c.self.invariant.worlds;
@@ -29,9 +29,9 @@ invariant_of-self c =
     }
 
 pub returns-clause-hears : goal.returns-clause-hears
-returns-clause-hears c =
+returns-clause-hears g c =
     rw (← c.self.view_is)
-    (heard (key_texts c.self.inside.keys.items) c.self.inside.next c.args.event.now c.args.conn c.hear_line.result c.self.inside.worlds
+    (heard (key_texts c.self.inside.keys.items) c.self.inside.next c.args.event.now c.args.conn c.hear_line.result (g.K.Worlds.worlds c.self.inside.worlds)
     c.self.inside.queues.items c.deref_mut.result.now c.hear_line.new.queues _ c.self.inside.lines.entries c.hear_line.new.lines.entries
     (key_texts c.deref.result.now) (ap key_texts c.deref.ensures.value) c.deref_mut.ensures.value
     (with_items_is c.self.inside.queues c.hear_line.new.queues (c.hear_line.auto.queues ∙ c.deref_mut.ensures.len))

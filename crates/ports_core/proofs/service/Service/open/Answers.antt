@@ -6,14 +6,14 @@ use Rattle.ports_core.proofs.OpenedLemmas.{is_eq-nat_cmp_other}
 use Rattle.ports_core.proofs.service.Service.open.Goals as goal
 
 pub returns-clause-opens : goal.returns-clause-opens
-returns-clause-opens c =
+returns-clause-opens g c =
     let updates = on_ok _ c.insert.result (sym c.if-is_err.ensures.value) c.insert.ensures.updates in
     rw (← c.self.view_is)
-    (inl (opened (key_texts c.self.inside.keys.items) c.self.inside.next c.nothing.result c.self.inside.worlds c.self.inside.queues.items c.self.inside.lines.entries c.insert.new.self.entries c.in-Ok.line
+    (inl (opened (key_texts c.self.inside.keys.items) c.self.inside.next c.nothing.result (g.K.Worlds.worlds c.self.inside.worlds) c.self.inside.queues.items c.self.inside.lines.entries c.insert.new.self.entries c.in-Ok.line
     (omega arith) (let h = c.if-self.false in omega arith) c.nothing.ensures.reply c.nothing.ensures.refused c.nothing.ensures.closed c.in-Ok.ensures updates.1 (λ d ne. updates.2 d (is_eq-nat_cmp_other c.self.inside.next d ne))))
 
 pub invariant_of-self-2 : goal.invariant_of-self-2
-invariant_of-self-2 c =
+invariant_of-self-2 g c =
     let updates = on_ok _ c.insert.result (sym c.if-is_err.ensures.value) c.insert.ensures.updates in
     let same = λ (d : ℕ) (ne : d ≢ c.self.inside.next). updates.2 d (is_eq-nat_cmp_other c.self.inside.next d ne) in
     record {

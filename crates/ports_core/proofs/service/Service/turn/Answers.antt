@@ -10,23 +10,23 @@ use Rattle.ports_core.proofs.service.Service.turn.Goals as goal
 
 -- nothing waits
 pub returns-in_default-clause-turns : goal.returns-in_default-clause-turns
-returns-in_default-clause-turns c =
-    let within : c.args.tenant < length c.self.inside.queues.items = within_keys c.args.tenant c.args.self.now c.self.inside.keys.items c.self.inside.worlds c.self.inside.queues.items c.self.inside.lines.entries c.self.inside.next c.self.inside.queues.items c.self.view_is c.self.invariant.queues c.requires in
+returns-in_default-clause-turns g c =
+    let within : c.args.tenant < length c.self.inside.queues.items = within_keys c.args.tenant c.args.self.now c.self.inside.keys.items (g.K.Worlds.worlds c.self.inside.worlds) c.self.inside.queues.items c.self.inside.lines.entries c.self.inside.next c.self.inside.queues.items c.self.view_is c.self.invariant.queues c.requires in
     rw (← c.self.view_is)
-    (inl (idle (key_texts c.self.inside.keys.items) c.self.inside.next c.args.tenant c.nothing.result c.self.inside.worlds c.self.inside.queues.items c.index_mut-queue.result.now c.next.new.self c.self.inside.lines.entries
+    (inl (idle (key_texts c.self.inside.keys.items) c.self.inside.next c.args.tenant c.nothing.result (g.K.Worlds.worlds c.self.inside.worlds) c.self.inside.queues.items c.index_mut-queue.result.now c.next.new.self c.self.inside.lines.entries
     (slice_get_read c.self.inside.queues.items (length c.self.inside.queues.items) c.args.tenant c.index_mut-queue.result.now refl within c.index_mut-queue.ensures.value)
     c.in_default.ensures.none c.in_default.ensures.same c.nothing.ensures.reply c.nothing.ensures.refused c.nothing.ensures.closed))
 
 -- a tenant with a key has a world
 pub answer-reply-requires : goal.answer-reply-requires
-answer-reply-requires c = within_keys c.args.tenant c.args.self.now c.self.inside.keys.items c.self.inside.worlds c.self.inside.queues.items c.self.inside.lines.entries c.self.inside.next c.self.inside.worlds c.self.view_is c.self.invariant.worlds c.requires
+answer-reply-requires g c = within_keys c.args.tenant c.args.self.now c.self.inside.keys.items (g.K.Worlds.worlds c.self.inside.worlds) c.self.inside.queues.items c.self.inside.lines.entries c.self.inside.next (g.K.Worlds.worlds c.self.inside.worlds) c.self.view_is c.self.invariant.worlds c.requires
 
 -- the first request is answered
 pub returns-clause-turns : goal.returns-clause-turns
-returns-clause-turns c =
-    let within : c.args.tenant < length c.self.inside.queues.items = within_keys c.args.tenant c.args.self.now c.self.inside.keys.items c.self.inside.worlds c.self.inside.queues.items c.self.inside.lines.entries c.self.inside.next c.self.inside.queues.items c.self.view_is c.self.invariant.queues c.requires in
+returns-clause-turns g c =
+    let within : c.args.tenant < length c.self.inside.queues.items = within_keys c.args.tenant c.args.self.now c.self.inside.keys.items (g.K.Worlds.worlds c.self.inside.worlds) c.self.inside.queues.items c.self.inside.lines.entries c.self.inside.next c.self.inside.queues.items c.self.view_is c.self.invariant.queues c.requires in
     rw (← c.self.view_is)
-    (inr (answered_in_turn (key_texts c.self.inside.keys.items) c.self.inside.next c.args.tenant c.of.result c.self.inside.worlds c.answer-reply.new.self c.self.inside.queues.items c.index_mut-queue.result.now c.next.new.self
+    (inr (answered_in_turn (key_texts c.self.inside.keys.items) c.self.inside.next c.args.tenant c.of.result (g.K.Worlds.worlds c.self.inside.worlds) (g.K.Worlds.worlds c.answer-reply.new.self) c.self.inside.queues.items c.index_mut-queue.result.now c.next.new.self
     c.in-Some.field-0 c.answer-reply.result.0 c.close_done-closed.result
     c.self.inside.lines.entries c.answer_line.new.lines.entries c.close_done-closed.new.lines.entries
     within
@@ -37,8 +37,8 @@ returns-clause-turns c =
 
 -- the places, then
 pub invariant_of-self-2 : goal.invariant_of-self-2
-invariant_of-self-2 c =
-    let within : c.args.tenant < length c.self.inside.queues.items = within_keys c.args.tenant c.args.self.now c.self.inside.keys.items c.self.inside.worlds c.self.inside.queues.items c.self.inside.lines.entries c.self.inside.next c.self.inside.queues.items c.self.view_is c.self.invariant.queues c.requires in
+invariant_of-self-2 g c =
+    let within : c.args.tenant < length c.self.inside.queues.items = within_keys c.args.tenant c.args.self.now c.self.inside.keys.items (g.K.Worlds.worlds c.self.inside.worlds) c.self.inside.queues.items c.self.inside.lines.entries c.self.inside.next c.self.inside.queues.items c.self.view_is c.self.invariant.queues c.requires in
     let was = slice_get_read c.self.inside.queues.items (length c.self.inside.queues.items) c.args.tenant c.index_mut-queue.result.now refl within c.index_mut-queue.ensures.value in
     let line = c.close_done-closed.ensures.line ∙ ap (option_and_then kept) c.answer_line.ensures.line in
     let others = λ (d : ℕ) (ne : d ≢ c.in-Some.field-0.conn). c.close_done-closed.ensures.others d ne ∙ c.answer_line.ensures.others d ne in

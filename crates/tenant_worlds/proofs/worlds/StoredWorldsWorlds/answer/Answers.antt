@@ -4,8 +4,8 @@ use Rattle.mk_paths.specs.World.{World}
 use Rattle.tenant_store.specs.Holdings.{Holdings}
 use Rattle.tenant_worlds.specs.Stored.{world_in, worlds_in}
 use Rattle.tenant_worlds.proofs.WorldLemmas.{answers_for, length-worlds_in}
-use Rattle.tenant_worlds.proofs.worlds.Worlds.answer.Goals as goal
-use Rattle.tenant_worlds.proofs.worlds.Worlds.answer.Goals.{in-Ok, in-Err}
+use Rattle.tenant_worlds.proofs.worlds.StoredWorldsWorlds.answer.Goals as goal
+use Rattle.tenant_worlds.proofs.worlds.StoredWorldsWorlds.answer.Goals.{in-Ok, in-Err}
 
 pub overflow_cast-tenant : goal.overflow_cast-tenant
 overflow_cast-tenant c =
