@@ -7,7 +7,7 @@ use std::fmt::{Debug, Display, Write};
 /// Why a line has no answer.
 #[derive(Clone, Copy, Debug, PartialEq, Eq)]
 pub enum Trouble {
-    /// It is in no form of a case, or what it sets up can't be had.
+    /// The line is in no form of a case, or what it sets up can't be made.
     NoCase,
     /// There was no memory.
     Memory,
@@ -34,8 +34,8 @@ impl From<FilesFault> for Trouble {
     }
 }
 
-/// Words, numbers and quoted texts, with one blank between two of them. That there was no memory
-/// for a part is told once, by `whole`.
+/// Words, numbers and quoted texts, with one blank between two of them. If there was no memory for a
+/// part, only `whole` reports it.
 #[derive(Drop)]
 pub struct Answer {
     said: String,
@@ -65,12 +65,12 @@ impl Answer {
         answer
     }
 
-    /// The first word where that holds, else the second.
+    /// An answer of the first word if this holds, else of the second.
     pub fn of_choice(alloc: Global, holds: bool, so: &str, other: &str) -> Answer {
         Answer::of_word(alloc, if holds { so } else { other })
     }
 
-    /// Adds a word as it stands.
+    /// Adds a word as it is.
     pub fn word(&mut self, word: &str) {
         let said = write!(self.begun(), "{word}");
         self.note(said);
@@ -97,8 +97,8 @@ impl Answer {
         }
     }
 
-    /// Adds bytes in quotes: those from 32 to 126 as they are but for the quote and the backslash,
-    /// others as escapes.
+    /// Adds bytes in quotes. Bytes from 32 to 126 are as they are, except for the quote and the backslash;
+    /// these two and all other bytes are escapes.
     pub fn text(&mut self, bytes: &[u8]) {
         let said = self.quote(bytes);
         self.note(said);
@@ -112,7 +112,7 @@ impl Answer {
         }
     }
 
-    /// All that was said. The error: there was no memory for a part of it.
+    /// All that was said. It fails only if there was no memory for a part of it.
     pub fn whole(&self) -> Result<&str, Trouble> {
         if self.is_whole {
             Ok(self.said.as_str())
@@ -121,7 +121,7 @@ impl Answer {
         }
     }
 
-    /// Whether the other says the same. The error: there was no memory for a part of one.
+    /// Whether the other answer says the same. It fails only if there was no memory for a part of one.
     pub fn is_same(&self, other: &Answer) -> Result<bool, Trouble> {
         Ok(self.whole()? == other.whole()?)
     }
@@ -130,7 +130,7 @@ impl Answer {
         self.is_whole = self.is_whole && said.is_ok();
     }
 
-    /// What was said, with a blank behind it where something was.
+    /// What was said, with a blank after it if something was.
     fn begun(&mut self) -> &mut String {
         if !self.said.is_empty() {
             let said = self.said.push(' ');

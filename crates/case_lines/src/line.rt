@@ -12,12 +12,13 @@ pub struct Line {
     pub call: String,
     /// The texts and numbers before `=>`.
     pub given: Vec<Vec<u8>>,
-    /// What stands behind `=>`, as an answer says it; none where there is no `=>`.
+    /// What follows `=>`, as an answer says it. `None` if there is no `=>`.
     pub wanted: Option<String>,
 }
 
 impl Line {
-    /// Reads a line.
+    /// Reads a line. The error is `NoCase` if the line is in no form of a case, and
+    /// `Memory` if memory runs out.
     pub fn read(alloc: Global, text: &str) -> Result<Line, Trouble> {
         let mut line = Line {
             call: String::new(alloc),
@@ -55,12 +56,13 @@ impl Line {
     }
 }
 
-/// The bytes as a text; no case where they are no UTF-8.
+/// The bytes as a text. The error is `NoCase` if they are no UTF-8.
 pub fn as_text(bytes: &[u8]) -> Result<&str, Trouble> {
     str::from_utf8(bytes).map_err(|_| Trouble::NoCase)
 }
 
-/// The one text that a call is given.
+/// The one text that a call is given. The error is `NoCase` if it isn't given just
+/// one, or if that is no UTF-8.
 pub fn one_text(given: &[Vec<u8>]) -> Result<&str, Trouble> {
     match given {
         [text] => as_text(text),
@@ -68,7 +70,7 @@ pub fn one_text(given: &[Vec<u8>]) -> Result<&str, Trouble> {
     }
 }
 
-/// The number that the bytes write.
+/// The number that the bytes write. The error is `NoCase` if they write no number of 64 bits.
 pub fn as_number(bytes: &[u8]) -> Result<u64, Trouble> {
     as_text(bytes)?.parse::<u64>().map_err(|_| Trouble::NoCase)
 }
@@ -85,9 +87,9 @@ fn want(wanted: &mut Answer, token: Token) -> Result<(), Trouble> {
 /// A part of a line between two blanks.
 #[derive(Drop)]
 enum Token {
-    /// What stands without quotes, and begins with no digit or stands behind `=>`.
+    /// What is without quotes, and begins with no digit or follows `=>`.
     Word(Vec<u8>),
-    /// A text in quotes, its repetitions made.
+    /// A text in quotes, with its copies made; or a number before `=>`.
     Text(Vec<u8>),
 }
 
@@ -100,7 +102,7 @@ impl Token {
     }
 }
 
-/// Where in a line a cutter stands.
+/// Where in a line a cutter is.
 #[derive(Clone, Copy)]
 enum Place {
     /// Between two tokens.
@@ -109,15 +111,15 @@ enum Place {
     Word,
     /// In quotes.
     Quoted,
-    /// Behind a backslash.
+    /// After a backslash.
     Escape,
-    /// Behind `\x`, and then behind its first digit, which is worth so much.
+    /// After `\x`, and then after its first digit, which is worth so much.
     Hex(Option<u8>),
-    /// Behind a closing quote.
+    /// After a closing quote.
     Closed,
     /// In the number of copies, which is so much up to here.
     Copies(usize),
-    /// Behind a `+`, where another part must begin.
+    /// After a `+`, where another part must begin.
     Joined,
 }
 
@@ -153,7 +155,7 @@ fn tokens(alloc: Global, line: &str) -> Result<Vec<Token>, Trouble> {
 }
 
 impl Cutter {
-    /// Takes a byte, and tells the place behind it.
+    /// Takes a byte, and gives the place after it.
     fn behind(&mut self, byte: u8) -> Result<Place, Trouble> {
         match self.place {
             Place::Between => self.begin(byte),
@@ -195,7 +197,7 @@ impl Cutter {
         Ok(Place::Between)
     }
 
-    /// Whether the arrow stood already, behind which numbers are words.
+    /// Whether the arrow was there already. After it, numbers are words.
     fn is_wanted(&self) -> bool {
         self.tokens.iter().any(|token| token.is_arrow())
     }

@@ -9,21 +9,22 @@ use Rattle.cond_grammar.specs.Tokens.{tokens_of}
 use Rattle.cond_grammar.specs.Trees.{OrTree, IsTreeOf}
 use Rattle.cond_grammar.specs.Reading.{tree_of}
 
--- The tree of a text: each reference of the text ends, and the text outside references is cut into the tokens of this tree, in which no
--- more than 64 `!` and parentheses stand one inside another.
+-- The tree of a text. Each reference of the text ends, and the text outside references is cut into the
+-- tokens of this tree. In the tree, no more than 64 `!` and parentheses are one inside another.
 pub record IsConditionOf (text : List ℕ) (tree : OrTree) : Type 0 where
   pub ends : left_of text ≡ []
   pub tokens : List Token
   pub cut : tokens_of (outside text) ≡ Some tokens
   pub read : IsTreeOf 64 tokens tree
 
--- why a text has no condition: a reference that doesn't end; no tree; want of memory says nothing
+-- why a text has no condition: a reference doesn't end; it has no tree; or memory ran out, which says
+-- nothing
 abbrev pub IsFaultOf : List ℕ → ConditionError → Type 0
 IsFaultOf text Unclosed = left_of text ≢ []
 IsFaultOf text Unreadable = (left_of text ≡ []) × ((tree : OrTree) → IsConditionOf text tree → ⊥)
 IsFaultOf text Memory = ⊤
 
--- the tree of tokens, where there are any
+-- the tree of tokens, if there are any
 abbrev pub tree_on : Option (List Token) → Option OrTree
 tree_on None = None
 tree_on (Some tokens) = tree_of 64 tokens

@@ -9,12 +9,14 @@ use Rattle.cond_grammar.specs.Conditions.{IsConditionOf, tree_in}
 
 -- tokens have at most one tree
 abbrev pub TokensHaveOneTree : Type 0
-TokensHaveOneTree = (limit : ℕ) (tokens : List Token) (one other : OrTree) → IsTreeOf limit tokens one → IsTreeOf limit tokens other → one ≡ other
+TokensHaveOneTree =
+    (limit : ℕ) (tokens : List Token) (one other : OrTree) → IsTreeOf limit tokens one → IsTreeOf limit tokens other
+    → one ≡ other
 
--- the reading of tokens gives their tree, and none where they have none
+-- the reading of tokens gives their tree, and none if they have none
 abbrev pub TreesAreRead : Type 0
 TreesAreRead = (limit : ℕ) (tokens : List Token) (tree : OrTree) → IsTreeOf limit tokens tree ↔ (tree_of limit tokens ≡ Some tree)
 
--- a text has the tree that is read of it, where its references end, and no other
+-- if its references end, a text has the tree that is read of it, and no other
 abbrev pub ConditionsAreRead : Type 0
 ConditionsAreRead = (text : List ℕ) (tree : OrTree) → IsConditionOf text tree ↔ ((left_of text ≡ []) × (tree_in (outside text) ≡ Some tree))

@@ -1,17 +1,18 @@
--- How tokens are read into their tree, for those who want the reading as a function: it gives the tree of `IsTreeOf`, and none where there
--- is none.
+-- How tokens are read into their tree, for those who want the reading as a function. It gives the tree of
+-- `IsTreeOf`, and none if there is none.
 use Rattle.std.specs.Prelude.{ℕ, zero, suc, List, [], ◌∷◌, length, Option, Some, None, option_map}
 use Rattle.cond_grammar.specs.declared.tokens.Comparison.{Comparison}
 use Rattle.cond_grammar.specs.declared.tokens.Side.{Side}
 use Rattle.cond_grammar.specs.declared.tokens.Token.{Token}
 use Rattle.cond_grammar.specs.declared.tokens.Token.TheVariants as t
-use Rattle.cond_grammar.specs.Trees.{OrTree, OrOf, LaterAnds, NoAnds, MoreAnds, AndTree, AndOf, LaterNots, NoNots, MoreNots, NotTree, Negated, Grouped, Called, Compared, Alone}
+use Rattle.cond_grammar.specs.Trees.{OrTree, OrOf, LaterAnds, NoAnds, MoreAnds, AndTree, AndOf, LaterNots, NoNots}
+use Rattle.cond_grammar.specs.Trees.{MoreNots, NotTree, Negated, Grouped, Called, Compared, Alone}
 
--- a reader takes something off the front of tokens, and tells what is left behind it
+-- a reader takes something off the front of tokens, and gives what is left after it
 abbrev pub Reader : Type 0 → Type 0
 Reader A = List Token → Option (A × List Token)
 
--- the tokens behind a sign that stands first
+-- the tokens after a sign that comes first
 abbrev pub behind_or : List Token → Option (List Token)
 behind_or [] = None
 behind_or (t.Or ∷ rest) = Some rest
@@ -37,17 +38,17 @@ behind_comparison [] = None
 behind_comparison (t.Compare comparison ∷ rest) = Some (comparison, rest)
 behind_comparison (token ∷ rest) = None
 
--- one operand, and those that `more` reads behind it
+-- one operand, and those that `more` reads after it
 abbrev pub operand_on : {A : Type 0} → Reader (List A) → Option (A × List Token) → Option (List A × List Token)
 operand_on more None = None
 operand_on more (Some (first, rest)) = option_map (λ later. (first ∷ later.0, later.1)) (more rest)
 
--- what `read` makes of what stands behind a sign; nothing was read where there is no sign
+-- what `read` makes of what follows a sign; if there is no sign, nothing is read
 abbrev pub signed : {A : Type 0} → Reader (List A) → List Token → Option (List Token) → Option (List A × List Token)
 signed read tokens None = Some ([], tokens)
 signed read tokens (Some behind) = read behind
 
--- Operands, each behind a sign, as many as stand there. The number bounds how many are read.
+-- Operands, each after a sign, as many as there are. The number bounds how many are read.
 unfoldable pub operands_by : {A : Type 0} → (List Token → Option (List Token)) → Reader A → ℕ → Reader (List A)
 operands_by sign read zero tokens = None
 operands_by sign read (suc fuel) tokens = signed (λ behind. operand_on (operands_by sign read fuel) (read behind)) tokens (sign tokens)
@@ -65,19 +66,19 @@ abbrev pub later_ands : List AndTree → LaterAnds
 later_ands [] = NoAnds
 later_ands (and ∷ more) = MoreAnds and (later_ands more)
 
--- a first operand, and those that are read behind it
+-- a first operand, and those that are read after it
 abbrev pub chain_on : {A B : Type 0} → (A → List A → B) → Reader (List A) → Option (A × List Token) → Option (B × List Token)
 chain_on made more None = None
 chain_on made more (Some (first, rest)) = option_map (λ later. (made first later.0, later.1)) (more rest)
 
--- a conjunction and a condition, where `read` reads the terms
+-- a conjunction and a condition, if `read` reads the terms
 abbrev pub and_by : Reader NotTree → Reader AndTree
 and_by read tokens = chain_on (λ first more. AndOf first (later_nots more)) (operands behind_and read) (read tokens)
 
 abbrev pub or_by : Reader NotTree → Reader OrTree
 or_by read tokens = chain_on (λ first more. OrOf first (later_ands more)) (operands behind_or (and_by read)) (and_by read tokens)
 
--- a side, and what it is compared with, if it is
+-- a side, and what it is compared with, if anything
 abbrev pub right_of : Side → Comparison → Option (Side × List Token) → Option (NotTree × List Token)
 right_of left comparison None = None
 right_of left comparison (Some (right, rest)) = Some (Compared left comparison right, rest)
@@ -95,11 +96,11 @@ abbrev pub grouped : Option (OrTree × List Token) → Option (NotTree × List T
 grouped None = None
 grouped (Some (or, rest)) = closed or (behind_right rest)
 
--- a term turned
+-- a term negated
 abbrev pub turned : Option (NotTree × List Token) → Option (NotTree × List Token)
 turned read = option_map (λ x. (Negated x.0, x.1)) read
 
--- a term, where `inner` reads those one level deeper
+-- a term; `inner` reads the terms one level deeper
 abbrev pub not_with : Reader NotTree → Reader NotTree
 not_with inner [] = None
 not_with inner (t.Not ∷ rest) = turned (inner rest)
@@ -108,16 +109,17 @@ not_with inner (t.Call call argument ∷ rest) = Some (Called call argument, res
 not_with inner (t.Side side ∷ rest) = compared side rest (behind_comparison rest)
 not_with inner (token ∷ rest) = None
 
--- The term that tokens begin with, inside so many `!` and parentheses at most: none where the number is zero.
+-- The term that tokens begin with, itself inside a `!` or parentheses. At most this many of these, that one
+-- included, may be one inside another; so it is none if the number is zero.
 unfoldable pub inside_of : ℕ → Reader NotTree
 inside_of zero tokens = None
 inside_of (suc levels) tokens = not_with (inside_of levels) tokens
 
--- the term that tokens begin with; no more than so many `!` and parentheses stand one inside another in it
+-- the term that tokens begin with; no more than this many `!` and parentheses are one inside another in it
 abbrev pub read_not : ℕ → Reader NotTree
 read_not levels tokens = not_with (inside_of levels) tokens
 
--- what stands behind a `!` and behind a parenthesis
+-- what follows a `!`, and what follows a parenthesis
 abbrev pub negated_below : ℕ → Reader NotTree
 negated_below levels tokens = turned (inside_of levels tokens)
 
@@ -130,7 +132,7 @@ read_and levels = and_by (read_not levels)
 abbrev pub read_or : ℕ → Reader OrTree
 read_or levels = or_by (read_not levels)
 
--- the tree, where nothing is left behind it
+-- the tree, if nothing is left after it
 abbrev pub with_nothing_left : Option (OrTree × List Token) → Option OrTree
 with_nothing_left None = None
 with_nothing_left (Some (or, [])) = Some or

@@ -1,5 +1,6 @@
 -- The tokens of a condition.
-use Rattle.std.specs.Prelude.{ℕ, zero, suc, ◌+◌, ◌-◌, ◌==◌, ◌||◌, Bool, false, List, [], ◌∷◌, drop, take, codes, Option, Some, None, option_map, not, if◌then◌else◌}
+use Rattle.std.specs.Prelude.{ℕ, zero, suc, ◌+◌, ◌-◌, ◌==◌, ◌||◌, Bool, false, List, [], ◌∷◌, drop, take, codes}
+use Rattle.std.specs.Prelude.{Option, Some, None, option_map, not, if◌then◌else◌}
 use Rattle.std.specs.Str.{bytes_eq}
 use Rattle.mk_text.specs.Blanks.{is_blank}
 use Rattle.cond_grammar.specs.declared.tokens.Comparison.TheVariants as o
@@ -28,7 +29,8 @@ abbrev pub first_or_end : (ℕ → Bool) → ℕ → List ℕ → ℕ
 first_or_end p at [] = at
 first_or_end p at (b ∷ rest) = if p b then at else first_or_end p (at + 1) rest
 
--- The place of the parenthesis that closes one, in the text behind that, which begins at a place; so many others are open there.
+-- The place of the parenthesis that closes an earlier one, in the text after that one. The text begins at a
+-- place, and this many others are open there.
 abbrev pub closing : ℕ → ℕ → List ℕ → Option ℕ
 closing at depth [] = None
 closing at depth (b ∷ rest) =
@@ -36,7 +38,8 @@ closing at depth (b ∷ rest) =
     else if b == 41 then (if depth == 0 then Some at else closing (at + 1) (depth - 1) rest)
     else closing (at + 1) depth rest
 
--- a quoted side: the text goes up to the next double quote (34), which begins behind the first at this place
+-- a quoted side: its text begins at this place, after the first double quote (34), and goes up to the next
+-- one
 abbrev pub quoted : ℕ → Option ℕ → Option (Token × ℕ)
 quoted start None = None
 quoted start (Some end) = Some (t.Side (Quoted (record { start = start; end = end })), end + 1)
@@ -56,12 +59,12 @@ abbrev pub closed_call : Call → ℕ → Option ℕ → Option (Token × ℕ)
 closed_call call start None = None
 closed_call call start (Some end) = Some (t.Call call (record { start = start; end = end }), end + 1)
 
--- the end of the blanks that stand first in a text which begins at a place
+-- the end of the blanks at the front of a text that begins at a place
 abbrev pub blanks_end : ℕ → List ℕ → ℕ
 blanks_end at text = first_or_end (λ b. not (is_blank b)) at text
 
--- A side that isn't quoted, from one place up to another; or a call, where it is a call's word and a parenthesis (40) stands at the third
--- place. `rest` stands behind its first byte.
+-- A side that isn't quoted, from one place up to another. If it is a call's word and there is a parenthesis
+-- (40) at the third place, it is a call. `rest` follows its first byte.
 abbrev pub word_token : ℕ → List ℕ → ℕ → ℕ → Option Call → Option (Token × ℕ)
 word_token at rest end left None = Some (t.Side (Bare (record { start = at; end = end })), end)
 word_token at rest end left (Some call) =
@@ -74,16 +77,16 @@ word_at at b rest =
     let end = first_or_end is_stop (at + 1) rest in
     word_token at rest end (blanks_end end (drop (end - (at + 1)) rest)) (call_of (b ∷ take (end - (at + 1)) rest))
 
--- a sign of two bytes, or of one where the second isn't there
+-- a sign of two bytes, or of one if the second isn't there
 abbrev pub sign_at : ℕ → Bool → Token → Token → Option (Token × ℕ)
 sign_at at doubled two one = if doubled then Some (two, at + 2) else Some (one, at + 1)
 
--- a sign of two bytes alone
+-- a sign that has two bytes; none if the second isn't there
 abbrev pub pair_at : ℕ → Bool → Token → Option (Token × ℕ)
 pair_at at doubled two = if doubled then Some (two, at + 2) else None
 
--- The token that begins with byte `b` at a place, where `rest` follows, and the place behind it; none where there is no token. `b` is no
--- blank. References are covered by dollars in the text.
+-- The token that begins with byte `b` at a place, and the place after it; none if there is no token. `b`
+-- isn't a blank, and `rest` follows it. References are covered by dollars in the text.
 unfoldable pub token_at : ℕ → ℕ → List ℕ → Option (Token × ℕ)
 token_at at b rest =
     if b == 40 then Some (t.Left, at + 1)
@@ -97,13 +100,13 @@ token_at at b rest =
     else if b == 34 then quoted (at + 1) (first_at (λ c. c == 34) (at + 1) rest)
     else word_at at b rest
 
--- a token in front of those that `more` gives from the place behind it on
+-- a token before those that `more` gives from the place after it on
 abbrev pub token_before : (ℕ → Option (List Token)) → Option (Token × ℕ) → Option (List Token)
 token_before more None = None
 token_before more (Some (token, end)) = option_map (λ tokens. token ∷ tokens) (more end)
 
--- The tokens of a text that begins at a place, from its byte of this number on: blanks are passed over, and so are the bytes of a token
--- behind its first.
+-- The tokens of a text that begins at a place, from its byte of this number on. Blanks are passed over, and
+-- so are the bytes of a token after its first.
 unfoldable pub walk : ℕ → ℕ → List ℕ → Option (List Token)
 walk at skipped [] = Some []
 walk at (suc skipped) (b ∷ rest) = walk (at + 1) skipped rest

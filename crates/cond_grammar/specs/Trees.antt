@@ -1,6 +1,8 @@
--- The tree of a condition, and which tokens are those of a tree. The grammar is make(1)'s ("CONDITIONALS"), where `!` binds most tightly,
--- then `&&`, then `||`:
---   or = and {"||" and}      and = not {"&&" not}      not = "!" not | "(" or ")" | call | side [comparison side]
+-- The tree of a condition, and which tokens are those of a tree. The grammar is that of make(1)
+-- ("CONDITIONALS"), where `!` binds most tightly, then `&&`, then `||`:
+--   or  = and {"||" and}
+--   and = not {"&&" not}
+--   not = "!" not | "(" or ")" | call | side [comparison side]
 use Rattle.std.specs.Prelude.{◌≡◌, ◌≤◌, ℕ, suc, max, List, [], ◌∷◌, ◌++◌}
 use Rattle.mk_text.specs.declared.splitting.Span.{Span}
 use Rattle.cond_grammar.specs.declared.tokens.Comparison.{Comparison}
@@ -14,7 +16,7 @@ mutual
   pub data OrTree : Type 0 where
     OrOf : AndTree → LaterAnds → OrTree
 
-  -- the conjunctions behind the first
+  -- the conjunctions after the first
   pub data LaterAnds : Type 0 where
     NoAnds : LaterAnds
     MoreAnds : AndTree → LaterAnds → LaterAnds
@@ -23,12 +25,13 @@ mutual
   pub data AndTree : Type 0 where
     AndOf : NotTree → LaterNots → AndTree
 
-  -- the terms behind the first
+  -- the terms after the first
   pub data LaterNots : Type 0 where
     NoNots : LaterNots
     MoreNots : NotTree → LaterNots → LaterNots
 
-  -- a term: one behind a `!`; one in parentheses; a call with the place of its argument; two sides compared; a side alone
+  -- a term: one after a `!`; one in parentheses; a call with the place of its argument; two sides compared;
+  -- a side alone
   pub data NotTree : Type 0 where
     Negated : NotTree → NotTree
     Grouped : OrTree → NotTree
@@ -59,7 +62,7 @@ abbrev mutual
   not_tokens (Compared left comparison right) = t.Side left ∷ t.Compare comparison ∷ t.Side right ∷ []
   not_tokens (Alone side) = t.Side side ∷ []
 
--- how many `!` and parentheses stand one inside another, at most
+-- how many `!` and parentheses are one inside another, at most
 abbrev mutual
   pub or_depth : OrTree → ℕ
   or_depth (OrOf and more) = max (and_depth and) (later_and_depth more)
@@ -82,7 +85,8 @@ abbrev mutual
   not_depth (Compared left comparison right) = 0
   not_depth (Alone side) = 0
 
--- the tree whose tokens, in order, these are, and in which no more than so many `!` and parentheses stand one inside another
+-- the tree whose tokens, in order, these are, and in which no more than this many `!` and parentheses are
+-- one inside another
 pub record IsTreeOf (limit : ℕ) (tokens : List Token) (tree : OrTree) : Type 0 where
   pub in_order : or_tokens tree ≡ tokens
   pub not_deep : or_depth tree ≤ limit

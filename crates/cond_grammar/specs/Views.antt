@@ -5,7 +5,8 @@ use Rattle.std.proofs.Common.{ap, sym, ◌∙◌}
 use Rattle.mk_text.specs.declared.splitting.Span.{Span}
 use Rattle.std.specs.Borrow.{Bor}
 use Rattle.cond_grammar.specs.declared.nodes.Condition.{Condition, Condition-F, fold-Condition, out-Condition, fold_out-Condition}
-use Rattle.cond_grammar.specs.declared.nodes.Conjunction.{Conjunction, Conjunction-F, fold-Conjunction, out-Conjunction, fold_out-Conjunction}
+use Rattle.cond_grammar.specs.declared.nodes.Conjunction.{Conjunction, Conjunction-F, fold-Conjunction}
+use Rattle.cond_grammar.specs.declared.nodes.Conjunction.{out-Conjunction, fold_out-Conjunction}
 use Rattle.cond_grammar.specs.declared.nodes.Term.{Term, Term-F, fold-Term, fold-roll-Term}
 use Rattle.cond_grammar.specs.declared.nodes.Term.TheVariants as terms
 use Rattle.cond_grammar.specs.declared.tokens.Comparison.{Comparison}
@@ -15,7 +16,7 @@ use Rattle.cond_grammar.specs.declared.tokens.Token.{Token}
 use Rattle.cond_grammar.specs.Trees.{OrTree, OrOf, AndTree, AndOf, NotTree, Negated, Grouped, Called, Compared, Alone}
 use Rattle.cond_grammar.specs.Reading.{later_nots, later_ands}
 
--- one level, with what stands inside already seen as its tree
+-- one level, with what is inside already seen as its tree
 abbrev pub condition_step : Condition-F NotTree OrTree AndTree → OrTree
 condition_step condition = OrOf condition.first (later_ands condition.more.items)
 
@@ -39,30 +40,45 @@ conjunction_tree = fold-Conjunction NotTree OrTree AndTree term_step condition_s
 abbrev pub term_tree : Term → NotTree
 term_tree = fold-Term NotTree OrTree AndTree term_step condition_step conjunction_step
 
--- the tree of a node, by what stands in the node
+-- the tree of a node, by what is in the node
 pub tree-condition : (condition : Condition)
-    → condition_tree condition ≡ OrOf (conjunction_tree (out-Condition condition).first) (later_ands (map conjunction_tree (out-Condition condition).more.items))
+    → condition_tree condition
+    ≡ OrOf (conjunction_tree (out-Condition condition).first)
+    (later_ands (map conjunction_tree (out-Condition condition).more.items))
 tree-condition condition = fold_out-Condition NotTree OrTree AndTree term_step condition_step conjunction_step condition
 
 pub tree-conjunction : (conjunction : Conjunction)
-    → conjunction_tree conjunction ≡ AndOf (term_tree (out-Conjunction conjunction).first) (later_nots (map term_tree (out-Conjunction conjunction).more.items))
+    → conjunction_tree conjunction
+    ≡ AndOf (term_tree (out-Conjunction conjunction).first)
+    (later_nots (map term_tree (out-Conjunction conjunction).more.items))
 tree-conjunction conjunction = fold_out-Conjunction NotTree OrTree AndTree term_step condition_step conjunction_step conjunction
 
 pub tree-not : (term : Box Term Global) → term_tree (terms.Not term) ≡ Negated (term_tree term.value)
-tree-not term = ap term_tree (sym (terms.rolls-Not term)) ∙ fold-roll-Term NotTree OrTree AndTree term_step condition_step conjunction_step (Term-F.Not term)
+tree-not term =
+    ap term_tree (sym (terms.rolls-Not term))
+    ∙ fold-roll-Term NotTree OrTree AndTree term_step condition_step conjunction_step (Term-F.Not term)
 
 pub tree-group : (condition : Box Condition Global) → term_tree (terms.Group condition) ≡ Grouped (condition_tree condition.value)
-tree-group condition = ap term_tree (sym (terms.rolls-Group condition)) ∙ fold-roll-Term NotTree OrTree AndTree term_step condition_step conjunction_step (Term-F.Group condition)
+tree-group condition =
+    ap term_tree (sym (terms.rolls-Group condition))
+    ∙ fold-roll-Term NotTree OrTree AndTree term_step condition_step conjunction_step (Term-F.Group condition)
 
 pub tree-call : (call : Call) (argument : Span) → term_tree (terms.Call call argument) ≡ Called call argument
-tree-call call argument = ap term_tree (sym (terms.rolls-Call call argument)) ∙ fold-roll-Term NotTree OrTree AndTree term_step condition_step conjunction_step (Term-F.Call call argument)
+tree-call call argument =
+    ap term_tree (sym (terms.rolls-Call call argument))
+    ∙ fold-roll-Term NotTree OrTree AndTree term_step condition_step conjunction_step (Term-F.Call call argument)
 
-pub tree-compare : (left : Side) (comparison : Comparison) (right : Side) → term_tree (terms.Compare left comparison right) ≡ Compared left comparison right
+pub tree-compare : (left : Side) (comparison : Comparison) (right : Side)
+    → term_tree (terms.Compare left comparison right) ≡ Compared left comparison right
 tree-compare left comparison right =
-    ap term_tree (sym (terms.rolls-Compare left comparison right)) ∙ fold-roll-Term NotTree OrTree AndTree term_step condition_step conjunction_step (Term-F.Compare left comparison right)
+    ap term_tree (sym (terms.rolls-Compare left comparison right))
+    ∙ fold-roll-Term NotTree OrTree AndTree term_step condition_step conjunction_step
+    (Term-F.Compare left comparison right)
 
 pub tree-side : (side : Side) → term_tree (terms.Side side) ≡ Alone side
-tree-side side = ap term_tree (sym (terms.rolls-Side side)) ∙ fold-roll-Term NotTree OrTree AndTree term_step condition_step conjunction_step (Term-F.Side side)
+tree-side side =
+    ap term_tree (sym (terms.rolls-Side side))
+    ∙ fold-roll-Term NotTree OrTree AndTree term_step condition_step conjunction_step (Term-F.Side side)
 
 -- the tokens that a reference points to
 abbrev pub left_behind : Option (Bor (List Token)) → Option (List Token)

@@ -12,18 +12,22 @@ use crate::reading::read;
 use crate::scanning::tokens;
 use mk_ref::{PiecesFault, outside, outside_stands_in_place, pieces};
 use std::alloc::{AllocError, Global};
+use thiserror::Error;
 
-/// How many `!` and parentheses may stand one inside another. A call's parentheses don't count.
+/// How many `!` and parentheses may be one inside another. A call's parentheses don't count.
 pub const LEVELS: usize = 64;
 
 /// Why a text has no condition.
-#[derive(Debug, Clone, Copy, PartialEq, Eq)]
+#[derive(Debug, Clone, Copy, PartialEq, Eq, Error)]
 pub enum ConditionError {
     /// A reference doesn't end.
+    #[error("a reference doesn't end")]
     Unclosed,
-    /// It isn't of the grammar, or more than 64 `!` and parentheses stand one inside another.
+    /// It doesn't follow the grammar, or more than 64 `!` and parentheses are one inside another.
+    #[error("not a condition")]
     Unreadable,
-    /// There is no memory.
+    /// Memory ran out.
+    #[error("out of memory")]
     Memory,
 }
 
@@ -35,13 +39,12 @@ impl From<AllocError> for ConditionError {
     }
 }
 
-/// The tree of the condition that `text` is, what stands behind the word of a directive. Nothing is
-/// expanded: sides and arguments are places in `text`, at which it can be cut. References are atomic: a parenthesis, a quote
-/// or the end of a side is not sought in them. The time is linear in the length of `text`, and the
-/// depth of the recursion is bounded by `LEVELS`.
+/// The tree of the condition `text`, which is what follows the word of a directive. Nothing is
+/// expanded: sides and arguments are places in `text`, at which it can be cut. References are atomic: a
+/// parenthesis, a quote or the end of a side is not looked for in them. The time is linear in the
+/// length of `text`, and the depth of the recursion is bounded by `LEVELS`.
 ///
-/// The grammar is that of make(1), "CONDITIONALS", where `!` binds most tightly, then `&&`, then
-/// `||`:
+/// The grammar is that of make(1), "CONDITIONALS", where `!` binds most tightly, then `&&`, then `||`:
 ///
 /// ```text
 /// or  = and {"||" and}
@@ -51,11 +54,12 @@ impl From<AllocError> for ConditionError {
 ///
 /// # Errors
 ///
-/// `Unclosed` where a reference doesn't end, whatever else is wrong; `Unreadable` where the text is no
-/// condition; `Memory` where there is no memory for its tokens or its tree.
+/// `Unclosed` if a reference doesn't end, whatever else is wrong. `Unreadable` if the text isn't a
+/// condition. `Memory` if memory for its tokens or its tree runs out.
 pub fn read_condition(alloc: Global, text: &str) -> Result<Condition, ConditionError>
     ensures tree { IfOk result (λ condition. IsConditionOf text.now (condition_tree condition)) }
-    ensures places { IfOk result (λ condition. All (IsTokenIn text.now) (or_tokens (condition_tree condition))) }
+    ensures places { IfOk result (λ condition. All (IsTokenIn text.now)
+        (or_tokens (condition_tree condition))) }
     ensures fault { IfErr result (IsFaultOf text.now) }
 {
     outside_stands_in_place();
@@ -81,7 +85,7 @@ fn ends_each_reference(alloc: Global, text: &str) -> Result<bool, AllocError>
     }
 }
 
-/// The tree of a text in which dollars cover the references.
+/// The tree of a text in which dollars cover the references; `None` if it has none.
 fn tree_in(alloc: Global, covered: &[u8]) -> Result<Option<Condition>, AllocError>
     ensures { IfOk result (λ read. option_map condition_tree read ≡ tree_in covered.now) }
 {

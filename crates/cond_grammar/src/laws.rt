@@ -6,12 +6,12 @@ pub fn tokens_have_one_tree()
     ensures { TokensHaveOneTree }
 {}
 
-/// The reading of tokens gives their tree, and none where they have none.
+/// The reading of tokens gives their tree, and none if they have none.
 pub fn trees_are_read()
     ensures { TreesAreRead }
 {}
 
-/// A text has the tree that is read of it, where its references end, and no other.
+/// If its references end, a text has the tree that is read of it, and no other.
 pub fn conditions_are_read()
     ensures { ConditionsAreRead }
 {}

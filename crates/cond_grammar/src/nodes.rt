@@ -3,23 +3,23 @@
 use crate::tokens::{Call, Comparison, Side};
 use mk_text::Span;
 
-/// A condition: it holds where one of its conjunctions does.
+/// A condition: it holds if one of its conjunctions does.
 #[derive(Debug, Drop)]
 #[cycle(tree)]
 pub struct Condition {
     /// The first of them.
     pub first: Conjunction,
-    /// Those behind it, each behind a `||`.
+    /// The later ones, each after a `||`.
     pub more: Vec<Conjunction>,
 }
 
-/// A part of a condition that holds where all its terms do.
+/// A part of a condition that holds if all its terms do.
 #[derive(Debug, Drop)]
 #[cycle(tree)]
 pub struct Conjunction {
     /// The first of them.
     pub first: Term,
-    /// Those behind it, each behind a `&&`.
+    /// The later ones, each after a `&&`.
     pub more: Vec<Term>,
 }
 
@@ -27,7 +27,7 @@ pub struct Conjunction {
 #[derive(Debug, Drop)]
 #[cycle(tree)]
 pub enum Term {
-    /// `!` and the term that it turns.
+    /// `!` and the term that it negates.
     Not(Box<Term>),
     /// A condition in parentheses.
     Group(Box<Condition>),

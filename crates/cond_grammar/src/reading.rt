@@ -1,16 +1,18 @@
 //! Tokens read into their tree.
 ghost use Rattle.std.specs.Prelude.{◌≡◌, map, option_map, IfOk};
-ghost use Rattle.cond_grammar.specs.Reading.{behind_or, behind_and, behind_right, behind_side, behind_comparison, compared, negated_below, grouped_below, operands, read_not, read_and, read_or, tree_of};
+ghost use Rattle.cond_grammar.specs.Reading.{behind_or, behind_and, behind_right, behind_side, behind_comparison};
+ghost use Rattle.cond_grammar.specs.Reading.{compared, negated_below, grouped_below, operands, read_not, read_and};
+ghost use Rattle.cond_grammar.specs.Reading.{read_or, tree_of};
 ghost use Rattle.cond_grammar.specs.Views.{condition_tree, conjunction_tree, term_tree, left_behind, read_behind, found};
 
 use crate::nodes::{Condition, Conjunction, Term};
 use crate::tokens::{Comparison, Side, Token};
 use std::alloc::{AllocError, Global};
 
-/// What was read off the front of tokens, and what is left behind it.
+/// What was read off the front of tokens, and what is left after it.
 type Read<'t, T> = Option<(T, &'t [Token])>;
 
-/// The tokens behind a `||` that stands first.
+/// The tokens after a `||` that comes first.
 fn behind_or(tokens: &[Token]) -> Option<&[Token]>
     ensures { left_behind result ≡ behind_or tokens.now }
 {
@@ -20,7 +22,7 @@ fn behind_or(tokens: &[Token]) -> Option<&[Token]>
     }
 }
 
-/// The tokens behind a `&&` that stands first.
+/// The tokens after a `&&` that comes first.
 fn behind_and(tokens: &[Token]) -> Option<&[Token]>
     ensures { left_behind result ≡ behind_and tokens.now }
 {
@@ -30,7 +32,7 @@ fn behind_and(tokens: &[Token]) -> Option<&[Token]>
     }
 }
 
-/// The tokens behind a `)` that stands first.
+/// The tokens after a `)` that comes first.
 fn behind_right(tokens: &[Token]) -> Option<&[Token]>
     ensures { left_behind result ≡ behind_right tokens.now }
 {
@@ -40,7 +42,7 @@ fn behind_right(tokens: &[Token]) -> Option<&[Token]>
     }
 }
 
-/// The side that stands first.
+/// The side that comes first, and the tokens after it.
 fn behind_side(tokens: &[Token]) -> Read<'_, Side>
     ensures { read_behind result ≡ behind_side tokens.now }
 {
@@ -50,7 +52,7 @@ fn behind_side(tokens: &[Token]) -> Read<'_, Side>
     }
 }
 
-/// The sign of a comparison that stands first.
+/// The sign of a comparison that comes first, and the tokens after it.
 fn behind_comparison(tokens: &[Token]) -> Read<'_, Comparison>
     ensures { read_behind result ≡ behind_comparison tokens.now }
 {
@@ -78,14 +80,15 @@ fn read_or(
     }
 }
 
-/// The conjunctions that tokens begin with, each behind a `||`.
+/// The conjunctions that tokens begin with, each after a `||`.
 #[cycle(reading)]
 fn later_ands(
     alloc: Global,
     tokens: &[Token],
     levels: usize,
 ) -> Result<Read<'_, Vec<Conjunction>>, AllocError>
-    ensures { IfOk result (λ read. found (λ more. map conjunction_tree more.items) read ≡ operands behind_or (read_and levels) tokens.now) }
+    ensures { IfOk result (λ read. found (λ more. map conjunction_tree more.items) read
+        ≡ operands behind_or (read_and levels) tokens.now) }
 {
     let mut more = Vec::new(alloc);
     let mut rest = tokens;
@@ -117,14 +120,15 @@ fn read_and(
     }
 }
 
-/// The terms that tokens begin with, each behind a `&&`.
+/// The terms that tokens begin with, each after a `&&`.
 #[cycle(reading)]
 fn later_nots(
     alloc: Global,
     tokens: &[Token],
     levels: usize,
 ) -> Result<Read<'_, Vec<Term>>, AllocError>
-    ensures { IfOk result (λ read. found (λ more. map term_tree more.items) read ≡ operands behind_and (read_not levels) tokens.now) }
+    ensures { IfOk result (λ read. found (λ more. map term_tree more.items) read
+        ≡ operands behind_and (read_not levels) tokens.now) }
 {
     let mut more = Vec::new(alloc);
     let mut rest = tokens;
@@ -152,7 +156,7 @@ fn read_not(alloc: Global, tokens: &[Token], levels: usize) -> Result<Read<'_, T
     }
 }
 
-/// The term behind a `!`, turned.
+/// The term after a `!`, negated.
 #[cycle(reading)]
 fn negated(alloc: Global, tokens: &[Token], levels: usize) -> Result<Read<'_, Term>, AllocError>
     ensures { IfOk result (λ read. found term_tree read ≡ negated_below levels tokens.now) }
@@ -166,7 +170,7 @@ fn negated(alloc: Global, tokens: &[Token], levels: usize) -> Result<Read<'_, Te
     }
 }
 
-/// The condition behind a parenthesis, as a group, where the parenthesis closes.
+/// The condition after a parenthesis, as a group, if the parenthesis closes.
 #[cycle(reading)]
 fn grouped(alloc: Global, tokens: &[Token], levels: usize) -> Result<Read<'_, Term>, AllocError>
     ensures { IfOk result (λ read. found term_tree read ≡ grouped_below levels tokens.now) }
@@ -183,7 +187,7 @@ fn grouped(alloc: Global, tokens: &[Token], levels: usize) -> Result<Read<'_, Te
     }
 }
 
-/// The side in front of tokens, compared with the side behind a sign that they begin with, or alone.
+/// The side before tokens: compared with the side after a sign that they begin with, or alone.
 fn sided(left: Side, tokens: &[Token]) -> Read<'_, Term>
     ensures { found term_tree result ≡ compared left tokens.now (behind_comparison tokens.now) }
 {
@@ -196,7 +200,7 @@ fn sided(left: Side, tokens: &[Token]) -> Read<'_, Term>
     }
 }
 
-/// The tree of tokens.
+/// The tree of tokens; `None` if they have none.
 pub(crate) fn read(
     alloc: Global,
     tokens: &[Token],

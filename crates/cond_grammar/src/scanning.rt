@@ -1,19 +1,22 @@
 //! Conditions cut into tokens.
-ghost use Rattle.std.specs.Prelude.{◌≡◌, ◌==◌, ◌<◌, ◌≤◌, ◌+◌, ℕ, Bool, List, length, drop, option_map, unwrap_or, not, None, Some, slice_index, true, false, IfOk, IfSome};
-ghost use Rattle.cond_grammar.specs.Tokens.{is_stop, begins, first_at, first_or_end, closing, call_of, blanks_end, word_at, quoted, sign_at, pair_at, token_at, tokens_of};
+ghost use Rattle.std.specs.Prelude.{◌≡◌, ◌==◌, ◌<◌, ◌≤◌, ◌+◌, ℕ, Bool, List, length, drop, option_map, unwrap_or};
+ghost use Rattle.std.specs.Prelude.{not, None, Some, slice_index, true, false, IfOk, IfSome};
+ghost use Rattle.cond_grammar.specs.Tokens.{is_stop, begins, first_at, first_or_end, closing, call_of, blanks_end};
+ghost use Rattle.cond_grammar.specs.Tokens.{word_at, quoted, sign_at, pair_at, token_at, tokens_of};
 
 use crate::tokens::{Call, Comparison, Side, Token};
 use mk_text::{Span, is_blank};
 use std::alloc::{AllocError, Global};
 
-/// The tokens of a condition in which dollars cover the references; `None` where it can't be cut into
+/// The tokens of a condition in which dollars cover the references; `None` if it can't be cut into
 /// tokens. The time is linear in its length.
 ///
 /// # Errors
 ///
-/// `AllocError` where there is no memory for the tokens.
+/// `AllocError` if memory for the tokens runs out.
 pub(crate) fn tokens(alloc: Global, bytes: &[u8]) -> Result<Option<Vec<Token>>, AllocError>
-    ensures { IfOk result (λ found. option_map (λ tokens. tokens.items) found ≡ tokens_of bytes.now) }
+    ensures { IfOk result (λ found. option_map (λ tokens. tokens.items) found
+        ≡ tokens_of bytes.now) }
 {
     let mut found = Vec::new(alloc);
     let mut at = 0;
@@ -30,7 +33,7 @@ pub(crate) fn tokens(alloc: Global, bytes: &[u8]) -> Result<Option<Vec<Token>>, 
     Ok(Some(found))
 }
 
-/// The token that begins at `at`, where no blank stands, and the place behind it.
+/// The token that begins at `at`, where there is no blank, and the place after it.
 #[tactic(auto, unfolding(crate::specs::Tokens::token_at))]
 fn token_at(bytes: &[u8], at: usize) -> Option<(Token, usize)>
     requires { at < length bytes.now }
@@ -61,7 +64,7 @@ fn token_at(bytes: &[u8], at: usize) -> Option<(Token, usize)>
     }
 }
 
-/// Whether this byte stands at a place.
+/// Whether this byte is at a place.
 fn stands_at(bytes: &[u8], at: usize, byte: u8) -> bool
     requires { at ≤ length bytes.now }
     ensures value { result ≡ begins byte (drop at bytes.now) }
@@ -70,7 +73,7 @@ fn stands_at(bytes: &[u8], at: usize, byte: u8) -> bool
     at < bytes.len() && bytes[at] == byte
 }
 
-/// The sign at a place: the first where `=` stands behind its first byte, else the second.
+/// The sign at a place: `with_equals` if `=` follows its first byte, else `alone`.
 fn sign(bytes: &[u8], at: usize, with_equals: Token, alone: Token) -> Option<(Token, usize)>
     requires { at < length bytes.now }
     ensures token { result ≡ sign_at at (begins 61 (drop (at + 1) bytes.now)) with_equals alone }
@@ -83,7 +86,7 @@ fn sign(bytes: &[u8], at: usize, with_equals: Token, alone: Token) -> Option<(To
     }
 }
 
-/// The sign at a place, where `second` stands behind its first byte.
+/// The sign at a place, if `second` follows its first byte.
 fn pair(bytes: &[u8], at: usize, second: u8, token: Token) -> Option<(Token, usize)>
     requires { at < length bytes.now }
     ensures token { result ≡ pair_at at (begins second (drop (at + 1) bytes.now)) token }
@@ -96,7 +99,7 @@ fn pair(bytes: &[u8], at: usize, second: u8, token: Token) -> Option<(Token, usi
     }
 }
 
-/// The quoted side whose text begins at `start`.
+/// The quoted side whose text begins at `start`, and the place after it; `None` if no quote closes it.
 fn quoted(bytes: &[u8], start: usize) -> Option<(Token, usize)>
     requires { start ≤ length bytes.now }
     ensures token { result ≡ quoted start (first_at (λ b. b == 34) start (drop start bytes.now)) }
@@ -110,7 +113,8 @@ fn quoted(bytes: &[u8], start: usize) -> Option<(Token, usize)>
     None
 }
 
-/// The side without quotes that begins at a place, or the call.
+/// The side without quotes that begins at a place, or the call, and the place after it. It is `None` if
+/// the parenthesis of a call isn't closed.
 fn word_at(bytes: &[u8], at: usize) -> Option<(Token, usize)>
     requires { at < length bytes.now }
     ensures token { result ≡ word_at at (slice_index bytes.now at) (drop (at + 1) bytes.now) }
@@ -200,7 +204,7 @@ fn call_of(word: &[u8]) -> Option<Call>
     }
 }
 
-/// The place of the parenthesis that closes the one in front of `start`.
+/// The place of the parenthesis that closes the one directly before `start`.
 fn closing(bytes: &[u8], start: usize) -> Option<usize>
     requires { start ≤ length bytes.now }
     ensures place { result ≡ closing start 0 (drop start bytes.now) }

@@ -22,11 +22,11 @@ pub enum Comparison {
 /// What a call asks of its argument.
 #[derive(Debug, Clone, Copy, PartialEq, Eq)]
 pub enum Call {
-    /// `defined`: whether a variable is.
+    /// `defined`: whether a variable is defined.
     Defined,
     /// `empty`: whether a value has no word.
     Empty,
-    /// `exists`: whether a file is there.
+    /// `exists`: whether a file exists.
     Exists,
     /// `make`: whether a target was asked for.
     Make,
@@ -37,9 +37,9 @@ pub enum Call {
 /// A side of a comparison, or a side alone, as the place of its text.
 #[derive(Debug, Clone, Copy, PartialEq, Eq)]
 pub enum Side {
-    /// What stands between double quotes; it may be empty.
+    /// What is between double quotes; it may be empty.
     Quoted(Span),
-    /// A word without quotes, of one byte at least.
+    /// A word without quotes, at least one byte.
     Bare(Span),
 }
 

@@ -2,13 +2,14 @@
 #![tactic(auto)]
 
 mod evaluation;
+mod files;
 mod loops;
 mod setup;
 mod truth;
+mod variables;
 mod world;
 
-pub use evaluation::{
-    add_cost, evaluated, failure, given_name, given_path, makefile, trees_told, two_told,
-};
+pub use evaluation::{add_cost, evaluated, failure, makefile};
+pub use files::{given_name, given_path, trees_told, two_told};
 pub use setup::Setup;
 pub use world::World;

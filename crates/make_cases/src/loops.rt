@@ -5,14 +5,14 @@ ghost use Rattle.mk_loop.specs.Scopes.{turns_in};
 use case_lines::{Answer, Trouble, as_number, as_text};
 use mk_base::{Budget, FaultKind, Stop, UNITS};
 use mk_env::Env;
-use mk_loop::{Scope, Turns, put_words, read_header};
+use mk_loop::{Iterations, LoopScope, put_words, read_header};
 use std::alloc::Global;
 
-/// A line with words put in; none where it has none to put in.
+/// A line with words put in. `None` if there are none to put in.
 type Put = Result<Option<String>, Stop<FaultKind>>;
 
-/// `turns of HEADER on LINE`: the line with the words of each turn put in, with the units spent; of a
-/// fault its kind. A number behind `within` is the limit of the budget.
+/// `turns of HEADER on LINE`: the line with the words of each turn put in, with the units spent; of a fault
+/// its kind. A number after `within` is the limit of the budget.
 pub fn turns_of(alloc: Global, variables: &Env, given: &[Vec<u8>]) -> Result<Answer, Trouble> {
     let (limit, header, line) = match given {
         [header, line] => (UNITS, header, line),
@@ -25,7 +25,7 @@ pub fn turns_of(alloc: Global, variables: &Env, given: &[Vec<u8>]) -> Result<Ans
     match read_header(alloc, variables, header, &mut budget) {
         Ok(turns) => {
             for index in 0..turns.count() {
-                let scope = Scope::Turn(turns.turn(index), &Scope::Outside);
+                let scope = LoopScope::Iteration(turns.turn(index), &LoopScope::Outside);
                 let put = put_words(alloc, variables, scope, line, &mut budget);
                 add_put(&mut answer, put);
             }
@@ -44,9 +44,9 @@ fn add_put(answer: &mut Answer, put: Put) {
     }
 }
 
-/// `put words into LINE of HEADER..`: a line with the words of the first turn of each of these loops,
-/// the innermost last, put in, or `unchanged`; and the units spent. Of a fault its kind. A number
-/// behind `within` is the limit of the budget.
+/// `put words into LINE of HEADER..`: the line with words put in, or `unchanged`; and the units spent. Of a
+/// fault its kind. The words are those of the first turn of each of these loops, the innermost last. A
+/// number after `within` is the limit of the budget.
 pub fn put_words_told(
     alloc: Global,
     variables: &Env,
@@ -77,25 +77,25 @@ fn put_in(
     budget: &mut Budget,
 ) -> Result<Put, Trouble> {
     match headers {
-        [] => Ok(put_words(alloc, variables, Scope::Outside, line, budget)),
+        [] => Ok(put_words(alloc, variables, LoopScope::Outside, line, budget)),
         [header] => {
             let turns = turns(alloc, variables, header)?;
-            let scope = Scope::Turn(turns.turn(0), &Scope::Outside);
+            let scope = LoopScope::Iteration(turns.turn(0), &LoopScope::Outside);
             Ok(put_words(alloc, variables, scope, line, budget))
         }
         [first, second] => {
             let outer = turns(alloc, variables, first)?;
             let inner = turns(alloc, variables, second)?;
-            let around = Scope::Turn(outer.turn(0), &Scope::Outside);
-            let scope = Scope::Turn(inner.turn(0), &around);
+            let around = LoopScope::Iteration(outer.turn(0), &LoopScope::Outside);
+            let scope = LoopScope::Iteration(inner.turn(0), &around);
             Ok(put_words(alloc, variables, scope, line, budget))
         }
         _ => Err(Trouble::NoCase),
     }
 }
 
-/// The turns of a loop, one at least.
-fn turns<'a>(alloc: Global, variables: &Env, header: &'a [u8]) -> Result<Turns<'a>, Trouble>
+/// The turns of a loop, at least one.
+fn turns<'a>(alloc: Global, variables: &Env, header: &'a [u8]) -> Result<Iterations<'a>, Trouble>
     ensures { IfOk result (λ turns. 0 < length (turns_in turns)) }
 {
     let mut budget = Budget::new(UNITS);

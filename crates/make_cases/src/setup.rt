@@ -1,13 +1,13 @@
 //! What lines without `=>` set up, and what the layers of makefiles give over it.
 use crate::truth::truth_told;
 use crate::world::World;
-use crate::{evaluation, loops};
+use crate::{evaluation, files, loops, variables};
 use case_lines::{Answer, Trouble, as_text};
 use mk_env::Env;
 use mk_files::Content;
 use std::alloc::{AllocError, Global};
 
-/// What lines without `=>` set up for those behind them.
+/// What lines without `=>` set up for the lines after them.
 #[derive(Drop)]
 pub struct Setup {
     alloc: Global,
@@ -28,13 +28,14 @@ impl Setup {
         })
     }
 
-    /// Sets up what a line without `=>` says.
+    /// Sets up what a line without `=>` says. The error is `NoCase` if the line is in no form of a case,
+    /// and `Memory` if memory runs out.
     pub fn set_up(&mut self, call: &str, given: &[Vec<u8>]) -> Result<(), Trouble> {
         match call {
             "no variables" => self.variables = Env::new(self.alloc),
             "copy" => self.copy = self.variables.copy()?,
             "no files" => self.world = World::new(self.alloc)?,
-            "put" => evaluation::put(self.alloc, &mut self.world.files, given)?,
+            "put" => files::put(self.alloc, &mut self.world.files, given)?,
             "makefile" => self.put_makefile(given)?,
             _ => self.change_variables(call, given)?,
         }
@@ -74,18 +75,19 @@ impl Setup {
         Ok(())
     }
 
-    /// What the call of a line gives.
+    /// What the call of a line gives. The error is `NoCase` if the line is in no form of a case, and
+    /// `Memory` if memory runs out.
     pub fn answer(&mut self, call: &str, given: &[Vec<u8>]) -> Result<Answer, Trouble> {
         let alloc = self.alloc;
         let variables = &self.variables;
         match call {
-            "numbers of kinds" => Ok(evaluation::numbers_of_kinds(alloc)),
-            "budget pays asks" => evaluation::budget(alloc, given),
-            "blame" => evaluation::blamed(alloc, given),
+            "numbers of kinds" => Ok(variables::numbers_of_kinds(alloc)),
+            "budget pays asks" => variables::budget(alloc, given),
+            "blame" => variables::blamed(alloc, given),
             "expand" | "expand within" | "expand now" | "variable" | "inside" | "inside within" => {
-                evaluation::expansion(alloc, variables, call, given)
+                variables::expansion(alloc, variables, call, given)
             }
-            "modify on" | "modify on within" => evaluation::modified(alloc, variables, given),
+            "modify on" | "modify on within" => variables::modified(alloc, variables, given),
             "truth" | "truth within after" => {
                 truth_told(alloc, variables, &mut self.world.files, given)
             }
@@ -94,8 +96,8 @@ impl Setup {
                 loops::put_words_told(alloc, variables, false, given)
             }
             "put words within into of" => loops::put_words_told(alloc, variables, true, given),
-            "get" => evaluation::text_of_variable(alloc, variables, given),
-            "get from copy" => evaluation::text_of_variable(alloc, &self.copy, given),
+            "get" => variables::text_of_variable(alloc, variables, given),
+            "get from copy" => variables::text_of_variable(alloc, &self.copy, given),
             _ => self.answer_of_files(call, given),
         }
     }
@@ -104,16 +106,16 @@ impl Setup {
         let alloc = self.alloc;
         let files = &mut self.world.files;
         match call {
-            "ask has after" => evaluation::ask_has_told(alloc, files, given),
-            "ask read after" => evaluation::ask_read_told(alloc, files, given),
-            "name" | "name under" => evaluation::name_of(alloc, given),
-            "directory of" => evaluation::directory_of(alloc, given),
-            "search path" => evaluation::trees_of(alloc, given),
-            "standard search path" => evaluation::standard_trees(alloc),
-            "remove" => evaluation::remove(alloc, files, given),
-            "read" => evaluation::read(alloc, files, given),
-            "place of on" => evaluation::place(alloc, files, given),
-            "names" => evaluation::names(alloc, files),
+            "ask has after" => files::ask_has_told(alloc, files, given),
+            "ask read after" => files::ask_read_told(alloc, files, given),
+            "name" | "name under" => files::name_of(alloc, given),
+            "directory of" => files::directory_of(alloc, given),
+            "search path" => files::trees_of(alloc, given),
+            "standard search path" => files::standard_trees(alloc),
+            "remove" => files::remove(alloc, files, given),
+            "read" => files::read(alloc, files, given),
+            "place of on" => files::place(alloc, files, given),
+            "names" => files::names(alloc, files),
             _ => self.answer_of_makefile(call, given),
         }
     }

@@ -1,5 +1,5 @@
 //! Whether conditions hold.
-use crate::evaluation::given_name;
+use crate::files::given_name;
 use case_lines::{Answer, Trouble, as_number, as_text};
 use mk_base::{Budget, UNITS};
 use mk_cond::truth;
@@ -7,12 +7,12 @@ use mk_env::Env;
 use mk_files::MemoryFiles;
 use std::alloc::Global;
 
-/// The makefile in which conditions stand.
+/// The makefile in which the conditions are.
 const MAKEFILE: &str = "/ports/a/b/Makefile";
 
 /// `truth TEXT`: whether the condition holds under its directive, or the kind of its fault; then the units
-/// spent and the questions counted. `truth TEXT within LIMIT after N`: the same with so many units, where so
-/// many questions were counted before.
+/// spent and the questions counted. `truth TEXT within LIMIT after N`: the same with so many units, after
+/// so many questions were counted.
 pub fn truth_told(
     alloc: Global,
     variables: &Env,

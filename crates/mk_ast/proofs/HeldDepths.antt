@@ -4,7 +4,7 @@ use Rattle.std.proofs.lemmas.Bool.{ltb-true}
 use Rattle.mk_text.specs.Lines.{LogicalLine}
 use Rattle.mk_ast.specs.Parts.{Part, IfPart, ElifPart, ElsePart, EndifPart, ForPart, EndforPart, PlainPart}
 use Rattle.mk_ast.specs.Trees.{LineTree, Block, EmptyBlock, NoBranches, ElseBranch, tree_depth, block_depth}
-use Rattle.mk_ast.specs.Blocks.{Stage, InIf, InElif, InElse, InFor, Open, Held, Turn, GoesOn, Ends, Wrong, turn, turned, go_on, begin, step}
+use Rattle.mk_ast.specs.Blocks.{Stage, InIf, InElif, InElse, InFor, Open, Held, PartEffect, GoesOn, Ends, Wrong, part_effect, apply_effect, go_on, begin, step}
 use Rattle.mk_ast.proofs.BlockParts.{depth-add, listed_depth, depth-listed, depth-from}
 
 -- how deep the branches of an open block are
@@ -24,60 +24,60 @@ pub record IsWithin (limit : ℕ) (held : Held) : Type 0 where
   pub below : StackFits limit held.stack
 
 -- an open block turned isn't deeper than it was with what stands in it
-abbrev TurnFits : Stage → Block → Turn → Type 0
+abbrev TurnFits : Stage → Block → PartEffect → Type 0
 TurnFits stage block (GoesOn next) = stage_depth next ≤ max (stage_depth stage) (block_depth block)
 TurnFits stage block (Ends tree) = tree_depth tree ≤ suc (max (stage_depth stage) (block_depth block))
 TurnFits stage block Wrong = Unit {0}
 
-depth-turn : (head : LogicalLine) (stage : Stage) (block : Block) (part : Part) → TurnFits stage block (turn head stage block part)
-depth-turn head InIf block (IfPart line) = tt
-depth-turn head InIf block (ElifPart line) = omega arith
-depth-turn head InIf block ElsePart = omega arith
-depth-turn head InIf block EndifPart = omega arith
-depth-turn head InIf block (ForPart line) = tt
-depth-turn head InIf block EndforPart = tt
-depth-turn head InIf block (PlainPart line) = tt
-depth-turn head (InElif first later last) block (IfPart line) = tt
-depth-turn head (InElif first later last) block (ElifPart line) = omega (arith, depth-listed later last block)
-depth-turn head (InElif first later last) block ElsePart = omega (arith, depth-listed later last block)
-depth-turn head (InElif first later last) block EndifPart = omega (arith, depth-listed later last block, depth-from (later ++ (last, block) ∷ []) NoBranches)
-depth-turn head (InElif first later last) block (ForPart line) = tt
-depth-turn head (InElif first later last) block EndforPart = tt
-depth-turn head (InElif first later last) block (PlainPart line) = tt
-depth-turn head (InElse first later) block (IfPart line) = tt
-depth-turn head (InElse first later) block (ElifPart line) = tt
-depth-turn head (InElse first later) block ElsePart = tt
-depth-turn head (InElse first later) block EndifPart = omega (arith, depth-from later (ElseBranch block))
-depth-turn head (InElse first later) block (ForPart line) = tt
-depth-turn head (InElse first later) block EndforPart = tt
-depth-turn head (InElse first later) block (PlainPart line) = tt
-depth-turn head InFor block (IfPart line) = tt
-depth-turn head InFor block (ElifPart line) = tt
-depth-turn head InFor block ElsePart = tt
-depth-turn head InFor block EndifPart = tt
-depth-turn head InFor block (ForPart line) = tt
-depth-turn head InFor block EndforPart = omega arith
-depth-turn head InFor block (PlainPart line) = tt
+depth-part_effect : (head : LogicalLine) (stage : Stage) (block : Block) (part : Part) → TurnFits stage block (part_effect head stage block part)
+depth-part_effect head InIf block (IfPart line) = tt
+depth-part_effect head InIf block (ElifPart line) = omega arith
+depth-part_effect head InIf block ElsePart = omega arith
+depth-part_effect head InIf block EndifPart = omega arith
+depth-part_effect head InIf block (ForPart line) = tt
+depth-part_effect head InIf block EndforPart = tt
+depth-part_effect head InIf block (PlainPart line) = tt
+depth-part_effect head (InElif first later last) block (IfPart line) = tt
+depth-part_effect head (InElif first later last) block (ElifPart line) = omega (arith, depth-listed later last block)
+depth-part_effect head (InElif first later last) block ElsePart = omega (arith, depth-listed later last block)
+depth-part_effect head (InElif first later last) block EndifPart = omega (arith, depth-listed later last block, depth-from (later ++ (last, block) ∷ []) NoBranches)
+depth-part_effect head (InElif first later last) block (ForPart line) = tt
+depth-part_effect head (InElif first later last) block EndforPart = tt
+depth-part_effect head (InElif first later last) block (PlainPart line) = tt
+depth-part_effect head (InElse first later) block (IfPart line) = tt
+depth-part_effect head (InElse first later) block (ElifPart line) = tt
+depth-part_effect head (InElse first later) block ElsePart = tt
+depth-part_effect head (InElse first later) block EndifPart = omega (arith, depth-from later (ElseBranch block))
+depth-part_effect head (InElse first later) block (ForPart line) = tt
+depth-part_effect head (InElse first later) block EndforPart = tt
+depth-part_effect head (InElse first later) block (PlainPart line) = tt
+depth-part_effect head InFor block (IfPart line) = tt
+depth-part_effect head InFor block (ElifPart line) = tt
+depth-part_effect head InFor block ElsePart = tt
+depth-part_effect head InFor block EndifPart = tt
+depth-part_effect head InFor block (ForPart line) = tt
+depth-part_effect head InFor block EndforPart = omega arith
+depth-part_effect head InFor block (PlainPart line) = tt
 
 abbrev pub IfWithin : ℕ → Option Held → Type 0
 IfWithin limit None = Unit {0}
 IfWithin limit (Some held) = IsWithin limit held
 
-within-turned : (limit : ℕ) (innermost : Open) (stack : List Open) (block : Block) (result : Turn)
+within-apply_effect : (limit : ℕ) (innermost : Open) (stack : List Open) (block : Block) (result : PartEffect)
     → block_depth block + suc (length stack) ≤ limit → StackFits limit (innermost ∷ stack) → TurnFits innermost.stage block result
-    → IfWithin limit (turned innermost stack result)
-within-turned limit innermost stack block (GoesOn next) current below fits =
+    → IfWithin limit (apply_effect innermost stack result)
+within-apply_effect limit innermost stack block (GoesOn next) current below fits =
     let near : suc (stage_depth next) + length stack ≤ limit = omega (arith, below.1) in
     record { current = omega (arith, below.1); below = (below.0, near, below.2) }
-within-turned limit innermost stack block (Ends tree) current below fits =
+within-apply_effect limit innermost stack block (Ends tree) current below fits =
     record { current = omega (arith, below.0, below.1, depth-add innermost.before tree); below = below.2 }
-within-turned limit innermost stack block Wrong current below fits = tt
+within-apply_effect limit innermost stack block Wrong current below fits = tt
 
 within-go_on : (limit : ℕ) (stack : List Open) (block : Block) (part : Part) → block_depth block + length stack ≤ limit → StackFits limit stack
     → IfWithin limit (go_on stack block part)
 within-go_on limit [] block part current below = tt
 within-go_on limit (innermost ∷ stack) block part current below =
-    within-turned limit innermost stack block (turn innermost.head innermost.stage block part) current below (depth-turn innermost.head innermost.stage block part)
+    within-apply_effect limit innermost stack block (part_effect innermost.head innermost.stage block part) current below (depth-part_effect innermost.head innermost.stage block part)
 
 within-begin : (limit : ℕ) (held : Held) (line : LogicalLine) (stage : Stage) → IsWithin limit held → stage_depth stage ≡ 0
     → IfWithin limit (begin limit held line stage)

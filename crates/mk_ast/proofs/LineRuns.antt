@@ -5,7 +5,7 @@ use Rattle.mk_ast.specs.declared.parsing.ParseError.{ParseError}
 use Rattle.mk_ast.specs.declared.parsing.ParseError.TheVariants as errors
 use Rattle.mk_ast.specs.Parts.{part_of}
 use Rattle.mk_ast.specs.Blocks.{Held, step, held_on, read_on, finished}
-use Rattle.mk_ast.specs.Parsing.{Answers, told}
+use Rattle.mk_ast.specs.Parsing.{Answers, with_kind}
 use Rattle.mk_ast.specs.ReaderViews.{Steps}
 
 pub read-end : (limit : ℕ) (held : Held) → read_on limit held [] ≡ Ok held
@@ -25,9 +25,9 @@ read-next limit held next line lines is = read-line limit held line lines (Some 
 -- a line that stands wrong
 pub read-wrong : (limit : ℕ) (held : Held) (line : LogicalLine) (lines : List LogicalLine) (error : ParseError) (reading : Result Held ℕ)
     → reading ≡ read_on limit held (line ∷ lines) → Steps (Err error) line.line (step limit held (part_of line))
-    → Answers (Err error) (λ answer. answer ≡ told (finished reading))
+    → Answers (Err error) (λ answer. answer ≡ with_kind (finished reading))
 read-wrong limit held line lines (errors.Fault fault) reading is stops =
-    ap Err stops.1 ∙ ap (λ r. told (finished r)) (let stop : Err line.line ≡ reading = sym (is ∙ read-line limit held line lines None stops.0) in stop)
+    ap Err stops.1 ∙ ap (λ r. with_kind (finished r)) (let stop : Err line.line ≡ reading = sym (is ∙ read-line limit held line lines None stops.0) in stop)
 read-wrong limit held line lines errors.Memory reading is stops = tt
 
 pub empty-of : {X : Type 0} (xs : List X) → length xs ≡ 0 → xs ≡ []

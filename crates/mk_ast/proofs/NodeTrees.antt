@@ -7,7 +7,7 @@ use Rattle.mk_ast.specs.declared.nodes.Node.TheVariants.{Line, Choice, Loop, rol
 use Rattle.std.proofs.lemmas.List.{map-append}
 use Rattle.mk_ast.specs.declared.nodes.Branch.{Branch, Branch-F, roll-Branch, fold-roll-Branch}
 use Rattle.mk_ast.specs.Trees.{Tree, LineTree, ChoiceTree, LoopTree, Block, MoreBlock, NoBranches, ElseBranch}
-use Rattle.mk_ast.specs.Blocks.{add, branches_from, Open, Held, Turn, Ends, turned}
+use Rattle.mk_ast.specs.Blocks.{add, branches_from, Open, Held, PartEffect, Ends, apply_effect}
 use Rattle.mk_ast.specs.declared.reader.OpenBlock.{OpenBlock}
 use Rattle.mk_ast.specs.ReaderViews.{open_of}
 use Rattle.mk_ast.specs.Views.{branch_step, node_step, tree_of, branch_of, block_of}
@@ -42,11 +42,11 @@ abbrev shown_held : Block → List Open → Option Held
 shown_held block stack = Some (record { current = block; stack = stack })
 
 -- a block that ends, its tree behind what stood in front of it
-pub ends : (open' : OpenBlock) (stack : List Open) (result : Turn) (node : Node) (now : List Node) (tree : Tree)
+pub ends : (open' : OpenBlock) (stack : List Open) (result : PartEffect) (node : Node) (now : List Node) (tree : Tree)
     → result ≡ Ends tree → now ≡ open'.before.items ++ node ∷ [] → tree_of node ≡ tree
-    → turned (open_of open') stack result ≡ Some (record { current = block_of now; stack = stack })
+    → apply_effect (open_of open') stack result ≡ Some (record { current = block_of now; stack = stack })
 ends open' stack result node now tree is items same =
-    ap (turned (open_of open') stack) is ∙ ap (λ block. shown_held block stack) (added open'.before.items now node tree items same)
+    ap (apply_effect (open_of open') stack) is ∙ ap (λ block. shown_held block stack) (added open'.before.items now node tree items same)
 
 -- one branch more
 pub branch-push : (later now : List Branch) (branch : Branch-F Node Branch) → now ≡ later ++ roll-Branch branch ∷ []

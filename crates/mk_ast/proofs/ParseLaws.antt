@@ -11,15 +11,15 @@ use Rattle.mk_ast.specs.declared.nodes.Makefile.{Makefile}
 use Rattle.mk_ast.specs.Trees.{Block}
 use Rattle.mk_ast.specs.Reading.{Reads}
 use Rattle.mk_ast.specs.Blocks.{blocks_of}
-use Rattle.mk_ast.specs.Parsing.{utf8_fault, Parses, told, parsed, Answers}
+use Rattle.mk_ast.specs.Parsing.{utf8_fault, IsParse, with_kind, parsed, Answers}
 use Rattle.mk_ast.proofs.ReadLaws.{blocks-read}
 use Rattle.mk_ast.proofs.ReadOnce.{read-once}
 
-by_test : (bytes : List ℕ) (b : Bool) → is_utf8 bytes ≡ b → parsed bytes ≡ cond b (told (blocks_of BLOCKS (logical_lines bytes))) (Err (utf8_fault bytes))
+by_test : (bytes : List ℕ) (b : Bool) → is_utf8 bytes ≡ b → parsed bytes ≡ cond b (with_kind (blocks_of BLOCKS (logical_lines bytes))) (Err (utf8_fault bytes))
 unfolding parsed
-by_test bytes b is = ap (λ test. cond test (told (blocks_of BLOCKS (logical_lines bytes))) (Err (utf8_fault bytes))) is
+by_test bytes b is = ap (λ test. cond test (with_kind (blocks_of BLOCKS (logical_lines bytes))) (Err (utf8_fault bytes))) is
 
-pub parsed-good : (bytes : List ℕ) → IsUtf8 bytes → parsed bytes ≡ told (blocks_of BLOCKS (logical_lines bytes))
+pub parsed-good : (bytes : List ℕ) → IsUtf8 bytes → parsed bytes ≡ with_kind (blocks_of BLOCKS (logical_lines bytes))
 parsed-good bytes good = by_test bytes true (is_utf8-from_IsUtf8 bytes good)
 
 refuted : (bytes : List ℕ) (b : Bool) → is_utf8 bytes ≡ b → ¬ (IsUtf8 bytes) → is_utf8 bytes ≡ false
@@ -29,26 +29,26 @@ refuted bytes false is bad = is
 pub parsed-bad : (bytes : List ℕ) → ¬ (IsUtf8 bytes) → parsed bytes ≡ Err (utf8_fault bytes)
 parsed-bad bytes bad = by_test bytes false (refuted bytes (is_utf8 bytes) refl bad)
 
-parses-told : (bytes : List ℕ) (reading : Result Block ℕ) → is_utf8 bytes ≡ true → Reads BLOCKS (logical_lines bytes) reading → Parses bytes (told reading)
-parses-told bytes (Ok block) good reads = (good, reads)
-parses-told bytes (Err number) good reads = inr (good, refl, reads)
+parses-with_kind : (bytes : List ℕ) (reading : Result Block ℕ) → is_utf8 bytes ≡ true → Reads BLOCKS (logical_lines bytes) reading → IsParse bytes (with_kind reading)
+parses-with_kind bytes (Ok block) good reads = (good, reads)
+parses-with_kind bytes (Err number) good reads = inr (good, refl, reads)
 
-parses-by : (bytes : List ℕ) (b : Bool) → is_utf8 bytes ≡ b → Parses bytes (parsed bytes)
-parses-by bytes true is = subst (Parses bytes) (sym (by_test bytes true is)) (parses-told bytes (blocks_of BLOCKS (logical_lines bytes)) is (blocks-read BLOCKS (logical_lines bytes)))
-parses-by bytes false is = subst (Parses bytes) (sym (by_test bytes false is)) (inl (is, refl))
+parses-by : (bytes : List ℕ) (b : Bool) → is_utf8 bytes ≡ b → IsParse bytes (parsed bytes)
+parses-by bytes true is = subst (IsParse bytes) (sym (by_test bytes true is)) (parses-with_kind bytes (blocks_of BLOCKS (logical_lines bytes)) is (blocks-read BLOCKS (logical_lines bytes)))
+parses-by bytes false is = subst (IsParse bytes) (sym (by_test bytes false is)) (inl (is, refl))
 
-pub parses-parsed : (bytes : List ℕ) → Parses bytes (parsed bytes)
+pub parses-parsed : (bytes : List ℕ) → IsParse bytes (parsed bytes)
 parses-parsed bytes = parses-by bytes (is_utf8 bytes) refl
 
-pub answers-parses : (bytes : List ℕ) (result : Result Makefile ParseError) → Answers result (λ answer. answer ≡ parsed bytes) → Answers result (Parses bytes)
-answers-parses bytes (Ok makefile) is = subst (Parses bytes) (sym is) (parses-parsed bytes)
-answers-parses bytes (Err (errors.Fault fault)) is = subst (Parses bytes) (sym is) (parses-parsed bytes)
+pub answers-parses : (bytes : List ℕ) (result : Result Makefile ParseError) → Answers result (λ answer. answer ≡ parsed bytes) → Answers result (IsParse bytes)
+answers-parses bytes (Ok makefile) is = subst (IsParse bytes) (sym is) (parses-parsed bytes)
+answers-parses bytes (Err (errors.Fault fault)) is = subst (IsParse bytes) (sym is) (parses-parsed bytes)
 answers-parses bytes (Err errors.Memory) is = tt
 
-pub parse-once : (bytes : List ℕ) (result : Result Block ParseFault) → Parses bytes result → result ≡ parsed bytes
-parse-once bytes (Ok block) is = ap told (read-once BLOCKS (logical_lines bytes) (Ok block) is.1) ∙ sym (by_test bytes true is.0)
+pub parse-once : (bytes : List ℕ) (result : Result Block ParseFault) → IsParse bytes result → result ≡ parsed bytes
+parse-once bytes (Ok block) is = ap with_kind (read-once BLOCKS (logical_lines bytes) (Ok block) is.1) ∙ sym (by_test bytes true is.0)
 parse-once bytes (Err fault) is =
     elim is [
       | inl bad ↦ ap Err bad.1 ∙ sym (by_test bytes false bad.0)
-      | inr wrong ↦ ap Err wrong.1 ∙ ap told (read-once BLOCKS (logical_lines bytes) (Err fault.line) wrong.2) ∙ sym (by_test bytes true wrong.0)
+      | inr wrong ↦ ap Err wrong.1 ∙ ap with_kind (read-once BLOCKS (logical_lines bytes) (Err fault.line) wrong.2) ∙ sym (by_test bytes true wrong.0)
     ]

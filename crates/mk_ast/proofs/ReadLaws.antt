@@ -6,8 +6,8 @@ use Rattle.mk_text.specs.Lines.{LogicalLine}
 use Rattle.mk_ast.specs.Parts.{Part, IfPart, EndifPart, ForPart, EndforPart, part_of}
 use Rattle.mk_ast.specs.Trees.{Tree, Block, tree_parts, block_parts, block_depth, IsReadAs}
 use Rattle.mk_ast.specs.Reading.{parts_of, CanGoOn, IsUnclosed, Reads}
-use Rattle.mk_ast.specs.Blocks.{add, Stage, InIf, InElif, InElse, InFor, Open, Held, Ends, turn, turned, go_on, step, held_on, read_on, closed, finished, nothing_held, blocks_of}
-use Rattle.mk_ast.proofs.HeldParts.{stage_parts, stack_parts, parts-turn, TurnParts}
+use Rattle.mk_ast.specs.Blocks.{add, Stage, InIf, InElif, InElse, InFor, Open, Held, Ends, part_effect, apply_effect, go_on, step, held_on, read_on, closed, finished, nothing_held, blocks_of}
+use Rattle.mk_ast.proofs.HeldParts.{stage_parts, stack_parts, parts-part_effect, TurnParts}
 use Rattle.mk_ast.proofs.KeptLines.{kept, kept-of}
 use Rattle.mk_ast.proofs.PartRuns.{run, run-nil, run-cons, run-step, run-append, IsHeld, IfHeld, held-run, held_as, run-block}
 
@@ -47,7 +47,7 @@ closer (InElif first later last) = EndifPart
 closer (InElse first later) = EndifPart
 closer InFor = EndforPart
 
-closes : (head : LogicalLine) (stage : Stage) (block : Block) → (tree : Tree) × (turn head stage block (closer stage) ≡ Ends tree)
+closes : (head : LogicalLine) (stage : Stage) (block : Block) → (tree : Tree) × (part_effect head stage block (closer stage) ≡ Ends tree)
 closes head InIf block = (_, refl)
 closes head (InElif first later last) block = (_, refl)
 closes head (InElse first later) block = (_, refl)
@@ -74,7 +74,7 @@ run-closers limit (innermost ∷ stack) block =
     let rest = run-closers limit stack next in (
       rest.0,
       run-step limit (held_as block (innermost ∷ stack)) (held_as next stack) (closer innermost.stage) (closers stack)
-          (step-closer limit innermost.stage block (innermost ∷ stack) ∙ ap (turned innermost stack) one.1)
+          (step-closer limit innermost.stage block (innermost ∷ stack) ∙ ap (apply_effect innermost stack) one.1)
           ∙ rest.1,
     )
 
@@ -202,7 +202,7 @@ unclosed limit lines block innermost stack is =
     let same : innermost.head ≡ at.line = sym (starts'.keeps at.line) ∙ ap (kept at.line) (sym at.line_part) ∙ kept-of at.line in
     let one = closes innermost.head innermost.stage block in
     let parts : tree_parts one.0 ≡ stage ++ block_parts block ++ closer innermost.stage ∷ [] =
-    subst (TurnParts innermost.head innermost.stage block (closer innermost.stage)) one.1 (parts-turn innermost.head innermost.stage block (closer innermost.stage)) in
+    subst (TurnParts innermost.head innermost.stage block (closer innermost.stage)) one.1 (parts-part_effect innermost.head innermost.stage block (closer innermost.stage)) in
     let these : parts_of (at.line ∷ at.rest) ≡ stage ++ block_parts block =
     ap (λ p. p ∷ parts_of at.rest) at.line_part ∙ ap (λ l. starts'.first ∷ l) at.rest_parts ∙ ap (λ l. l ++ block_parts block) (sym starts'.parts) in
     record {

@@ -8,7 +8,7 @@ use Rattle.mk_text.specs.Lines.{LogicalLine}
 use Rattle.mk_ast.specs.Parts.{Part, IfPart, ElifPart, ElsePart, EndifPart, ForPart, EndforPart, PlainPart, part_of}
 use Rattle.mk_ast.specs.Trees.{Tree, LineTree, Block, EmptyBlock, MoreBlock, tree_parts, block_parts, tree_depth, block_depth, IsReadAs}
 use Rattle.mk_ast.specs.Reading.{parts_of, StandsWrong, IsUnclosed, Reads}
-use Rattle.mk_ast.specs.Blocks.{add, Stage, InIf, InElif, InElse, InFor, Open, Held, Turn, GoesOn, Ends, Wrong, turn, turned, go_on, begin, step, held_on, read_on, closed, finished, nothing_held, blocks_of}
+use Rattle.mk_ast.specs.Blocks.{add, Stage, InIf, InElif, InElse, InFor, Open, Held, PartEffect, GoesOn, Ends, Wrong, part_effect, apply_effect, go_on, begin, step, held_on, read_on, closed, finished, nothing_held, blocks_of}
 use Rattle.mk_ast.proofs.KeptLines.{kept, kept-of, tree_head, first_part, kept-tree}
 use Rattle.mk_ast.proofs.PartRuns.{run, run-nil, run-cons, run-step, run-append, held_as, open_as, run-tree}
 use Rattle.mk_ast.proofs.ReadLaws.{read-run, goes, can-go-on, run-more}
@@ -95,61 +95,61 @@ never-empty EmptyBlock tree is = cc
 never-empty (MoreBlock first block) tree is = cc
 
 -- the tree of a block that ends begins with the block's first line
-abbrev TurnHead : LogicalLine → Turn → Type 0
+abbrev TurnHead : LogicalLine → PartEffect → Type 0
 TurnHead head (GoesOn next) = Unit {0}
 TurnHead head (Ends tree) = tree_head tree ≡ head
 TurnHead head Wrong = Unit {0}
 
-head-turn : (head : LogicalLine) (stage : Stage) (block : Block) (part : Part) → TurnHead head (turn head stage block part)
-head-turn head InIf block (IfPart line) = tt
-head-turn head InIf block (ElifPart line) = tt
-head-turn head InIf block ElsePart = tt
-head-turn head InIf block EndifPart = refl
-head-turn head InIf block (ForPart line) = tt
-head-turn head InIf block EndforPart = tt
-head-turn head InIf block (PlainPart line) = tt
-head-turn head (InElif first later last) block (IfPart line) = tt
-head-turn head (InElif first later last) block (ElifPart line) = tt
-head-turn head (InElif first later last) block ElsePart = tt
-head-turn head (InElif first later last) block EndifPart = refl
-head-turn head (InElif first later last) block (ForPart line) = tt
-head-turn head (InElif first later last) block EndforPart = tt
-head-turn head (InElif first later last) block (PlainPart line) = tt
-head-turn head (InElse first later) block (IfPart line) = tt
-head-turn head (InElse first later) block (ElifPart line) = tt
-head-turn head (InElse first later) block ElsePart = tt
-head-turn head (InElse first later) block EndifPart = refl
-head-turn head (InElse first later) block (ForPart line) = tt
-head-turn head (InElse first later) block EndforPart = tt
-head-turn head (InElse first later) block (PlainPart line) = tt
-head-turn head InFor block (IfPart line) = tt
-head-turn head InFor block (ElifPart line) = tt
-head-turn head InFor block ElsePart = tt
-head-turn head InFor block EndifPart = tt
-head-turn head InFor block (ForPart line) = tt
-head-turn head InFor block EndforPart = refl
-head-turn head InFor block (PlainPart line) = tt
+head-part_effect : (head : LogicalLine) (stage : Stage) (block : Block) (part : Part) → TurnHead head (part_effect head stage block part)
+head-part_effect head InIf block (IfPart line) = tt
+head-part_effect head InIf block (ElifPart line) = tt
+head-part_effect head InIf block ElsePart = tt
+head-part_effect head InIf block EndifPart = refl
+head-part_effect head InIf block (ForPart line) = tt
+head-part_effect head InIf block EndforPart = tt
+head-part_effect head InIf block (PlainPart line) = tt
+head-part_effect head (InElif first later last) block (IfPart line) = tt
+head-part_effect head (InElif first later last) block (ElifPart line) = tt
+head-part_effect head (InElif first later last) block ElsePart = tt
+head-part_effect head (InElif first later last) block EndifPart = refl
+head-part_effect head (InElif first later last) block (ForPart line) = tt
+head-part_effect head (InElif first later last) block EndforPart = tt
+head-part_effect head (InElif first later last) block (PlainPart line) = tt
+head-part_effect head (InElse first later) block (IfPart line) = tt
+head-part_effect head (InElse first later) block (ElifPart line) = tt
+head-part_effect head (InElse first later) block ElsePart = tt
+head-part_effect head (InElse first later) block EndifPart = refl
+head-part_effect head (InElse first later) block (ForPart line) = tt
+head-part_effect head (InElse first later) block EndforPart = tt
+head-part_effect head (InElse first later) block (PlainPart line) = tt
+head-part_effect head InFor block (IfPart line) = tt
+head-part_effect head InFor block (ElifPart line) = tt
+head-part_effect head InFor block ElsePart = tt
+head-part_effect head InFor block EndifPart = tt
+head-part_effect head InFor block (ForPart line) = tt
+head-part_effect head InFor block EndforPart = refl
+head-part_effect head InFor block (PlainPart line) = tt
 
 -- Where one part more closes a tree behind what is held, which isn't a line alone, the innermost open block is that tree's.
 abbrev ClosesAt : LogicalLine → Block → List Open → Type 0
 ClosesAt head block stack = closed block stack ≡ Err head.line
 
-turned-closes : (block before : Block) (innermost : Open) (stack below : List Open) (tree : Tree) (result : Turn) → TurnHead innermost.head result
-    → turned innermost stack result ≡ Some (held_as (add before tree) below) → ClosesAt (tree_head tree) block (innermost ∷ stack)
-turned-closes block before innermost stack below tree (GoesOn next) head is =
+apply_effect-closes : (block before : Block) (innermost : Open) (stack below : List Open) (tree : Tree) (result : PartEffect) → TurnHead innermost.head result
+    → apply_effect innermost stack result ≡ Some (held_as (add before tree) below) → ClosesAt (tree_head tree) block (innermost ∷ stack)
+apply_effect-closes block before innermost stack below tree (GoesOn next) head is =
     absurd (never-empty before tree (let same : Some (held_as EmptyBlock (record innermost { stage = next } ∷ stack)) ≡ Some (held_as (add before tree) below) = is in
     let held : held_as EmptyBlock (record innermost { stage = next } ∷ stack) ≡ held_as (add before tree) below = cc in ap (λ h. h.current) held))
-turned-closes block before innermost stack below tree (Ends end) head is =
+apply_effect-closes block before innermost stack below tree (Ends end) head is =
     let held : held_as (add innermost.before end) stack ≡ held_as (add before tree) below = let same : Some (held_as (add innermost.before end) stack) ≡ Some (held_as (add before tree) below) = is in cc in
     let trees : end ≡ tree = same-last innermost.before before end tree (ap (λ h. h.current) held) in
     ap (λ l. Err l.line) (sym head ∙ ap tree_head trees)
-turned-closes block before innermost stack below tree Wrong head is = absurd (let no : None ≡ Some (held_as (add before tree) below) = is in cc)
+apply_effect-closes block before innermost stack below tree Wrong head is = absurd (let no : None ≡ Some (held_as (add before tree) below) = is in cc)
 
 go_on-closes : (stack : List Open) (block before : Block) (below : List Open) (tree : Tree) (part : Part)
     → go_on stack block part ≡ Some (held_as (add before tree) below) → ClosesAt (tree_head tree) block stack
 go_on-closes [] block before below tree part is = absurd (let no : None ≡ Some (held_as (add before tree) below) = is in cc)
 go_on-closes (innermost ∷ stack) block before below tree part is =
-    turned-closes block before innermost stack below tree (turn innermost.head innermost.stage block part) (head-turn innermost.head innermost.stage block part) is
+    apply_effect-closes block before innermost stack below tree (part_effect innermost.head innermost.stage block part) (head-part_effect innermost.head innermost.stage block part) is
 
 begin-closes : (limit : ℕ) (held : Held) (line : LogicalLine) (stage : Stage) (before : Block) (below : List Open) (tree : Tree)
     → begin limit held line stage ≡ Some (held_as (add before tree) below) → ⊥

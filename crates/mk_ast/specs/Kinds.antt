@@ -1,6 +1,8 @@
--- The kinds of logical lines of a makefile, as make(1) has them: commands, directives, assignments and dependencies. Where exactly an
--- assignment's name ends, and that a line may be none of these, is this project's choice.
-use Rattle.std.specs.Prelude.{ℕ, ◌+◌, ◌-◌, ◌==◌, ◌&&◌, ◌||◌, not, nat_lt, Bool, List, [], ◌∷◌, length, take, drop, Option, Some, None, option_map, unwrap_or, slice_index, codes, if◌then◌else◌}
+-- The kinds of logical lines of a makefile, as make(1) has them: commands, directives, assignments and
+-- dependencies. Where exactly an assignment's name ends, and that a line may be none of these, is this
+-- project's choice.
+use Rattle.std.specs.Prelude.{ℕ, ◌+◌, ◌-◌, ◌==◌, ◌&&◌, ◌||◌, not, nat_lt, Bool, List, [], ◌∷◌, length, take, drop}
+use Rattle.std.specs.Prelude.{Option, Some, None, option_map, unwrap_or, slice_index, codes, if◌then◌else◌}
 use Rattle.std.specs.Char.{is_ascii_alphabetic}
 use Rattle.std.specs.List.{list_any, position, prefix_len}
 use Rattle.std.specs.Option.{option_and_then}
@@ -14,7 +16,8 @@ use Rattle.mk_ast.specs.declared.kinds.LineKind.{LineKind}
 use Rattle.mk_ast.specs.declared.kinds.LineKind.TheVariants as kinds
 use Rattle.mk_ref.specs.Outside.{outside}
 
--- a kind with its texts: of a directive its word and what stands behind it; of an assignment its operator, the name and the value
+-- a kind with its texts: of a directive, its word and what follows it; of an assignment, its operator, the
+-- name and the value
 pub data TextLineKind : Type 0 where
   CommandLine : TextLineKind
   BlankLine : TextLineKind
@@ -62,26 +65,27 @@ directive_named word =
     else if bytes_eq word (codes "undef") then Some words.Undef
     else None
 
--- the directive whose word is the longest run of ASCII letters that a text begins with, and what stands behind it
+-- the directive whose word is the longest run of ASCII letters that a text begins with, and what follows it
 abbrev pub directive_behind : List ℕ → Option TextLineKind
 directive_behind text =
     let end = prefix_len is_ascii_alphabetic text in
     option_map (λ word. DirectiveLine word (drop end text)) (directive_named (take end text))
 
--- the directive that a line is: behind a dot (46) in front and blanks
+-- the directive that a line is: it follows a dot (46), which begins the line, and any blanks
 abbrev pub directive_in : List ℕ → Option TextLineKind
 directive_in [] = None
 directive_in (b ∷ rest) = if b == 46 then directive_behind (skip_blanks rest) else None
 
--- the marks that make a dependency where they stand outside references: `:` (58) and `!` (33)
+-- the marks that make a dependency if they are outside references: `:` (58) and `!` (33)
 abbrev pub is_mark : ℕ → Bool
 is_mark b = b == 58 || b == 33
 
--- the signs that belong to the operator where they stand directly in front of the `=`: `?` (63), `+` (43), `:` and `!`
+-- the signs that belong to the operator if they come directly before the `=`: `?` (63), `+` (43), `:` and
+-- `!`
 abbrev pub is_sign : ℕ → Bool
 is_sign b = b == 63 || b == 43 || is_mark b
 
--- the operator of a `=` behind a byte
+-- the operator of a `=` after a byte
 abbrev pub operator_of : ℕ → Operator
 operator_of b =
     if b == 63 then operators.Default
@@ -90,11 +94,11 @@ operator_of b =
     else if b == 33 then operators.Shell
     else operators.Set
 
--- the byte in front of the `=` at an index; the `=` itself, which is no sign, where it stands first
+-- the byte before the `=` at an index; if the `=` comes first, the `=` itself, which isn't a sign
 abbrev pub in_front : List ℕ → ℕ → ℕ
 in_front text at = slice_index text (at - 1)
 
--- where the operator begins whose `=` is at an index
+-- the place where an operator begins whose `=` is at an index
 abbrev pub operator_start : List ℕ → ℕ → ℕ
 operator_start text at = if is_sign (in_front text at) then at - 1 else at
 
@@ -102,8 +106,8 @@ operator_start text at = if is_sign (in_front text at) then at - 1 else at
 abbrev pub is_word : List ℕ → Bool
 is_word text = nat_lt 0 (length text) && not (list_any is_blank text)
 
--- the assignment whose `=` is at an index: in front of the operator stands one word, with blanks round it, and no mark outside
--- references; the value is what stands behind the `=` and the blanks there
+-- the assignment whose `=` is at an index: before the operator is one word, maybe with blanks around it,
+-- and no mark outside references; the value is what follows the `=` and the blanks there
 abbrev pub assignment_at : List ℕ → ℕ → Option TextLineKind
 assignment_at text at =
     let start = operator_start text at in
@@ -116,15 +120,18 @@ assignment_at text at =
 abbrev pub assignment_in : List ℕ → Option TextLineKind
 assignment_in text = option_and_then (assignment_at text) (position (λ b. b == 61) (outside text))
 
--- the kind of a line that is an assignment, if it is one; else a dependency where a mark stands outside references; else bad
+-- the kind of a line: an assignment if it is one; else a dependency if it has a mark outside references;
+-- else bad
 abbrev pub kind_among : Option TextLineKind → Bool → TextLineKind
 kind_among (Some assignment) has_mark = assignment
 kind_among None has_mark = if has_mark then DependencyLine else BadLine
 
--- the kind of a line that can be neither a command nor a directive, as one of a loop's in which words were put
+-- the kind of a line that can be neither a command nor a directive, such as a line of a loop's body into
+-- which words were put
 unfoldable pub plain_kind : List ℕ → TextLineKind
 plain_kind text = if is_blank_line text then BlankLine else kind_among (assignment_in text) (list_any is_mark (outside text))
 
--- the kind of a line: a command, else a directive, else a plain kind; no directive is blank, since it begins with a dot
+-- the kind of a line: a command, else a directive, else a plain kind; no directive is blank, since it
+-- begins with a dot
 unfoldable pub line_kind : List ℕ → TextLineKind
 line_kind text = if is_command text then CommandLine else unwrap_or (directive_in text) (plain_kind text)

@@ -6,7 +6,7 @@ use Rattle.mk_ast.specs.Trees.{Block, block_parts}
 use Rattle.mk_ast.specs.Reading.{Reads}
 use Rattle.mk_ast.specs.Blocks.{blocks_of}
 use Rattle.mk_ast.specs.declared.parsing.ParseFault.{ParseFault}
-use Rattle.mk_ast.specs.Parsing.{Parses, parsed}
+use Rattle.mk_ast.specs.Parsing.{IsParse, parsed}
 
 -- the reading in one pass is a reading
 abbrev pub BlocksAreRead : Type 0
@@ -14,16 +14,18 @@ BlocksAreRead = (limit : ℕ) (lines : List LogicalLine) → Reads limit lines (
 
 -- there is no other reading, neither another block nor a fault at another line
 abbrev pub NothingElseIsRead : Type 0
-NothingElseIsRead = (limit : ℕ) (lines : List LogicalLine) (result : Result Block ℕ) → Reads limit lines result → result ≡ blocks_of limit lines
+NothingElseIsRead =
+    (limit : ℕ) (lines : List LogicalLine) (result : Result Block ℕ) → Reads limit lines result
+    → result ≡ blocks_of limit lines
 
--- two blocks whose parts, in order, are the same are one
+-- if two blocks have the same parts in the same order, they are the same block
 abbrev pub PartsHaveOneBlock : Type 0
 PartsHaveOneBlock = (one other : Block) → block_parts one ≡ block_parts other → one ≡ other
 
--- bytes are parsed as nothing else
+-- bytes are parsed as what `parsed` says and as nothing else
 abbrev pub NothingElseIsParsed : Type 0
-NothingElseIsParsed = (bytes : List ℕ) (result : Result Block ParseFault) → Parses bytes result → result ≡ parsed bytes
+NothingElseIsParsed = (bytes : List ℕ) (result : Result Block ParseFault) → IsParse bytes result → result ≡ parsed bytes
 
--- a makefile's blocks may stand 64 deep
+-- a makefile's blocks may be 64 deep
 abbrev pub BlocksNest64Deep : Type 0
 BlocksNest64Deep = BLOCKS ≡ 64

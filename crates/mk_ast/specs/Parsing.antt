@@ -14,7 +14,7 @@ use Rattle.mk_ast.specs.Reading.{Reads}
 use Rattle.mk_ast.specs.Blocks.{blocks_of}
 use Rattle.mk_ast.specs.Views.{makefile_tree}
 
--- the line of the first byte that is no UTF-8
+-- the line of the first byte that isn't UTF-8
 abbrev pub bad_line : List ℕ → ℕ
 bad_line bytes = 1 + count_by (λ byte. byte == 10) (take (utf8_valid_len bytes) bytes)
 
@@ -22,27 +22,28 @@ bad_line bytes = 1 + count_by (λ byte. byte == 10) (take (utf8_valid_len bytes)
 abbrev pub utf8_fault : List ℕ → ParseFault
 utf8_fault bytes = record { kind = kinds.Utf8; line = bad_line bytes }
 
--- blocks go wrong at a line
+-- the fault if blocks go wrong at a line
 abbrev pub block_fault : ℕ → ParseFault
 block_fault number = record { kind = kinds.Block; line = number }
 
--- What bytes are read as: the tree of their lines; or a fault, of their first bad byte before any of their blocks.
-abbrev pub Parses : List ℕ → Result Block ParseFault → Type 0
-Parses bytes (Ok block) = (is_utf8 bytes ≡ true) × Reads BLOCKS (logical_lines bytes) (Ok block)
-Parses bytes (Err fault) =
+-- What bytes are read as: the tree of their lines, or a fault. The fault of their first bad byte comes
+-- before any fault of their blocks.
+abbrev pub IsParse : List ℕ → Result Block ParseFault → Type 0
+IsParse bytes (Ok block) = (is_utf8 bytes ≡ true) × Reads BLOCKS (logical_lines bytes) (Ok block)
+IsParse bytes (Err fault) =
     ((is_utf8 bytes ≡ false) × (fault ≡ utf8_fault bytes))
     ⊎ ((is_utf8 bytes ≡ true) × (fault ≡ block_fault fault.line) × Reads BLOCKS (logical_lines bytes) (Err fault.line))
 
--- a reading, its fault told with its kind
-abbrev pub told : Result Block ℕ → Result Block ParseFault
-told (Ok block) = Ok block
-told (Err number) = Err (block_fault number)
+-- a reading, with the kind added to its fault
+abbrev pub with_kind : Result Block ℕ → Result Block ParseFault
+with_kind (Ok block) = Ok block
+with_kind (Err number) = Err (block_fault number)
 
 -- the same as a function
 unfoldable pub parsed : List ℕ → Result Block ParseFault
-parsed bytes = if is_utf8 bytes then told (blocks_of BLOCKS (logical_lines bytes)) else Err (utf8_fault bytes)
+parsed bytes = if is_utf8 bytes then with_kind (blocks_of BLOCKS (logical_lines bytes)) else Err (utf8_fault bytes)
 
--- what was answered is so; want of memory says nothing
+-- what is said holds of the answer; if memory ran out, nothing is said
 abbrev pub Answers : Result Makefile ParseError → (Result Block ParseFault → Type 0) → Type 0
 Answers (Ok makefile) says = says (Ok (makefile_tree makefile))
 Answers (Err (errors.Fault fault)) says = says (Err fault)

@@ -1,11 +1,12 @@
--- The parts that the lines of a makefile are: those that frame its blocks, and all others (make(1), "INCLUDE STATEMENTS, CONDITIONALS
--- AND FOR LOOPS").
+-- The parts that the lines of a makefile are: those that frame its blocks, and all others (make(1),
+-- "INCLUDE STATEMENTS, CONDITIONALS AND FOR LOOPS").
 use Rattle.mk_text.specs.Lines.{LogicalLine}
 use Rattle.mk_ast.specs.declared.kinds.Directive.{Directive}
 use Rattle.mk_ast.specs.declared.kinds.Directive.TheVariants as words
 use Rattle.mk_ast.specs.Kinds.{TextLineKind, DirectiveLine, line_kind}
 
--- a line as a part, with the line where a tree keeps it; what stands behind `.else`, `.endif` and `.endfor` is ignored
+-- a line as a part, with the line if a tree keeps it; what follows `.else`, `.endif` and `.endfor` is
+-- ignored
 pub data Part : Type 0 where
   IfPart : LogicalLine → Part
   ElifPart : LogicalLine → Part

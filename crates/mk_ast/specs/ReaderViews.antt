@@ -26,19 +26,21 @@ open_of open' = record { before = block_of open'.before.items; head = open'.head
 abbrev pub held_of : Reader → Held
 held_of reader = record { current = block_of reader.current.items; stack = reverse (map open_of reader.stack.items) }
 
--- a step is that of the definition, or a fault at this line where it has none; want of memory says nothing
+-- a step is that of the definition, or a fault at this line if the definition has none; if memory ran out,
+-- nothing is said
 abbrev pub Steps : Result Reader ParseError → ℕ → Option Held → Type 0
 Steps (Ok reader) number outcome = outcome ≡ Some (held_of reader)
 Steps (Err (errors.Fault fault)) number outcome = (outcome ≡ None) × (fault ≡ block_fault number)
 Steps (Err errors.Memory) number outcome = Unit {0}
 
--- the same of an open block that goes on, above any others
+-- the same for an open block that goes on, whatever blocks are open around it
 abbrev pub GoesOnTo : Result OpenBlock ParseError → ℕ → (List Open → Option Held) → Type 0
-GoesOnTo (Ok next) number outcome = (stack : List Open) → outcome stack ≡ Some (record { current = EmptyBlock; stack = open_of next ∷ stack })
+GoesOnTo (Ok next) number outcome =
+    (stack : List Open) → outcome stack ≡ Some (record { current = EmptyBlock; stack = open_of next ∷ stack })
 GoesOnTo (Err (errors.Fault fault)) number outcome = ((stack : List Open) → outcome stack ≡ None) × (fault ≡ block_fault number)
 GoesOnTo (Err errors.Memory) number outcome = Unit {0}
 
--- and of one that ends
+-- and for one that ends
 abbrev pub EndsIn : Result (Vec Node Global) ParseError → ℕ → (List Open → Option Held) → Type 0
 EndsIn (Ok nodes) number outcome = (stack : List Open) → outcome stack ≡ Some (record { current = block_of nodes.items; stack = stack })
 EndsIn (Err (errors.Fault fault)) number outcome = ((stack : List Open) → outcome stack ≡ None) × (fault ≡ block_fault number)

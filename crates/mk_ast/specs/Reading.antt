@@ -1,5 +1,5 @@
--- The tree that the lines of a makefile are read as, or where its blocks go wrong. That no more than 64 blocks stand one inside another,
--- and at which line a fault is told, is this project's choice.
+-- The tree that the lines of a makefile are read as, or where its blocks go wrong. It is this project's
+-- choice that no more than 64 blocks may be one inside another, and at which line a fault is reported.
 use Rattle.std.specs.Prelude.{◌≡◌, ◌⊎◌, ℕ, List, [], ◌∷◌, ◌++◌, map, Result, Ok, Err}
 use Rattle.mk_text.specs.Lines.{LogicalLine}
 use Rattle.mk_ast.specs.Parts.{Part, part_of}
@@ -9,11 +9,12 @@ use Rattle.mk_ast.specs.Trees.{Tree, Block, tree_parts, IsReadAs}
 abbrev pub parts_of : List LogicalLine → List Part
 parts_of lines = map part_of lines
 
--- these parts begin some makefile: with more behind them they can be read as a block
+-- these parts begin some makefile: with more parts after them they can be read as a block
 abbrev pub CanGoOn : ℕ → List Part → Type 0
 CanGoOn limit parts = (more : List Part) × (block : Block) × IsReadAs limit (parts ++ more) block
 
--- the line of this number is the first that stands wrong: what stands in front of it begins some makefile, and with it no more
+-- the line of this number is the first that is out of place: what comes before it begins some makefile, and
+-- with this line added it no longer does
 pub record StandsWrong (limit : ℕ) (lines : List LogicalLine) (number : ℕ) : Type 0 where
   pub front : List LogicalLine
   pub line : LogicalLine
@@ -23,8 +24,8 @@ pub record StandsWrong (limit : ℕ) (lines : List LogicalLine) (number : ℕ) :
   pub goes_on : CanGoOn limit (parts_of front)
   pub wrong : ¬ (CanGoOn limit (parts_of front ++ part_of line ∷ []))
 
--- The line of this number begins the innermost block that doesn't end: no line stands wrong, and from this one on the lines are one tree
--- once one part is put behind them.
+-- The line of this number begins the innermost block that doesn't end. No line is out of place, and from
+-- this one on the lines are one tree once one more part is put after them.
 pub record IsUnclosed (limit : ℕ) (lines : List LogicalLine) (number : ℕ) : Type 0 where
   pub front : List LogicalLine
   pub line : LogicalLine
@@ -36,7 +37,8 @@ pub record IsUnclosed (limit : ℕ) (lines : List LogicalLine) (number : ℕ) : 
   pub tree : Tree
   pub closed : tree_parts tree ≡ parts_of (line ∷ rest) ++ last ∷ []
 
--- What lines are read as: the block whose parts, in order, they are; or the number of the line at which the blocks are at fault.
+-- What lines are read as: the block whose parts, in order, they are; or the number of the line at which the
+-- blocks are at fault.
 abbrev pub Reads : ℕ → List LogicalLine → Result Block ℕ → Type 0
 Reads limit lines (Ok block) = IsReadAs limit (parts_of lines) block
 Reads limit lines (Err number) = StandsWrong limit lines number ⊎ IsUnclosed limit lines number

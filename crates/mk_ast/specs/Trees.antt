@@ -1,22 +1,23 @@
--- The tree of a makefile: its lines and blocks, as they stand one inside another.
+-- The tree of a makefile: its lines and blocks, one inside another.
 use Rattle.std.specs.Prelude.{◌≡◌, ◌≤◌, ℕ, suc, max, List, [], ◌∷◌, ◌++◌}
 use Rattle.mk_text.specs.Lines.{LogicalLine}
 use Rattle.mk_ast.specs.Parts.{Part, IfPart, ElifPart, ElsePart, EndifPart, ForPart, EndforPart, PlainPart}
 
 mutual
-  -- a line that frames no block; a choice, with the line of its `.if`, what stands behind that, and its later branches; a loop, with the
-  -- line of its `.for` and its body
+  -- a line that frames no block; a choice, with the line of its `.if`, what follows that, and its later
+  -- branches; a loop, with the line of its `.for` and its body
   pub data Tree : Type 0 where
     LineTree : LogicalLine → Tree
     ChoiceTree : LogicalLine → Block → Branches → Tree
     LoopTree : LogicalLine → Block → Tree
 
-  -- what stands one behind another
+  -- trees that follow one another
   pub data Block : Type 0 where
     EmptyBlock : Block
     MoreBlock : Tree → Block → Block
 
-  -- the branches of a choice behind its first: none; one with the line of its `.elif`, and the later ones; or that of its `.else`
+  -- the branches of a choice after its first: none; one with the line of its `.elif`, and the later ones;
+  -- or that of its `.else`
   pub data Branches : Type 0 where
     NoBranches : Branches
     ElifBranch : LogicalLine → Block → Branches → Branches
@@ -38,7 +39,7 @@ abbrev mutual
   branch_parts (ElifBranch line block branches) = ElifPart line ∷ block_parts block ++ branch_parts branches
   branch_parts (ElseBranch block) = ElsePart ∷ block_parts block
 
--- how many blocks stand one inside another, at most
+-- how many blocks are one inside another, at most
 abbrev mutual
   pub tree_depth : Tree → ℕ
   tree_depth (LineTree line) = 0
@@ -54,7 +55,7 @@ abbrev mutual
   branch_depth (ElifBranch line block branches) = max (block_depth block) (branch_depth branches)
   branch_depth (ElseBranch block) = block_depth block
 
--- these parts, in order, are those of a block in which at most so many blocks stand one inside another
+-- these parts, in order, are those of a block in which at most this many blocks are one inside another
 pub record IsReadAs (limit : ℕ) (parts : List Part) (block : Block) : Type 0 where
   pub in_order : block_parts block ≡ parts
   pub not_deep : block_depth block ≤ limit

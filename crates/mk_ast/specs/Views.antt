@@ -7,7 +7,7 @@ use Rattle.mk_ast.specs.declared.nodes.Makefile.{Makefile}
 use Rattle.mk_ast.specs.Trees.{Tree, LineTree, ChoiceTree, LoopTree, Block, EmptyBlock, MoreBlock, Branches, NoBranches, ElseBranch}
 use Rattle.mk_ast.specs.Blocks.{branches_from}
 
--- trees one behind another
+-- trees that follow one another
 abbrev pub block_from : List Tree → Block
 block_from [] = EmptyBlock
 block_from (tree ∷ trees) = MoreBlock tree (block_from trees)
@@ -24,7 +24,8 @@ branch_step branch = (branch.head, block_from branch.body.value.items)
 abbrev pub node_step : Node-F Tree (LogicalLine × Block) → Tree
 node_step (Node-F.Line line) = LineTree line
 node_step (Node-F.Choice head body branches otherwise) =
-    ChoiceTree head (block_from body.value.items) (branches_from branches.items (last_branch (option_map (λ block. block_from block.value.items) otherwise)))
+    ChoiceTree head (block_from body.value.items)
+    (branches_from branches.items (last_branch (option_map (λ block. block_from block.value.items) otherwise)))
 node_step (Node-F.Loop head body) = LoopTree head (block_from body.value.items)
 
 -- the tree of a node

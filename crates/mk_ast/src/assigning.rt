@@ -22,7 +22,7 @@ pub(crate) fn has_mark(bytes: &[u8]) -> bool
     bytes.iter().any(|byte| is_mark(*byte))
 }
 
-/// The assignment that a line is, where `plain` is what of it stands outside references.
+/// The assignment that a line is, if it is one. `plain` is what of the line is outside references.
 pub(crate) fn assignment_in<'t>(text: &'t str, plain: &[u8]) -> Option<LineKind<'t>>
     requires { plain.now ≡ outside text.now }
     ensures { option_map shown_kind result ≡ assignment_in text.now }
@@ -33,21 +33,22 @@ pub(crate) fn assignment_in<'t>(text: &'t str, plain: &[u8]) -> Option<LineKind<
     }
 }
 
-/// The index of the first `=` among these bytes.
+/// The index of the first `=` among these bytes, if there is one.
 fn first_equals(bytes: &[u8]) -> Option<usize>
     ensures { result ≡ position (λ b. b == 61) bytes.now }
 {
     bytes.iter().position(|byte| *byte == b'=')
 }
 
-/// The assignment that a line is, whose first `=` outside references is at this index.
+/// The assignment that a line is, if it is one. The line's first `=` outside references is at this
+/// index.
 fn assignment_at<'t>(text: &'t str, plain: &[u8], at: usize) -> Option<LineKind<'t>>
     requires same { plain.now ≡ outside text.now }
     requires within { at < length text.now }
     requires equals { slice_index text.now at ≡ 61 }
     ensures { option_map shown_kind result ≡ assignment_at text.now at }
 {
-    // Where the `=` stands first, this is the `=` itself, which is no sign.
+    // If the `=` comes first, this is the `=` itself, which isn't a sign.
     let before = at.saturating_sub(1);
     let sign = text.as_bytes()[before];
     let start = if is_sign(sign) { before } else { at };
@@ -62,7 +63,7 @@ fn assignment_at<'t>(text: &'t str, plain: &[u8], at: usize) -> Option<LineKind<
     })
 }
 
-/// Whether a text is one word: it isn't empty and has no blank, which is a space or a tab.
+/// Whether a text is one word: it isn't empty and has no blank (space or tab).
 pub fn is_word(text: &str) -> bool
     ensures { result ≡ is_word text.now }
 {
@@ -76,14 +77,14 @@ fn has_blank(bytes: &[u8]) -> bool
     bytes.iter().any(|byte| is_blank(*byte))
 }
 
-/// Whether a byte in front of a `=` belongs to the operator.
+/// Whether a byte before a `=` belongs to the operator.
 fn is_sign(byte: u8) -> bool
     ensures { result ≡ is_sign byte }
 {
     byte == b'?' || byte == b'+' || is_mark(byte)
 }
 
-/// The operator of a `=` with this byte in front.
+/// The operator of a `=` with this byte before it.
 fn operator_of(byte: u8) -> Operator
     ensures { result ≡ operator_of byte }
 {

@@ -7,7 +7,8 @@ ghost use Rattle.mk_ast.specs.Kinds.{shown_kind, directive_in, directive_behind,
 use crate::kinds::{Directive, LineKind};
 use mk_text::skip_blanks;
 
-/// The directive that a line is: a dot, blanks, and a directive's word as the longest run of letters.
+/// The directive that a line is, if it is one: a dot, any blanks, and a directive's word as the longest
+/// run of letters.
 pub(crate) fn directive_in(text: &str) -> Option<LineKind<'_>>
     ensures { option_map shown_kind result ≡ directive_in text.now }
 {
@@ -17,7 +18,7 @@ pub(crate) fn directive_in(text: &str) -> Option<LineKind<'_>>
     }
 }
 
-/// The directive whose word begins this text.
+/// The directive whose word begins this text, if there is one.
 fn directive_behind(text: &str) -> Option<LineKind<'_>>
     ensures { option_map shown_kind result ≡ directive_behind text.now }
 {
@@ -43,7 +44,7 @@ fn letters(bytes: &[u8]) -> usize
     bytes.len()
 }
 
-/// The directive with this word.
+/// The directive with this word, if there is one.
 fn directive_named(word: &str) -> Option<Directive>
     ensures { result ≡ directive_named word.now }
 {

@@ -65,16 +65,16 @@ pub enum LineKind<'t> {
     Directive {
         /// Its word.
         word: Directive,
-        /// What stands directly behind the word.
+        /// What directly follows the word.
         rest: &'t str,
     },
     /// An assignment to a variable.
     Assignment {
         /// How it assigns.
         operator: Operator,
-        /// The variable's name, a word, in which references may stand.
+        /// The variable's name: a word, which may hold references.
         name: &'t str,
-        /// What stands behind the `=`, without blanks in front.
+        /// What follows the `=`, without the blanks that it begins with.
         value: &'t str,
     },
     /// A dependency of targets on others.

@@ -2,8 +2,8 @@
 //! law.
 ghost use Rattle.mk_ast.specs.Laws.{BlocksAreRead, NothingElseIsRead, PartsHaveOneBlock, NothingElseIsParsed, BlocksNest64Deep};
 
-/// The reading in one pass is a reading: the block whose parts the lines are, or the first line that
-/// stands wrong, or else the first line of the innermost open block.
+/// The reading in one pass is a reading: the block whose parts the lines are, or the first line that is
+/// out of place, or else the first line of the innermost open block.
 pub fn blocks_are_read()
     ensures { BlocksAreRead }
 {}
@@ -13,17 +13,17 @@ pub fn nothing_else_is_read()
     ensures { NothingElseIsRead }
 {}
 
-/// Two blocks whose parts, in order, are the same are one.
+/// If two blocks have the same parts in the same order, they are the same block.
 pub fn parts_have_one_block()
     ensures { PartsHaveOneBlock }
 {}
 
-/// Bytes are parsed as nothing else than `parsed` says: one tree, or one fault at one line.
+/// Bytes are parsed as what `parsed` says and as nothing else: one tree, or one fault at one line.
 pub fn nothing_else_is_parsed()
     ensures { NothingElseIsParsed }
 {}
 
-/// A makefile's blocks may stand 64 deep: `BLOCKS` is that number.
+/// A makefile's blocks may be 64 deep: `BLOCKS` is that number.
 pub fn blocks_nest_64_deep()
     ensures { BlocksNest64Deep }
 {}

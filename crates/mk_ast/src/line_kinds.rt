@@ -12,16 +12,16 @@ use std::alloc::{AllocError, Global};
 /// What a logical line is. Blanks are spaces and tabs.
 ///
 /// - `Command`: it begins with a tab.
-/// - `Directive`: a dot in front, blanks, and a directive's word as the longest run of ASCII letters
-///   there. No blank need follow it: `.if(1)` is a directive, and `.ifx` and `.IF` are none.
-/// - Any other line is of its `plain_kind`.
+/// - `Directive`: it begins with a dot, any blanks, and a directive's word as the longest run of ASCII
+///   letters there. No blank need follow it: `.if(1)` is a directive, and `.ifx` and `.IF` are not.
+/// - Any other line has its `plain_kind`.
 ///
 /// The time is linear in the length of `text`.
 ///
 /// # Errors
 ///
-/// `AllocError` where there is no memory for the places of the references, or for a copy of the
-/// line without them.
+/// `AllocError` if memory runs out, either for the places of the references or for a copy of the line
+/// without them.
 #[tactic(auto, unfolding(crate::specs::Kinds::line_kind))]
 pub fn line_kind(alloc: Global, text: &str) -> Result<LineKind<'_>, AllocError>
     ensures { IfOk result (λ kind. shown_kind kind ≡ line_kind text.now) }
@@ -35,14 +35,14 @@ pub fn line_kind(alloc: Global, text: &str) -> Result<LineKind<'_>, AllocError>
     }
 }
 
-/// What a line is that can be neither a command nor a directive, as a line of a loop's body in which
-/// words were put: the first of these kinds that fits. Blanks are spaces and tabs.
+/// What a line is that can be neither a command nor a directive, such as a line of a loop's body into
+/// which words were put. It is the first of these kinds that fits. Blanks are spaces and tabs.
 ///
 /// - `Blank`: it holds nothing but blanks.
-/// - `Assignment`: the first `=` outside references, together with one of `? + : !` directly before
-///   it, stands behind one word, which has no `:` or `!` outside references. Blanks may stand in front
-///   of the word and behind it. A word holds no blank, in a reference neither.
-/// - `Dependency`: a `:` or `!` stands outside references.
+/// - `Assignment`: the first `=` outside references, with one of `? + : !` directly before it or none,
+///   follows one word, which has no `:` or `!` outside references. Blanks may come before the word and
+///   after it. A word holds no blank, not even in a reference.
+/// - `Dependency`: it has a `:` or `!` outside references.
 /// - `Bad`: any other line.
 ///
 /// A reference that doesn't end reaches to the end of the line. The time is linear in the length of
@@ -50,8 +50,8 @@ pub fn line_kind(alloc: Global, text: &str) -> Result<LineKind<'_>, AllocError>
 ///
 /// # Errors
 ///
-/// `AllocError` where there is no memory for the places of the references, or for a copy of the
-/// line without them.
+/// `AllocError` if memory runs out, either for the places of the references or for a copy of the line
+/// without them.
 #[tactic(auto, unfolding(crate::specs::Kinds::plain_kind))]
 pub fn plain_kind(alloc: Global, text: &str) -> Result<LineKind<'_>, AllocError>
     ensures { IfOk result (λ kind. shown_kind kind ≡ plain_kind text.now) }

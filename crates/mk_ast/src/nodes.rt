@@ -3,34 +3,34 @@
 use mk_text::Logical;
 use std::rc::Rc;
 
-/// How many blocks may stand one inside another.
+/// How many blocks may be one inside another.
 pub const BLOCKS: usize = 64;
 
 /// Lines and blocks in order. They are shared: a copy of the pointer is a copy of them all.
 pub type Block = Rc<Vec<Node>>;
 
-/// A line that belongs to no block's frame, or a block.
+/// A line that isn't part of a block's frame, or a block.
 #[derive(Debug, Drop)]
 #[cycle(tree)]
 pub enum Node {
-    /// A line that opens, parts or closes nothing.
+    /// A line that opens, divides or closes no block.
     Line(Logical),
     /// A choice, from a form of `.if` to its `.endif`.
     Choice {
         /// The line of its `.if`.
         head: Logical,
-        /// What stands behind that.
+        /// What follows that line.
         body: Block,
         /// Its forms of `.elif`, in order.
         branches: Vec<Branch>,
-        /// What stands behind its `.else`, if it has one.
+        /// What follows its `.else`, if it has one.
         otherwise: Option<Block>,
     },
     /// A loop, from a `.for` to its `.endfor`.
     Loop {
         /// The line of its `.for`.
         head: Logical,
-        /// What stands between.
+        /// What is between that line and its `.endfor`.
         body: Block,
     },
 }
@@ -41,7 +41,7 @@ pub enum Node {
 pub struct Branch {
     /// The line of its `.elif`.
     pub head: Logical,
-    /// What stands behind that.
+    /// What follows that line.
     pub body: Block,
 }
 

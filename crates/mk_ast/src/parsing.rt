@@ -3,29 +3,33 @@ ghost use Rattle.std.specs.Prelude.{◌≡◌, ◌≤◌, ◌+◌, ◌==◌, len
 ghost use Rattle.mk_text.specs.Lines.{logical_lines};
 ghost use Rattle.mk_ast.specs.declared.parsing.ParseError.TheVariants as errors;
 ghost use Rattle.mk_ast.specs.Blocks.{blocks_of};
-ghost use Rattle.mk_ast.specs.Parsing.{Answers, Parses, parsed, told};
+ghost use Rattle.mk_ast.specs.Parsing.{Answers, IsParse, parsed, with_kind};
 
 use crate::nodes::{BLOCKS, Makefile};
 use crate::reader::Reader;
 use mk_base::FaultKind;
 use mk_text::logical_lines;
 use std::alloc::{AllocError, AllocFailed, Global};
+use thiserror::Error;
 
 /// What is wrong with a makefile as a whole, and where.
-#[derive(Debug, Clone, Copy, PartialEq, Eq)]
+#[derive(Debug, Clone, Copy, PartialEq, Eq, Error)]
+#[error("line {line}: {kind}")]
 pub struct ParseFault {
     /// `Utf8`, or `Block`.
     pub kind: FaultKind,
-    /// The line, counted from 1: of the first bad byte, or of the logical line that stands wrong.
+    /// The line, counted from 1: that of the first bad byte, or that of the logical line at fault.
     pub line: u64,
 }
 
 /// Why a makefile has no tree.
-#[derive(Debug, Clone, Copy, PartialEq, Eq)]
+#[derive(Debug, Clone, Copy, PartialEq, Eq, Error)]
 pub enum ParseError {
     /// It is at fault.
+    #[error("{0}")]
     Fault(ParseFault),
-    /// There is no memory.
+    /// Memory ran out.
+    #[error("out of memory")]
     Memory,
 }
 
@@ -45,7 +49,8 @@ impl<T: Drop> From<AllocFailed<T>> for ParseError {
     }
 }
 
-/// The line, counted from 1, of the first of these bytes that isn't UTF-8.
+/// The line, counted from 1, of the first of these bytes that isn't UTF-8. `valid` bytes come before
+/// it.
 fn bad_line(bytes: &[u8], valid: usize) -> u64
     requires { valid ≤ length bytes.now }
     ensures { result ≡ 1 + count_by (λ byte. byte == 10) (take valid bytes.now) }
@@ -55,22 +60,23 @@ fn bad_line(bytes: &[u8], valid: usize) -> u64
 
 /// The tree of a makefile, whose lines are those of `mk_text::logical_lines`.
 ///
-/// A block runs from a form of `.if` over forms of `.elif` and at most one `.else` to `.endif`, or
-/// from `.for` to `.endfor`; what stands behind `.else`, `.endif` and `.endfor` is ignored. At most
-/// `BLOCKS` blocks stand one inside another.
+/// A block goes from a form of `.if` over forms of `.elif` and at most one `.else` to `.endif`, or from
+/// `.for` to `.endfor`. What follows `.else`, `.endif` and `.endfor` on their lines is ignored. At most
+/// `BLOCKS` blocks may be one inside another.
 ///
 /// The time is linear in the length of `bytes`.
 ///
 /// # Errors
 ///
-/// - `Fault` of kind `Utf8` where the bytes aren't UTF-8, at the physical line of the first bad byte:
-///   one more than the line feeds before it.
-/// - Else `Fault` of kind `Block` at the first line that stands wrong: a part without its block, one of
-///   another kind of block among these; a `.elif` or `.else` behind an `.else`; an opening one too deep.
-/// - Else the same at the first line of the innermost block that doesn't end.
-/// - `Memory` where there is no memory for the lines or the tree.
+/// - `Fault` of kind `Utf8` if the bytes aren't UTF-8, at the physical line of the first bad byte: one
+///   more than the number of line feeds before it.
+/// - Else `Fault` of kind `Block` at the first line that is out of place. That is a part without its
+///   block, also in a block of another kind; an `.elif` or `.else` after an `.else`; or a line that
+///   opens a block too deep.
+/// - Else `Fault` of kind `Block` at the first line of the innermost block that doesn't end.
+/// - `Memory` if memory for the lines or the tree runs out.
 pub fn parse(alloc: Global, bytes: &[u8]) -> Result<Makefile, ParseError>
-    ensures reads { Answers result (Parses bytes.now) }
+    ensures reads { Answers result (IsParse bytes.now) }
     ensures function { Answers result (λ answer. answer ≡ parsed bytes.now) }
 {
     match str::from_utf8(bytes) {
@@ -84,7 +90,8 @@ pub fn parse(alloc: Global, bytes: &[u8]) -> Result<Makefile, ParseError>
 
 /// The tree of a text's lines.
 fn parse_text(alloc: Global, text: &str) -> Result<Makefile, ParseError>
-    ensures { Answers result (λ answer. answer ≡ told (blocks_of BLOCKS (logical_lines text.now))) }
+    ensures { Answers result (λ answer. answer
+        ≡ with_kind (blocks_of BLOCKS (logical_lines text.now))) }
 {
     let mut reader = Reader::new(alloc);
     for line in logical_lines(alloc, text)? {

@@ -4,9 +4,9 @@ ghost use Rattle.mk_ast.specs.Parts.{ElifPart, ElsePart, EndifPart, EndforPart, 
 ghost use Rattle.mk_ast.specs.FrameParts.{shown_part};
 ghost use Rattle.mk_ast.specs.declared.parsing.ParseError.TheVariants as errors;
 ghost use Rattle.mk_ast.specs.Trees.{LineTree};
-ghost use Rattle.mk_ast.specs.Blocks.{add, turn, turned, go_on, begin, step, closed, nothing_held};
+ghost use Rattle.mk_ast.specs.Blocks.{add, part_effect, apply_effect, go_on, begin, step, closed, nothing_held};
 ghost use Rattle.mk_ast.specs.Views.{block_of};
-ghost use Rattle.mk_ast.specs.Parsing.{Answers, block_fault, told};
+ghost use Rattle.mk_ast.specs.Parsing.{Answers, block_fault, with_kind};
 ghost use Rattle.mk_ast.specs.ReaderViews.{open_of, held_of, stage_of, Steps, GoesOnTo, EndsIn};
 
 use crate::nodes::{BLOCKS, Block, Branch, Makefile, Node};
@@ -20,27 +20,27 @@ use std::rc::Rc;
 /// How far an open block is read.
 #[derive(Debug, Drop)]
 enum Progress {
-    /// Behind its `.if`.
+    /// After its `.if`.
     If,
-    /// Behind a later `.elif`.
+    /// After a later `.elif`.
     Elif {
         first: Block,
         later: Vec<Branch>,
         last: Logical,
     },
-    /// Behind its `.else`.
+    /// After its `.else`.
     Else {
         first: Block,
         later: Vec<Branch>,
     },
-    /// Behind its `.for`.
+    /// After its `.for`.
     For,
 }
 
 /// A block that is open.
 #[derive(Debug, Drop)]
 struct OpenBlock {
-    /// What stands in front of it in the block round it.
+    /// What comes before it in the block around it.
     before: Vec<Node>,
     /// Its first line.
     head: Logical,
@@ -50,13 +50,13 @@ struct OpenBlock {
 /// What is read of a makefile up to a line.
 #[derive(Debug, Drop)]
 pub(crate) struct Reader {
-    /// What stands behind the last part of a frame.
+    /// What follows the last part of a frame.
     current: Vec<Node>,
     /// The open blocks, the innermost last.
     stack: Vec<OpenBlock>,
 }
 
-/// Blocks go wrong at this line.
+/// The error if blocks go wrong at this line.
 fn wrong(line: u64) -> ParseError
     ensures { result ≡ errors.Fault (block_fault line) }
 {
@@ -67,10 +67,11 @@ fn wrong(line: u64) -> ParseError
 }
 
 impl OpenBlock {
-    /// It goes on behind a `.elif` at this line; `body` is what stands in front of that.
+    /// The block after an `.elif` at this line; `body` is what comes before that line.
     fn elif(self, alloc: Global, body: Block, line: Logical) -> Result<OpenBlock, ParseError>
-        ensures { GoesOnTo result line.line (λ stack. turned (open_of self) stack
-            (turn self.head (stage_of self.progress) (block_of body.value.items) (ElifPart line))) }
+        ensures { GoesOnTo result line.line (λ stack. apply_effect (open_of self) stack
+            (part_effect self.head (stage_of self.progress) (block_of body.value.items)
+            (ElifPart line))) }
     {
         let OpenBlock {
             before,
@@ -106,10 +107,10 @@ impl OpenBlock {
         })
     }
 
-    /// It goes on behind a `.else`, which stands at the line of this number.
+    /// The block after an `.else` at the line of this number; `body` is what comes before that line.
     fn otherwise(self, alloc: Global, body: Block, number: u64) -> Result<OpenBlock, ParseError>
-        ensures { GoesOnTo result number (λ stack. turned (open_of self) stack
-            (turn self.head (stage_of self.progress) (block_of body.value.items) ElsePart)) }
+        ensures { GoesOnTo result number (λ stack. apply_effect (open_of self) stack
+            (part_effect self.head (stage_of self.progress) (block_of body.value.items) ElsePart)) }
     {
         let OpenBlock {
             before,
@@ -138,10 +139,11 @@ impl OpenBlock {
         })
     }
 
-    /// What the block round it holds once a `.endif` at the line of this number closes it.
+    /// What the block around it holds once an `.endif` at the line of this number closes it.
     fn endif(self, alloc: Global, body: Block, number: u64) -> Result<Vec<Node>, ParseError>
-        ensures { EndsIn result number (λ stack. turned (open_of self) stack
-            (turn self.head (stage_of self.progress) (block_of body.value.items) EndifPart)) }
+        ensures { EndsIn result number (λ stack. apply_effect (open_of self) stack
+            (part_effect self.head (stage_of self.progress)
+            (block_of body.value.items) EndifPart)) }
     {
         let OpenBlock {
             mut before,
@@ -180,10 +182,11 @@ impl OpenBlock {
         Ok(before)
     }
 
-    /// What the block round it holds once a `.endfor` at the line of this number closes it.
+    /// What the block around it holds once an `.endfor` at the line of this number closes it.
     fn endfor(self, body: Block, number: u64) -> Result<Vec<Node>, ParseError>
-        ensures { EndsIn result number (λ stack. turned (open_of self) stack
-            (turn self.head (stage_of self.progress) (block_of body.value.items) EndforPart)) }
+        ensures { EndsIn result number (λ stack. apply_effect (open_of self) stack
+            (part_effect self.head (stage_of self.progress)
+            (block_of body.value.items) EndforPart)) }
     {
         let OpenBlock {
             mut before,
@@ -217,7 +220,7 @@ impl Reader {
         }
     }
 
-    /// The reader behind one more line.
+    /// The reader after one more line.
     #[tactic(auto, unfolding(crate::specs::Blocks::step))]
     pub(crate) fn step(self, alloc: Global, line: Logical) -> Result<Reader, ParseError>
         ensures { Steps result line.line (step BLOCKS (held_of self) (part_of line)) }
@@ -233,16 +236,20 @@ impl Reader {
         }
     }
 
-    /// The reader behind a line that frames no block.
+    /// The reader after a line that frames no block.
     fn add(self, line: Logical) -> Result<Reader, ParseError>
-        ensures { Steps result line.line (Some (record { current = add (held_of self).current (LineTree line); stack = (held_of self).stack })) }
+        ensures { Steps result line.line
+            (Some (record {
+              current = add (held_of self).current (LineTree line);
+              stack = (held_of self).stack;
+            })) }
     {
         let Reader { mut current, stack } = self;
         current.push(Node::Line(line))?;
         Ok(Reader { current, stack })
     }
 
-    /// The reader behind a line that opens a block.
+    /// The reader after a line that opens a block.
     fn begin(self, alloc: Global, head: Logical, progress: Progress) -> Result<Reader, ParseError>
         ensures { Steps result head.line (begin BLOCKS (held_of self) head (stage_of progress)) }
     {
@@ -261,9 +268,10 @@ impl Reader {
         })
     }
 
-    /// The reader behind a `.elif`.
+    /// The reader after an `.elif`.
     fn elif(self, alloc: Global, line: Logical) -> Result<Reader, ParseError>
-        ensures { Steps result line.line (go_on (held_of self).stack (held_of self).current (ElifPart line)) }
+        ensures { Steps result line.line
+            (go_on (held_of self).stack (held_of self).current (ElifPart line)) }
     {
         let Reader { current, mut stack } = self;
         let Some(innermost) = stack.pop() else {
@@ -276,7 +284,7 @@ impl Reader {
         })
     }
 
-    /// The reader behind a `.else` at the line of this number.
+    /// The reader after an `.else` at the line of this number.
     fn otherwise(self, alloc: Global, number: u64) -> Result<Reader, ParseError>
         ensures { Steps result number (go_on (held_of self).stack (held_of self).current ElsePart) }
     {
@@ -291,9 +299,10 @@ impl Reader {
         })
     }
 
-    /// The reader behind a `.endif` at the line of this number.
+    /// The reader after an `.endif` at the line of this number.
     fn endif(self, alloc: Global, number: u64) -> Result<Reader, ParseError>
-        ensures { Steps result number (go_on (held_of self).stack (held_of self).current EndifPart) }
+        ensures { Steps result number (go_on (held_of self).stack
+            (held_of self).current EndifPart) }
     {
         let Reader { current, mut stack } = self;
         let Some(innermost) = stack.pop() else {
@@ -303,9 +312,10 @@ impl Reader {
         Ok(Reader { current, stack })
     }
 
-    /// The reader behind a `.endfor` at the line of this number.
+    /// The reader after an `.endfor` at the line of this number.
     fn endfor(self, alloc: Global, number: u64) -> Result<Reader, ParseError>
-        ensures { Steps result number (go_on (held_of self).stack (held_of self).current EndforPart) }
+        ensures { Steps result number (go_on (held_of self).stack
+            (held_of self).current EndforPart) }
     {
         let Reader { current, mut stack } = self;
         let Some(innermost) = stack.pop() else {
@@ -317,7 +327,8 @@ impl Reader {
 
     /// The tree of all that is read.
     pub(crate) fn finish(self, alloc: Global) -> Result<Makefile, ParseError>
-        ensures { Answers result (λ answer. answer ≡ told (closed (held_of self).current (held_of self).stack)) }
+        ensures { Answers result (λ answer. answer
+            ≡ with_kind (closed (held_of self).current (held_of self).stack)) }
     {
         let Reader { current, mut stack } = self;
         match stack.pop() {

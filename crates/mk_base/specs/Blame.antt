@@ -6,13 +6,17 @@ use Rattle.mk_base.specs.declared.stopping.Stop.TheVariants as stops
 use Rattle.mk_base.specs.declared.faults.FaultKind.{FaultKind}
 use Rattle.mk_base.specs.FaultAt.{FaultAt, fault_at}
 
--- The stop as it is told with its place; it may also be want of memory, for the name.
+-- The stop, with its place added if it is a fault. A fault may also become out of memory, since the name
+-- needs memory.
 abbrev pub IsBlamed : List ℕ → ℕ → Stop FaultKind → Stop FaultAt → Type 0
 IsBlamed name line (stops.Fault kind) stop = (stop ≡ stops.Fault (fault_at kind name line)) ⊎ (stop ≡ stops.Memory)
 IsBlamed name line stops.Store stop = stop ≡ stops.Store
 IsBlamed name line stops.Memory stop = stop ≡ stops.Memory
 
--- A fault told with its place is a stop of the work that ends in that fault.
-pub StopsAt-blamed : {A M : Type 0} (name : List ℕ) (line : ℕ) (kind : FaultKind) (stop : Stop FaultAt) (state : M) (outcome : Result (A × M) (FaultAt × M)) → IsBlamed name line (stops.Fault kind) stop → outcome ≡ Err (fault_at kind name line, state) → StopsAt stop state outcome
+-- If work ends in a fault with its place, then the stop that `IsBlamed` gives for this fault is a stop of
+-- the work.
+pub StopsAt-blamed : {A M : Type 0} (name : List ℕ) (line : ℕ) (kind : FaultKind) (stop : Stop FaultAt) (state : M)
+    (outcome : Result (A × M) (FaultAt × M)) → IsBlamed name line (stops.Fault kind) stop
+    → outcome ≡ Err (fault_at kind name line, state) → StopsAt stop state outcome
 StopsAt-blamed name line kind stop state outcome blamed ends =
     elim blamed [ inl is ↦ rw is ends | inr is ↦ rw is tt ]

@@ -1,4 +1,5 @@
--- How a walk over the items of a list goes on: at each item by a value or a stop, and to its end.
+-- How a walk over the items of a list goes on: at each item by a value or a stop, and at the end of the
+-- list.
 use Rattle.std.specs.Prelude.{◌≡◌, ◌<◌, ◌+◌, ℕ, suc, List, [], ◌∷◌, map, length, drop, refl, Ok, Err}
 use Rattle.std.proofs.Common.{get_or, ap, sym, ◌∙◌, drop-cons, add-one}
 use Rattle.std.proofs.Math.Seq.{drop-length}
@@ -17,22 +18,34 @@ module _ {M F S X Y : Type 0} (turn : S → X → Work M F S) (view : Y → X) w
   abbrev pub from : List Y → ℕ → List X
   from items i = map view (drop i items)
 
-  front : (items : List Y) (i : ℕ) (default item : Y) → i < length items → item ≡ get_or items i default → drop i items ≡ item ∷ drop (i + 1) items
+  front : (items : List Y) (i : ℕ) (default item : Y) → i < length items → item ≡ get_or items i default
+      → drop i items ≡ item ∷ drop (i + 1) items
   front items i default item below is =
       drop-cons items i default below ∙ ap (λ y. y ∷ drop (suc i) items) (sym is) ∙ ap (λ k. item ∷ drop k items) (sym (add-one i))
 
-  walks : (s : S) (items : List Y) (i : ℕ) (default item : Y) (m : M) → i < length items → item ≡ get_or items i default → each turn s (from items i) m ≡ after (turn s (view item) m) (λ next. each turn next (from items (i + 1)))
-  walks s items i default item m below is = ap (λ xs. each turn s (map view xs) m) (front items i default item below is) ∙ each-cons s (view item) (from items (i + 1)) m
+  walks : (s : S) (items : List Y) (i : ℕ) (default item : Y) (m : M) → i < length items
+      → item ≡ get_or items i default
+      → each turn s (from items i) m ≡ after (turn s (view item) m) (λ next. each turn next (from items (i + 1)))
+  walks s items i default item m below is =
+      ap (λ xs. each turn s (map view xs) m) (front items i default item below is)
+      ∙ each-cons s (view item) (from items (i + 1)) m
 
-  -- where the turn of the next item gives a value, the walk goes on behind it
-  pub each-value : (s next : S) (items : List Y) (i : ℕ) (default item : Y) (m m' : M) → i < length items → item ≡ get_or items i default → turn s (view item) m ≡ Ok (next, m') → each turn s (from items i) m ≡ each turn next (from items (i + 1)) m'
-  each-value s next items i default item m m' below is value = walks s items i default item m below is ∙ ap (λ end. after end (λ value'. each turn value' (from items (i + 1)))) value
+  -- if the turn of the next item gives a value, the walk goes on after that item
+  pub each-value : (s next : S) (items : List Y) (i : ℕ) (default item : Y) (m m' : M) → i < length items
+      → item ≡ get_or items i default → turn s (view item) m ≡ Ok (next, m')
+      → each turn s (from items i) m ≡ each turn next (from items (i + 1)) m'
+  each-value s next items i default item m m' below is value =
+      walks s items i default item m below is
+      ∙ ap (λ end. after end (λ value'. each turn value' (from items (i + 1)))) value
 
-  -- where the turn of the next item stops, so does the walk
-  pub each-stop : (s : S) (items : List Y) (i : ℕ) (default item : Y) (m : M) (stop : F × M) → i < length items → item ≡ get_or items i default → turn s (view item) m ≡ Err stop → each turn s (from items i) m ≡ Err stop
-  each-stop s items i default item m stop below is stops = walks s items i default item m below is ∙ ap (λ end. after end (λ value'. each turn value' (from items (i + 1)))) stops
+  -- if the turn of the next item stops, so does the walk
+  pub each-stop : (s : S) (items : List Y) (i : ℕ) (default item : Y) (m : M) (stop : F × M) → i < length items
+      → item ≡ get_or items i default → turn s (view item) m ≡ Err stop → each turn s (from items i) m ≡ Err stop
+  each-stop s items i default item m stop below is stops =
+      walks s items i default item m below is
+      ∙ ap (λ end. after end (λ value'. each turn value' (from items (i + 1)))) stops
 
-  -- a walk with no item left gives what it has
+  -- a walk with no item left gives the value that it has
   pub each-end : (s : S) (items : List Y) (m : M) → each turn s (from items (length items)) m ≡ Ok (s, m)
   each-end s items m = ap (λ xs. each turn s (map view xs) m) (drop-length items) ∙ each-nil s m
 
@@ -40,21 +53,24 @@ map-id : {X : Type 0} (xs : List X) → map (λ x. x) xs ≡ xs
 map-id [] = refl
 map-id (x ∷ xs) = ap (λ rest. x ∷ rest) (map-id xs)
 
--- the same where the items are taken as they are
+-- the same if the items are taken as they are
 module _ {M F S X : Type 0} (turn : S → X → Work M F S) where
   plain : (s : S) (items : List X) (i : ℕ) (m : M) → each turn s (drop i items) m ≡ each turn s (from turn (λ x. x) items i) m
   plain s items i m = ap (λ xs. each turn s xs m) (sym (map-id (drop i items)))
 
-  -- where the turn of the next item gives a value, the walk goes on behind it
-  pub each-item : (s next : S) (items : List X) (i : ℕ) (default item : X) (m m' : M) → i < length items → item ≡ get_or items i default → turn s item m ≡ Ok (next, m') → each turn s (drop i items) m ≡ each turn next (drop (i + 1) items) m'
+  -- if the turn of the next item gives a value, the walk goes on after that item
+  pub each-item : (s next : S) (items : List X) (i : ℕ) (default item : X) (m m' : M) → i < length items
+      → item ≡ get_or items i default → turn s item m ≡ Ok (next, m')
+      → each turn s (drop i items) m ≡ each turn next (drop (i + 1) items) m'
   each-item s next items i default item m m' below is value =
       plain s items i m ∙ each-value turn (λ x. x) s next items i default item m m' below is value ∙ sym (plain next items (i + 1) m')
 
-  -- where the turn of the next item stops, so does the walk
-  pub each-item-stop : (s : S) (items : List X) (i : ℕ) (default item : X) (m : M) (stop : F × M) → i < length items → item ≡ get_or items i default → turn s item m ≡ Err stop → each turn s (drop i items) m ≡ Err stop
+  -- if the turn of the next item stops, so does the walk
+  pub each-item-stop : (s : S) (items : List X) (i : ℕ) (default item : X) (m : M) (stop : F × M) → i < length items
+      → item ≡ get_or items i default → turn s item m ≡ Err stop → each turn s (drop i items) m ≡ Err stop
   each-item-stop s items i default item m stop below is stops =
       plain s items i m ∙ each-stop turn (λ x. x) s items i default item m stop below is stops
 
-  -- a walk with no item left gives what it has
+  -- a walk with no item left gives the value that it has
   pub each-all : (s : S) (items : List X) (i : ℕ) (m : M) → i ≡ length items → each turn s (drop i items) m ≡ Ok (s, m)
   each-all s items i m end = ap (λ k. each turn s (drop k items) m) end ∙ plain s items (length items) m ∙ each-end turn (λ x. x) s items m

@@ -22,12 +22,12 @@ infixl 10 ◌>>=◌
 abbrev pub ◌>>=◌ : {M F A B : Type 0} → Work M F A → (A → Work M F B) → Work M F B
 (work >>= next) m = after (work m) next
 
--- each item in turn, with a value that is handed on
+-- each item in turn, with a value that is handed from one to the next
 unfoldable pub each : {M F S X : Type 0} → (S → X → Work M F S) → S → List X → Work M F S
 each turn s [] m = Ok (s, m)
 each turn s (x ∷ xs) m = after (turn s x m) (λ next. each turn next xs)
 
--- the same work, with its fault told another way
+-- the same outcome, with its fault changed by a function
 abbrev pub tell : {M F G A : Type 0} → (F → G) → Result (A × M) (F × M) → Result (A × M) (G × M)
 tell f (Ok x) = Ok x
 tell f (Err stop) = Err (f stop.0, stop.1)

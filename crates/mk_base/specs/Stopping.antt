@@ -2,24 +2,26 @@ use Rattle.std.specs.Prelude.{◌≡◌, Result, Ok, Err}
 use Rattle.mk_base.specs.declared.stopping.Stop.{Stop}
 use Rattle.mk_base.specs.declared.stopping.Stop.TheVariants as stops
 
--- Work stopped at this fault; for want of memory or of the store nothing is said.
+-- The work stopped at this fault. If memory ran out or the store refused, nothing is said.
 abbrev pub StopsAt : {A F M : Type 0} → Stop F → M → Result (A × M) (F × M) → Type 0
 StopsAt (stops.Fault fault) state outcome = outcome ≡ Err (fault, state)
 StopsAt stops.Store state outcome = Unit {0}
 StopsAt stops.Memory state outcome = Unit {0}
 
--- What a function answered and the state it left, seen by view, are those of the definition.
+-- What a function answered, seen by view, and the state that it left are those of the definition.
 abbrev pub Gives : {R A F M : Type 0} → (R → A) → Result R (Stop F) → M → Result (A × M) (F × M) → Type 0
 Gives view (Ok x) state outcome = outcome ≡ Ok (view x, state)
 Gives view (Err stop) state outcome = StopsAt stop state outcome
 
--- The same of a function whose one error is the fault.
+-- The same for a function that fails only by the fault.
 abbrev pub GivesOnly : {R A F M : Type 0} → (R → A) → Result R F → M → Result (A × M) (F × M) → Type 0
 GivesOnly view (Ok x) state outcome = outcome ≡ Ok (view x, state)
 GivesOnly view (Err fault) state outcome = outcome ≡ Err (fault, state)
 
--- A stop of a part is a stop of the whole where each fault of the part is one of the whole.
-pub StopsAt-whole : {A B F M : Type 0} (stop : Stop F) (state : M) (part : Result (A × M) (F × M)) (whole : Result (B × M) (F × M)) → ((end : F × M) → part ≡ Err end → whole ≡ Err end) → StopsAt stop state part → StopsAt stop state whole
+-- If each fault of a part is a fault of the whole, then a stop of the part is a stop of the whole.
+pub StopsAt-whole : {A B F M : Type 0} (stop : Stop F) (state : M) (part : Result (A × M) (F × M))
+    (whole : Result (B × M) (F × M)) → ((end : F × M) → part ≡ Err end → whole ≡ Err end) → StopsAt stop state part
+    → StopsAt stop state whole
 StopsAt-whole (stops.Fault fault) state part whole passes at = passes (fault, state) at
 StopsAt-whole stops.Store state part whole passes at = tt
 StopsAt-whole stops.Memory state part whole passes at = tt

@@ -4,51 +4,72 @@ ghost use Rattle.mk_base.specs.FaultAt.{fault_at};
 
 use std::alloc::{AllocError, Global};
 use std::marker::Model;
+use thiserror::Error;
 
-/// The kinds of fault that a makefile, or a port described by one, can have. Each has the number by
-/// which replies name it.
-#[derive(Clone, Copy, Debug, PartialEq, Eq)]
+/// The kinds of fault that a makefile can have, or a port that a makefile describes. Each kind has the
+/// number by which replies name it.
+#[derive(Clone, Copy, Debug, PartialEq, Eq, Error)]
 pub enum FaultKind {
-    /// A line that can't be read, met as it is executed.
+    /// A line that can't be read, found when it is executed.
+    #[error("a line that can't be read")]
     Line = 1,
-    /// Blocks that don't nest: an unclosed one, a part without its block, one too deep.
+    /// Blocks that don't nest: a block that isn't closed, a part without its block, or a block too
+    /// deep.
+    #[error("blocks that don't nest")]
     Block = 2,
-    /// A condition that can't be read, or an order between texts.
+    /// A condition that can't be read, or one that asks for an order between texts.
+    #[error("a condition that can't be read")]
     Condition = 3,
-    /// A loop's header that can't be read, or words that don't go round.
+    /// A loop's header that can't be read, or a number of words that isn't a multiple of the number of
+    /// variables.
+    #[error("the header of a loop that can't be read")]
     For = 4,
-    /// An included file that isn't there, or a name that is none.
+    /// An included file that doesn't exist, or a name that isn't a file's name.
+    #[error("an included file that isn't there")]
     Include = 5,
     /// Files that include one another more than 16 deep.
+    #[error("files that include one another more than 16 deep")]
     IncludeDepth = 6,
-    /// A `$` that begins nothing, as a reference that doesn't end.
+    /// A reference that doesn't end: its `$` begins nothing.
+    #[error("a reference that doesn't end")]
     Reference = 7,
     /// A modifier that can't be read.
+    #[error("a modifier that can't be read")]
     Modifier = 8,
     /// A variable whose value refers to itself.
+    #[error("a variable whose value refers to itself")]
     Recursive = 9,
     /// More than 32 references one inside another.
+    #[error("more than 32 references one inside another")]
     Depth = 10,
     /// More units of work than the budget has.
+    #[error("more units of work than the budget has")]
     Budget = 11,
     /// A text of more than 65,536 bytes.
+    #[error("a text of more than 65,536 bytes")]
     Length = 12,
-    /// An assignment of a command's output, which nothing here runs.
+    /// An assignment of a command's output. Nothing here runs commands.
+    #[error("an assignment of a command's output")]
     Shell = 13,
     /// Bytes that aren't UTF-8.
+    #[error("bytes that aren't UTF-8")]
     Utf8 = 14,
     /// A flavor that the port doesn't have.
+    #[error("a flavor that the port doesn't have")]
     Flavor = 15,
     /// A package without a name.
+    #[error("a package without a name")]
     NoName = 16,
-    /// A name that can't be a package's.
+    /// A name that can't be a package's name.
+    #[error("a name that can't be a package's")]
     BadName = 17,
     /// More than 256 questions about files.
+    #[error("more than 256 questions about files")]
     Questions = 18,
 }
 
 impl FaultKind {
-    /// The number of the kind, 1 to 18, as replies show it.
+    /// The number of the kind, from 1 to 18, as replies show it.
     pub fn number(self) -> u8
         ensures { result ≡ number_of self }
     {
@@ -57,7 +78,8 @@ impl FaultKind {
 }
 
 /// A fault with the place where it arose.
-#[derive(Debug, Drop)]
+#[derive(Debug, Drop, Error)]
+#[error("{name}:{line}: {kind}")]
 pub struct Fault {
     kind: FaultKind,
     name: String,
@@ -75,8 +97,8 @@ impl Model for Fault {
 }
 
 impl Fault {
-    /// The fault of this kind at this line of the named file; line 0 where no line of the file is
-    /// at fault. The one error is want of memory for the name.
+    /// The fault of this kind at this line of the named file. Line 0 means that no line of the file is
+    /// at fault. It fails only if memory for the name runs out.
     pub fn new(alloc: Global, kind: FaultKind, name: &str, line: u64) -> Result<Fault, AllocError>
         ensures { IfOk result (λ f. f ≡ fault_at kind name.now line) }
     {
@@ -87,21 +109,21 @@ impl Fault {
         })
     }
 
-    /// What went wrong.
+    /// The kind of the fault: what went wrong.
     pub fn kind(&self) -> FaultKind
         ensures { result ≡ self.now.kind }
     {
         self.kind
     }
 
-    /// The file where it arose, by its resolved name.
+    /// The resolved name of the file where it arose.
     pub fn name(&self) -> &str
         ensures { result.now ≡ self.now.name }
     {
         self.name.as_str()
     }
 
-    /// The line where it arose, counted from 1; 0 for the file as a whole.
+    /// The line where it arose, counted from 1. It is 0 if the file as a whole is at fault.
     pub fn line(&self) -> u64
         ensures { result ≡ self.now.line }
     {

@@ -11,8 +11,8 @@ pub const UNITS: u64 = 50_000;
 /// How many questions about files each evaluation may ask.
 pub const QUESTIONS: u64 = 256;
 
-/// What an evaluation may spend and has spent: units of work, and questions about files. It takes no
-/// memory.
+/// What an evaluation may spend and has spent: units of work, and questions about files. It allocates
+/// no memory.
 #[derive(Debug, Drop)]
 pub struct Budget {
     limit: u64,
@@ -32,7 +32,8 @@ impl Model for Budget {
 }
 
 impl Budget {
-    /// A budget of this many units, none of them spent, and of 256 questions.
+    /// A budget of this many units and of 256 questions. No unit is spent yet, and no question is
+    /// asked.
     pub fn new(limit: u64) -> Budget
         ensures { result ≡ full limit }
     {
@@ -43,21 +44,21 @@ impl Budget {
         }
     }
 
-    /// The units spent so far.
+    /// The number of units spent so far.
     pub fn spent(&self) -> u64
         ensures { result ≡ self.now.spent }
     {
         self.spent
     }
 
-    /// The questions asked so far.
+    /// The number of questions asked so far.
     pub fn questions(&self) -> u64
         ensures { result ≡ self.now.questions }
     {
         self.questions
     }
 
-    /// Spends one unit. Where none is left it is a fault of the kind `Budget`, and nothing is spent.
+    /// Spends one unit. If none is left, it fails with the fault `Budget`, and nothing is spent.
     pub fn pay(&mut self) -> Result<(), FaultKind>
         ensures gives { GivesOnly (λ x. x) result self.new (pay self.old) }
         ensures later { IsLater self.old self.new }
@@ -70,8 +71,7 @@ impl Budget {
         }
     }
 
-    /// Counts one question about a file. The 257th is a fault of the kind `Questions`, and isn't
-    /// counted.
+    /// Counts one question about a file. The 257th fails with the fault `Questions`, and isn't counted.
     pub fn ask(&mut self) -> Result<(), FaultKind>
         ensures gives { GivesOnly (λ x. x) result self.new (question self.old) }
         ensures later { IsLater self.old self.new }

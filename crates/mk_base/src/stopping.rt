@@ -4,16 +4,22 @@ ghost use Rattle.mk_base.specs.Blame.{IsBlamed};
 
 use super::{Fault, FaultKind};
 use std::alloc::{AllocError, AllocFailed, Global};
+use std::fmt::Display;
+use thiserror::Error;
 
-/// Why work on a makefile ended without its value: a fault of the makefile, which is a result like
-/// any other, or a refusal of the store or of memory, after which the work can be done again.
-#[derive(Debug, Drop)]
+/// Why work on a makefile ended without its value. A fault of the makefile is a result like any other.
+/// If the store refused or memory ran out, the work can be done again.
+#[derive(Debug, Drop, Error)]
+#[error_bound(F: Display)]
 pub enum Stop<F> {
     /// The makefile is at fault.
+    #[error("{0}")]
     Fault(F),
     /// The store of the files refused.
+    #[error("the store of the files failed")]
     Store,
-    /// There was no memory.
+    /// Memory ran out.
+    #[error("out of memory")]
     Memory,
 }
 
@@ -42,8 +48,8 @@ impl From<FaultKind> for Stop<FaultKind> {
 }
 
 impl Stop<FaultKind> {
-    /// The same stop, a fault being told with the file and the line where it arose. Where there is
-    /// no memory for the file's name, it is want of memory.
+    /// The same stop. If it is a fault, the file's name and the line where it arose are added. If
+    /// memory for the name runs out, the result is `Memory` instead.
     pub fn blame(self, alloc: Global, name: &str, line: u64) -> Stop<Fault>
         ensures { IsBlamed name.now line self result }
     {

@@ -1,4 +1,4 @@
--- The directives under which conditions stand (make(1), "CONDITIONALS"): what each makes of its condition.
+-- The directives that have conditions (make(1), "CONDITIONALS"), and what each makes of its condition.
 use Rattle.std.specs.Prelude.{ℕ, ◌+◌, ◌||◌, true, false, if◌then◌else◌, List, take, drop, codes, Option, Some, None, option_map}
 use Rattle.std.specs.List.{position}
 use Rattle.std.specs.Str.{bytes_eq}
@@ -7,16 +7,18 @@ use Rattle.mk_text.specs.Blanks.{is_blank}
 use Rattle.cond_grammar.specs.declared.tokens.Call.TheVariants.{Defined, Make}
 use Rattle.mk_cond.specs.declared.forms.Form.{Form}
 
--- The form of the directive with a word: what a lone word of its condition asks, and whether the truth of the whole is turned.
+-- The form of the directive with a word: what a lone word of its condition asks, and whether the truth of
+-- the whole is negated.
 abbrev pub form_named : List ℕ → Option Form
 form_named word =
-    if bytes_eq word (codes "if") || bytes_eq word (codes "ifdef") || bytes_eq word (codes "elif") || bytes_eq word (codes "elifdef") then Some (record { word = Defined; turned = false })
+    if bytes_eq word (codes "if") || bytes_eq word (codes "ifdef") || bytes_eq word (codes "elif")
+    || bytes_eq word (codes "elifdef") then Some (record { word = Defined; turned = false })
     else if bytes_eq word (codes "ifndef") || bytes_eq word (codes "elifndef") then Some (record { word = Defined; turned = true })
     else if bytes_eq word (codes "ifmake") || bytes_eq word (codes "elifmake") then Some (record { word = Make; turned = false })
     else if bytes_eq word (codes "ifnmake") || bytes_eq word (codes "elifnmake") then Some (record { word = Make; turned = true })
     else None
 
--- the form of a directive and its condition, where the blank at this place ends the directive's word
+-- the form of a directive and its condition, if the blank at this place ends the directive's word
 abbrev pub parted_at : List ℕ → Option ℕ → Option (Form × List ℕ)
 parted_at text None = None
 parted_at text (Some at) = option_map (λ form. (form, drop (at + 1) text)) (form_named (take at text))

@@ -1,6 +1,8 @@
--- The truth of what stands in conditions: calls, comparisons, and sides alone (make(1), "CONDITIONALS"). What is a number, that no target
--- was asked for or defined, and which comparisons texts have, is this project's choice.
-use Rattle.std.specs.Prelude.{ℕ, ℤ, pos, ◌==◌, Bool, true, false, not, if◌then◌else◌, is_some, List, [], ◌∷◌, length, Option, Some, None, Result, Ok, Err}
+-- The truth of the parts of conditions: calls, comparisons, and sides alone (make(1), "CONDITIONALS").
+-- What is a number, that no target is asked for or defined, and which comparisons texts have, is this
+-- project's choice.
+use Rattle.std.specs.Prelude.{ℕ, ℤ, pos, ◌==◌, Bool, true, false, not, if◌then◌else◌, is_some, List, [], ◌∷◌, length}
+use Rattle.std.specs.Prelude.{Option, Some, None, Result, Ok, Err}
 use Rattle.std.specs.List.{list_any}
 use Rattle.std.specs.Str.{bytes_eq}
 use Rattle.std.specs.FinMap as finite
@@ -12,7 +14,7 @@ use Rattle.mk_text.specs.Words.{words_of, span_text}
 use Rattle.mk_ref.specs.declared.cutting.Piece.{Piece}
 use Rattle.mk_ref.specs.declared.cutting.Piece.TheVariants as pieces
 use Rattle.mk_ref.specs.Units.{units_of, left_of}
-use Rattle.mk_ref.specs.Pieces.{TextPiece, LiteralPiece, PairPiece, ReferencePiece, pieces_of}
+use Rattle.mk_ref.specs.Pieces.{TextPiece, LiteralPiece, EscapedDollarPiece, ReferencePiece, pieces_of}
 use Rattle.mk_env.specs.Texts.{Variables}
 use Rattle.mk_env.specs.Expansion.{expand, inside}
 use Rattle.mk_paths.specs.declared.file_name.NameFault.{NameFault}
@@ -28,7 +30,8 @@ use Rattle.cond_grammar.specs.declared.tokens.Side.TheVariants.{Quoted, Bare}
 use Rattle.mk_cond.specs.Numbers.{number_of, numbers_compare, isnt_zero}
 use Rattle.mk_cond.specs.declared.setting.Setting.{Setting}
 
--- what a condition stands among: the variables, the files, the makefile's name, its own text, and what a lone word of it asks
+-- the surroundings of a condition: the variables, the files, the makefile's name, the condition's own text,
+-- and what a lone word of it asks
 pub record Surroundings : Type 0 where
   pub variables : Variables
   pub files : FileMap
@@ -36,10 +39,16 @@ pub record Surroundings : Type 0 where
   pub text : List ℕ
   pub word : Call
 
--- what the code's setting is, among these files
+-- the surroundings that the code's setting gives, among these files
 abbrev pub among : Setting → FileMap → Surroundings
 among setting files =
-    record { variables = setting.variables.now; files = files; makefile = setting.makefile.now; text = setting.text.now; word = setting.word }
+    record {
+      variables = setting.variables.now;
+      files = files;
+      makefile = setting.makefile.now;
+      text = setting.text.now;
+      word = setting.word;
+    }
 
 -- `defined(N)`: N, expanded, is the name of a variable
 abbrev pub is_defined : Variables → List ℕ → Work Meter FaultKind Bool
@@ -49,16 +58,18 @@ is_defined variables argument = expand variables argument >>= λ name. give (is_
 abbrev pub is_empty : Variables → List ℕ → Work Meter FaultKind Bool
 is_empty variables argument = inside variables argument >>= λ value. give (length (words_of value) == 0)
 
--- the question for a file; a text that names none isn't there, and nothing is asked
+-- the question about a file; if a text names none, the file isn't there, and nothing is asked
 abbrev pub is_there : FileMap → Result (List ℕ) NameFault → Work Account FaultKind Bool
 is_there files (Ok name) = ask_has files name
 is_there files (Err fault) = give false
 
 -- `exists(F)`: the file F, expanded, is there; a name that isn't absolute is under the makefile's directory
 abbrev pub exists : Surroundings → List ℕ → Work Account FaultKind Bool
-exists s argument = quietly (expand s.variables argument) >>= λ file. is_there s.files (resolved (name_under (directory_of s.makefile) file))
+exists s argument =
+    quietly (expand s.variables argument)
+    >>= λ file. is_there s.files (resolved (name_under (directory_of s.makefile) file))
 
--- what a call asks of its argument; no target is asked for or defined, and the argument is then not looked at
+-- what a call asks of its argument; no target is asked for or defined, and then the argument isn't looked at
 abbrev pub called : Surroundings → Call → List ℕ → Work Account FaultKind Bool
 called s Defined argument = quietly (is_defined s.variables argument)
 called s Empty argument = quietly (is_empty s.variables argument)
@@ -87,13 +98,13 @@ texts_compare signs.Equal left right = Some (bytes_eq left right)
 texts_compare signs.Unequal left right = Some (not (bytes_eq left right))
 texts_compare comparison left right = None
 
--- two sides, expanded, are compared as numbers where both are numbers, and else as texts
+-- two sides, expanded, are compared as numbers if both are numbers, and otherwise as texts
 abbrev pub sides_compare : Comparison → Option ℤ → Option ℤ → List ℕ → List ℕ → Option Bool
 sides_compare comparison (Some one) (Some other) left right = Some (numbers_compare comparison one other)
 sides_compare comparison (Some one) None left right = texts_compare comparison left right
 sides_compare comparison None other left right = texts_compare comparison left right
 
--- what is known, or a fault where nothing is
+-- what is known; if nothing is known, that is a fault
 abbrev pub known : Option Bool → Work Meter FaultKind Bool
 known None = fail kinds.Condition
 known (Some held) = give held
@@ -104,11 +115,11 @@ compared variables text one comparison other =
     expand variables (side_source text one) >>= λ left. expand variables (side_source text other)
     >>= λ right. known (sides_compare comparison (side_number one left) (side_number other right) left right)
 
--- a quoted side alone: it isn't empty
+-- a quoted side alone holds if it isn't empty once it is expanded
 abbrev pub has_text : Variables → List ℕ → Work Meter FaultKind Bool
 has_text variables source = expand variables source >>= λ found. give (not (length found == 0))
 
--- a value alone: it is neither empty nor the number 0
+-- a value alone holds if it is neither empty nor the number 0
 abbrev pub is_true : List ℕ → Bool
 is_true [] = false
 is_true (b ∷ rest) = isnt_zero (number_of (b ∷ rest))
@@ -119,15 +130,15 @@ has_true variables source = expand variables source >>= λ found. give (is_true 
 -- whether a piece is a reference, and the same of the code's pieces
 abbrev pub is_reference : TextPiece → Bool
 is_reference (LiteralPiece bytes) = false
-is_reference PairPiece = false
+is_reference EscapedDollarPiece = false
 is_reference (ReferencePiece written name modifiers) = true
 
 abbrev pub is_reference_piece : Piece → Bool
 is_reference_piece (pieces.Literal span) = false
-is_reference_piece (pieces.Pair span) = false
+is_reference_piece (pieces.EscapedDollar span) = false
 is_reference_piece (pieces.Reference reference) = true
 
--- whether a reference stands in a text, of which this is left where it doesn't end
+-- whether there is a reference in a text; if some of the text is left, it begins one that doesn't end
 abbrev pub refers : List ℕ → List TextPiece → Bool
 refers [] found = list_any is_reference found
 refers (b ∷ left) found = true
@@ -135,7 +146,8 @@ refers (b ∷ left) found = true
 unfoldable pub has_reference : List ℕ → Bool
 has_reference text = refers (left_of text) (pieces_of (units_of text))
 
--- a word alone, without a reference: a number holds unless it is 0, and any other word is the argument of what the directive asks
+-- a word alone, without a reference: a number holds unless it is 0, and any other word is the argument of
+-- what the directive asks
 abbrev pub lone : Surroundings → List ℕ → Option ℤ → Work Account FaultKind Bool
 lone s word None = called s s.word word
 lone s word (Some number) = give (isnt_zero (Some number))

@@ -1,5 +1,6 @@
 -- Numbers in conditions. How they are written, and that none has more digits, is this project's choice.
-use Rattle.std.specs.Prelude.{ℕ, ℤ, pos, neg_ℤ, ◌==◌, ◌&&◌, not, nat_le, nat_eq, int_lt, int_le, Bool, true, if◌then◌else◌, List, [], ◌∷◌, length, drop, codes, Option, Some, None, option_map}
+use Rattle.std.specs.Prelude.{ℕ, ℤ, pos, neg_ℤ, ◌==◌, ◌&&◌, not, nat_le, nat_eq, int_lt, int_le, Bool, true}
+use Rattle.std.specs.Prelude.{if◌then◌else◌, List, [], ◌∷◌, length, drop, codes, Option, Some, None, option_map}
 use Rattle.std.specs.List.{list_all, starts_with}
 use Rattle.std.specs.Char.{is_digit}
 use Rattle.std.specs.Ordering.{int_eq}
@@ -7,7 +8,7 @@ use Rattle.std.specs.Str.Parse.{digits_value}
 use Rattle.cond_grammar.specs.declared.tokens.Comparison.{Comparison}
 use Rattle.cond_grammar.specs.declared.tokens.Comparison.TheVariants as signs
 
--- one digit or more in a radix, up to so many
+-- one digit or more in a radix, and no more than this many
 abbrev pub is_numeral : ℕ → ℕ → List ℕ → Bool
 is_numeral radix most digits = nat_le 1 (length digits) && nat_le (length digits) most && list_all (λ c. is_digit c radix) digits
 
@@ -27,7 +28,7 @@ decimal (b ∷ rest) =
 unfoldable pub number_of : List ℕ → Option ℤ
 number_of text = if starts_with nat_eq text (codes "0x") then option_map pos (numeral 16 15 (drop 2 text)) else decimal text
 
--- whether two numbers compare so
+-- whether this comparison holds between two numbers
 abbrev pub numbers_compare : Comparison → ℤ → ℤ → Bool
 numbers_compare signs.Equal left right = int_eq left right
 numbers_compare signs.Unequal left right = not (int_eq left right)
@@ -36,7 +37,7 @@ numbers_compare signs.AtMost left right = int_le left right
 numbers_compare signs.Greater left right = int_lt right left
 numbers_compare signs.AtLeast left right = int_le right left
 
--- what a side is worth that is a number, or is none: a number that is 0 is false, and all else true
+-- whether a side holds that may be a number: the number 0 is false, and all else is true
 abbrev pub isnt_zero : Option ℤ → Bool
 isnt_zero None = true
 isnt_zero (Some number) = not (int_eq number (pos 0))

@@ -15,27 +15,28 @@ use Rattle.mk_cond.specs.Forms.{parted}
 use Rattle.mk_cond.specs.Leaves.{Surroundings}
 use Rattle.mk_cond.specs.Truths.{or_truth}
 
--- the tree of a condition; that there is none is a fault
+-- the tree of a condition; if there is none, that is a fault
 abbrev pub readable : Option OrTree → Work Account FaultKind OrTree
 readable None = fail kinds.Condition
 readable (Some tree) = give tree
 
--- the tree of a text of which this is left; where a reference doesn't end, that is the fault, whatever else is wrong
+-- the tree of a text of which this is left; if a reference doesn't end, that is the fault, whatever
+-- else is wrong
 abbrev pub tree_read : List ℕ → List ℕ → Work Account FaultKind OrTree
 tree_read text [] = readable (tree_in (outside text))
 tree_read text (b ∷ left) = fail kinds.Reference
 
--- a condition among what surrounds it: it is read whole before any of it is looked at
+-- a condition in its surroundings: it is read whole before any of it is looked at
 unfoldable pub condition_truth : Surroundings → Work Account FaultKind Bool
 condition_truth s a = (tree_read s.text (left_of s.text) >>= or_truth s) a
 
--- the same under a directive, which may turn it
+-- the same under a directive, which may negate it
 abbrev pub directive_truth : Variables → FileMap → List ℕ → Option (Form × List ℕ) → Work Account FaultKind Bool
 directive_truth variables files makefile None = fail kinds.Condition
 directive_truth variables files makefile (Some (form, text)) =
     condition_truth (record { variables = variables; files = files; makefile = makefile; text = text; word = form.word })
     >>= λ held. give (if form.turned then not held else held)
 
--- what a text is worth that is a directive's word, a blank and a condition, in the makefile of this name
+-- the truth of a text that is a directive's word, a blank and a condition, in the makefile of this name
 abbrev pub truth : Variables → FileMap → List ℕ → List ℕ → Work Account FaultKind Bool
 truth variables files makefile text = directive_truth variables files makefile (parted text)

@@ -4,10 +4,11 @@ use Rattle.mk_base.specs.declared.faults.FaultKind.{FaultKind}
 use Rattle.mk_base.specs.Outcome.{Work, give, ◌>>=◌}
 use Rattle.mk_text.specs.Words.{span_text}
 use Rattle.mk_files.specs.Asking.{Account, quietly}
-use Rattle.cond_grammar.specs.Trees.{OrTree, OrOf, LaterAnds, NoAnds, MoreAnds, AndTree, AndOf, LaterNots, NoNots, MoreNots, NotTree, Negated, Grouped, Called, Compared, Alone}
+use Rattle.cond_grammar.specs.Trees.{OrTree, OrOf, LaterAnds, NoAnds, MoreAnds, AndTree, AndOf, LaterNots, NoNots}
+use Rattle.cond_grammar.specs.Trees.{MoreNots, NotTree, Negated, Grouped, Called, Compared, Alone}
 use Rattle.mk_cond.specs.Leaves.{Surroundings, called, compared, alone}
 
--- `||` looks at its next operand where none held so far, and `&&` where all did
+-- `||` looks at its next operand if none held so far, and `&&` if all did
 abbrev mutual
   pub or_truth : Surroundings → OrTree → Work Account FaultKind Bool
   or_truth s (OrOf and more) = and_truth s and >>= later_ands_truth s more

@@ -3,7 +3,7 @@ ghost use Rattle.std.specs.Prelude.{◌≡◌, IfOk, IfErr};
 ghost use Rattle.mk_base.specs.Meter.{IsLater};
 ghost use Rattle.mk_base.specs.Stopping.{Gives, NeverStore};
 ghost use Rattle.mk_files.specs.Asking.{account};
-ghost use Rattle.mk_files.specs.Looking.{Asked, LeavesAtStop};
+ghost use Rattle.mk_files.specs.Looking.{AfterQuestions, LeavesAtStop};
 ghost use Rattle.mk_cond.specs.Leaves as leaves;
 ghost use Rattle.mk_cond.specs.Leaves.{among};
 
@@ -16,8 +16,8 @@ use mk_paths::{Name, NameFault, Names};
 use mk_text::words;
 use std::alloc::{AllocError, Global};
 
-/// What a call asks of its argument. Whether a target was asked for or defined is false, and the argument
-/// is then not looked at.
+/// What a call asks of its argument. Whether a target is asked for or defined is always false, and then
+/// the argument isn't looked at.
 pub(crate) fn call_truth<F: Names>(
     alloc: Global,
     setting: Setting<'_>,
@@ -26,9 +26,11 @@ pub(crate) fn call_truth<F: Names>(
     files: &mut F,
     budget: &mut Budget,
 ) -> Result<bool, Stop<FaultKind>>
-    ensures gives { Gives (λ held. held) result (account budget.new (F.shelf files.new)) (leaves.called (among setting.entry (F.shelf files.old).files) call argument.now (account budget.old (F.shelf files.old))) }
-    ensures asked { IfOk result (λ held. Asked (F.shelf files.old) (F.shelf files.new)) }
-    ensures stops { IfErr result (LeavesAtStop F.fails_with (F.shelf files.old) (F.shelf files.new)) }
+    ensures gives { Gives (λ held. held) result (account budget.new (F.view files.new))
+        (leaves.called (among setting.entry (F.view files.old).files) call argument.now
+        (account budget.old (F.view files.old))) }
+    ensures asked { IfOk result (λ held. AfterQuestions (F.view files.old) (F.view files.new)) }
+    ensures stops { IfErr result (LeavesAtStop F.fails_with (F.view files.old) (F.view files.new)) }
     ensures later { IsLater budget.old budget.new }
 {
     match call {
@@ -48,13 +50,14 @@ fn is_defined(
 ) -> Result<bool, Stop<FaultKind>>
     ensures store { NeverStore result }
     ensures later { IsLater budget.old budget.new }
-    ensures gives { Gives (λ held. held) result budget.new (leaves.is_defined variables.now argument.now budget.old) }
+    ensures gives { Gives (λ held. held) result budget.new
+        (leaves.is_defined variables.now argument.now budget.old) }
 {
     let name = expand(alloc, variables, argument, budget)?;
     Ok(variables.defined(name.as_str()))
 }
 
-/// Whether what a reference with this inside means has no word.
+/// Whether the meaning of a reference with this inside has no word.
 fn is_empty(
     alloc: Global,
     variables: &Env,
@@ -63,7 +66,8 @@ fn is_empty(
 ) -> Result<bool, Stop<FaultKind>>
     ensures store { NeverStore result }
     ensures later { IsLater budget.old budget.new }
-    ensures gives { Gives (λ held. held) result budget.new (leaves.is_empty variables.now argument.now budget.old) }
+    ensures gives { Gives (λ held. held) result budget.new
+        (leaves.is_empty variables.now argument.now budget.old) }
 {
     let value = expand_inside(alloc, variables, argument, budget)?;
     Ok(words(alloc, value.as_str())?.is_empty())
@@ -77,9 +81,11 @@ fn exists<F: Names>(
     files: &mut F,
     budget: &mut Budget,
 ) -> Result<bool, Stop<FaultKind>>
-    ensures gives { Gives (λ held. held) result (account budget.new (F.shelf files.new)) (leaves.exists (among setting.entry (F.shelf files.old).files) argument.now (account budget.old (F.shelf files.old))) }
-    ensures asked { IfOk result (λ held. Asked (F.shelf files.old) (F.shelf files.new)) }
-    ensures stops { IfErr result (LeavesAtStop F.fails_with (F.shelf files.old) (F.shelf files.new)) }
+    ensures gives { Gives (λ held. held) result (account budget.new (F.view files.new))
+        (leaves.exists (among setting.entry (F.view files.old).files) argument.now
+        (account budget.old (F.view files.old))) }
+    ensures asked { IfOk result (λ held. AfterQuestions (F.view files.old) (F.view files.new)) }
+    ensures stops { IfErr result (LeavesAtStop F.fails_with (F.view files.old) (F.view files.new)) }
     ensures later { IsLater budget.old budget.new }
 {
     let file = expand(alloc, setting.variables, argument, budget)?;

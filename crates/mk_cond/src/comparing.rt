@@ -11,7 +11,8 @@ use mk_base::{Budget, FaultKind, Stop};
 use mk_env::{Env, expand};
 use std::alloc::Global;
 
-/// Whether two sides of a condition, expanded from the left, compare so.
+/// Whether this comparison holds between two sides of a condition, which are expanded from the left. It
+/// is a fault if texts are compared by an order.
 pub(crate) fn compared(
     alloc: Global,
     variables: &Env,
@@ -25,7 +26,8 @@ pub(crate) fn compared(
     requires other_in { IsSideIn text.now other }
     ensures store { NeverStore result }
     ensures later { IsLater budget.old budget.new }
-    ensures gives { Gives (λ held. held) result budget.new (leaves.compared variables.now text.now one comparison other budget.old) }
+    ensures gives { Gives (λ held. held) result budget.new
+        (leaves.compared variables.now text.now one comparison other budget.old) }
 {
     let left = expand(alloc, variables, side_source(text, one), budget)?;
     let right = expand(alloc, variables, side_source(text, other), budget)?;
@@ -53,7 +55,7 @@ fn side_source(text: &str, side: Side) -> &str
     }
 }
 
-/// The number that an expanded side is.
+/// The number that an expanded side is; `None` if it is none. A quoted side is text.
 fn side_number(side: Side, found: &str) -> Option<i64>
     ensures { result ≡ leaves.side_number side found.now }
 {
@@ -63,7 +65,7 @@ fn side_number(side: Side, found: &str) -> Option<i64>
     }
 }
 
-/// The number that a text is; no text is 0.
+/// The number that a text is; an empty text is 0.
 fn number_or_zero(text: &[u8]) -> Option<i64>
     ensures { result ≡ leaves.number_or_zero text.now }
 {
@@ -74,7 +76,8 @@ fn number_or_zero(text: &[u8]) -> Option<i64>
     }
 }
 
-/// Whether two sides compare so: as numbers where both are, and else as texts.
+/// Whether this comparison holds between two sides. If both are numbers, they are compared as numbers,
+/// and otherwise as texts.
 fn sides_compare(
     comparison: Comparison,
     one: Option<i64>,
@@ -90,7 +93,8 @@ fn sides_compare(
     }
 }
 
-/// Whether two texts compare so; they have no order.
+/// Whether this comparison holds between two texts. Texts have no order: `None` if the comparison
+/// asks for one.
 fn texts_compare(comparison: Comparison, left: &str, right: &str) -> Option<bool>
     ensures { result ≡ leaves.texts_compare comparison left.now right.now }
 {

@@ -1,4 +1,4 @@
-//! The directives under which conditions stand.
+//! The directives that have conditions.
 ghost use Rattle.std.specs.Prelude.{◌≡◌, ◌<◌, ◌+◌, true, length, take, drop, slice_index, option_map};
 ghost use Rattle.std.specs.List.{position};
 ghost use Rattle.mk_text.specs.Blanks.{is_blank};
@@ -12,12 +12,12 @@ use mk_text::is_blank;
 pub(crate) struct Form {
     /// What a lone word of the condition asks.
     pub(crate) word: Call,
-    /// Whether the truth of the whole is turned.
+    /// Whether the truth of the whole is negated.
     pub(crate) turned: bool,
 }
 
-/// The form of the directive that a text begins with, and the condition behind the blank that ends its
-/// word.
+/// The form of the directive that a text begins with, and the condition after the blank that ends the
+/// directive's word.
 pub(crate) fn parted(text: &str) -> Option<(Form, &str)>
     ensures { option_map shown_parts result ≡ parted text.now }
 {
@@ -38,7 +38,7 @@ fn first_blank(bytes: &[u8]) -> Option<usize>
     bytes.iter().position(|byte| is_blank(*byte))
 }
 
-/// What stands before and behind the blank at this index.
+/// What is before and after the blank at this index.
 fn cut_at(text: &str, at: usize) -> (&str, &str)
     requires within { at < length text.now }
     requires blank { is_blank (slice_index text.now at) ≡ true }

@@ -3,7 +3,7 @@ ghost use Rattle.std.specs.Prelude.{◌≡◌, All, Some, IfOk, IfErr, if◌then
 ghost use Rattle.mk_base.specs.Meter.{IsLater};
 ghost use Rattle.mk_base.specs.Stopping.{Gives};
 ghost use Rattle.mk_files.specs.Asking.{account};
-ghost use Rattle.mk_files.specs.Looking.{Asked, LeavesAtStop};
+ghost use Rattle.mk_files.specs.Looking.{AfterQuestions, LeavesAtStop};
 ghost use Rattle.mk_cond.specs.Leaves.{among};
 ghost use Rattle.mk_cond.specs.Truth as meaning;
 
@@ -16,30 +16,37 @@ use mk_env::Env;
 use mk_paths::{Name, Names};
 use std::alloc::Global;
 
-/// Whether a condition holds under its directive, as make(1), "CONDITIONALS", has it. The text is the
-/// directive's word, one of `if`, `ifdef`, `ifndef`, `ifmake`, `ifnmake` and the same behind `el`, then a
-/// blank, and the condition. Under the `make` words a lone word `W` reads as `make(W)`, and under the
-/// others as `defined(W)`; the `n` words turn the truth of the whole.
+/// Whether a condition holds under its directive, as make(1), "CONDITIONALS", says. The text is the
+/// directive's word, a blank, and the condition. The word is one of `if`, `ifdef`, `ifndef`, `ifmake`,
+/// `ifnmake` and the same after `el`. Under the `make` words a lone word `W` is read as `make(W)`, and
+/// under the others as `defined(W)`. The `n` words negate the truth of the whole.
 ///
-/// The condition is read whole and unexpanded. Then it is looked at from left to right, only as far as is
-/// needed. `defined(N)`: N, expanded, is a variable. `empty(N:M)`: what a reference to N with these
-/// modifiers means has no word. `exists(F)`: the file F, expanded, is there; a relative name is under the
-/// makefile's directory, and a text that is no name is false and asks nothing. `make` and `target` are
-/// false, and their argument isn't expanded. Two sides are compared as numbers where both are numbers, and
-/// else as texts; a quoted side is text, and one that expands to nothing without quotes is 0. A number is
-/// `0x` and 1 to 15 hexadecimal digits, or a sign, if any, and 1 to 18 decimal digits. A side alone with a
-/// reference holds unless it expands to nothing or to the number 0, a number unless it is 0, a quoted one
-/// unless it expands to nothing.
+/// The condition is read whole and unexpanded. Then it is looked at from left to right, only as far as
+/// is needed. `defined(N)` holds if N, expanded, is a variable. `empty(N:M)` holds if what a reference
+/// to N with these modifiers means has no word. `exists(F)` holds if the file F, expanded, is there; a
+/// relative name is under the makefile's directory. A text that is no file name is false there, and
+/// nothing is asked. `make` and `target` are false, and their argument isn't expanded.
+///
+/// If both sides of a comparison are numbers, they are compared as numbers, and otherwise as texts. A
+/// quoted side is text. A side without quotes that expands to nothing is 0. A number is `0x` and 1 to 15
+/// hexadecimal digits, or a sign, if any, and 1 to 18 decimal digits.
+///
+/// A side alone with a reference holds unless it expands to nothing or to the number 0. A number alone
+/// holds unless it is 0, and a quoted side alone unless it expands to nothing.
 ///
 /// # Errors
 ///
-/// The faults: `Condition` where the text has no directive's word and a blank in front; then `Reference`
-/// where a reference of the condition doesn't end, before anything else of it is looked at; `Condition`
-/// where it can't be read, as where more than 64 `!` and parentheses stand one inside another; then, from
-/// the left, those of `mk_env::expand` and `mk_env::expand_inside`, `Condition` where texts are compared by
-/// an order, after both sides are expanded, and `Questions` for the 257th question about a file, for which
-/// nothing is asked. `Store` and `Memory` are the faults of the files, told as they are; `Memory` comes too
-/// where none is left. The budget says afterwards what was spent and asked, after a fault too.
+/// The fault is `Condition` if the text doesn't begin with a directive's word and a blank. Then it is
+/// `Reference` if a reference of the condition doesn't end, before anything else of it is looked at.
+/// Then it is `Condition` if the condition can't be read, for example if more than 64 `!` and
+/// parentheses are nested.
+///
+/// Then, from the left, come the faults of `mk_env::expand` and `mk_env::expand_inside`. It is
+/// `Condition` if texts are compared by an order, after both sides are expanded. It is `Questions` for
+/// the 257th question about a file, and then nothing is asked.
+///
+/// If the files fail, their fault is returned as it is, as `Store` or `Memory`. It is also `Memory` if
+/// memory runs out. The budget says afterwards what was spent and asked, after a fault too.
 pub fn truth<F: Names>(
     alloc: Global,
     variables: &Env,
@@ -48,9 +55,11 @@ pub fn truth<F: Names>(
     files: &mut F,
     budget: &mut Budget,
 ) -> Result<bool, Stop<FaultKind>>
-    ensures gives { Gives (λ held. held) result (account budget.new (F.shelf files.new)) (meaning.truth variables.now (F.shelf files.old).files makefile.now text.now (account budget.old (F.shelf files.old))) }
-    ensures asked { IfOk result (λ held. Asked (F.shelf files.old) (F.shelf files.new)) }
-    ensures stops { IfErr result (LeavesAtStop F.fails_with (F.shelf files.old) (F.shelf files.new)) }
+    ensures gives { Gives (λ held. held) result (account budget.new (F.view files.new))
+        (meaning.truth variables.now (F.view files.old).files makefile.now text.now
+        (account budget.old (F.view files.old))) }
+    ensures asked { IfOk result (λ held. AfterQuestions (F.view files.old) (F.view files.new)) }
+    ensures stops { IfErr result (LeavesAtStop F.fails_with (F.view files.old) (F.view files.new)) }
     ensures later { IsLater budget.old budget.new }
 {
     let Some((form, condition)) = parted(text) else {
@@ -66,7 +75,7 @@ pub fn truth<F: Names>(
     Ok(if form.turned { !held } else { held })
 }
 
-/// Whether the condition that the setting's text is holds.
+/// Whether the condition in the setting's text holds.
 #[tactic(auto, unfolding(crate::specs::Truth::condition_truth))]
 fn text_truth<F: Names>(
     alloc: Global,
@@ -74,9 +83,11 @@ fn text_truth<F: Names>(
     files: &mut F,
     budget: &mut Budget,
 ) -> Result<bool, Stop<FaultKind>>
-    ensures gives { Gives (λ held. held) result (account budget.new (F.shelf files.new)) (meaning.condition_truth (among setting.entry (F.shelf files.old).files) (account budget.old (F.shelf files.old))) }
-    ensures asked { IfOk result (λ held. Asked (F.shelf files.old) (F.shelf files.new)) }
-    ensures stops { IfErr result (LeavesAtStop F.fails_with (F.shelf files.old) (F.shelf files.new)) }
+    ensures gives { Gives (λ held. held) result (account budget.new (F.view files.new))
+        (meaning.condition_truth (among setting.entry (F.view files.old).files)
+        (account budget.old (F.view files.old))) }
+    ensures asked { IfOk result (λ held. AfterQuestions (F.view files.old) (F.view files.new)) }
+    ensures stops { IfErr result (LeavesAtStop F.fails_with (F.view files.old) (F.view files.new)) }
     ensures later { IsLater budget.old budget.new }
 {
     conditions_are_read();

@@ -21,7 +21,7 @@ pub(crate) fn number_of(text: &[u8]) -> Option<i64>
     }
 }
 
-/// The number that a sign, or none, and 1 to 18 decimal digits write.
+/// The number that is written as a sign, or none, and 1 to 18 decimal digits.
 fn decimal(text: &[u8]) -> Option<i64>
     ensures { result ≡ decimal text.now }
 {
@@ -52,7 +52,8 @@ fn negative(size: Option<u64>) -> Option<i64>
     }
 }
 
-/// The number that digits in a radix write, of which there is one and at most `most`.
+/// The number that is written with these digits in this radix. There must be at least one digit and
+/// at most `most`.
 fn numeral(digits: &[u8], radix: u32, most: usize) -> Option<u64>
     requires least { 2 ≤ radix }
     requires greatest { radix ≤ 36 }
@@ -85,7 +86,7 @@ fn are_digits(bytes: &[u8], radix: u32) -> bool
     bytes.iter().all(|byte| char::from(*byte).is_digit(radix))
 }
 
-/// Whether two numbers compare so.
+/// Whether this comparison holds between two numbers.
 pub(crate) fn numbers_compare(comparison: Comparison, left: i64, right: i64) -> bool
     ensures { result ≡ numbers_compare comparison left right }
 {
@@ -99,7 +100,7 @@ pub(crate) fn numbers_compare(comparison: Comparison, left: i64, right: i64) -> 
     }
 }
 
-/// Whether what may be a number isn't the number 0.
+/// Whether this, which may be a number, isn't the number 0.
 pub(crate) fn isnt_zero(number: Option<i64>) -> bool
     ensures { result ≡ isnt_zero number }
 {

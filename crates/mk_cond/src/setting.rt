@@ -1,15 +1,15 @@
-//! What conditions stand among.
+//! The surroundings of conditions.
 
 use cond_grammar::Call;
 use mk_env::Env;
 use mk_paths::Name;
 
-/// What a condition stands among.
+/// The surroundings of a condition.
 #[derive(Clone, Copy)]
 pub(crate) struct Setting<'a> {
-    /// What the names stand for.
+    /// The variables, with what their names mean.
     pub(crate) variables: &'a Env,
-    /// The makefile, under whose directory files are sought.
+    /// The makefile; files are looked for under its directory.
     pub(crate) makefile: &'a Name,
     /// The text of the condition.
     pub(crate) text: &'a str,

@@ -1,10 +1,10 @@
-//! Sides of conditions that stand alone.
+//! Sides of conditions that are alone, without a comparison.
 ghost use Rattle.std.specs.Prelude.{◌≡◌, IfOk, IfErr};
 ghost use Rattle.mk_base.specs.Meter.{IsLater};
 ghost use Rattle.mk_base.specs.Stopping.{Gives, NeverStore};
 ghost use Rattle.std.specs.List.{list_any};
 ghost use Rattle.mk_files.specs.Asking.{account};
-ghost use Rattle.mk_files.specs.Looking.{Asked, LeavesAtStop};
+ghost use Rattle.mk_files.specs.Looking.{AfterQuestions, LeavesAtStop};
 ghost use Rattle.cond_grammar.specs.Placed.{IsSideIn};
 ghost use Rattle.mk_cond.specs.Leaves as leaves;
 ghost use Rattle.mk_cond.specs.Leaves.{among, is_reference_piece};
@@ -19,7 +19,7 @@ use mk_paths::Names;
 use mk_ref::{Piece, PiecesFault, pieces};
 use std::alloc::{AllocError, Global};
 
-/// Whether a side that stands alone holds.
+/// Whether a side alone holds.
 pub(crate) fn side_truth<F: Names>(
     alloc: Global,
     setting: Setting<'_>,
@@ -28,9 +28,11 @@ pub(crate) fn side_truth<F: Names>(
     budget: &mut Budget,
 ) -> Result<bool, Stop<FaultKind>>
     requires { IsSideIn setting.text.now side }
-    ensures gives { Gives (λ held. held) result (account budget.new (F.shelf files.new)) (leaves.alone (among setting.entry (F.shelf files.old).files) side (account budget.old (F.shelf files.old))) }
-    ensures asked { IfOk result (λ held. Asked (F.shelf files.old) (F.shelf files.new)) }
-    ensures stops { IfErr result (LeavesAtStop F.fails_with (F.shelf files.old) (F.shelf files.new)) }
+    ensures gives { Gives (λ held. held) result (account budget.new (F.view files.new))
+        (leaves.alone (among setting.entry (F.view files.old).files) side
+        (account budget.old (F.view files.old))) }
+    ensures asked { IfOk result (λ held. AfterQuestions (F.view files.old) (F.view files.new)) }
+    ensures stops { IfErr result (LeavesAtStop F.fails_with (F.view files.old) (F.view files.new)) }
     ensures later { IsLater budget.old budget.new }
 {
     match side {
@@ -39,7 +41,7 @@ pub(crate) fn side_truth<F: Names>(
     }
 }
 
-/// Whether a word that stands alone holds.
+/// Whether a word alone holds.
 fn word_truth<F: Names>(
     alloc: Global,
     setting: Setting<'_>,
@@ -47,9 +49,11 @@ fn word_truth<F: Names>(
     files: &mut F,
     budget: &mut Budget,
 ) -> Result<bool, Stop<FaultKind>>
-    ensures gives { Gives (λ held. held) result (account budget.new (F.shelf files.new)) (leaves.bare (among setting.entry (F.shelf files.old).files) word.now (account budget.old (F.shelf files.old))) }
-    ensures asked { IfOk result (λ held. Asked (F.shelf files.old) (F.shelf files.new)) }
-    ensures stops { IfErr result (LeavesAtStop F.fails_with (F.shelf files.old) (F.shelf files.new)) }
+    ensures gives { Gives (λ held. held) result (account budget.new (F.view files.new))
+        (leaves.bare (among setting.entry (F.view files.old).files) word.now
+        (account budget.old (F.view files.old))) }
+    ensures asked { IfOk result (λ held. AfterQuestions (F.view files.old) (F.view files.new)) }
+    ensures stops { IfErr result (LeavesAtStop F.fails_with (F.view files.old) (F.view files.new)) }
     ensures later { IsLater budget.old budget.new }
 {
     if has_reference(alloc, word)? {
@@ -70,7 +74,8 @@ fn has_text(
 ) -> Result<bool, Stop<FaultKind>>
     ensures store { NeverStore result }
     ensures later { IsLater budget.old budget.new }
-    ensures gives { Gives (λ held. held) result budget.new (leaves.has_text variables.now source.now budget.old) }
+    ensures gives { Gives (λ held. held) result budget.new
+        (leaves.has_text variables.now source.now budget.old) }
 {
     let found = expand(alloc, variables, source, budget)?;
     Ok(!found.is_empty())
@@ -85,7 +90,8 @@ fn has_true(
 ) -> Result<bool, Stop<FaultKind>>
     ensures store { NeverStore result }
     ensures later { IsLater budget.old budget.new }
-    ensures gives { Gives (λ held. held) result budget.new (leaves.has_true variables.now source.now budget.old) }
+    ensures gives { Gives (λ held. held) result budget.new
+        (leaves.has_true variables.now source.now budget.old) }
 {
     let found = expand(alloc, variables, source, budget)?;
     Ok(is_true(found.as_bytes()))
@@ -98,7 +104,7 @@ fn is_true(text: &[u8]) -> bool
     !text.is_empty() && isnt_zero(number_of(text))
 }
 
-/// Whether a reference stands in a text.
+/// Whether there is a reference in a text. One that doesn't end counts too.
 #[tactic(auto, unfolding(crate::specs::Leaves::has_reference))]
 fn has_reference(alloc: Global, text: &str) -> Result<bool, AllocError>
     ensures { IfOk result (λ found. found ≡ leaves.has_reference text.now) }

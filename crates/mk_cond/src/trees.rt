@@ -3,7 +3,7 @@ ghost use Rattle.std.specs.Prelude.{All, IfOk, IfErr};
 ghost use Rattle.mk_base.specs.Meter.{IsLater};
 ghost use Rattle.mk_base.specs.Stopping.{Gives};
 ghost use Rattle.mk_files.specs.Asking.{account};
-ghost use Rattle.mk_files.specs.Looking.{Asked, LeavesAtStop};
+ghost use Rattle.mk_files.specs.Looking.{AfterQuestions, LeavesAtStop};
 ghost use Rattle.cond_grammar.specs.Placed.{IsTokenIn};
 ghost use Rattle.cond_grammar.specs.Trees.{or_tokens, and_tokens, not_tokens};
 ghost use Rattle.cond_grammar.specs.Views.{condition_tree, conjunction_tree, term_tree};
@@ -29,9 +29,11 @@ pub(crate) fn condition_truth<F: Names>(
     budget: &mut Budget,
 ) -> Result<bool, Stop<FaultKind>>
     requires { All (IsTokenIn setting.text.now) (or_tokens (condition_tree condition.now)) }
-    ensures gives { Gives (λ held. held) result (account budget.new (F.shelf files.new)) (or_truth (among setting.entry (F.shelf files.old).files) (condition_tree condition.now) (account budget.old (F.shelf files.old))) }
-    ensures asked { IfOk result (λ held. Asked (F.shelf files.old) (F.shelf files.new)) }
-    ensures stops { IfErr result (LeavesAtStop F.fails_with (F.shelf files.old) (F.shelf files.new)) }
+    ensures gives { Gives (λ held. held) result (account budget.new (F.view files.new))
+        (or_truth (among setting.entry (F.view files.old).files) (condition_tree condition.now)
+        (account budget.old (F.view files.old))) }
+    ensures asked { IfOk result (λ held. AfterQuestions (F.view files.old) (F.view files.new)) }
+    ensures stops { IfErr result (LeavesAtStop F.fails_with (F.view files.old) (F.view files.new)) }
     ensures later { IsLater budget.old budget.new }
 {
     let mut held = conjunction_truth(alloc, setting, &condition.first, files, budget)?;
@@ -54,9 +56,11 @@ fn conjunction_truth<F: Names>(
     budget: &mut Budget,
 ) -> Result<bool, Stop<FaultKind>>
     requires { All (IsTokenIn setting.text.now) (and_tokens (conjunction_tree conjunction.now)) }
-    ensures gives { Gives (λ held. held) result (account budget.new (F.shelf files.new)) (and_truth (among setting.entry (F.shelf files.old).files) (conjunction_tree conjunction.now) (account budget.old (F.shelf files.old))) }
-    ensures asked { IfOk result (λ held. Asked (F.shelf files.old) (F.shelf files.new)) }
-    ensures stops { IfErr result (LeavesAtStop F.fails_with (F.shelf files.old) (F.shelf files.new)) }
+    ensures gives { Gives (λ held. held) result (account budget.new (F.view files.new))
+        (and_truth (among setting.entry (F.view files.old).files)
+        (conjunction_tree conjunction.now) (account budget.old (F.view files.old))) }
+    ensures asked { IfOk result (λ held. AfterQuestions (F.view files.old) (F.view files.new)) }
+    ensures stops { IfErr result (LeavesAtStop F.fails_with (F.view files.old) (F.view files.new)) }
     ensures later { IsLater budget.old budget.new }
 {
     let mut held = term_truth(alloc, setting, &conjunction.first, files, budget)?;
@@ -79,9 +83,11 @@ fn term_truth<F: Names>(
     budget: &mut Budget,
 ) -> Result<bool, Stop<FaultKind>>
     requires { All (IsTokenIn setting.text.now) (not_tokens (term_tree term.now)) }
-    ensures gives { Gives (λ held. held) result (account budget.new (F.shelf files.new)) (not_truth (among setting.entry (F.shelf files.old).files) (term_tree term.now) (account budget.old (F.shelf files.old))) }
-    ensures asked { IfOk result (λ held. Asked (F.shelf files.old) (F.shelf files.new)) }
-    ensures stops { IfErr result (LeavesAtStop F.fails_with (F.shelf files.old) (F.shelf files.new)) }
+    ensures gives { Gives (λ held. held) result (account budget.new (F.view files.new))
+        (not_truth (among setting.entry (F.view files.old).files) (term_tree term.now)
+        (account budget.old (F.view files.old))) }
+    ensures asked { IfOk result (λ held. AfterQuestions (F.view files.old) (F.view files.new)) }
+    ensures stops { IfErr result (LeavesAtStop F.fails_with (F.view files.old) (F.view files.new)) }
     ensures later { IsLater budget.old budget.new }
 {
     match term {

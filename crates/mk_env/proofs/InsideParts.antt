@@ -3,7 +3,7 @@ use Rattle.std.proofs.Common.{◌≡◌, ◌==◌, ℕ, ◌+◌, ◌<◌, ◌≤
 use Rattle.std.specs.List.{flat_map, position, prefix_len}
 use Rattle.std.proofs.lemmas.Bool.Decides.{eqb_tells}
 use Rattle.std.proofs.lemmas.Grind.{common_steps}
-use Rattle.mk_ref.specs.Units.{TextUnit, Byte, Pair, Reference, sources, before_colon, behind_colon, units_of, left_of}
+use Rattle.mk_ref.specs.Units.{TextUnit, Byte, EscapedDollar, Reference, sources, before_colon, behind_colon, units_of, left_of}
 use Rattle.mk_ref.specs.Laws.{with_colon}
 use Rattle.mk_ref.specs.Outside.{dollars, covered, outside}
 use Rattle.mk_ref.proofs.UnitSteps.{units-text}
@@ -26,7 +26,7 @@ other-units (Byte b ∷ units) =
       | true ↦ refl
       | false ↦ let rest = other-units units in omega (arith, rest)
     ]
-other-units (Pair ∷ units) = let rest = other-units units in omega (arith, rest)
+other-units (EscapedDollar ∷ units) = let rest = other-units units in omega (arith, rest)
 other-units (Reference written name modifiers ∷ units) =
     other-dollars written (flat_map covered units) ∙ ap (λ n. length written + n) (other-units units) ∙ sym (length-append written (sources (before_colon units)))
 
@@ -38,7 +38,7 @@ around (Byte b ∷ units) =
       | inl colon ↦ rw colon.0 (ap (λ n. n ∷ sources units) (sym colon.1))
       | inr other ↦ rw other.0 (ap (λ l. b ∷ l) (around units))
     ]
-around (Pair ∷ units) = ap (λ l. 36 ∷ 36 ∷ l) (around units)
+around (EscapedDollar ∷ units) = ap (λ l. 36 ∷ 36 ∷ l) (around units)
 around (Reference written name modifiers ∷ units) =
     append_assoc written (sources (before_colon units)) (with_colon (option_map sources (behind_colon units))) ∙ ap (λ l. written ++ l) (around units)
 

@@ -1,4 +1,4 @@
--- Why a part of an expansion stopped; want of memory says nothing.
+-- Why a part of an expansion stopped. If memory ran out, nothing is said.
 use Rattle.std.specs.Prelude.{◌≡◌, ◌≢◌, ◌<◌, ℕ, List, [], length, Option, None}
 use Rattle.mk_base.specs.declared.stopping.Stop.{Stop}
 use Rattle.mk_base.specs.declared.stopping.Stop.TheVariants as stops
@@ -7,7 +7,7 @@ use Rattle.mk_base.specs.declared.faults.FaultKind.TheVariants as kinds
 use Rattle.mk_text.specs.declared.limits.TheConstants.{TEXT_LIMIT}
 use Rattle.mk_ref.specs.Units.{left_of}
 
--- a fault of this kind where this holds, or want of memory
+-- it stopped at a fault of this kind, and this holds, or it was out of memory
 abbrev pub StopsBy : FaultKind → Type 0 → Stop FaultKind → Type 0
 StopsBy kind reason (stops.Fault found) = (found ≡ kind) × reason
 StopsBy kind reason stops.Store = ⊥
@@ -21,7 +21,7 @@ IsUncut text stop = StopsBy kinds.Reference (left_of text ≢ []) stop
 abbrev pub IsTooLong : List ℕ → Stop FaultKind → Type 0
 IsTooLong whole stop = StopsBy kinds.Length (TEXT_LIMIT < length whole) stop
 
--- why modifiers weren't read: there are none
+-- why modifiers weren't read: they can't be
 abbrev pub IsUnread : {X : Type 0} → Option X → Stop FaultKind → Type 0
 IsUnread read stop = StopsBy kinds.Modifier (read ≡ None) stop
 

@@ -8,28 +8,31 @@ use crate::Env;
 use crate::insides::mention_of;
 use crate::reading::read_modifiers;
 use crate::references::{apply_modifiers, expand_named, expand_reference, expand_text};
-use crate::scope::{Active, Scope, Undefined};
+use crate::scope::{Active, ExpansionScope, Undefined};
 use mk_base::{Budget, FaultKind, Stop};
 use std::alloc::Global;
 
-/// How many references may stand one inside another, over values, names and modifiers.
+/// How many references may be nested, over values, names and modifiers.
 pub const REFERENCE_LEVELS: u32 = 32;
 
-/// The text with each reference replaced by what it stands for, from the left, and `$$` by one dollar
-/// (make(1), "VARIABLES"). Each reference costs one unit of the budget, which says afterwards what was
-/// spent, after a fault too. A variable that isn't defined stands for nothing.
+/// The text with each reference replaced by what it means, from the left, and each `$$` by one dollar
+/// (make(1), "VARIABLES"). Each reference costs one unit of the budget. The budget says afterwards what
+/// was spent, after a fault too. The value of a variable that isn't defined is an empty text.
 ///
 /// # Errors
 ///
-/// The faults: `Reference` where a reference doesn't end, before anything of that text is expanded.
-/// For each reference, in this order: `Budget` where no unit is left; `Depth` where more than 32
-/// references stand one inside another, over values, names and modifiers; those of its name, which is
-/// expanded first; `Recursive` where the value of that name is being expanded; `Modifier` where its
-/// modifiers can't be read; those of its value; and those of its modifiers, which are applied from
-/// left to right, the references in each expanded as it is applied. `Length` where a text, as it is
-/// joined from the left, or the result of a modifier passes 65,536 bytes; no longer text is made.
+/// The fault is `Reference` if a reference doesn't end, before anything of that text is expanded.
 ///
-/// Want of memory is the other error.
+/// Then, for each reference, faults are looked for in this order. `Budget` if no unit is left. `Depth`
+/// if more than 32 references are nested, over values, names and modifiers. Those of its name, which is
+/// expanded first. `Recursive` if the value of that name is being expanded. `Modifier` if its modifiers
+/// can't be read. Those of its value. Those of its modifiers, which are applied from left to right; the
+/// references in each are expanded as it is applied.
+///
+/// It is `Length` if a text, as it is joined from the left, or the result of a modifier is longer than
+/// 65,536 bytes; no longer text is made.
+///
+/// The other error is that memory runs out.
 pub fn expand(
     alloc: Global,
     variables: &Env,
@@ -38,9 +41,10 @@ pub fn expand(
 ) -> Result<String, Stop<FaultKind>>
     ensures store { NeverStore result }
     ensures later { IsLater budget.old budget.new }
-    ensures gives { Gives string_bytes result budget.new (meaning.expand variables.now text.now budget.old) }
+    ensures gives { Gives string_bytes result budget.new
+        (meaning.expand variables.now text.now budget.old) }
 {
-    let scope = Scope {
+    let scope = ExpansionScope {
         variables,
         active: Active::Nothing,
         levels: REFERENCE_LEVELS,
@@ -49,9 +53,9 @@ pub fn expand(
     expand_text(alloc, scope, text, budget)
 }
 
-/// What `:=` stores: as `expand`, but a reference of the text's own whose name, once expanded, isn't
-/// defined is kept as it is written, its modifiers unread, at the cost of its unit and of its name.
-/// The errors are those of `expand`.
+/// What `:=` stores. It is the same as `expand`, except for a reference in the text itself whose name,
+/// once expanded, isn't defined. Such a reference is kept as it is written, and its modifiers aren't
+/// read. It costs its unit and what its name costs. The errors are those of `expand`.
 pub fn expand_now(
     alloc: Global,
     variables: &Env,
@@ -60,9 +64,10 @@ pub fn expand_now(
 ) -> Result<String, Stop<FaultKind>>
     ensures store { NeverStore result }
     ensures later { IsLater budget.old budget.new }
-    ensures gives { Gives string_bytes result budget.new (meaning.expand_now variables.now text.now budget.old) }
+    ensures gives { Gives string_bytes result budget.new
+        (meaning.expand_now variables.now text.now budget.old) }
 {
-    let scope = Scope {
+    let scope = ExpansionScope {
         variables,
         active: Active::Nothing,
         levels: REFERENCE_LEVELS,
@@ -71,8 +76,8 @@ pub fn expand_now(
     expand_text(alloc, scope, text, budget)
 }
 
-/// What a reference to this variable means, with the costs and faults of `expand`; a name that isn't
-/// defined means an empty text. The name is taken as it stands.
+/// What a reference to this variable means, with the costs and errors of `expand`. If the name isn't
+/// defined, that is an empty text. The name is taken as it is, and isn't expanded.
 pub fn expand_variable(
     alloc: Global,
     variables: &Env,
@@ -81,10 +86,11 @@ pub fn expand_variable(
 ) -> Result<String, Stop<FaultKind>>
     ensures store { NeverStore result }
     ensures later { IsLater budget.old budget.new }
-    ensures gives { Gives string_bytes result budget.new (meaning.variable variables.now name.now budget.old) }
+    ensures gives { Gives string_bytes result budget.new
+        (meaning.variable variables.now name.now budget.old) }
 {
     budget.pay()?;
-    let scope = Scope {
+    let scope = ExpansionScope {
         variables,
         active: Active::Nothing,
         levels: REFERENCE_LEVELS - 1,
@@ -93,11 +99,12 @@ pub fn expand_variable(
     expand_named(alloc, scope, name, None, budget)
 }
 
-/// What a reference means of which this is the inside, a name and, behind its first colon outside
-/// references, modifiers: as `empty(NAME:MODIFIERS)` of a condition has one (make(1), "CONDITIONALS").
-/// Its costs and faults are those that `expand` has for a reference; nothing stands round it. Where a
-/// reference in it doesn't end, that is the fault `Reference`, before anything is paid. A mark that
-/// would close a reference is a byte like any other in it.
+/// What a reference with this inside means. The inside is a name and, after its first colon outside
+/// references, modifiers, as in `empty(NAME:MODIFIERS)` of a condition (make(1), "CONDITIONALS"). A mark
+/// that would close a reference is a byte like any other in it.
+///
+/// Its costs and errors are those that `expand` has for a reference that isn't inside another. If a
+/// reference in the inside doesn't end, the fault is `Reference`, before anything is paid.
 pub fn expand_inside(
     alloc: Global,
     variables: &Env,
@@ -106,10 +113,11 @@ pub fn expand_inside(
 ) -> Result<String, Stop<FaultKind>>
     ensures store { NeverStore result }
     ensures later { IsLater budget.old budget.new }
-    ensures gives { Gives string_bytes result budget.new (meaning.inside variables.now inside.now budget.old) }
+    ensures gives { Gives string_bytes result budget.new
+        (meaning.inside variables.now inside.now budget.old) }
 {
     let mention = mention_of(alloc, inside)?;
-    let scope = Scope {
+    let scope = ExpansionScope {
         variables,
         active: Active::Nothing,
         levels: REFERENCE_LEVELS,
@@ -118,12 +126,12 @@ pub fn expand_inside(
     expand_reference(alloc, scope, mention, budget)
 }
 
-/// What these modifiers, which stand behind the colon of a reference, make of a text that is given in
-/// place of that reference's value: as of the word that a loop puts there. The text is taken as it
-/// stands, and the reference is paid for already; it stands round the references in the modifiers.
+/// What these modifiers, which follow the colon of a reference, make of a text. The text is given in
+/// place of that reference's value, such as the word that a loop puts there, and is taken as it is. The
+/// reference is already paid for, and the references in the modifiers count as inside it.
 ///
-/// The faults: `Modifier` where the modifiers can't be read; then those of applying them from left to
-/// right, as `expand` has them. Want of memory is the other error.
+/// The fault is `Modifier` if the modifiers can't be read. Then come the faults of applying them from
+/// left to right, as for `expand`. The other error is that memory runs out.
 pub fn modify(
     alloc: Global,
     variables: &Env,
@@ -133,11 +141,12 @@ pub fn modify(
 ) -> Result<String, Stop<FaultKind>>
     ensures store { NeverStore result }
     ensures later { IsLater budget.old budget.new }
-    ensures gives { Gives string_bytes result budget.new (meaning.modified_by variables.now modifiers.now text.now budget.old) }
+    ensures gives { Gives string_bytes result budget.new
+        (meaning.modified_by variables.now modifiers.now text.now budget.old) }
 {
     let modifiers = read_modifiers(alloc, Some(modifiers))?;
     let text = String::from_str(alloc, text)?;
-    let scope = Scope {
+    let scope = ExpansionScope {
         variables,
         active: Active::Nothing,
         levels: REFERENCE_LEVELS - 1,

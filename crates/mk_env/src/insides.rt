@@ -1,4 +1,4 @@
-//! References that are given by what stands inside them.
+//! References that are given by what is inside them.
 ghost use Rattle.std.specs.Prelude.{◌≡◌, ◌==◌, ◌<◌, ◌+◌, [], length, take, drop, option_map, slice_index, IfOk, IfErr, Some};
 ghost use Rattle.std.specs.List.{position};
 ghost use Rattle.mk_ref.specs.Units.{sources, before_colon, behind_colon, units_of, left_of};
@@ -14,8 +14,10 @@ use std::alloc::Global;
 pub(crate) fn mention_of<'a>(alloc: Global, inside: &'a str) -> Result<Mention<'a>, Stop<FaultKind>>
     ensures whole { IfOk result (λ found. left_of inside.now ≡ []) }
     ensures written { IfOk result (λ found. found.written.now ≡ inside.now) }
-    ensures name { IfOk result (λ found. found.name.now ≡ sources (before_colon (units_of inside.now))) }
-    ensures modifiers { IfOk result (λ found. option_map (λ t. t.now) found.modifiers ≡ option_map sources (behind_colon (units_of inside.now))) }
+    ensures name { IfOk result (λ found. found.name.now
+        ≡ sources (before_colon (units_of inside.now))) }
+    ensures modifiers { IfOk result (λ found. option_map (λ t. t.now) found.modifiers
+        ≡ option_map sources (behind_colon (units_of inside.now))) }
     ensures err { IfErr result (IsUncut inside.now) }
 {
     let _pieces = cut(alloc, inside)?;
@@ -23,14 +25,15 @@ pub(crate) fn mention_of<'a>(alloc: Global, inside: &'a str) -> Result<Mention<'
     Ok(parted(inside, plain.as_slice()))
 }
 
-/// The reference with this inside, in which every reference ends; `plain` is what of it stands outside
-/// references.
+/// The reference with this inside, in which every reference ends. `plain` is what `outside` gives
+/// of the inside.
 fn parted<'a>(inside: &'a str, plain: &[u8]) -> Mention<'a>
     requires same { plain.now ≡ outside inside.now }
     requires whole { left_of inside.now ≡ [] }
     ensures written { result.written.now ≡ inside.now }
     ensures name { result.name.now ≡ sources (before_colon (units_of inside.now)) }
-    ensures modifiers { option_map (λ t. t.now) result.modifiers ≡ option_map sources (behind_colon (units_of inside.now)) }
+    ensures modifiers { option_map (λ t. t.now) result.modifiers
+        ≡ option_map sources (behind_colon (units_of inside.now)) }
 {
     match first_colon(plain) {
         Some(at) => parted_at(inside, at),

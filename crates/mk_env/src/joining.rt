@@ -10,9 +10,10 @@ use mk_base::{FaultKind, Stop};
 use mk_text::{TEXT_LIMIT, TextFault, add_text};
 use std::alloc::Global;
 
-/// Adds the text, unless the whole is then too long.
+/// Adds the text to the end. It is a fault if the whole is then too long.
 pub(crate) fn push_bounded(joined: &mut String, text: &str) -> Result<(), Stop<FaultKind>>
-    ensures ok { IfOk result (λ _. (length (string_bytes joined.old ++ text.now) ≤ TEXT_LIMIT) × (string_bytes joined.new ≡ string_bytes joined.old ++ text.now)) }
+    ensures ok { IfOk result (λ _. (length (string_bytes joined.old ++ text.now) ≤ TEXT_LIMIT)
+        × (string_bytes joined.new ≡ string_bytes joined.old ++ text.now)) }
     ensures err { IfErr result (IsTooLong (string_bytes joined.old ++ text.now)) }
 {
     match add_text(joined, text) {
@@ -22,7 +23,7 @@ pub(crate) fn push_bounded(joined: &mut String, text: &str) -> Result<(), Stop<F
     }
 }
 
-/// A copy of the text, unless it is too long.
+/// A copy of the text. It is a fault if the text is too long.
 pub(crate) fn copy_bounded(alloc: Global, text: &str) -> Result<String, Stop<FaultKind>>
     ensures store { NeverStore result }
     ensures gives { (m : Meter) → Gives string_bytes result m (bounded text.now m) }
@@ -33,7 +34,7 @@ pub(crate) fn copy_bounded(alloc: Global, text: &str) -> Result<String, Stop<Fau
     Ok(String::from_str(alloc, text)?)
 }
 
-/// Whether a dollar is in the text: without one it has no reference and stands for itself.
+/// Whether there is a dollar in the text. A text without one has no reference and means itself.
 pub(crate) fn has_dollar(text: &str) -> bool
     ensures { result ≡ list_any (λ b. b == 36) text.now }
 {

@@ -22,18 +22,19 @@ use std::alloc::{AllocError, Global};
 pub(crate) struct Mention<'a> {
     /// All that it is written as.
     pub(crate) written: &'a str,
-    /// Its name, in which references may stand.
+    /// Its name, which may have references in it.
     pub(crate) name: &'a str,
-    /// Its modifiers, where it has a colon.
+    /// Its modifiers, if it has a colon.
     pub(crate) modifiers: Option<&'a str>,
 }
 
-/// The texts of a reference that stands in this text.
+/// The texts of a reference that is in this text.
 pub(crate) fn mentioned<'a>(text: &'a str, reference: &Reference) -> Mention<'a>
     requires { IsReferenceIn text.now reference.now }
     ensures written { result.written.now ≡ span_text text.now reference.now.whole }
     ensures name { result.name.now ≡ span_text text.now reference.now.name }
-    ensures modifiers { option_map (λ found. found.now) result.modifiers ≡ option_map (span_text text.now) reference.now.modifiers }
+    ensures modifiers { option_map (λ found. found.now) result.modifiers
+        ≡ option_map (span_text text.now) reference.now.modifiers }
 {
     let modifiers = match &reference.modifiers {
         Some(span) => Some(span.of(text)),
@@ -55,7 +56,8 @@ pub(crate) fn as_written(alloc: Global, mention: Mention<'_>) -> Result<String, 
 
 /// The pieces of a text. A reference that doesn't end is a fault.
 pub(crate) fn cut(alloc: Global, text: &str) -> Result<Vec<Piece>, Stop<FaultKind>>
-    ensures pieces { IfOk result (λ found. map (shown text.now) found.items ≡ pieces_of (units_of text.now)) }
+    ensures pieces { IfOk result (λ found. map (shown text.now) found.items
+        ≡ pieces_of (units_of text.now)) }
     ensures whole { IfOk result (λ found. left_of text.now ≡ []) }
     ensures places { IfOk result (λ found. All (IsPieceIn text.now) found.items) }
     ensures err { IfErr result (IsUncut text.now) }
@@ -67,12 +69,14 @@ pub(crate) fn cut(alloc: Global, text: &str) -> Result<Vec<Piece>, Stop<FaultKin
     }
 }
 
-/// The modifiers that stand behind the colon of a reference; none where it has no colon.
+/// The modifiers that follow the colon of a reference, or no modifier if it has no colon. It is a fault
+/// if they can't be read.
 pub(crate) fn read_modifiers(
     alloc: Global,
     text: Option<&str>,
 ) -> Result<Vec<Modifier>, Stop<FaultKind>>
-    ensures ok { IfOk result (λ found. actions_of (option_map (λ t. t.now) text.entry) ≡ Some (map action_of found.items)) }
+    ensures ok { IfOk result (λ found. actions_of (option_map (λ t. t.now) text.entry)
+        ≡ Some (map action_of found.items)) }
     ensures err { IfErr result (IsUnread (actions_of (option_map (λ t. t.now) text.entry))) }
 {
     let Some(text) = text else {
@@ -92,7 +96,8 @@ pub(crate) fn apply_expanded(
     value: &str,
 ) -> Result<String, Stop<FaultKind>>
     requires { IsExpanded (action_of modifier.now) }
-    ensures ok { IfOk result (λ made. applied (action_of modifier.now) value.now ≡ Some (string_bytes made)) }
+    ensures ok { IfOk result (λ made. applied (action_of modifier.now) value.now
+        ≡ Some (string_bytes made)) }
     ensures err { IfErr result (IsUnmade (applied (action_of modifier.now) value.now)) }
 {
     match apply(alloc, modifier, value) {
@@ -110,8 +115,12 @@ pub(crate) fn apply_substitution(
     new: &str,
     value: &str,
 ) -> Result<String, Stop<FaultKind>>
-    ensures ok { IfOk result (λ made. within_limit (joined (substituted (replacement_of substitution.now) old.now new.now (words_of value.now))) ≡ Some (string_bytes made)) }
-    ensures err { IfErr result (IsUnmade (within_limit (joined (substituted (replacement_of substitution.now) old.now new.now (words_of value.now))))) }
+    ensures ok { IfOk result (λ made. within_limit
+        (joined (substituted (replacement_of substitution.now) old.now new.now
+        (words_of value.now))) ≡ Some (string_bytes made)) }
+    ensures err { IfErr result (IsUnmade
+        (within_limit (joined
+        (substituted (replacement_of substitution.now) old.now new.now (words_of value.now))))) }
 {
     match substitute(alloc, substitution, old, new, value) {
         Ok(made) => Ok(made),

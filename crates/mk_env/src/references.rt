@@ -1,4 +1,4 @@
-//! What references mean, and the texts and modifiers in which they stand.
+//! What references mean, and the texts and modifiers that they are in.
 ghost use Rattle.std.specs.Prelude.{◌≡◌, ◌≢◌, ◌≤◌, ◌-◌, ◌∷◌, map, string_bytes, length, option_map, IfOk};
 ghost use Rattle.std.specs.List.{flat_map};
 ghost use Rattle.std.specs.FinMap as finite;
@@ -15,7 +15,7 @@ use crate::joining::{copy_bounded, has_dollar, push_bounded};
 use crate::reading::{
     Mention, apply_expanded, apply_substitution, as_written, cut, mentioned, read_modifiers,
 };
-use crate::scope::{Active, Scope};
+use crate::scope::{Active, ExpansionScope};
 use mk_base::{Budget, FaultKind, Stop};
 use mk_mods::{Modifier, Part};
 use mk_ref::Piece;
@@ -26,13 +26,14 @@ use std::alloc::Global;
 #[cycle(expansion)]
 pub(crate) fn expand_text(
     alloc: Global,
-    scope: Scope<'_>,
+    scope: ExpansionScope<'_>,
     text: &str,
     budget: &mut Budget,
 ) -> Result<String, Stop<FaultKind>>
     ensures store { NeverStore result }
     ensures later { IsLater budget.old budget.new }
-    ensures gives { Gives string_bytes result budget.new (meaning.text_meaning (references_in scope.entry) text.now budget.old) }
+    ensures gives { Gives string_bytes result budget.new
+        (meaning.text_meaning (references_in scope.entry) text.now budget.old) }
 {
     // Without a dollar the text is its one literal.
     if !has_dollar(text) {
@@ -49,7 +50,7 @@ pub(crate) fn expand_text(
 #[cycle(expansion)]
 fn join_piece(
     alloc: Global,
-    scope: Scope<'_>,
+    scope: ExpansionScope<'_>,
     joined: &mut String,
     text: &str,
     piece: &Piece,
@@ -59,11 +60,12 @@ fn join_piece(
     ensures store { NeverStore result }
     ensures later { IsLater budget.old budget.new }
     ensures gives { Gives (λ _. string_bytes joined.new) result budget.new
-        (meaning.join_piece (references_in scope.entry) (string_bytes joined.old) (shown text.now piece.now) budget.old) }
+        (meaning.join_piece (references_in scope.entry) (string_bytes joined.old)
+        (shown text.now piece.now) budget.old) }
 {
     match piece {
         Piece::Literal(span) => push_bounded(joined, span.of(text)),
-        Piece::Pair(_) => push_bounded(joined, "$"),
+        Piece::EscapedDollar(_) => push_bounded(joined, "$"),
         Piece::Reference(reference) => {
             let found = expand_reference(alloc, scope, mentioned(text, reference), budget)?;
             push_bounded(joined, found.as_str())
@@ -76,14 +78,15 @@ fn join_piece(
 #[tactic(auto, unfolding(crate::specs::Expansion::reference))]
 pub(crate) fn expand_reference(
     alloc: Global,
-    scope: Scope<'_>,
+    scope: ExpansionScope<'_>,
     mention: Mention<'_>,
     budget: &mut Budget,
 ) -> Result<String, Stop<FaultKind>>
     ensures store { NeverStore result }
     ensures later { IsLater budget.old budget.new }
     ensures gives { Gives string_bytes result budget.new
-        (references_in scope.entry mention.entry.written.now mention.entry.name.now (option_map (λ t. t.now) mention.entry.modifiers) budget.old) }
+        (references_in scope.entry mention.entry.written.now mention.entry.name.now
+        (option_map (λ t. t.now) mention.entry.modifiers) budget.old) }
 {
     begin_reference(scope, budget)?;
     // Most names have no reference in them: no copy is made of such a name.
@@ -94,13 +97,14 @@ pub(crate) fn expand_reference(
     expand_by_name(alloc, scope, mention, name.as_str(), budget)
 }
 
-/// Spends the unit of a reference, and looks whether it stands too deep.
+/// Spends the unit of a reference, and checks that it isn't nested too deep.
 #[tactic(auto, unfolding(crate::specs::Expansion::begin))]
-fn begin_reference(scope: Scope<'_>, budget: &mut Budget) -> Result<(), Stop<FaultKind>>
+fn begin_reference(scope: ExpansionScope<'_>, budget: &mut Budget) -> Result<(), Stop<FaultKind>>
     ensures store { NeverStore result }
     ensures later { IsLater budget.old budget.new }
     ensures inside { IfOk result (λ _. scope.entry.levels ≢ 0) }
-    ensures gives { Gives (λ _. tt) result budget.new (meaning.begin scope.entry.levels budget.old) }
+    ensures gives { Gives (λ _. tt) result budget.new
+        (meaning.begin scope.entry.levels budget.old) }
 {
     budget.pay()?;
     if scope.levels == 0 {
@@ -113,7 +117,7 @@ fn begin_reference(scope: Scope<'_>, budget: &mut Budget) -> Result<(), Stop<Fau
 #[cycle(expansion)]
 fn expand_by_name(
     alloc: Global,
-    scope: Scope<'_>,
+    scope: ExpansionScope<'_>,
     mention: Mention<'_>,
     name: &str,
     budget: &mut Budget,
@@ -122,7 +126,11 @@ fn expand_by_name(
     ensures store { NeverStore result }
     ensures later { IsLater budget.old budget.new }
     ensures gives { Gives string_bytes result budget.new
-        (meaning.by_name scope.entry.undefined (meaning.reference kept.Empty (scope.entry.levels - 1) scope.entry.variables.now) scope.entry.variables.now (names_of scope.entry.active) mention.entry.written.now (option_map (λ t. t.now) mention.entry.modifiers) name.now budget.old) }
+        (meaning.by_name scope.entry.undefined
+        (meaning.reference kept.Empty
+        (scope.entry.levels - 1) scope.entry.variables.now) scope.entry.variables.now
+        (names_of scope.entry.active) mention.entry.written.now
+        (option_map (λ t. t.now) mention.entry.modifiers) name.now budget.old) }
 {
     if scope.keeps(name) {
         return Ok(as_written(alloc, mention)?);
@@ -130,11 +138,11 @@ fn expand_by_name(
     expand_named(alloc, scope.inside(), name, mention.modifiers, budget)
 }
 
-/// What a reference means whose name is known, in the scope of what stands inside it.
+/// What a reference whose name is known means, in the scope of what is inside it.
 #[cycle(expansion)]
 pub(crate) fn expand_named(
     alloc: Global,
-    scope: Scope<'_>,
+    scope: ExpansionScope<'_>,
     name: &str,
     modifiers: Option<&str>,
     budget: &mut Budget,
@@ -143,22 +151,28 @@ pub(crate) fn expand_named(
     ensures store { NeverStore result }
     ensures later { IsLater budget.old budget.new }
     ensures gives { Gives string_bytes result budget.new
-        (meaning.named (meaning.reference kept.Empty scope.entry.levels scope.entry.variables.now) scope.entry.variables.now (names_of scope.entry.active) name.now (option_map (λ t. t.now) modifiers.entry) budget.old) }
+        (meaning.named
+        (meaning.reference kept.Empty scope.entry.levels scope.entry.variables.now)
+        scope.entry.variables.now (names_of scope.entry.active) name.now
+        (option_map (λ t. t.now) modifiers.entry) budget.old) }
 {
     let modifiers = modifiers_for(alloc, scope, name, modifiers)?;
     let value = expand_value(alloc, scope, name, budget)?;
     apply_modifiers(alloc, scope, value, modifiers.as_slice(), budget)
 }
 
-/// The modifiers of a reference to this name, unless its value is being expanded.
+/// The modifiers of a reference to this name. It is a fault if the name's value is being expanded.
 fn modifiers_for(
     alloc: Global,
-    scope: Scope<'_>,
+    scope: ExpansionScope<'_>,
     name: &str,
     modifiers: Option<&str>,
 ) -> Result<Vec<Modifier>, Stop<FaultKind>>
     ensures store { NeverStore result }
-    ensures gives { (m : Meter) → Gives (λ found. map action_of found.items) result m (meaning.modifiers_for (names_of scope.entry.active) name.now (option_map (λ t. t.now) modifiers.entry) m) }
+    ensures gives { (m : Meter)
+        → Gives (λ found. map action_of found.items) result m
+        (meaning.modifiers_for (names_of scope.entry.active) name.now
+        (option_map (λ t. t.now) modifiers.entry) m) }
 {
     if scope.active.contains(name) {
         return Err(Stop::Fault(FaultKind::Recursive));
@@ -170,7 +184,7 @@ fn modifiers_for(
 #[cycle(expansion)]
 fn expand_value(
     alloc: Global,
-    scope: Scope<'_>,
+    scope: ExpansionScope<'_>,
     name: &str,
     budget: &mut Budget,
 ) -> Result<String, Stop<FaultKind>>
@@ -178,12 +192,15 @@ fn expand_value(
     ensures store { NeverStore result }
     ensures later { IsLater budget.old budget.new }
     ensures gives { Gives string_bytes result budget.new
-        (meaning.value_meaning (meaning.reference kept.Empty scope.entry.levels scope.entry.variables.now (name.now ∷ names_of scope.entry.active)) (finite.get scope.entry.variables.now name.now) budget.old) }
+        (meaning.value_meaning
+        (meaning.reference kept.Empty scope.entry.levels scope.entry.variables.now
+        (name.now ∷ names_of scope.entry.active))
+        (finite.get scope.entry.variables.now name.now) budget.old) }
 {
     match scope.variables.get(name) {
         None => Ok(String::new(alloc)),
         Some(value) => {
-            let within = Scope {
+            let within = ExpansionScope {
                 active: Active::Name(name, &scope.active),
                 ..scope
             };
@@ -196,7 +213,7 @@ fn expand_value(
 #[cycle(expansion)]
 pub(crate) fn apply_modifiers(
     alloc: Global,
-    scope: Scope<'_>,
+    scope: ExpansionScope<'_>,
     value: String,
     modifiers: &[Modifier],
     budget: &mut Budget,
@@ -204,7 +221,8 @@ pub(crate) fn apply_modifiers(
     ensures store { NeverStore result }
     ensures later { IsLater budget.old budget.new }
     ensures gives { Gives string_bytes result budget.new
-        (each (meaning.modified (references_in scope.entry)) (string_bytes value) (map action_of modifiers.now) budget.old) }
+        (each (meaning.modified (references_in scope.entry)) (string_bytes value)
+        (map action_of modifiers.now) budget.old) }
 {
     let mut value = value;
     for modifier in modifiers {
@@ -217,7 +235,7 @@ pub(crate) fn apply_modifiers(
 #[cycle(expansion)]
 fn apply_modifier(
     alloc: Global,
-    scope: Scope<'_>,
+    scope: ExpansionScope<'_>,
     value: &str,
     modifier: &Modifier,
     budget: &mut Budget,
@@ -225,7 +243,8 @@ fn apply_modifier(
     ensures store { NeverStore result }
     ensures later { IsLater budget.old budget.new }
     ensures gives { Gives string_bytes result budget.new
-        (meaning.modified (references_in scope.entry) value.now (action_of modifier.now) budget.old) }
+        (meaning.modified (references_in scope.entry) value.now
+        (action_of modifier.now) budget.old) }
 {
     match modifier {
         Modifier::Match(pattern) => {
@@ -245,11 +264,11 @@ fn apply_modifier(
     }
 }
 
-/// What parts of a text of `:S` mean, joined from the left, beside an old text.
+/// What parts of a text of `:S` mean, joined from the left, given the old text.
 #[cycle(expansion)]
 fn expand_parts(
     alloc: Global,
-    scope: Scope<'_>,
+    scope: ExpansionScope<'_>,
     parts: &[Part],
     old: &str,
     budget: &mut Budget,
@@ -257,7 +276,8 @@ fn expand_parts(
     ensures store { NeverStore result }
     ensures later { IsLater budget.old budget.new }
     ensures gives { Gives string_bytes result budget.new
-        (meaning.symbols_meaning (references_in scope.entry) old.now (flat_map symbols_of parts.now) budget.old) }
+        (meaning.symbols_meaning (references_in scope.entry) old.now
+        (flat_map symbols_of parts.now) budget.old) }
 {
     let mut joined = String::new(alloc);
     for part in parts {
@@ -270,7 +290,7 @@ fn expand_parts(
 #[cycle(expansion)]
 fn join_part(
     alloc: Global,
-    scope: Scope<'_>,
+    scope: ExpansionScope<'_>,
     joined: &mut String,
     part: &Part,
     old: &str,
@@ -281,7 +301,8 @@ fn join_part(
     ensures store { NeverStore result }
     ensures later { IsLater budget.old budget.new }
     ensures gives { Gives (λ _. string_bytes joined.new) result budget.new
-        (each (meaning.join_symbol (references_in scope.entry) old.now) (string_bytes joined.old) (symbols_of part.now) budget.old) }
+        (each (meaning.join_symbol (references_in scope.entry) old.now) (string_bytes joined.old)
+        (symbols_of part.now) budget.old) }
 {
     match part {
         Part::Text(text) => push_bounded(joined, text.as_str()),

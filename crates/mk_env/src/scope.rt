@@ -1,4 +1,4 @@
-//! Where a reference stands.
+//! What the references of a text are expanded with.
 ghost use Rattle.std.specs.Prelude.{◌≡◌, ◌-◌, ◌≢◌};
 ghost use Rattle.std.specs.FinMap as finite;
 ghost use Rattle.mk_env.specs.declared.scope.Undefined.TheVariants as kept;
@@ -34,26 +34,27 @@ impl Active<'_> {
     }
 }
 
-/// Where a text stands whose references are expanded.
+/// What the references of a text are expanded with.
 #[derive(Clone, Copy)]
-pub(crate) struct Scope<'a> {
-    /// What the names stand for.
+pub(crate) struct ExpansionScope<'a> {
+    /// The variables, with what their names mean.
     pub(crate) variables: &'a Env,
     /// The names whose values are being expanded.
     pub(crate) active: Active<'a>,
-    /// How many references may stand one inside another in it.
+    /// How many references may be nested in it.
     pub(crate) levels: u32,
     /// What becomes of its references to variables that aren't defined.
     pub(crate) undefined: Undefined,
 }
 
-impl<'a> Scope<'a> {
-    /// The scope of what stands inside a reference: its name and its modifiers.
-    pub(crate) fn inside(self) -> Scope<'a>
+impl<'a> ExpansionScope<'a> {
+    /// The scope of what is inside a reference: its name and its modifiers.
+    pub(crate) fn inside(self) -> ExpansionScope<'a>
         requires { self.levels ≢ 0 }
-        ensures { result ≡ record self.entry { levels = self.entry.levels - 1; undefined = kept.Empty } }
+        ensures { result
+            ≡ record self.entry { levels = self.entry.levels - 1; undefined = kept.Empty } }
     {
-        Scope {
+        ExpansionScope {
             levels: self.levels - 1,
             undefined: Undefined::Empty,
             ..self
@@ -62,7 +63,8 @@ impl<'a> Scope<'a> {
 
     /// Whether a reference to the variable of this name is kept as it is written.
     pub(crate) fn keeps(&self, name: &str) -> bool
-        ensures { result ≡ meaning.is_kept self.now.undefined (finite.get self.now.variables.now name.now) }
+        ensures { result
+            ≡ meaning.is_kept self.now.undefined (finite.get self.now.variables.now name.now) }
     {
         match self.undefined {
             Undefined::Empty => false,

@@ -7,8 +7,8 @@ use std::alloc::{AllocError, Global};
 use std::collections::BTreeMap;
 use std::marker::Model;
 
-/// The variables of a makefile: from each name that is defined to its text, which is kept as it was
-/// assigned and expanded where it is used.
+/// The variables of a makefile: a map from each name that is defined to its text. The text is kept as it
+/// was assigned, and expanded where it is used.
 #[derive(Drop)]
 pub struct Env {
     alloc: Global,
@@ -39,7 +39,8 @@ impl Env {
         }
     }
 
-    /// Gives the variable this text, whatever it had. Without memory nothing changes.
+    /// Gives the variable this text, whatever text it had. It fails only if memory runs out, and then
+    /// nothing changes.
     pub fn set(&mut self, name: &str, text: &str) -> Result<(), AllocError>
         ensures ok { OnOk result (self.new ≡ finite.insert self.old name.now text.now) }
         ensures err { OnErr result (self.new ≡ self.old) }
@@ -50,16 +51,17 @@ impl Env {
         Ok(())
     }
 
-    /// Puts a space and this text behind the variable's text, or gives it this text where it isn't
-    /// defined (`+=` of make(1)). It takes time in proportion to the added text (amortised), however
-    /// long the variable's text is. Without memory nothing changes.
+    /// Adds a space and this text to the end of the variable's text. If the variable isn't defined, it
+    /// gets this text (`+=` of make(1)). That takes time in proportion to the added text (amortised),
+    /// however long the variable's text is. It fails only if memory runs out, and then nothing changes.
     pub fn append(&mut self, name: &str, text: &str) -> Result<(), AllocError>
-        ensures ok { OnOk result (self.new ≡ finite.insert self.old name.now (appended (finite.get self.old name.now) text.now)) }
+        ensures ok { OnOk result (self.new
+            ≡ finite.insert self.old name.now (appended (finite.get self.old name.now) text.now)) }
         ensures err { OnErr result (self.new ≡ self.old) }
     {
         match self.variables.get_mut(name) {
             Some(before) => {
-                // One text, so that want of memory can't leave the space alone.
+                // One text, so that the space isn't added alone if memory runs out.
                 let added = format!(in self.alloc; " {text}")?;
                 before.push_str(added.as_str())
             }
@@ -67,8 +69,8 @@ impl Env {
         }
     }
 
-    /// Gives the variable this text where it isn't defined, and else changes nothing (`?=` of
-    /// make(1)). Without memory nothing changes.
+    /// Gives the variable this text if it isn't defined, and otherwise changes nothing (`?=` of
+    /// make(1)). It fails only if memory runs out, and then nothing changes.
     pub fn default(&mut self, name: &str, text: &str) -> Result<(), AllocError>
         ensures ok { OnOk result (self.new ≡ defaulted self.old name.now text.now) }
         ensures err { OnErr result (self.new ≡ self.old) }
@@ -79,7 +81,7 @@ impl Env {
         self.set(name, text)
     }
 
-    /// Takes the variable away, if it is defined (`.undef` of make(1)). It takes no memory.
+    /// Removes the variable, if it is defined (`.undef` of make(1)). It takes no memory.
     #[tactic(auto, using(crate::proofs::TextMap::texts_of_removed))]
     pub fn undef(&mut self, name: &str)
         ensures { self.new ≡ finite.remove self.old name.now }
@@ -87,7 +89,7 @@ impl Env {
         self.variables.remove(name);
     }
 
-    /// Another map with the same variables. Without memory there is none, and this one stays.
+    /// Another map with the same variables. It fails only if memory runs out; this map stays as it is.
     pub fn copy(&self) -> Result<Env, AllocError>
         ensures { IfOk result (λ env. env ≡ self.now) }
     {
@@ -98,7 +100,7 @@ impl Env {
         })
     }
 
-    /// The variable's text as it was assigned; none where it isn't defined.
+    /// The variable's text as it was assigned; `None` if it isn't defined.
     pub fn get(&self, name: &str) -> Option<&str>
         ensures { option_copied result ≡ finite.get self.now name.now }
     {

@@ -8,7 +8,7 @@ use Rattle.mk_base.specs.declared.faults.FaultKind.{FaultKind}
 use Rattle.mk_base.specs.declared.stopping.Stop.{Stop}
 use Rattle.mk_base.specs.declared.stopping.Stop.TheVariants as stops
 use Rattle.mk_files.specs.Looking.{LeavesAtStop}
-use Rattle.mk_paths.specs.Shelf.{Shelf}
+use Rattle.mk_paths.specs.FilesView.{FilesView}
 use Rattle.mk_paths.specs.declared.asking.FilesFault.{FilesFault}
 use Rattle.mk_eval.specs.Meaning.{at}
 
@@ -19,7 +19,7 @@ StopsAt-told name line (stops.Fault kind) blamed state outcome is stopped =
 StopsAt-told name line stops.Store blamed state outcome is stopped = rw is tt
 StopsAt-told name line stops.Memory blamed state outcome is stopped = rw is tt
 
-pub LeavesAtStop-told : (may : FilesFault → Type 0) (old new : Shelf) (name : List ℕ) (line : ℕ) (stop : Stop FaultKind) (blamed : Stop FaultAt)
+pub LeavesAtStop-told : (may : FilesFault → Type 0) (old new : FilesView) (name : List ℕ) (line : ℕ) (stop : Stop FaultKind) (blamed : Stop FaultAt)
     → IsBlamed name line stop blamed → LeavesAtStop may old new stop → LeavesAtStop may old new blamed
 LeavesAtStop-told may old new name line (stops.Fault kind) blamed is leaves =
     elim is [ inl told ↦ rw told leaves | inr told ↦ rw told (inl leaves) ]

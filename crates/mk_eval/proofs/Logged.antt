@@ -5,7 +5,7 @@ use Rattle.mk_base.specs.declared.metering.TheConstants.{UNITS}
 use Rattle.mk_base.specs.FaultAt.{FaultAt}
 use Rattle.mk_base.specs.Meter.{Meter, full}
 use Rattle.mk_base.specs.Outcome.{left}
-use Rattle.mk_paths.specs.Shelf.{Question, Shelf, noted}
+use Rattle.mk_paths.specs.FilesView.{Question, FilesView, noted}
 use Rattle.mk_base.specs.Stopping.{StopsAt}
 use Rattle.mk_base.specs.declared.stopping.Stop.{Stop}
 use Rattle.mk_base.specs.declared.stopping.Stop.TheVariants as stops
@@ -13,28 +13,28 @@ use Rattle.mk_paths.specs.World.{FileMap}
 use Rattle.mk_paths.specs.declared.asking.FilesFault.{FilesFault}
 use Rattle.mk_paths.specs.declared.search_path.Settings.{Settings}
 use Rattle.mk_files.specs.Asking.{Account, account, beside}
-use Rattle.mk_files.specs.Looking.{Asked, LeavesAtStop}
+use Rattle.mk_files.specs.Looking.{AfterQuestions, LeavesAtStop}
 use Rattle.mk_eval.specs.Telling.{FailsWith, LeavesAsked, with_cost}
 use Rattle.mk_eval.specs.declared.outcome.Failed.{Failed}
-use Rattle.mk_eval.specs.declared.standing.Standing.{Standing}
+use Rattle.mk_eval.specs.declared.standing.EvalState.{EvalState}
 use Rattle.mk_eval.specs.Meaning.{evaluation, evaluated, fresh, means, asked}
 use Rattle.mk_eval.specs.Sharing.{Agrees, cost_of, questions_of, IsTheSameWhereAnswered}
 use Rattle.mk_eval.proofs.Shared.{Shared, with_questions}
 use Rattle.mk_eval.proofs.SharedEvaluation.{shared-evaluation}
 
-evaluated-beside : (one other : Option (List Question)) (r : Result (Standing × Meter) (FaultAt × Meter)) → evaluated (beside one r) ≡ evaluated (beside other r)
+evaluated-beside : (one other : Option (List Question)) (r : Result (EvalState × Meter) (FaultAt × Meter)) → evaluated (beside one r) ≡ evaluated (beside other r)
 evaluated-beside one other (Ok end) = refl
 evaluated-beside one other (Err end) = refl
 
-log-beside : (log : Option (List Question)) (r : Result (Standing × Meter) (FaultAt × Meter)) → (left (beside log r)).log ≡ log
+log-beside : (log : Option (List Question)) (r : Result (EvalState × Meter) (FaultAt × Meter)) → (left (beside log r)).log ≡ log
 log-beside log (Ok end) = refl
 log-beside log (Err end) = refl
 
-meter-beside : (log : Option (List Question)) (r : Result (Standing × Meter) (FaultAt × Meter)) → (left (beside log r)).meter ≡ left r
+meter-beside : (log : Option (List Question)) (r : Result (EvalState × Meter) (FaultAt × Meter)) → (left (beside log r)).meter ≡ left r
 meter-beside log (Ok end) = refl
 meter-beside log (Err end) = refl
 
-cost-beside : (log : Option (List Question)) (r : Result (Standing × Meter) (FaultAt × Meter)) → cost_of (evaluated (beside log r)) ≡ (left r).spent
+cost-beside : (log : Option (List Question)) (r : Result (EvalState × Meter) (FaultAt × Meter)) → cost_of (evaluated (beside log r)) ≡ (left r).spent
 cost-beside log (Ok end) = refl
 cost-beside log (Err end) = refl
 
@@ -56,7 +56,7 @@ module _ (files other : FileMap) (settings : Settings) (name : List ℕ) (flavor
 
   asked-is : (limit : ℕ) → asked (files, settings) name flavors limit ≡ both.asks (full limit)
   asked-is limit =
-      ap (λ (end : Result (Standing × Account) (FaultAt × Account)). unwrap_or (left end).log []) (both.is (full limit) (Some []))
+      ap (λ (end : Result (EvalState × Account) (FaultAt × Account)). unwrap_or (left end).log []) (both.is (full limit) (Some []))
       ∙ ap (λ log. unwrap_or log []) (log-beside (Some ([] ++ both.asks (full limit))) (both.ends (full limit)))
 
   -- under the whole budget the same is asked as under one of what is spent
@@ -66,13 +66,13 @@ module _ (files other : FileMap) (settings : Settings) (name : List ℕ) (flavor
       sym (both.same (full UNITS) spending few (omega arith)) ∙ sym (asked-is spending)
 
   -- what is left of a log
-  log-left : (log : Option (List Question)) (end : Result (Standing × Account) (FaultAt × Account)) → evaluation (files, settings) name flavors (fresh UNITS log) ≡ end
+  log-left : (log : Option (List Question)) (end : Result (EvalState × Account) (FaultAt × Account)) → evaluation (files, settings) name flavors (fresh UNITS log) ≡ end
       → (left end).log ≡ with_questions log (asked (files, settings) name flavors (left end).meter.spent)
   log-left log end is =
       let whole = sym is ∙ both.is (full UNITS) log in
       let left_by = with_questions log (both.asks (full UNITS)) in
-      let spends : (left end).meter.spent ≡ spending = ap (λ (end : Result (Standing × Account) (FaultAt × Account)). (left end).meter.spent) whole ∙ ap (λ (m : Meter). m.spent) (meter-beside left_by (both.ends (full UNITS))) in
-      ap (λ (end : Result (Standing × Account) (FaultAt × Account)). (left end).log) whole
+      let spends : (left end).meter.spent ≡ spending = ap (λ (end : Result (EvalState × Account) (FaultAt × Account)). (left end).meter.spent) whole ∙ ap (λ (m : Meter). m.spent) (meter-beside left_by (both.ends (full UNITS))) in
+      ap (λ (end : Result (EvalState × Account) (FaultAt × Account)). (left end).log) whole
       ∙ log-beside left_by (both.ends (full UNITS))
       ∙ ap (with_questions log) (asked-whole ∙ ap (asked (files, settings) name flavors) (sym spends))
 
@@ -92,7 +92,7 @@ module _ (files other : FileMap) (settings : Settings) (name : List ℕ) (flavor
 
     asked-alike : asked (other, settings) name flavors cost ≡ asked (files, settings) name flavors cost
     asked-alike =
-        ap (λ (end : Result (Standing × Account) (FaultAt × Account)). unwrap_or (left end).log [])
+        ap (λ (end : Result (EvalState × Account) (FaultAt × Account)). unwrap_or (left end).log [])
         (both.shared (full cost) (Some []) (subst (Agrees other) (asked-is cost) agrees))
 
     questions-alike : questions_of other settings name flavors ≡ questions_of files settings name flavors
@@ -102,20 +102,20 @@ pub same-where-answered : IsTheSameWhereAnswered
 same-where-answered files other settings name flavors agrees = (means-alike files other settings name flavors agrees, questions-alike files other settings name flavors agrees)
 
 -- what is known of the log, and that nothing but questions were asked, says what is left of the files
-pub noted-by : (old new : Shelf) (questions : List Question) → Asked old new → new.log ≡ with_questions old.log questions → new ≡ noted old questions
-noted-by old new questions asked log = asked.in_log ∙ ap (λ log. record old { log = log }) (sym (ap (λ (world : Shelf). world.log) asked.in_log) ∙ log)
+pub noted-by : (old new : FilesView) (questions : List Question) → AfterQuestions old new → new.log ≡ with_questions old.log questions → new ≡ noted old questions
+noted-by old new questions asked log = asked.in_log ∙ ap (λ log. record old { log = log }) (sym (ap (λ (world : FilesView). world.log) asked.in_log) ∙ log)
 
-module _ (settings : Settings) (name : List ℕ) (flavors : Option (List (List ℕ))) (old new : Shelf) where
+module _ (settings : Settings) (name : List ℕ) (flavors : Option (List (List ℕ))) (old new : FilesView) where
   -- what an evaluation with the whole budget means, by its end
-  pub means-ended : (begun : Meter) (end : Result (Standing × Account) (FaultAt × Account)) → begun ≡ full UNITS → evaluation (old.files, settings) name flavors (account begun old) ≡ end
+  pub means-ended : (begun : Meter) (end : Result (EvalState × Account) (FaultAt × Account)) → begun ≡ full UNITS → evaluation (old.files, settings) name flavors (account begun old) ≡ end
       → means (old.files, settings) name flavors ≡ evaluated end
   means-ended begun end is ends =
       sym (means-beside old.files old.files settings name flavors old.log)
       ∙ ap (λ m. evaluated (evaluation (old.files, settings) name flavors (record { meter = m; log = old.log }))) (sym is) ∙ ap evaluated ends
 
   -- what it leaves of the files
-  pub files-ended : (begun : Meter) (spent : ℕ) (end : Result (Standing × Account) (FaultAt × Account)) → begun ≡ full UNITS → evaluation (old.files, settings) name flavors (account begun old) ≡ end
-      → (left end).log ≡ new.log → (left end).meter.spent ≡ spent → Asked old new → new ≡ noted old (asked (old.files, settings) name flavors spent)
+  pub files-ended : (begun : Meter) (spent : ℕ) (end : Result (EvalState × Account) (FaultAt × Account)) → begun ≡ full UNITS → evaluation (old.files, settings) name flavors (account begun old) ≡ end
+      → (left end).log ≡ new.log → (left end).meter.spent ≡ spent → AfterQuestions old new → new ≡ noted old (asked (old.files, settings) name flavors spent)
   files-ended begun spent end is ends log cost asks =
       noted-by old new (asked (old.files, settings) name flavors spent) asks
       (sym log ∙ log-left old.files old.files settings name flavors old.log end (ap (λ m. evaluation (old.files, settings) name flavors (record { meter = m; log = old.log })) (sym is) ∙ ends)

@@ -5,7 +5,7 @@ use Rattle.mk_base.specs.Meter.{Meter, question}
 use Rattle.mk_base.specs.Outcome.{Work, give, fail, after, each, tell, left, ◌>>=◌}
 use Rattle.mk_paths.specs.World.{FileMap}
 use Rattle.std.specs.FinMap.{get, contains_key}
-use Rattle.mk_paths.specs.Shelf.{Reply, Presence, Contents, Question, IsReply}
+use Rattle.mk_paths.specs.FilesView.{Reply, Presence, Contents, Question, IsReply}
 use Rattle.mk_files.specs.Asking.{Account, beside, quietly, answered, look_read, ask_has, ask_read}
 use Rattle.mk_eval.specs.Sharing.{Agrees}
 use Rattle.mk_eval.proofs.Steady.{Steady, steady-give, steady-fail, steady-question, steady-bind, steady-tell, told_left, first_within, under, lowered}

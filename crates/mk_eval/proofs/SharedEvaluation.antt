@@ -13,7 +13,7 @@ use Rattle.mk_paths.specs.declared.file_name.NameFault.{NameFault}
 use Rattle.mk_paths.specs.World.{FileMap}
 use Rattle.mk_paths.specs.declared.search_path.Settings.{Settings}
 use Rattle.mk_files.specs.Asking.{Account}
-use Rattle.mk_eval.specs.declared.standing.Standing.{Standing}
+use Rattle.mk_eval.specs.declared.standing.EvalState.{EvalState}
 use Rattle.mk_eval.specs.Lines.{Loops, Request, inside_turn}
 use Rattle.mk_eval.specs.Heads.{judge, condition_text}
 use Rattle.mk_eval.specs.Includes.{Form, OwnFile, PortFile, SubdirFile, SystemFile, NoForm, form_of, Place, Opened, deep_enough, named, found, open_named, open_own, open_shared, open_port, first_port, open_form, open_request}
@@ -33,7 +33,7 @@ module _ (other : FileMap) where
   shared-named (Ok name) = shared-give other name
   shared-named (Err fault) = shared-fail other kinds.Include
 
-  shared-found : (standing : Standing) (optional : Bool) (name : List ℕ) (bytes : Option (List ℕ)) → Shared other (found standing optional name bytes) (found standing optional name bytes)
+  shared-found : (standing : EvalState) (optional : Bool) (name : List ℕ) (bytes : Option (List ℕ)) → Shared other (found standing optional name bytes) (found standing optional name bytes)
   shared-found standing optional name (Some bytes) = shared-give other _
   shared-found standing optional name None = either optional (shared-give other _) (shared-fail other kinds.Include)
 
@@ -42,18 +42,18 @@ abbrev among : FileMap → Place → Place
 among other place = record place { files = other }
 
 module _ (files other : FileMap) where
-  shared-open_named : (standing : Standing) (optional : Bool) (name : List ℕ) → Shared other (open_named files standing optional name) (open_named other standing optional name)
+  shared-open_named : (standing : EvalState) (optional : Bool) (name : List ℕ) → Shared other (open_named files standing optional name) (open_named other standing optional name)
   shared-open_named standing optional name = bind (shared-ask_read files other name) (shared-found other standing optional name)
 
-shared-open_shared : (other : FileMap) (place : Place) (standing : Standing) (name : Result (List ℕ) NameFault) → Shared other (open_shared place standing name) (open_shared (among other place) standing name)
+shared-open_shared : (other : FileMap) (place : Place) (standing : EvalState) (name : Result (List ℕ) NameFault) → Shared other (open_shared place standing name) (open_shared (among other place) standing name)
 shared-open_shared other place standing (Err fault) = shared-give other _
 shared-open_shared other place standing (Ok name) = bind (shared-deep_enough other place.levels) (λ _. shared-open_named place.files other standing true name)
 
-shared-open_port : (other : FileMap) (place : Place) (standing : Standing) → Shared other (open_port place standing) (open_port (among other place) standing)
+shared-open_port : (other : FileMap) (place : Place) (standing : EvalState) → Shared other (open_port place standing) (open_port (among other place) standing)
 shared-open_port other place standing =
     either standing.shared_asked (shared-give other _) (shared-open_shared other place (first_port standing) (resolved (name_under (directory_of place.makefile) (codes "../Makefile.inc"))))
 
-module _ (other : FileMap) (place : Place) (standing : Standing) where
+module _ (other : FileMap) (place : Place) (standing : EvalState) where
   shared-open_own : (optional : Bool) (file : List ℕ) → Shared other (open_own place standing optional file) (open_own (among other place) standing optional file)
   shared-open_own optional file =
       bind (shared-deep_enough other place.levels) (λ _. bind (shared-named other (resolved (name_under (directory_of place.file) file))) (shared-open_named place.files other standing optional))
@@ -71,7 +71,7 @@ module _ (other : FileMap) (place : Place) (standing : Standing) where
 
 -- what a file does that is included, among these files and among others
 pub record EntersShared (other : FileMap) (entering again : Entering) : Type 0 where
-  pub all : (name bytes : List ℕ) (standing : Standing) → Shared other (entering name bytes standing) (again name bytes standing)
+  pub all : (name bytes : List ℕ) (standing : EvalState) → Shared other (entering name bytes standing) (again name bytes standing)
 
 -- what lines do, among these files and among others
 pub record AreShared {S : Type 0} (other : FileMap) (works again : LineWorks Account FaultAt S) : Type 0 where
@@ -106,7 +106,7 @@ module _ (other : FileMap) (entering again : Entering) (enters : EntersShared ot
   shared-enter (standing, None) = shared-give other standing
   shared-enter (standing, Some file) = enters.all file.0 file.1 standing
 
-  shared-open_line : (place : Place) (loops : Loops) (line : LogicalLine) (standing : Standing) → Shared other (open_line place loops line standing) (open_line (among other place) loops line standing)
+  shared-open_line : (place : Place) (loops : Loops) (line : LogicalLine) (standing : EvalState) → Shared other (open_line place loops line standing) (open_line (among other place) loops line standing)
   shared-open_line place loops line standing =
       bind (shared-quietly other (steady-perform standing.variables loops line.text)) (λ done. shared-open_request other place (record standing { variables = done.0 }) done.1)
 
@@ -118,7 +118,7 @@ module _ (other : FileMap) (entering again : Entering) (enters : EntersShared ot
     begins = λ line. shared-tell (at place.file line.line) (shared-quietly other steady-pay);
   }
 
-  shared-read : (place : Place) (found : Result Block ParseFault) (standing : Standing) → Shared other (execute_read entering place found standing) (execute_read again (among other place) found standing)
+  shared-read : (place : Place) (found : Result Block ParseFault) (standing : EvalState) → Shared other (execute_read entering place found standing) (execute_read again (among other place) found standing)
   shared-read place (Ok block) standing = shared-block other (works_at entering place) (works_at again (among other place)) (works-shared place) block None standing
   shared-read place (Err fault) standing = shared-fail other _
 

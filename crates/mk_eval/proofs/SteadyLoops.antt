@@ -8,7 +8,7 @@ use Rattle.mk_ast.specs.declared.kinds.Directive.TheVariants as words
 use Rattle.mk_ast.specs.declared.kinds.Operator.{Operator}
 use Rattle.mk_ast.specs.declared.kinds.Operator.TheVariants as operators
 use Rattle.mk_ast.specs.Kinds.{TextLineKind, CommandLine, BlankLine, DirectiveLine, AssignmentLine, DependencyLine, BadLine, is_word, line_kind}
-use Rattle.mk_ref.specs.Units.{TextUnit, Byte, Pair, Reference, units_of, left_of}
+use Rattle.mk_ref.specs.Units.{TextUnit, Byte, EscapedDollar, Reference, units_of, left_of}
 use Rattle.mk_env.specs.Texts.{Variables, appended}
 use Rattle.mk_loop.specs.LoopWords.{LoopWords, word_named}
 use Rattle.mk_loop.specs.Putting.{SoFar, Puts, nothing, with_word, finished, changed, put_reference, put_unit, put_by, put, where_closed, put_words}
@@ -39,7 +39,7 @@ module _ (words : LoopWords) (variables : Variables) (puts : Puts) (does : PutsS
 
   steady-put_unit : (so_far : SoFar) (unit : TextUnit) → Steady (put_unit words variables puts so_far unit)
   steady-put_unit so_far (Byte b) = steady-give _
-  steady-put_unit so_far Pair = steady-give _
+  steady-put_unit so_far EscapedDollar = steady-give _
   steady-put_unit so_far (Reference written name modifiers) = steady-put_reference so_far written modifiers (word_named words name)
 
 put_by-steadily : (words : LoopWords) (variables : Variables) (levels : ℕ) → PutsSteadily (put_by words variables levels)

@@ -4,7 +4,7 @@ use Rattle.std.specs.FinMap as finite
 use Rattle.mk_base.specs.declared.faults.FaultKind.TheVariants as kinds
 use Rattle.mk_base.specs.Outcome.{give, fail}
 use Rattle.mk_ref.specs.Units.{units_of, left_of, TextUnit}
-use Rattle.mk_ref.specs.Pieces.{TextPiece, LiteralPiece, PairPiece, ReferencePiece, pieces_of}
+use Rattle.mk_ref.specs.Pieces.{TextPiece, LiteralPiece, EscapedDollarPiece, ReferencePiece, pieces_of}
 use Rattle.mk_text.specs.declared.limits.TheConstants.{TEXT_LIMIT}
 use Rattle.mk_mods.specs.Actions.{Symbol, Byte, Whole, Reference, Action, Match, Exclude, Substitute, Change}
 use Rattle.mk_mods.specs.Grammar.{modifiers_of}
@@ -30,7 +30,7 @@ steady-readable (Some actions) = steady-give actions
 module _ (references : References) (are : AreSteady references) where
   steady-piece : (piece : TextPiece) → Steady (piece_meaning references piece)
   steady-piece (LiteralPiece bytes) = steady-give bytes
-  steady-piece PairPiece = steady-give (36 ∷ [])
+  steady-piece EscapedDollarPiece = steady-give (36 ∷ [])
   steady-piece (ReferencePiece written name modifiers) = are.all written name modifiers
 
   steady-where : (left : List ℕ) (pieces : List TextPiece) → Steady (where_whole references left pieces)

@@ -16,31 +16,31 @@ use Rattle.mk_ast.specs.Parsing.{parsed}
 use Rattle.mk_ast.specs.Views.{block_of, tree_of, branch_of, node_step, branch_step}
 use Rattle.mk_env.specs.Texts.{Variables}
 use Rattle.mk_paths.specs.World.{FileMap}
-use Rattle.mk_paths.specs.Shelf.{Shelf, Question}
+use Rattle.mk_paths.specs.FilesView.{FilesView, Question}
 use Rattle.mk_paths.specs.declared.asking.FilesFault.{FilesFault}
 use Rattle.mk_files.specs.Asking.{Account, beside}
-use Rattle.mk_files.specs.Looking.{Asked, Asked-on, LeavesAtStop, LeavesAtStop-on}
+use Rattle.mk_files.specs.Looking.{AfterQuestions, AfterQuestions-on, LeavesAtStop, LeavesAtStop-on}
 use Rattle.mk_loop.specs.LoopWords.{LoopWords}
 use Rattle.mk_loop.specs.Header.{header}
-use Rattle.mk_loop.specs.declared.scopes.Scope.{Scope, Outside, Turn'}
+use Rattle.mk_loop.specs.declared.scopes.LoopScope.{LoopScope, Outside, Iteration'}
 use Rattle.mk_loop.specs.Scopes.{words_in}
 use Rattle.mk_eval.specs.Lines.{Loops}
 use Rattle.mk_eval.specs.Execution.{LineWorks, execute, execute_tree, execute_branches, chosen}
 use Rattle.mk_eval.specs.Meaning.{file_meaning, execute_read}
 use Rattle.mk_eval.specs.Running.{entering_at}
 use Rattle.mk_eval.specs.Views.{loops_of}
-use Rattle.mk_eval.specs.declared.standing.Standing.{Standing}
+use Rattle.mk_eval.specs.declared.standing.EvalState.{EvalState}
 
 -- work that ends as other work
 pub Gives-same : {R A F M : Type 0} (view : R → A) (result : Result R (Stop F)) (state : M) (whole part : Result (A × M) (F × M)) → whole ≡ part → Gives view result state part → Gives view result state whole
 Gives-same view result state whole part same gives = subst (λ outcome. Gives view result state outcome) (sym same) gives
 
 -- questions, and then those of more work
-pub AskedOn : {R F : Type 0} (result : Result R (Stop F)) (old middle new : Shelf) → Asked old middle → IfOk result (λ _. Asked middle new) → IfOk result (λ _. Asked old new)
-AskedOn (Ok x) old middle new first second = Asked-on old middle new first second
+pub AskedOn : {R F : Type 0} (result : Result R (Stop F)) (old middle new : FilesView) → AfterQuestions old middle → IfOk result (λ _. AfterQuestions middle new) → IfOk result (λ _. AfterQuestions old new)
+AskedOn (Ok x) old middle new first second = AfterQuestions-on old middle new first second
 AskedOn (Err stop) old middle new first second = tt
 
-pub LeavesOn : {R F : Type 0} (may : FilesFault → Type 0) (result : Result R (Stop F)) (old middle new : Shelf) → Asked old middle → IfErr result (LeavesAtStop may middle new) → IfErr result (LeavesAtStop may old new)
+pub LeavesOn : {R F : Type 0} (may : FilesFault → Type 0) (result : Result R (Stop F)) (old middle new : FilesView) → AfterQuestions old middle → IfErr result (LeavesAtStop may middle new) → IfErr result (LeavesAtStop may old new)
 LeavesOn may (Ok x) old middle new first second = tt
 LeavesOn may (Err stop) old middle new first second = LeavesAtStop-on may old middle new stop first second
 
@@ -97,7 +97,7 @@ module _ {M F S : Type 0} (works : LineWorks M F S) (loops : Loops) where
   branches-end items last i s m all = ap (λ rest. execute_branches works (branches_from (map branch_of rest) last) loops s m) (drop_all i items (omega arith))
 
 -- a file, whatever may be included in it
-pub file_meaning-is : (files : FileMap) (makefile : List ℕ) (levels : ℕ) (name bytes : List ℕ) (standing : Standing) (a : Account)
+pub file_meaning-is : (files : FileMap) (makefile : List ℕ) (levels : ℕ) (name bytes : List ℕ) (standing : EvalState) (a : Account)
     → file_meaning files makefile levels name bytes standing a
     ≡ execute_read (entering_at files makefile levels) (record { files = files; makefile = makefile; file = name; levels = levels }) (parsed bytes) standing a
 unfolding file_meaning
@@ -105,9 +105,9 @@ file_meaning-is files makefile zero name bytes standing a = refl
 file_meaning-is files makefile (suc levels) name bytes standing a = refl
 
 -- the words of the loops round a line, if there are any
-pub scope-words : (scope : Scope) → unwrap_or (loops_of scope) [] ≡ words_in scope
+pub scope-words : (scope : LoopScope) → unwrap_or (loops_of scope) [] ≡ words_in scope
 scope-words Outside = refl
-scope-words (Turn' turn pointer outer) = refl
+scope-words (Iteration' turn pointer outer) = refl
 
 abbrev IsNoValue : {A B : Type 0} → Result A B → Type 0
 IsNoValue (Ok x) = ⊥
@@ -130,7 +130,7 @@ turns-told f log text variables found m m' turns is gives =
     ∙ ap (λ end. tell f (beside log end)) (tell-ok f (header variables found m) (turns, m') gives)
 
 -- a loop, once its turns are known
-pub loop-begins : (turn : Standing → LoopWords → Work Account FaultAt Standing) (s : Standing) (f : FaultKind → FaultAt) (log : Option (List Question)) (text : Result (List ℕ × Meter) (FaultKind × Meter)) (variables : Variables) (found : List ℕ) (m m' : Meter) (turns : List LoopWords)
+pub loop-begins : (turn : EvalState → LoopWords → Work Account FaultAt EvalState) (s : EvalState) (f : FaultKind → FaultAt) (log : Option (List Question)) (text : Result (List ℕ × Meter) (FaultKind × Meter)) (variables : Variables) (found : List ℕ) (m m' : Meter) (turns : List LoopWords)
     → tell f text ≡ Ok (found, m) → tell f (header variables found m) ≡ Ok (turns, m')
     → after (tell f (beside log (after text (header variables)))) (λ turns. each turn s turns) ≡ each turn s turns (record { meter = m'; log = log })
 loop-begins turn s f log text variables found m m' turns is gives =

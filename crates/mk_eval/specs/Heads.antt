@@ -1,4 +1,5 @@
--- The lines with which blocks and their branches begin (make(1), "CONDITIONALS" and "FOR LOOPS"). Each costs a unit before anything else.
+-- The lines that begin blocks and their branches (make(1), "CONDITIONALS" and "FOR LOOPS"). Each costs a
+-- unit before anything else.
 use Rattle.std.specs.Prelude.{ℕ, Bool, List, [], ◌∷◌, ◌++◌, codes}
 use Rattle.mk_base.specs.declared.faults.FaultKind.{FaultKind}
 use Rattle.mk_base.specs.declared.faults.FaultKind.TheVariants as kinds
@@ -35,12 +36,13 @@ spelled words.Include = codes "include"
 spelled words.Sinclude = codes "sinclude"
 spelled words.Undef = codes "undef"
 
--- what stands behind the word of the line that begins a block, with the words of the loops round it put in; no other line begins one
+-- what follows the word of the line that begins a block, with the words of the loops around it put in; no
+-- other line begins one
 abbrev pub head_text : Variables → Loops → TextLineKind → Work Meter FaultKind (List ℕ)
 head_text variables loops (DirectiveLine word rest) = pay >>= λ _. put_in variables loops rest
 head_text variables loops kind = fail kinds.Block
 
--- the word of a directive and the condition behind it, as a text
+-- the word of a directive and the condition after it, as a text
 abbrev pub condition_text : TextLineKind → List ℕ → List ℕ
 condition_text (DirectiveLine word rest) text = spelled word ++ 32 ∷ text
 condition_text kind text = []
@@ -50,6 +52,6 @@ abbrev pub judge : FileMap → List ℕ → Variables → Loops → List ℕ →
 judge files makefile variables loops line =
     quietly (head_text variables loops (line_kind line)) >>= λ text. truth variables files makefile (condition_text (line_kind line) text)
 
--- the turns of the loop that begins with a line
+-- the iterations of the loop that begins with a line
 abbrev pub turns : Variables → Loops → List ℕ → Work Meter FaultKind (List LoopWords)
 turns variables loops line = head_text variables loops (line_kind line) >>= header variables

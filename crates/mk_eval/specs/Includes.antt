@@ -1,6 +1,8 @@
--- Included files (make(1), "INCLUDE STATEMENTS", and bsd.port.mk(5)). That the files in `<..>` have no contents of their own, how deep files
--- may include one another, and in which order faults are looked for, is this project's choice.
-use Rattle.std.specs.Prelude.{ℕ, suc, zero, ◌-◌, ◌==◌, ◌&&◌, nat_le, Bool, true, if◌then◌else◌, List, length, take, drop, slice_index, slice_range, Option, Some, None, Result, Ok, Err, codes}
+-- Included files (make(1), "INCLUDE STATEMENTS", and bsd.port.mk(5)). This project chose that the files in
+-- `<..>` have no contents of their own, how deep files may include one another, and in which order faults
+-- are looked for.
+use Rattle.std.specs.Prelude.{ℕ, suc, zero, ◌-◌, ◌==◌, ◌&&◌, nat_le, Bool, true, if◌then◌else◌, List, length, take}
+use Rattle.std.specs.Prelude.{drop, slice_index, slice_range, Option, Some, None, Result, Ok, Err, codes}
 use Rattle.std.specs.Str.{bytes_eq}
 use Rattle.mk_base.specs.declared.faults.FaultKind.{FaultKind}
 use Rattle.mk_base.specs.declared.faults.FaultKind.TheVariants as kinds
@@ -12,11 +14,11 @@ use Rattle.mk_paths.specs.World.{FileMap}
 use Rattle.mk_files.specs.Asking.{Account, ask_read}
 use Rattle.mk_eval.specs.declared.outcome.Kind.{Kind}
 use Rattle.mk_eval.specs.declared.outcome.Kind.TheVariants as roles
-use Rattle.mk_eval.specs.declared.standing.Standing.{Standing}
+use Rattle.mk_eval.specs.declared.standing.EvalState.{EvalState}
 use Rattle.mk_eval.specs.Lines.{Request}
 
--- what the text of an include names, once expanded: a file, `"f"`; one of the two system files that say what the makefile is; another
--- system file; or nothing
+-- what the text of an include names, once expanded: a file, `"f"`; one of the two system files that say what
+-- the makefile is; another system file; or nothing
 pub data Form : Type 0 where
   OwnFile : List ℕ → Form
   PortFile : Form
@@ -24,7 +26,7 @@ pub data Form : Type 0 where
   SystemFile : Form
   NoForm : Form
 
--- what stands between these two bytes, which a text begins and ends with
+-- what is between these two bytes, with which a text begins and ends; None if it doesn't
 abbrev pub enclosed : ℕ → ℕ → List ℕ → Option (List ℕ)
 enclosed first last text =
     if nat_le 2 (length text) && slice_index text 0 == first && slice_index text (length text - 1) == last
@@ -32,7 +34,9 @@ enclosed first last text =
 
 -- a name `bsd.*.mk`
 abbrev pub is_system_name : List ℕ → Bool
-is_system_name name = nat_le 7 (length name) && bytes_eq (take 4 name) (codes "bsd.") && bytes_eq (drop (length name - 3) name) (codes ".mk")
+is_system_name name =
+    nat_le 7 (length name) && bytes_eq (take 4 name) (codes "bsd.")
+    && bytes_eq (drop (length name - 3) name) (codes ".mk")
 
 -- the system file of a name
 abbrev pub system_form : List ℕ → Form
@@ -47,12 +51,12 @@ form_by (Some file) system = OwnFile file
 form_by None (Some name) = system_form name
 form_by None None = NoForm
 
--- the form of a text, without the blanks round it: in quotes (34), or between `<` (60) and `>` (62)
+-- the form of a text, without the blanks around it: in quotes (34), or between `<` (60) and `>` (62)
 abbrev pub form_of : List ℕ → Form
 form_of text = form_by (enclosed 34 34 (trim_blanks text)) (enclosed 60 62 (trim_blanks text))
 
--- where an include stands: among which files, in which file, of the evaluation of which makefile, and how many files may still include one
--- another
+-- where an include is: among which files, in the evaluation of which makefile, in which file, and how many
+-- levels deep files may still include one another
 pub record Place : Type 0 where
   pub files : FileMap
   pub makefile : List ℕ
@@ -65,33 +69,33 @@ File = List ℕ × List ℕ
 
 -- what an include leaves: the state, and the file that is to be executed, if any
 abbrev pub Opened : Type 0
-Opened = Standing × Option File
+Opened = EvalState × Option File
 
--- files may include one another 16 deep
+-- files may include one another 16 deep; one more is a fault
 abbrev pub deep_enough : ℕ → Work Account FaultKind (Unit {0})
 deep_enough zero = fail kinds.IncludeDepth
 deep_enough (suc levels) = give tt
 
--- the name of a file; a text that is none is a fault
+-- the name of a file; a text that is no file name is a fault
 abbrev pub named : Result (List ℕ) NameFault → Work Account FaultKind (List ℕ)
 named (Ok name) = give name
 named (Err fault) = fail kinds.Include
 
--- a file that was asked for: one that is missing is a fault, unless it may be
-abbrev pub found : Standing → Bool → List ℕ → Option (List ℕ) → Work Account FaultKind Opened
+-- a file that was asked for: if it is missing, that is a fault, unless it may be missing
+abbrev pub found : EvalState → Bool → List ℕ → Option (List ℕ) → Work Account FaultKind Opened
 found standing optional name (Some bytes) = give (standing, Some (name, bytes))
 found standing optional name None = if optional then give (standing, None) else fail kinds.Include
 
--- the file of a name, which may be missing or not
-abbrev pub open_named : FileMap → Standing → Bool → List ℕ → Work Account FaultKind Opened
+-- the file of a name, which may be missing or may not
+abbrev pub open_named : FileMap → EvalState → Bool → List ℕ → Work Account FaultKind Opened
 open_named files standing optional name = ask_read files name >>= found standing optional name
 
--- the same where files may still include one another
-abbrev pub open_inside : Place → Standing → Bool → List ℕ → Work Account FaultKind Opened
+-- the same if files may still include one another
+abbrev pub open_inside : Place → EvalState → Bool → List ℕ → Work Account FaultKind Opened
 open_inside place standing optional name = deep_enough place.levels >>= λ _. open_named place.files standing optional name
 
 -- a file under the directory of the including file, or with an absolute name
-abbrev pub open_own : Place → Standing → Bool → List ℕ → Work Account FaultKind Opened
+abbrev pub open_own : Place → EvalState → Bool → List ℕ → Work Account FaultKind Opened
 open_own place standing optional file =
     deep_enough place.levels >>= λ _. named (resolved (name_under (directory_of place.file) file))
     >>= open_named place.files standing optional
@@ -102,33 +106,35 @@ first_said roles.Other kind = kind
 first_said before kind = before
 
 -- the state with this said of the makefile
-abbrev pub with_kind : Standing → Kind → Standing
+abbrev pub with_kind : EvalState → Kind → EvalState
 with_kind standing kind = record standing { kind = first_said standing.kind kind }
 
--- the file beside a makefile's directory that its ports share, if it is there; a name that is none isn't
-abbrev pub open_shared : Place → Standing → Result (List ℕ) NameFault → Work Account FaultKind Opened
+-- the file beside a makefile's directory that ports share, if it is there; if the text is no file
+-- name, it isn't
+abbrev pub open_shared : Place → EvalState → Result (List ℕ) NameFault → Work Account FaultKind Opened
 open_shared place standing (Err fault) = give (standing, None)
 open_shared place standing (Ok name) = open_inside place standing true name
 
--- the state behind the first `<bsd.port.mk>`
-abbrev pub first_port : Standing → Standing
+-- the state after the first `<bsd.port.mk>`
+abbrev pub first_port : EvalState → EvalState
 first_port standing = record (with_kind standing roles.Port) { shared_asked = true }
 
--- `<bsd.port.mk>`: the makefile is a port's; the first one includes `../Makefile.inc` of the makefile's directory
-abbrev pub open_port : Place → Standing → Work Account FaultKind Opened
+-- `<bsd.port.mk>`: the makefile is a port's; the first one includes `../Makefile.inc` of the
+-- makefile's directory
+abbrev pub open_port : Place → EvalState → Work Account FaultKind Opened
 open_port place standing =
     if standing.shared_asked then give (with_kind standing roles.Port, None)
     else open_shared place (first_port standing) (resolved (name_under (directory_of place.makefile) (codes "../Makefile.inc")))
 
 -- what is opened by an include of a form
-abbrev pub open_form : Place → Standing → Bool → Form → Work Account FaultKind Opened
+abbrev pub open_form : Place → EvalState → Bool → Form → Work Account FaultKind Opened
 open_form place standing optional (OwnFile file) = open_own place standing optional file
 open_form place standing optional PortFile = open_port place standing
 open_form place standing optional SubdirFile = give (with_kind standing roles.List, None)
 open_form place standing optional SystemFile = give (standing, None)
 open_form place standing optional NoForm = fail kinds.Include
 
--- what a line opens that asks for a file, if it does
-abbrev pub open_request : Place → Standing → Option Request → Work Account FaultKind Opened
+-- what a line opens, if it asks for a file
+abbrev pub open_request : Place → EvalState → Option Request → Work Account FaultKind Opened
 open_request place standing None = give (standing, None)
 open_request place standing (Some request) = open_form place standing request.optional (form_of request.text)

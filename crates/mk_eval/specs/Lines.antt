@@ -1,5 +1,6 @@
--- What a line of a makefile that is neither a block nor an include does to its variables (make(1), "VARIABLES"). The cost, the limits, and
--- that an assignment of a command's output is a fault are this project's choice.
+-- What a line of a makefile that is neither a block nor an include does to its variables (make(1),
+-- "VARIABLES"). The cost, the limits, and that an assignment of a command's output is a fault, are this
+-- project's choice.
 use Rattle.std.specs.Prelude.{ℕ, is_some, Bool, true, false, if◌then◌else◌, List, [], ◌∷◌, ◌++◌, Option, Some, None, unwrap_or}
 use Rattle.std.specs.FinMap as finite
 use Rattle.mk_base.specs.declared.faults.FaultKind.{FaultKind}
@@ -11,17 +12,19 @@ use Rattle.mk_ast.specs.declared.kinds.Directive.{Directive}
 use Rattle.mk_ast.specs.declared.kinds.Directive.TheVariants as words
 use Rattle.mk_ast.specs.declared.kinds.Operator.{Operator}
 use Rattle.mk_ast.specs.declared.kinds.Operator.TheVariants as operators
-use Rattle.mk_ast.specs.Kinds.{TextLineKind, CommandLine, BlankLine, DirectiveLine, AssignmentLine, DependencyLine, BadLine, is_word, line_kind, plain_kind}
+use Rattle.mk_ast.specs.Kinds.{TextLineKind, CommandLine, BlankLine, DirectiveLine, AssignmentLine, DependencyLine}
+use Rattle.mk_ast.specs.Kinds.{BadLine, is_word, line_kind, plain_kind}
 use Rattle.mk_env.specs.Texts.{Variables, appended}
 use Rattle.mk_env.specs.Expansion.{bounded, expand, expand_now}
 use Rattle.mk_loop.specs.LoopWords.{LoopWords}
 use Rattle.mk_loop.specs.Putting.{put_words}
 
--- the variables with this text stored under a name, unless it is too long
+-- the variables with this text stored under a name; it is a fault if the text is too long
 abbrev pub store : Variables → List ℕ → List ℕ → Work Meter FaultKind Variables
 store variables name text = bounded text >>= λ stored. give (finite.insert variables name stored)
 
--- what an operator does with a name and the text behind it: a variable that is defined keeps its text under `?=`, and nothing is looked at
+-- what an operator does with a name and the text after it: under `?=` a variable that is defined keeps its
+-- text, and nothing is looked at
 abbrev pub assign : Variables → Operator → List ℕ → List ℕ → Work Meter FaultKind Variables
 assign variables operators.Set name text = store variables name text
 assign variables operators.Default name text = if is_some (finite.get variables name) then give variables else store variables name text
@@ -29,7 +32,7 @@ assign variables operators.Append name text = store variables name (appended (fi
 assign variables operators.Expand name text = expand_now variables text >>= λ found. store variables name found
 assign variables operators.Shell name text = fail kinds.Shell
 
--- an assignment to a name that is expanded already: it has to be one word
+-- an assignment to a name that is already expanded: the name has to be one word
 abbrev pub assign_to : Variables → Operator → List ℕ → List ℕ → Work Meter FaultKind Variables
 assign_to variables operator text name = if is_word name then assign variables operator name text else fail kinds.Line
 
@@ -43,7 +46,7 @@ pub record Request : Type 0 where
   pub text : List ℕ
   pub optional : Bool
 
--- what a line leaves: the variables, and the file that it asks for, if it does
+-- what a line leaves: the variables, and the file that it asks for, if any
 abbrev pub Performed : Type 0
 Performed = Variables × Option Request
 
@@ -51,7 +54,8 @@ Performed = Variables × Option Request
 abbrev pub alone : Variables → Work Meter FaultKind Performed
 alone variables = give (variables, None)
 
--- `.undef` takes away each word of its expanded text; the two forms of `.include` ask for a file; no other directive stands alone
+-- `.undef` removes the variable of each word of its expanded text; the two forms of `.include` ask for a
+-- file; any other directive belongs to a block, and is a fault here
 abbrev pub direct : Variables → Directive → List ℕ → Work Meter FaultKind Performed
 direct variables words.Undef text = expand variables text >>= λ found. alone (without variables (words_of found))
 direct variables words.Include text = expand variables text >>= λ found. give (variables, Some (record { text = found; optional = false }))
@@ -67,40 +71,42 @@ execute_kind variables (AssignmentLine operator name text) = expand variables na
 execute_kind variables DependencyLine = alone variables
 execute_kind variables BadLine = fail kinds.Line
 
--- The loops round a line, if there are any: their variables with their words, those of the innermost loop first.
+-- The loops around a line, if there are any: their variables with their words, those of the
+-- innermost loop first.
 abbrev pub Loops : Type 0
 Loops = Option LoopWords
 
--- the loops round a line of a loop's body, in the turn with these words
+-- the loops around a line of a loop's body, in the iteration with these words
 abbrev pub inside_turn : Loops → LoopWords → Loops
 inside_turn loops turn = Some (turn ++ unwrap_or loops [])
 
--- a text with the words of the loops round it put in; with no loop round it, it isn't looked at
+-- a text with the words of the loops around it put in; if no loop is around it, it isn't looked at
 abbrev pub put_in : Variables → Loops → List ℕ → Work Meter FaultKind (List ℕ)
 put_in variables None text = give text
 put_in variables (Some words) text = put_words words variables text
 
--- What a line of a loop's body is, once words are put in, whose text as written was of this kind: a directive stays one, with words put
--- into what stands behind its word, and a command stays one. Any other is read anew, and isn't a directive even if it looks like one.
+-- What a line of a loop's body is once words are put in, if its text as written was of this kind. A
+-- directive stays a directive, with words put into what follows its word, and a command stays a command. Any
+-- other line is read anew, and isn't a directive even if it looks like one.
 abbrev pub read_again : Variables → LoopWords → List ℕ → TextLineKind → Work Meter FaultKind TextLineKind
 read_again variables words text (DirectiveLine word rest) = put_words words variables rest >>= λ put. give (DirectiveLine word put)
 read_again variables words text CommandLine = put_words words variables text >>= λ put. give CommandLine
 read_again variables words text kind = put_words words variables text >>= λ put. give (plain_kind put)
 
--- what a line of a loop's body does whose text as written is of this kind, once words are put in
+-- what a line of a loop's body does once words are put in, if its text as written is of this kind
 abbrev pub execute_again : Variables → LoopWords → List ℕ → TextLineKind → Work Meter FaultKind Performed
 execute_again variables words text kind = read_again variables words text kind >>= execute_kind variables
 
--- the same of a line with these loops round it, or with none
+-- the same for a line with these loops around it, or with none
 abbrev pub execute_in : Variables → Loops → List ℕ → TextLineKind → Work Meter FaultKind Performed
 execute_in variables None text kind = execute_kind variables kind
 execute_in variables (Some words) text kind = execute_again variables words text kind
 
--- What a line does, whose text is of this kind. One that isn't blank costs a unit, before anything else.
+-- What a line does whose text is of this kind. A line that isn't blank costs a unit, before anything else.
 abbrev pub perform_kind : Variables → Loops → List ℕ → TextLineKind → Work Meter FaultKind Performed
 perform_kind variables loops text BlankLine = alone variables
 perform_kind variables loops text kind = pay >>= λ _. execute_in variables loops text kind
 
--- what a line with this text does that begins, parts and ends no block
+-- what a line with this text does, if it doesn't begin, part or end a block
 abbrev pub perform : Variables → Loops → List ℕ → Work Meter FaultKind Performed
 perform variables loops text = perform_kind variables loops text (line_kind text)

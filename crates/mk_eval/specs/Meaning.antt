@@ -1,4 +1,5 @@
--- What a makefile means: its kind, its variables and what it costs, or the first fault with what it cost until there.
+-- What a makefile means: its kind, its variables and what it costs, or the first fault with what it
+-- cost up to there.
 use Rattle.std.specs.Prelude.{ℕ, suc, zero, false, if◌then◌else◌, List, [], Option, Some, None, unwrap_or, Result, Ok, Err}
 use Rattle.std.specs.FinMap as finite
 use Rattle.mk_base.specs.declared.faults.FaultKind.{FaultKind}
@@ -14,7 +15,7 @@ use Rattle.mk_ast.specs.Parsing.{parsed}
 use Rattle.mk_env.specs.Texts.{Variables}
 use Rattle.mk_env.specs.Expansion.{variable}
 use Rattle.mk_paths.specs.World.{FileMap, World, files_in, search_path_of}
-use Rattle.mk_paths.specs.Shelf.{Question}
+use Rattle.mk_paths.specs.FilesView.{Question}
 use Rattle.mk_files.specs.Asking.{Account, quietly, look_read}
 use Rattle.mk_eval.specs.Expanded.{Expanded}
 use Rattle.mk_eval.specs.Lines.{Loops, perform}
@@ -25,32 +26,32 @@ use Rattle.mk_eval.specs.Start.{start}
 use Rattle.mk_eval.specs.declared.outcome.Kind.TheVariants as roles
 use Rattle.mk_eval.specs.declared.outcome.Evaluated.{Evaluated}
 use Rattle.mk_eval.specs.declared.outcome.Failed.{Failed}
-use Rattle.mk_eval.specs.declared.standing.Standing.{Standing}
+use Rattle.mk_eval.specs.declared.standing.EvalState.{EvalState}
 
 -- a fault at a line of a file
 abbrev pub at : List ℕ → ℕ → FaultKind → FaultAt
 at name line kind = fault_at kind name line
 
--- work on a line of a file, whose faults are told with their place
+-- work on a line of a file: its faults are given with their place
 abbrev pub told_at : {A : Type 0} → Place → LogicalLine → Work Account FaultKind A → Work Account FaultAt A
 told_at place line work a = tell (at place.file line.line) (work a)
 
 -- what a file with this name and these bytes does
 abbrev pub Entering : Type 0
-Entering = List ℕ → List ℕ → Standing → Work Account FaultAt Standing
+Entering = List ℕ → List ℕ → EvalState → Work Account FaultAt EvalState
 
--- what is left once the file that a line opened, if it did, is executed
-abbrev pub enter : Entering → Opened → Work Account FaultAt Standing
+-- the state after the file that a line opened, if any, is executed
+abbrev pub enter : Entering → Opened → Work Account FaultAt EvalState
 enter entering (standing, None) = give standing
 enter entering (standing, Some file) = entering file.0 file.1 standing
 
--- what a line opens, once it has done what it does alone
-abbrev pub open_line : Place → Loops → LogicalLine → Standing → Work Account FaultKind Opened
+-- what a line opens, after it has done what it does by itself
+abbrev pub open_line : Place → Loops → LogicalLine → EvalState → Work Account FaultKind Opened
 open_line place loops line standing =
     quietly (perform standing.variables loops line.text) >>= λ done. open_request place (record standing { variables = done.0 }) done.1
 
 -- what the lines of a file do
-abbrev pub works_at : Entering → Place → LineWorks Account FaultAt Standing
+abbrev pub works_at : Entering → Place → LineWorks Account FaultAt EvalState
 works_at entering place = record {
   performs = λ loops line standing. told_at place line (open_line place loops line standing) >>= enter entering;
   holds = λ loops line standing. told_at place line (judge place.files place.makefile standing.variables loops line.text);
@@ -58,41 +59,44 @@ works_at entering place = record {
   begins = λ line. told_at place line (quietly pay);
 }
 
--- what a file that was read does, outside any loop; one that can't be read is at fault before any line is executed
-abbrev pub execute_read : Entering → Place → Result Block ParseFault → Standing → Work Account FaultAt Standing
+-- what a file that was read does, outside any loop; if it can't be read, that is a fault before any
+-- line is executed
+abbrev pub execute_read : Entering → Place → Result Block ParseFault → EvalState → Work Account FaultAt EvalState
 execute_read entering place (Ok block) standing = execute (works_at entering place) block None standing
 execute_read entering place (Err fault) standing = fail (fault_at fault.kind place.file fault.line)
 
--- where no more files may include one another, none is entered
+-- if no more files may include one another, none is entered
 abbrev pub nothing_entered : Entering
 nothing_entered name bytes standing = give standing
 
--- What a file with this name and these bytes does in the evaluation of a makefile, where so many files may still include one another.
+-- What a file with this name and these bytes does in the evaluation of a makefile, if files may still
+-- include one another this many levels deep.
 unfoldable pub file_meaning : FileMap → List ℕ → ℕ → Entering
 file_meaning files makefile zero name bytes standing a =
     execute_read nothing_entered (record { files = files; makefile = makefile; file = name; levels = zero }) (parsed bytes) standing a
 file_meaning files makefile (suc levels) name bytes standing a =
-    execute_read (file_meaning files makefile levels) (record { files = files; makefile = makefile; file = name; levels = suc levels }) (parsed bytes) standing a
+    execute_read (file_meaning files makefile levels)
+    (record { files = files; makefile = makefile; file = name; levels = suc levels }) (parsed bytes) standing a
 
 -- the state with which an evaluation begins
-abbrev pub opening : World → List ℕ → Option (List (List ℕ)) → Standing
+abbrev pub opening : World → List ℕ → Option (List (List ℕ)) → EvalState
 opening world name flavors = record { variables = start (search_path_of world) name flavors; kind = roles.Other; shared_asked = false }
 
 -- what the makefile of this name does, if it is there
-abbrev pub makefile_meaning : World → List ℕ → Option (List (List ℕ)) → Option (List ℕ) → Work Account FaultAt Standing
+abbrev pub makefile_meaning : World → List ℕ → Option (List (List ℕ)) → Option (List ℕ) → Work Account FaultAt EvalState
 makefile_meaning world name flavors None = fail (at name 0 kinds.Include)
 makefile_meaning world name flavors (Some bytes) = file_meaning (files_in world) name 16 name bytes (opening world name flavors)
 
--- an evaluation: the makefile is looked at, which isn't counted among the questions, and executed
-unfoldable pub evaluation : World → List ℕ → Option (List (List ℕ)) → Work Account FaultAt Standing
+-- an evaluation: the makefile is looked at, which isn't counted among the questions, and is executed
+unfoldable pub evaluation : World → List ℕ → Option (List (List ℕ)) → Work Account FaultAt EvalState
 evaluation world name flavors a = (look_read (files_in world) name >>= makefile_meaning world name flavors) a
 
--- a budget of so many units, of which nothing is spent, beside this log
+-- a budget of this many units, of which nothing is spent, and this log
 abbrev pub fresh : ℕ → Option (List Question) → Account
 fresh limit log = record { meter = full limit; log = log }
 
 -- the end of an evaluation with its cost, in units
-abbrev pub evaluated : Result (Standing × Account) (FaultAt × Account) → Result Evaluated Failed
+abbrev pub evaluated : Result (EvalState × Account) (FaultAt × Account) → Result Evaluated Failed
 evaluated (Ok end) = Ok (record { kind = end.0.kind; env = end.0.variables; cost = end.1.meter.spent })
 evaluated (Err end) = Err (record { fault = end.0; cost = end.1.meter.spent })
 
@@ -100,8 +104,8 @@ evaluated (Err end) = Err (record { fault = end.0; cost = end.1.meter.spent })
 abbrev pub means : World → List ℕ → Option (List (List ℕ)) → Result Evaluated Failed
 means world name flavors = evaluated (evaluation world name flavors (fresh UNITS None))
 
--- The names that its evaluation in a budget of so many units reads or asks about, in order, each with its answer: what it leaves in a log
--- in which nothing stood.
+-- The names that its evaluation reads or asks about, in a budget of this many units, in order, each with its
+-- answer. That is what the evaluation leaves in a log that was empty.
 abbrev pub asked : World → List ℕ → Option (List (List ℕ)) → ℕ → List Question
 asked world name flavors limit = unwrap_or (left (evaluation world name flavors (fresh limit (Some [])))).log []
 
@@ -110,7 +114,8 @@ abbrev pub valued : Result (List ℕ × Meter) (FaultAt × Meter) → Result (Op
 valued (Ok end) = Ok (Some (record { text = end.0; cost = end.1.spent }))
 valued (Err end) = Err (record { fault = end.0; cost = end.1.spent })
 
--- the value of a variable after the evaluation of the named makefile; a name that isn't defined has none, at no cost
+-- the value of a variable after the evaluation of the named makefile; a name that isn't defined has
+-- none, at no cost
 abbrev pub value_of : Variables → List ℕ → List ℕ → Result (Option Expanded) Failed
 value_of variables makefile name =
     if finite.contains_key variables name then valued (tell (at makefile 0) (variable variables name (full UNITS))) else Ok None

@@ -1,13 +1,15 @@
--- When what was learnt of a makefile in one world holds in another: where the other world gives the answers that the first one gave.
+-- When what was learnt of a makefile in one world holds in another: if the other world gives the answers
+-- that the first one gave.
 use Rattle.std.specs.Prelude.{◌≡◌, ℕ, List, [], ◌∷◌, Option, Result, Ok, Err}
 use Rattle.mk_paths.specs.World.{FileMap}
-use Rattle.mk_paths.specs.Shelf.{Question, IsReply}
+use Rattle.mk_paths.specs.FilesView.{Question, IsReply}
 use Rattle.mk_paths.specs.declared.search_path.Settings.{Settings}
 use Rattle.mk_eval.specs.declared.outcome.Evaluated.{Evaluated}
 use Rattle.mk_eval.specs.declared.outcome.Failed.{Failed}
 use Rattle.mk_eval.specs.Meaning.{means, asked}
 
--- each question has, among these files, the answer that stands with it, be it that a file isn't there
+-- among these files, each question has the answer that is given with it, even if that says that a
+-- file isn't there
 abbrev pub Agrees : FileMap → List Question → Type 0
 Agrees files [] = Unit {0}
 Agrees files (question ∷ questions) = IsReply files question.0 question.1 × Agrees files questions
@@ -21,9 +23,12 @@ cost_of (Err failed) = failed.cost
 abbrev pub questions_of : FileMap → Settings → List ℕ → Option (List (List ℕ)) → List Question
 questions_of files settings name flavors = asked (files, settings) name flavors (cost_of (means (files, settings) name flavors))
 
--- With the same settings, every world that gives the answers that an evaluation got means the same by that makefile: kind, variables and cost,
--- or the fault with its place and the cost; and it is asked the same, whatever branches weren't taken.
+-- Take any world with the same settings that gives the answers that an evaluation got. In it that makefile
+-- means the same: kind, variables and cost, or the fault with its place and the cost. The world is asked the
+-- same too, whatever branches weren't taken.
 abbrev pub IsTheSameWhereAnswered : Type 0
 IsTheSameWhereAnswered =
-    (files other : FileMap) (settings : Settings) (name : List ℕ) (flavors : Option (List (List ℕ))) → Agrees other (questions_of files settings name flavors)
-    → (means (other, settings) name flavors ≡ means (files, settings) name flavors) × (questions_of other settings name flavors ≡ questions_of files settings name flavors)
+    (files other : FileMap) (settings : Settings) (name : List ℕ) (flavors : Option (List (List ℕ)))
+    → Agrees other (questions_of files settings name flavors)
+    → (means (other, settings) name flavors ≡ means (files, settings) name flavors)
+    × (questions_of other settings name flavors ≡ questions_of files settings name flavors)

@@ -1,18 +1,18 @@
 ghost use Rattle.std.specs.Prelude.{◌≡◌, OnOk, IfOk, IfErr, option_map, string_bytes, map};
 ghost use Rattle.mk_base.specs.Meter.{full, IsLater};
 ghost use Rattle.mk_files.specs.Asking.{account};
-ghost use Rattle.mk_files.specs.Looking.{Asked, LeavesAtStop};
+ghost use Rattle.mk_files.specs.Looking.{AfterQuestions, LeavesAtStop};
 ghost use Rattle.mk_base.specs.Stopping.{Gives, NeverStore};
 ghost use Rattle.mk_eval.specs.Meaning as meaning;
 ghost use Rattle.mk_eval.specs.Meaning.{means, asked, value_of};
 ghost use Rattle.mk_eval.specs.Telling.{Tells, LeavesAsked};
 ghost use Rattle.mk_eval.specs.Views.{flavors_in};
 
-use crate::including::Spot;
+use crate::including::ExecutedFile;
 use crate::outcome::{Evaluated, Failed, Kind, Valued, with_cost};
 use crate::parses::{Anew, Parses};
-use crate::running::{INCLUDES, execute_file};
-use crate::standing::Standing;
+use crate::running::execute_file;
+use crate::standing::EvalState;
 use crate::starting::start;
 use mk_base::{Budget, Fault, FaultKind, Stop, UNITS};
 use mk_env::expand_variable;
@@ -20,29 +20,41 @@ use mk_files::{Files, look_read};
 use mk_paths::{Name, Settings};
 use std::alloc::Global;
 
+/// How many levels deep files may include one another.
+const INCLUDES: u32 = 16;
+
 /// What the makefile of this name means in the world of these files and settings, evaluated with these
-/// flavors or with none given: what it describes, its variables and what it cost, in a budget of 50,000
-/// units, or its first fault with what it cost until there. Each file is looked at, or asked about, where a
-/// line does so, in order, and a log of the files notes it with its answer.
+/// flavors or with none given, in a budget of 50,000 units. That is what it describes, its variables and
+/// the units that it cost, or its first fault with the units that it cost up to there. Each file is
+/// looked at, or asked about, when a line does so, in order. If the files keep a log, the log notes each
+/// with its answer.
 ///
-/// The variables begin with `.CURDIR`, the makefile's directory; `PORTSDIR`, `/ports`; `PORTSDIR_PATH`, the
-/// trees of the settings with colons between; `MACHINE_ARCH`, `amd64`; `LOCALBASE`, `/usr/local`; and,
-/// where flavors are given, `FLAVOR`, with the flavors in the order of their bytes, each once, with blanks
-/// between.
+/// The evaluation begins with these variables: `.CURDIR`, the makefile's directory; `PORTSDIR`,
+/// `/ports`; `PORTSDIR_PATH`, the trees of the settings with colons between them; `MACHINE_ARCH`,
+/// `amd64`; and `LOCALBASE`, `/usr/local`. If flavors are given, it begins with `FLAVOR` too: the
+/// flavors in the order of their bytes, each once, with blanks between them.
 ///
 /// # Errors
 ///
-/// The faults, each with the file and the line where it arose: `Include` at line 0 where the makefile isn't
-/// there. For each file, before any of its lines is executed, `Utf8` at the line of the first bad byte, and
-/// then `Block` for a block that doesn't end, a part without its block, or more than 64 blocks one inside
-/// another. At a line that is executed, `Budget` where no unit is left; in a loop the faults of
-/// `mk_loop::put_words`; then those of `mk_cond::truth` for a condition, of `mk_loop::read_header` for a
-/// `.for`, and else of `perform`; at a turn of a loop `Budget` at the line of its `.for`. Where a line asks
-/// for a file: `Include` where its text names none in one of the forms; `IncludeDepth` where more than 16
-/// files would include one another; `Include` where a name in quotes is none; `Questions` for the 257th
-/// question, for which nothing is asked; `Include` where the file is missing, and may not be.
+/// Each fault has the file and the line where it arose. It is `Include` at line 0 if the
+/// makefile isn't there.
 ///
-/// `Store` and `Memory` are the faults of the files, told as they are; `Memory` comes too where none is left.
+/// For each file, before any of its lines is executed, it is `Utf8` at the line of the first bad
+/// byte. Then it is `Block` for a block that doesn't end, a part without its block, or more than 64
+/// nested blocks.
+///
+/// At a line that is executed, it is `Budget` if no unit is left. Then come, in a loop, the faults of
+/// `mk_loop::put_words`. Then come those of `mk_cond::truth` for a condition, of `mk_loop::read_header`
+/// for a `.for`, and of `perform` for any other line. If no unit is left for an iteration of a loop, it
+/// is `Budget` at the line of the `.for`.
+///
+/// If a line asks for a file, faults are looked for in this order. `Include` if the line's text names
+/// none in one of the forms. `IncludeDepth` if more than 16 files would include one another. `Include`
+/// if a name in quotes is no file name. `Questions` for the 257th question, and then nothing is asked.
+/// `Include` if the file is missing, and may not be.
+///
+/// If the files fail, their fault is returned as it is, as `Store` or `Memory`. It is also `Memory` if
+/// memory runs out.
 pub fn evaluate<F: Files>(
     alloc: Global,
     files: &mut F,
@@ -50,8 +62,11 @@ pub fn evaluate<F: Files>(
     name: &Name,
     flavors: Option<&[String]>,
 ) -> Result<Evaluated, Stop<Failed>>
-    ensures means { Tells (λ x. x) result (means ((F.shelf files.old).files, settings.now) name.now (flavors_in flavors.entry)) }
-    ensures files { LeavesAsked F.fails_with (F.shelf files.old) (F.shelf files.new) (asked ((F.shelf files.old).files, settings.now) name.now (flavors_in flavors.entry)) result }
+    ensures means { Tells (λ x. x) result
+        (means ((F.view files.old).files, settings.now) name.now (flavors_in flavors.entry)) }
+    ensures files { LeavesAsked F.fails_with (F.view files.old) (F.view files.new)
+        (asked ((F.view files.old).files, settings.now) name.now
+        (flavors_in flavors.entry)) result }
 {
     let mut budget = Budget::new(UNITS);
     let mut parses = Anew::new(alloc);
@@ -73,7 +88,7 @@ pub fn evaluate<F: Files>(
     }
 }
 
-/// How the evaluation of the named makefile ends.
+/// Evaluates the named makefile, and gives the state at its end.
 #[tactic(auto, unfolding(crate::specs::Meaning::evaluation))]
 fn run<F: Files, P: Parses>(
     alloc: Global,
@@ -83,33 +98,36 @@ fn run<F: Files, P: Parses>(
     parses: &mut P,
     files: &mut F,
     budget: &mut Budget,
-) -> Result<Standing, Stop<Fault>>
-    ensures gives { Gives (λ standing. standing) result (account budget.new (F.shelf files.new)) (meaning.evaluation ((F.shelf files.old).files, settings.now) name.now (flavors_in flavors.entry) (account budget.old (F.shelf files.old))) }
-    ensures asked { IfOk result (λ _. Asked (F.shelf files.old) (F.shelf files.new)) }
-    ensures stops { IfErr result (LeavesAtStop F.fails_with (F.shelf files.old) (F.shelf files.new)) }
+) -> Result<EvalState, Stop<Fault>>
+    ensures gives { Gives (λ standing. standing) result (account budget.new (F.view files.new))
+        (meaning.evaluation ((F.view files.old).files, settings.now) name.now
+        (flavors_in flavors.entry) (account budget.old (F.view files.old))) }
+    ensures asked { IfOk result (λ _. AfterQuestions (F.view files.old) (F.view files.new)) }
+    ensures stops { IfErr result (LeavesAtStop F.fails_with (F.view files.old) (F.view files.new)) }
     ensures later { IsLater budget.old budget.new }
 {
     let Some(content) = look_read(files, name)? else {
         return Err(Stop::Fault(FaultKind::Include).blame(alloc, name.as_str(), 0));
     };
-    let mut standing = Standing {
+    let mut standing = EvalState {
         variables: start(alloc, settings, name, flavors)?,
         kind: Kind::Other,
         shared_asked: false,
     };
-    let spot = Spot {
+    let here = ExecutedFile {
         makefile: name,
         file: name,
         levels: INCLUDES,
     };
-    execute_file(alloc, spot, &content, &mut standing, parses, files, budget)?;
+    execute_file(alloc, here, &content, &mut standing, parses, files, budget)?;
     Ok(standing)
 }
 
-/// The value of a variable after the evaluation of the named makefile, in a budget of 50,000 units
-/// of its own; none, at no cost, where the variable isn't defined. The name is taken as it stands.
-/// The faults are those of `mk_env::expand_variable`, at line 0 of the makefile; the other error is
-/// want of memory.
+/// The value of a variable after the evaluation of the named makefile, in a budget of 50,000 units of
+/// its own. If the variable isn't defined, it is `None`, at no cost. The name is taken as it is.
+///
+/// The faults are those of `mk_env::expand_variable`, at line 0 of the makefile. The other error is that
+/// memory runs out.
 pub fn value(
     alloc: Global,
     evaluated: &Evaluated,

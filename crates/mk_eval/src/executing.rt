@@ -14,29 +14,32 @@ use crate::requests::Request;
 use mk_ast::{Directive, LineKind, Operator, is_word, line_kind, plain_kind};
 use mk_base::{Budget, FaultKind, Stop};
 use mk_env::{Env, expand, expand_now};
-use mk_loop::{Scope, put_words};
+use mk_loop::{LoopScope, put_words};
 use mk_text::{TEXT_LIMIT, words};
 use std::alloc::{AllocError, Global};
 
-/// Does what the line with this text says, which begins, parts and ends no block; `scope` are the loops
-/// round it. What it answers is the file that it asks for, if it does: `.include` and `.sinclude` are
-/// done but for that. A line that isn't blank costs a unit, before anything else: so `Budget` comes
-/// first where none is left. Then the words of the loops are put in, and it is read. A fault leaves the
-/// variables as they were.
+/// Does what the line with this text says. The line doesn't begin, part or end a block. `scope` has the
+/// loops around it. The answer is the file that the line asks for, if it asks for one: opening it is all
+/// that is left to do for `.include` and `.sinclude`.
 ///
-/// The faults: in a loop, those of `mk_loop::put_words`; then `Line` for a line that can't be read, and
-/// for an assignment whose name, once expanded, isn't one word; `Shell` for `!=`; those of expanding the
-/// name, and after these `Line` and `Shell`, and then those of expanding the value of `:=`; `Length`
-/// where the text to be stored has more than 65,536 bytes; those of expanding what stands behind
-/// `.undef`, `.include` and `.sinclude`.
+/// A line that isn't blank costs a unit, before anything else: so it is `Budget` first if no unit is
+/// left. Then the words of the loops are put in, and the line is read. An error leaves the variables
+/// as they were.
+///
+/// In a loop, the faults of `mk_loop::put_words` come first. It is `Line` if the line can't be read. For
+/// an assignment, the faults of expanding its name come next. Then it is `Line` if the expanded name
+/// isn't one word, and `Shell` for `!=`. Then come the faults of expanding the value of `:=`. It is
+/// `Length` if the text to be stored has more than 65,536 bytes. For `.undef`, `.include` and
+/// `.sinclude`, the faults are those of expanding what follows the word.
 pub fn perform(
     alloc: Global,
     variables: &mut Env,
-    scope: Scope<'_>,
+    scope: LoopScope<'_>,
     text: &str,
     budget: &mut Budget,
 ) -> Result<Option<Request>, Stop<FaultKind>>
-    ensures gives { Gives (λ request. (variables.new, request)) result budget.new (lines.perform variables.old (loops_of scope.entry) text.now budget.old) }
+    ensures gives { Gives (λ request. (variables.new, request)) result budget.new
+        (lines.perform variables.old (loops_of scope.entry) text.now budget.old) }
     ensures err { OnErr result (variables.new ≡ variables.old) }
     ensures store { NeverStore result }
     ensures later { IsLater budget.old budget.new }
@@ -50,21 +53,23 @@ pub fn perform(
     execute_in(alloc, variables, scope, text, kind, budget)
 }
 
-/// Does what a line says, whose text as written is of this kind.
+/// Does what a line says whose text, as written, is of this kind.
 fn execute_in(
     alloc: Global,
     variables: &mut Env,
-    scope: Scope<'_>,
+    scope: LoopScope<'_>,
     text: &str,
     kind: LineKind<'_>,
     budget: &mut Budget,
 ) -> Result<Option<Request>, Stop<FaultKind>>
-    ensures gives { Gives (λ request. (variables.new, request)) result budget.new (lines.execute_in variables.old (loops_of scope.entry) text.now (shown_kind kind.entry) budget.old) }
+    ensures gives { Gives (λ request. (variables.new, request)) result budget.new
+        (lines.execute_in variables.old (loops_of scope.entry) text.now
+        (shown_kind kind.entry) budget.old) }
     ensures err { OnErr result (variables.new ≡ variables.old) }
     ensures store { NeverStore result }
     ensures later { IsLater budget.old budget.new }
 {
-    if let Scope::Outside = scope {
+    if let LoopScope::Outside = scope {
         return execute_kind(alloc, variables, kind, budget);
     }
     match kind {
@@ -84,7 +89,7 @@ fn execute_in(
     }
 }
 
-/// A text with words put in; where none was, it is the text as written.
+/// A text with words put in; if none was put in, it is the text as written.
 pub(crate) fn put_or<'a>(put: &'a Option<String>, written: &'a str) -> &'a str
     ensures { result.now ≡ text_of written.now put.now }
 {
@@ -101,7 +106,8 @@ fn execute_kind(
     kind: LineKind<'_>,
     budget: &mut Budget,
 ) -> Result<Option<Request>, Stop<FaultKind>>
-    ensures gives { Gives (λ request. (variables.new, request)) result budget.new (lines.execute_kind variables.old (shown_kind kind.entry) budget.old) }
+    ensures gives { Gives (λ request. (variables.new, request)) result budget.new
+        (lines.execute_kind variables.old (shown_kind kind.entry) budget.old) }
     ensures err { OnErr result (variables.new ≡ variables.old) }
     ensures store { NeverStore result }
     ensures later { IsLater budget.old budget.new }
@@ -134,7 +140,8 @@ fn assign(
     text: &str,
     budget: &mut Budget,
 ) -> Result<(), Stop<FaultKind>>
-    ensures gives { Gives (λ _. variables.new) result budget.new (lines.assign variables.old operator name.now text.now budget.old) }
+    ensures gives { Gives (λ _. variables.new) result budget.new
+        (lines.assign variables.old operator name.now text.now budget.old) }
     ensures err { OnErr result (variables.new ≡ variables.old) }
     ensures store { NeverStore result }
     ensures later { IsLater budget.old budget.new }
@@ -151,9 +158,10 @@ fn assign(
     }
 }
 
-/// Gives the variable this text, unless it is too long.
+/// Gives the variable this text. It is a fault if the text is too long.
 fn store(variables: &mut Env, name: &str, text: &str) -> Result<(), Stop<FaultKind>>
-    ensures gives { (m : Meter) → Gives (λ _. variables.new) result m (lines.store variables.old name.now text.now m) }
+    ensures gives { (m : Meter)
+        → Gives (λ _. variables.new) result m (lines.store variables.old name.now text.now m) }
     ensures err { OnErr result (variables.new ≡ variables.old) }
     ensures store { NeverStore result }
 {
@@ -164,9 +172,11 @@ fn store(variables: &mut Env, name: &str, text: &str) -> Result<(), Stop<FaultKi
     Ok(())
 }
 
-/// Gives the variable this text where it has none.
+/// Gives the variable this text if it has none. It is a fault if that text is too long.
 fn store_default(variables: &mut Env, name: &str, text: &str) -> Result<(), Stop<FaultKind>>
-    ensures gives { (m : Meter) → Gives (λ _. variables.new) result m (lines.assign variables.old operators.Default name.now text.now m) }
+    ensures gives { (m : Meter)
+        → Gives (λ _. variables.new) result m
+        (lines.assign variables.old operators.Default name.now text.now m) }
     ensures err { OnErr result (variables.new ≡ variables.old) }
     ensures store { NeverStore result }
 {
@@ -177,9 +187,11 @@ fn store_default(variables: &mut Env, name: &str, text: &str) -> Result<(), Stop
     Ok(())
 }
 
-/// Puts the text behind that of the variable, unless the whole is too long.
+/// Adds the text to the end of the variable's text. It is a fault if the whole is too long.
 fn append(variables: &mut Env, name: &str, text: &str) -> Result<(), Stop<FaultKind>>
-    ensures gives { (m : Meter) → Gives (λ _. variables.new) result m (lines.assign variables.old operators.Append name.now text.now m) }
+    ensures gives { (m : Meter)
+        → Gives (λ _. variables.new) result m
+        (lines.assign variables.old operators.Append name.now text.now m) }
     ensures err { OnErr result (variables.new ≡ variables.old) }
     ensures store { NeverStore result }
 {
@@ -194,7 +206,7 @@ fn append(variables: &mut Env, name: &str, text: &str) -> Result<(), Stop<FaultK
     Ok(())
 }
 
-/// Does what a directive says that stands alone.
+/// Does what a directive says that belongs to no block. Any other directive is a fault.
 fn direct(
     alloc: Global,
     variables: &mut Env,
@@ -202,7 +214,8 @@ fn direct(
     text: &str,
     budget: &mut Budget,
 ) -> Result<Option<Request>, Stop<FaultKind>>
-    ensures gives { Gives (λ request. (variables.new, request)) result budget.new (lines.direct variables.old word text.now budget.old) }
+    ensures gives { Gives (λ request. (variables.new, request)) result budget.new
+        (lines.direct variables.old word text.now budget.old) }
     ensures err { OnErr result (variables.new ≡ variables.old) }
     ensures store { NeverStore result }
     ensures later { IsLater budget.old budget.new }
@@ -225,7 +238,7 @@ fn direct(
     }
 }
 
-/// Takes away the variable of each word of this text.
+/// Removes the variable of each word of this text.
 fn undef_words(alloc: Global, variables: &mut Env, text: &str) -> Result<(), AllocError>
     ensures ok { OnOk result (variables.new ≡ lines.without variables.old (words_of text.now)) }
     ensures err { OnErr result (variables.new ≡ variables.old) }

@@ -20,7 +20,7 @@ pub(crate) enum Form<'a> {
     Nothing,
 }
 
-/// The form of a text, without the blanks round it.
+/// The form of a text, without the blanks around it.
 pub(crate) fn form_of(text: &str) -> Form<'_>
     ensures { shown_form result ≡ includes.form_of text.now }
 {
@@ -53,7 +53,7 @@ fn is_system_name(name: &[u8]) -> bool
         && &name[name.len() - 3..] == b".mk".as_slice()
 }
 
-/// What stands between these two bytes, which a text begins and ends with.
+/// What is between these two bytes, with which a text begins and ends; `None` if it doesn't.
 fn enclosed(first: u8, last: u8, text: &str) -> Option<&str>
     requires first { first < 128 }
     requires last { last < 128 }

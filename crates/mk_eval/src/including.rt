@@ -4,8 +4,8 @@ ghost use Rattle.mk_base.specs.Meter.{IsLater};
 ghost use Rattle.mk_base.specs.Stopping.{Gives};
 ghost use Rattle.mk_paths.specs.FileName.{resolved, name_under, directory_of};
 ghost use Rattle.mk_files.specs.Asking.{account};
-ghost use Rattle.mk_eval.specs.declared.standing.Standing.{Standing};
-ghost use Rattle.mk_files.specs.Looking.{Asked, LeavesAtStop};
+ghost use Rattle.mk_eval.specs.declared.standing.EvalState.{EvalState};
+ghost use Rattle.mk_files.specs.Looking.{AfterQuestions, LeavesAtStop};
 ghost use Rattle.mk_eval.specs.Includes as includes;
 ghost use Rattle.mk_eval.specs.Running.{MayOpen};
 ghost use Rattle.mk_eval.specs.Views.{place_of, file_of};
@@ -13,20 +13,20 @@ ghost use Rattle.mk_eval.specs.Views.{place_of, file_of};
 use crate::forms::{Form, form_of};
 use crate::outcome::Kind;
 use crate::requests::Request;
-use crate::standing::Standing;
+use crate::standing::EvalState;
 use mk_base::{Budget, FaultKind, Stop};
 use mk_files::{Content, Files, ask_read};
 use mk_paths::{Name, NameFault};
 use std::alloc::Global;
 
-/// Where lines stand.
+/// A file whose lines are executed.
 #[derive(Clone, Copy)]
-pub(crate) struct Spot<'a> {
+pub(crate) struct ExecutedFile<'a> {
     /// The makefile that is evaluated.
     pub(crate) makefile: &'a Name,
-    /// The file in which they stand.
+    /// The file that the lines are in.
     pub(crate) file: &'a Name,
-    /// How many files may still include one another.
+    /// How many levels deep files may still include one another.
     pub(crate) levels: u32,
 }
 
@@ -39,31 +39,35 @@ pub(crate) struct Included {
     pub(crate) content: Content,
 }
 
-/// The file that a request opens, if any. The system files open none but `<bsd.port.mk>`, which says
-/// that the makefile is a port's, as `<bsd.port.subdir.mk>` says that it lists ports; the first of
-/// these says what it is. The first `<bsd.port.mk>` opens `../Makefile.inc` of the makefile's
-/// directory, where it is.
+/// The file that a request opens, if any. Of the system files only the first `<bsd.port.mk>` opens one:
+/// `../Makefile.inc` of the makefile's directory, if it is there. `<bsd.port.mk>` says that the makefile
+/// is a port's, and `<bsd.port.subdir.mk>` says that it lists ports. The first of these that is included
+/// says what the makefile is.
 ///
-/// The faults: `Include` where the text names no file in one of the forms; `IncludeDepth` where more
-/// than 16 files would include one another; `Include` where a name in quotes is none; `Questions` for
-/// the 257th question; `Include` where the file is missing, and may not be.
+/// The faults are looked for in this order. `Include` if the text names no file in one of the forms.
+/// `IncludeDepth` if more than 16 files would include one another. `Include` if a name in quotes is no
+/// file name. `Questions` for the 257th question. `Include` if the file is missing, and may not be.
 pub(crate) fn open_request<F: Files>(
     alloc: Global,
-    spot: Spot<'_>,
-    standing: &mut Standing,
+    here: ExecutedFile<'_>,
+    standing: &mut EvalState,
     request: &Request,
     files: &mut F,
     budget: &mut Budget,
 ) -> Result<Option<Included>, Stop<FaultKind>>
-    ensures gives { Gives (λ included. (standing.new, option_map file_of included)) result (account budget.new (F.shelf files.new)) (includes.open_form (place_of spot.entry (F.shelf files.old).files) standing.old request.now.optional (includes.form_of request.now.text) (account budget.old (F.shelf files.old))) }
-    ensures asked { IfOk result (λ included. Asked (F.shelf files.old) (F.shelf files.new)) }
-    ensures stops { IfErr result (LeavesAtStop F.fails_with (F.shelf files.old) (F.shelf files.new)) }
+    ensures gives { Gives (λ included. (standing.new, option_map file_of included)) result
+        (account budget.new (F.view files.new))
+        (includes.open_form (place_of here.entry
+        (F.view files.old).files) standing.old request.now.optional
+        (includes.form_of request.now.text) (account budget.old (F.view files.old))) }
+    ensures asked { IfOk result (λ included. AfterQuestions (F.view files.old) (F.view files.new)) }
+    ensures stops { IfErr result (LeavesAtStop F.fails_with (F.view files.old) (F.view files.new)) }
     ensures later { IsLater budget.old budget.new }
-    ensures opens { IfOk result (MayOpen spot.entry.levels) }
+    ensures opens { IfOk result (MayOpen here.entry.levels) }
 {
     match form_of(request.text()) {
-        Form::Own(file) => open_own(alloc, spot, file, request.optional(), files, budget),
-        Form::Port => open_port(alloc, spot, standing, files, budget),
+        Form::Own(file) => open_own(alloc, here, file, request.optional(), files, budget),
+        Form::Port => open_port(alloc, here, standing, files, budget),
         Form::Subdir => {
             say(standing, Kind::List);
             Ok(None)
@@ -76,22 +80,27 @@ pub(crate) fn open_request<F: Files>(
 /// A file under the directory of the including file, or with an absolute name.
 fn open_own<F: Files>(
     alloc: Global,
-    spot: Spot<'_>,
+    here: ExecutedFile<'_>,
     file: &str,
     optional: bool,
     files: &mut F,
     budget: &mut Budget,
 ) -> Result<Option<Included>, Stop<FaultKind>>
-    ensures gives { (standing : Standing) → Gives (λ included. (standing, option_map file_of included)) result (account budget.new (F.shelf files.new)) (includes.open_own (place_of spot.entry (F.shelf files.old).files) standing optional file.now (account budget.old (F.shelf files.old))) }
-    ensures asked { IfOk result (λ included. Asked (F.shelf files.old) (F.shelf files.new)) }
-    ensures stops { IfErr result (LeavesAtStop F.fails_with (F.shelf files.old) (F.shelf files.new)) }
+    ensures gives { (standing : EvalState)
+        → Gives (λ included. (standing, option_map file_of included)) result
+        (account budget.new (F.view files.new))
+        (includes.open_own (place_of here.entry
+        (F.view files.old).files) standing optional file.now
+        (account budget.old (F.view files.old))) }
+    ensures asked { IfOk result (λ included. AfterQuestions (F.view files.old) (F.view files.new)) }
+    ensures stops { IfErr result (LeavesAtStop F.fails_with (F.view files.old) (F.view files.new)) }
     ensures later { IsLater budget.old budget.new }
-    ensures opens { IfOk result (MayOpen spot.entry.levels) }
+    ensures opens { IfOk result (MayOpen here.entry.levels) }
 {
-    if spot.levels == 0 {
+    if here.levels == 0 {
         return Err(Stop::Fault(FaultKind::IncludeDepth));
     }
-    match Name::under(alloc, spot.file.directory(), file) {
+    match Name::under(alloc, here.file.directory(), file) {
         Ok(name) => open_named(name, optional, files, budget),
         Err(NameFault::BadName | NameFault::Above) => Err(Stop::Fault(FaultKind::Include)),
         Err(NameFault::Memory) => Err(Stop::Memory),
@@ -105,9 +114,13 @@ fn open_named<F: Files>(
     files: &mut F,
     budget: &mut Budget,
 ) -> Result<Option<Included>, Stop<FaultKind>>
-    ensures gives { (standing : Standing) → Gives (λ included. (standing, option_map file_of included)) result (account budget.new (F.shelf files.new)) (includes.open_named (F.shelf files.old).files standing optional name (account budget.old (F.shelf files.old))) }
-    ensures asked { IfOk result (λ included. Asked (F.shelf files.old) (F.shelf files.new)) }
-    ensures stops { IfErr result (LeavesAtStop F.fails_with (F.shelf files.old) (F.shelf files.new)) }
+    ensures gives { (standing : EvalState)
+        → Gives (λ included. (standing, option_map file_of included)) result
+        (account budget.new (F.view files.new))
+        (includes.open_named (F.view files.old).files standing optional name
+        (account budget.old (F.view files.old))) }
+    ensures asked { IfOk result (λ included. AfterQuestions (F.view files.old) (F.view files.new)) }
+    ensures stops { IfErr result (LeavesAtStop F.fails_with (F.view files.old) (F.view files.new)) }
     ensures later { IsLater budget.old budget.new }
 {
     match ask_read(files, &name, budget)? {
@@ -117,8 +130,8 @@ fn open_named<F: Files>(
     }
 }
 
-/// What the makefile describes stays what it was first said to be.
-fn say(standing: &mut Standing, kind: Kind)
+/// Says what the makefile describes, unless that was said before.
+fn say(standing: &mut EvalState, kind: Kind)
     ensures { standing.new ≡ includes.with_kind standing.old kind }
 {
     if standing.kind == Kind::Other {
@@ -126,72 +139,85 @@ fn say(standing: &mut Standing, kind: Kind)
     }
 }
 
-/// The first `<bsd.port.mk>` is included.
-fn say_first_port(standing: &mut Standing)
+/// Notes that the first `<bsd.port.mk>` is included.
+fn say_first_port(standing: &mut EvalState)
     ensures { standing.new ≡ includes.first_port standing.old }
 {
     say(standing, Kind::Port);
     standing.shared_asked = true;
 }
 
-/// `<bsd.port.mk>`.
+/// The file that `<bsd.port.mk>` opens, if any.
 fn open_port<F: Files>(
     alloc: Global,
-    spot: Spot<'_>,
-    standing: &mut Standing,
+    here: ExecutedFile<'_>,
+    standing: &mut EvalState,
     files: &mut F,
     budget: &mut Budget,
 ) -> Result<Option<Included>, Stop<FaultKind>>
-    ensures gives { Gives (λ included. (standing.new, option_map file_of included)) result (account budget.new (F.shelf files.new)) (includes.open_port (place_of spot.entry (F.shelf files.old).files) standing.old (account budget.old (F.shelf files.old))) }
-    ensures asked { IfOk result (λ included. Asked (F.shelf files.old) (F.shelf files.new)) }
-    ensures stops { IfErr result (LeavesAtStop F.fails_with (F.shelf files.old) (F.shelf files.new)) }
+    ensures gives { Gives (λ included. (standing.new, option_map file_of included)) result
+        (account budget.new (F.view files.new))
+        (includes.open_port (place_of here.entry (F.view files.old).files) standing.old
+        (account budget.old (F.view files.old))) }
+    ensures asked { IfOk result (λ included. AfterQuestions (F.view files.old) (F.view files.new)) }
+    ensures stops { IfErr result (LeavesAtStop F.fails_with (F.view files.old) (F.view files.new)) }
     ensures later { IsLater budget.old budget.new }
-    ensures opens { IfOk result (MayOpen spot.entry.levels) }
+    ensures opens { IfOk result (MayOpen here.entry.levels) }
 {
     if standing.shared_asked {
         say(standing, Kind::Port);
         return Ok(None);
     }
     say_first_port(standing);
-    open_shared(alloc, spot, "../Makefile.inc", files, budget)
+    open_shared(alloc, here, "../Makefile.inc", files, budget)
 }
 
-/// A file beside the makefile's directory that its ports share, if it is there.
+/// A file beside the makefile's directory that ports share, if it is there.
 fn open_shared<F: Files>(
     alloc: Global,
-    spot: Spot<'_>,
+    here: ExecutedFile<'_>,
     file: &str,
     files: &mut F,
     budget: &mut Budget,
 ) -> Result<Option<Included>, Stop<FaultKind>>
-    ensures gives { (standing : Standing) → Gives (λ included. (standing, option_map file_of included)) result (account budget.new (F.shelf files.new)) (includes.open_shared (place_of spot.entry (F.shelf files.old).files) standing (resolved (name_under (directory_of spot.entry.makefile.now) file.now)) (account budget.old (F.shelf files.old))) }
-    ensures asked { IfOk result (λ included. Asked (F.shelf files.old) (F.shelf files.new)) }
-    ensures stops { IfErr result (LeavesAtStop F.fails_with (F.shelf files.old) (F.shelf files.new)) }
+    ensures gives { (standing : EvalState)
+        → Gives (λ included. (standing, option_map file_of included)) result
+        (account budget.new (F.view files.new))
+        (includes.open_shared (place_of here.entry (F.view files.old).files) standing
+        (resolved (name_under (directory_of here.entry.makefile.now) file.now))
+        (account budget.old (F.view files.old))) }
+    ensures asked { IfOk result (λ included. AfterQuestions (F.view files.old) (F.view files.new)) }
+    ensures stops { IfErr result (LeavesAtStop F.fails_with (F.view files.old) (F.view files.new)) }
     ensures later { IsLater budget.old budget.new }
-    ensures opens { IfOk result (MayOpen spot.entry.levels) }
+    ensures opens { IfOk result (MayOpen here.entry.levels) }
 {
-    match Name::under(alloc, spot.makefile.directory(), file) {
-        Ok(name) => open_inside(spot, name, true, files, budget),
+    match Name::under(alloc, here.makefile.directory(), file) {
+        Ok(name) => open_inside(here, name, true, files, budget),
         Err(NameFault::BadName | NameFault::Above) => Ok(None),
         Err(NameFault::Memory) => Err(Stop::Memory),
     }
 }
 
-/// The file of this name, where files may still include one another.
+/// The file of this name. It is a fault if no more files may include one another.
 fn open_inside<F: Files>(
-    spot: Spot<'_>,
+    here: ExecutedFile<'_>,
     name: Name,
     optional: bool,
     files: &mut F,
     budget: &mut Budget,
 ) -> Result<Option<Included>, Stop<FaultKind>>
-    ensures gives { (standing : Standing) → Gives (λ included. (standing, option_map file_of included)) result (account budget.new (F.shelf files.new)) (includes.open_inside (place_of spot.entry (F.shelf files.old).files) standing optional name (account budget.old (F.shelf files.old))) }
-    ensures asked { IfOk result (λ included. Asked (F.shelf files.old) (F.shelf files.new)) }
-    ensures stops { IfErr result (LeavesAtStop F.fails_with (F.shelf files.old) (F.shelf files.new)) }
+    ensures gives { (standing : EvalState)
+        → Gives (λ included. (standing, option_map file_of included)) result
+        (account budget.new (F.view files.new))
+        (includes.open_inside
+        (place_of here.entry (F.view files.old).files) standing optional name
+        (account budget.old (F.view files.old))) }
+    ensures asked { IfOk result (λ included. AfterQuestions (F.view files.old) (F.view files.new)) }
+    ensures stops { IfErr result (LeavesAtStop F.fails_with (F.view files.old) (F.view files.new)) }
     ensures later { IsLater budget.old budget.new }
-    ensures opens { IfOk result (MayOpen spot.entry.levels) }
+    ensures opens { IfOk result (MayOpen here.entry.levels) }
 {
-    if spot.levels == 0 {
+    if here.levels == 0 {
         return Err(Stop::Fault(FaultKind::IncludeDepth));
     }
     open_named(name, optional, files, budget)

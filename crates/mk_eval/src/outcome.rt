@@ -4,8 +4,9 @@ ghost use Rattle.mk_eval.specs.Telling as telling;
 use mk_base::{Fault, Stop};
 use mk_env::Env;
 use std::marker::Model;
+use thiserror::Error;
 
-/// What a makefile describes, as the first of the two system files that it includes says
+/// What a makefile describes. Of the two system files that say so, the first that it includes counts
 /// (bsd.port.mk(5)).
 #[derive(Clone, Copy, Debug, PartialEq, Eq)]
 pub enum Kind {
@@ -22,14 +23,15 @@ pub enum Kind {
 pub struct Evaluated {
     /// What it describes.
     pub kind: Kind,
-    /// The variables, as they stand behind the last line.
+    /// The variables after the last line.
     pub env: Env,
     /// The units spent.
     pub cost: u64,
 }
 
-/// The first fault of a makefile, or of a value, and the units spent until there.
-#[derive(Debug, Drop)]
+/// The first fault of a makefile, or of a value, and the units spent up to there.
+#[derive(Debug, Drop, Error)]
+#[error("{fault} (after {cost} units)")]
 pub struct Failed {
     /// The fault, with its file and line.
     pub fault: Fault,
@@ -60,14 +62,14 @@ impl Valued {
         Valued { text, cost }
     }
 
-    /// The text.
+    /// The text that the value expands to.
     pub fn text(&self) -> &str
         ensures { result.now ≡ self.now.text }
     {
         self.text.as_str()
     }
 
-    /// The units spent, in a budget of the value's own.
+    /// The units spent, in the value's own budget.
     pub fn cost(&self) -> u64
         ensures { result ≡ self.now.cost }
     {
@@ -75,7 +77,7 @@ impl Valued {
     }
 }
 
-/// The stop, a fault being told with the units spent.
+/// The stop; a fault gets the units that were spent.
 pub(crate) fn with_cost(stop: Stop<Fault>, cost: u64) -> Stop<Failed>
     ensures { result ≡ telling.with_cost cost stop }
 {

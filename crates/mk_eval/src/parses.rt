@@ -10,7 +10,7 @@ use std::rc::Rc;
 
 /// What makes the tree of a file, or shares one that was made before.
 pub(crate) trait Parses {
-    /// The tree of these bytes, or their fault. The one error is want of memory.
+    /// The tree of these bytes, or their fault. It fails only if memory runs out.
     fn parsed(&mut self, content: &Content) -> Result<Result<Rc<Makefile>, ParseFault>, AllocError>
         ensures { IfOk result (λ found. tree_in found ≡ parsed content.now) };
 }

@@ -13,9 +13,9 @@ pub struct Request {
 
 impl Model for Request {
     ghost use Rattle.std.specs.Prelude.{string_bytes};
-    ghost use Rattle.mk_eval.specs.Lines.{Request as Asked};
+    ghost use Rattle.mk_eval.specs.Lines.{Request as FileRequest};
 
-    ghost Value = { Asked };
+    ghost Value = { FileRequest };
 
     ghost view = { λ r. record { text = string_bytes r.text; optional = r.optional } };
 }
@@ -27,7 +27,7 @@ impl Request {
         Request { text, optional }
     }
 
-    /// What stands behind the directive's word, expanded.
+    /// What follows the directive's word, expanded.
     pub fn text(&self) -> &str
         ensures { result.now ≡ self.now.text }
     {

@@ -7,7 +7,7 @@ ghost use Rattle.mk_ast.specs.Blocks.{branches_from};
 ghost use Rattle.mk_ast.specs.Trees.{LoopTree};
 ghost use Rattle.mk_ast.specs.Views.{block_of, tree_of, branch_of, last_branch};
 ghost use Rattle.mk_files.specs.Asking.{account};
-ghost use Rattle.mk_files.specs.Looking.{Asked, LeavesAtStop};
+ghost use Rattle.mk_files.specs.Looking.{AfterQuestions, LeavesAtStop};
 ghost use Rattle.mk_ast.specs.Kinds.{line_kind};
 ghost use Rattle.mk_loop.specs.Header as headers;
 ghost use Rattle.mk_loop.specs.Scopes.{turns_in};
@@ -21,41 +21,41 @@ ghost use Rattle.mk_eval.specs.Running.{works_of, Opens, Pays};
 
 use crate::executing::perform;
 use crate::heads::{header_text, judge};
-use crate::including::{Included, Spot, open_request};
+use crate::including::{ExecutedFile, Included, open_request};
 use crate::parses::Parses;
-use crate::standing::Standing;
+use crate::standing::EvalState;
 use mk_ast::{Block, Branch, Node};
 use mk_base::{Budget, Fault, FaultKind, Stop};
 use mk_files::{Content, Files};
-use mk_loop::{Scope, Turns, read_header};
+use mk_loop::{Iterations, LoopScope, read_header};
 use mk_paths::{Name, Names};
 use mk_text::Logical;
 use std::alloc::Global;
-
-/// How many files may include one another.
-pub(crate) const INCLUDES: u32 = 16;
 
 /// Executes the file of this name and content.
 #[cycle(execution)]
 pub(crate) fn execute_file<F: Files, P: Parses>(
     alloc: Global,
-    spot: Spot<'_>,
+    here: ExecutedFile<'_>,
     content: &Content,
-    standing: &mut Standing,
+    standing: &mut EvalState,
     parses: &mut P,
     files: &mut F,
     budget: &mut Budget,
 ) -> Result<(), Stop<Fault>>
-    ensures gives { Gives (λ _. standing.new) result (account budget.new (F.shelf files.new)) (meaning.file_meaning (F.shelf files.old).files spot.entry.makefile.now spot.entry.levels spot.entry.file.now content.now standing.old (account budget.old (F.shelf files.old))) }
-    ensures asked { IfOk result (λ _. Asked (F.shelf files.old) (F.shelf files.new)) }
-    ensures stops { IfErr result (LeavesAtStop F.fails_with (F.shelf files.old) (F.shelf files.new)) }
+    ensures gives { Gives (λ _. standing.new) result (account budget.new (F.view files.new))
+        (meaning.file_meaning (F.view files.old).files here.entry.makefile.now
+        here.entry.levels here.entry.file.now content.now standing.old
+        (account budget.old (F.view files.old))) }
+    ensures asked { IfOk result (λ _. AfterQuestions (F.view files.old) (F.view files.new)) }
+    ensures stops { IfErr result (LeavesAtStop F.fails_with (F.view files.old) (F.view files.new)) }
     ensures later { IsLater budget.old budget.new }
 {
     match parses.parsed(content)? {
         Ok(makefile) => execute_block(
             alloc,
-            spot,
-            Scope::Outside,
+            here,
+            LoopScope::Outside,
             makefile.nodes.as_slice(),
             standing,
             parses,
@@ -63,7 +63,7 @@ pub(crate) fn execute_file<F: Files, P: Parses>(
             budget,
         ),
         Err(fault) => {
-            let fault = Fault::new(alloc, fault.kind, spot.file.as_str(), fault.line)?;
+            let fault = Fault::new(alloc, fault.kind, here.file.as_str(), fault.line)?;
             Err(Stop::Fault(fault))
         }
     }
@@ -73,21 +73,24 @@ pub(crate) fn execute_file<F: Files, P: Parses>(
 #[cycle(execution)]
 fn execute_block<F: Files, P: Parses>(
     alloc: Global,
-    spot: Spot<'_>,
-    scope: Scope<'_>,
+    here: ExecutedFile<'_>,
+    scope: LoopScope<'_>,
     nodes: &[Node],
-    standing: &mut Standing,
+    standing: &mut EvalState,
     parses: &mut P,
     files: &mut F,
     budget: &mut Budget,
 ) -> Result<(), Stop<Fault>>
-    ensures gives { Gives (λ _. standing.new) result (account budget.new (F.shelf files.new)) (execution.execute (works_of spot.entry (F.shelf files.old).files) (block_of nodes.now) (loops_of scope.entry) standing.old (account budget.old (F.shelf files.old))) }
-    ensures asked { IfOk result (λ _. Asked (F.shelf files.old) (F.shelf files.new)) }
-    ensures stops { IfErr result (LeavesAtStop F.fails_with (F.shelf files.old) (F.shelf files.new)) }
+    ensures gives { Gives (λ _. standing.new) result (account budget.new (F.view files.new))
+        (execution.execute (works_of here.entry (F.view files.old).files)
+        (block_of nodes.now) (loops_of scope.entry) standing.old
+        (account budget.old (F.view files.old))) }
+    ensures asked { IfOk result (λ _. AfterQuestions (F.view files.old) (F.view files.new)) }
+    ensures stops { IfErr result (LeavesAtStop F.fails_with (F.view files.old) (F.view files.new)) }
     ensures later { IsLater budget.old budget.new }
 {
     for node in nodes {
-        execute_node(alloc, spot, scope, node, standing, parses, files, budget)?;
+        execute_node(alloc, here, scope, node, standing, parses, files, budget)?;
     }
     Ok(())
 }
@@ -96,22 +99,25 @@ fn execute_block<F: Files, P: Parses>(
 #[cycle(execution)]
 fn execute_node<F: Files, P: Parses>(
     alloc: Global,
-    spot: Spot<'_>,
-    scope: Scope<'_>,
+    here: ExecutedFile<'_>,
+    scope: LoopScope<'_>,
     node: &Node,
-    standing: &mut Standing,
+    standing: &mut EvalState,
     parses: &mut P,
     files: &mut F,
     budget: &mut Budget,
 ) -> Result<(), Stop<Fault>>
-    ensures gives { Gives (λ _. standing.new) result (account budget.new (F.shelf files.new)) (execution.execute_tree (works_of spot.entry (F.shelf files.old).files) (tree_of node.now) (loops_of scope.entry) standing.old (account budget.old (F.shelf files.old))) }
-    ensures asked { IfOk result (λ _. Asked (F.shelf files.old) (F.shelf files.new)) }
-    ensures stops { IfErr result (LeavesAtStop F.fails_with (F.shelf files.old) (F.shelf files.new)) }
+    ensures gives { Gives (λ _. standing.new) result (account budget.new (F.view files.new))
+        (execution.execute_tree (works_of here.entry (F.view files.old).files)
+        (tree_of node.now) (loops_of scope.entry) standing.old
+        (account budget.old (F.view files.old))) }
+    ensures asked { IfOk result (λ _. AfterQuestions (F.view files.old) (F.view files.new)) }
+    ensures stops { IfErr result (LeavesAtStop F.fails_with (F.view files.old) (F.view files.new)) }
     ensures later { IsLater budget.old budget.new }
 {
     match node {
         Node::Line(line) => {
-            execute_line(alloc, spot, scope, line, standing, parses, files, budget)
+            execute_line(alloc, here, scope, line, standing, parses, files, budget)
         }
         Node::Choice {
             head,
@@ -119,186 +125,206 @@ fn execute_node<F: Files, P: Parses>(
             branches,
             otherwise,
         } => {
-            if holds(alloc, spot, scope, head, standing, files, budget)? {
+            if holds(alloc, here, scope, head, standing, files, budget)? {
                 let body = body.as_slice();
-                return execute_block(alloc, spot, scope, body, standing, parses, files, budget);
+                return execute_block(alloc, here, scope, body, standing, parses, files, budget);
             }
             let branches = branches.as_slice();
             execute_branches(
-                alloc, spot, scope, branches, otherwise, standing, parses, files, budget,
+                alloc, here, scope, branches, otherwise, standing, parses, files, budget,
             )
         }
         Node::Loop { head, body } => {
             let body = body.as_slice();
             execute_loop(
-                alloc, spot, scope, head, body, standing, parses, files, budget,
+                alloc, here, scope, head, body, standing, parses, files, budget,
             )
         }
     }
 }
 
-/// Executes the first of these branches of a choice whose condition holds, and else the last one, if
-/// there is one.
+/// Executes the first of these branches of a choice whose condition holds. If none holds, the last
+/// branch is executed, the one without a condition, if there is one.
 #[cycle(execution)]
 fn execute_branches<F: Files, P: Parses>(
     alloc: Global,
-    spot: Spot<'_>,
-    scope: Scope<'_>,
+    here: ExecutedFile<'_>,
+    scope: LoopScope<'_>,
     branches: &[Branch],
     otherwise: &Option<Block>,
-    standing: &mut Standing,
+    standing: &mut EvalState,
     parses: &mut P,
     files: &mut F,
     budget: &mut Budget,
 ) -> Result<(), Stop<Fault>>
-    ensures gives { Gives (λ _. standing.new) result (account budget.new (F.shelf files.new)) (execution.execute_branches (works_of spot.entry (F.shelf files.old).files) (branches_from (map branch_of branches.now) (last_branch (option_map (λ block. block_of block.value.items) otherwise.now))) (loops_of scope.entry) standing.old (account budget.old (F.shelf files.old))) }
-    ensures asked { IfOk result (λ _. Asked (F.shelf files.old) (F.shelf files.new)) }
-    ensures stops { IfErr result (LeavesAtStop F.fails_with (F.shelf files.old) (F.shelf files.new)) }
+    ensures gives { Gives (λ _. standing.new) result (account budget.new (F.view files.new))
+        (execution.execute_branches (works_of here.entry (F.view files.old).files)
+        (branches_from (map branch_of branches.now)
+        (last_branch (option_map (λ block. block_of block.value.items) otherwise.now)))
+        (loops_of scope.entry) standing.old (account budget.old (F.view files.old))) }
+    ensures asked { IfOk result (λ _. AfterQuestions (F.view files.old) (F.view files.new)) }
+    ensures stops { IfErr result (LeavesAtStop F.fails_with (F.view files.old) (F.view files.new)) }
     ensures later { IsLater budget.old budget.new }
 {
     for branch in branches {
-        if holds(alloc, spot, scope, &branch.head, standing, files, budget)? {
+        if holds(alloc, here, scope, &branch.head, standing, files, budget)? {
             let body = branch.body.as_slice();
-            return execute_block(alloc, spot, scope, body, standing, parses, files, budget);
+            return execute_block(alloc, here, scope, body, standing, parses, files, budget);
         }
     }
     match otherwise {
         Some(body) => {
             let body = body.as_slice();
-            execute_block(alloc, spot, scope, body, standing, parses, files, budget)
+            execute_block(alloc, here, scope, body, standing, parses, files, budget)
         }
         None => Ok(()),
     }
 }
 
-/// Executes a line that frames no block, and the file that it asks for.
+/// Executes a line that frames no block, and then the file that it asks for, if any.
 #[cycle(execution)]
 fn execute_line<F: Files, P: Parses>(
     alloc: Global,
-    spot: Spot<'_>,
-    scope: Scope<'_>,
+    here: ExecutedFile<'_>,
+    scope: LoopScope<'_>,
     line: &Logical,
-    standing: &mut Standing,
+    standing: &mut EvalState,
     parses: &mut P,
     files: &mut F,
     budget: &mut Budget,
 ) -> Result<(), Stop<Fault>>
-    ensures gives { Gives (λ _. standing.new) result (account budget.new (F.shelf files.new)) ((works_of spot.entry (F.shelf files.old).files).performs (loops_of scope.entry) line.now standing.old (account budget.old (F.shelf files.old))) }
-    ensures asked { IfOk result (λ _. Asked (F.shelf files.old) (F.shelf files.new)) }
-    ensures stops { IfErr result (LeavesAtStop F.fails_with (F.shelf files.old) (F.shelf files.new)) }
+    ensures gives { Gives (λ _. standing.new) result (account budget.new (F.view files.new))
+        ((works_of here.entry (F.view files.old).files).performs
+        (loops_of scope.entry) line.now standing.old (account budget.old (F.view files.old))) }
+    ensures asked { IfOk result (λ _. AfterQuestions (F.view files.old) (F.view files.new)) }
+    ensures stops { IfErr result (LeavesAtStop F.fails_with (F.view files.old) (F.view files.new)) }
     ensures later { IsLater budget.old budget.new }
 {
-    match open_line(alloc, spot, scope, line, standing, files, budget)? {
+    match open_line(alloc, here, scope, line, standing, files, budget)? {
         None => Ok(()),
         Some(Included { name, content }) => {
-            let inside = Spot {
-                makefile: spot.makefile,
+            let inside = ExecutedFile {
+                makefile: here.makefile,
                 file: &name,
-                levels: spot.levels - 1,
+                levels: here.levels - 1,
             };
             execute_file(alloc, inside, &content, standing, parses, files, budget)
         }
     }
 }
 
-/// Executes a loop: its body, once for each turn.
+/// Executes a loop: its body, once for each iteration.
 #[cycle(execution)]
 fn execute_loop<F: Files, P: Parses>(
     alloc: Global,
-    spot: Spot<'_>,
-    scope: Scope<'_>,
+    here: ExecutedFile<'_>,
+    scope: LoopScope<'_>,
     head: &Logical,
     body: &[Node],
-    standing: &mut Standing,
+    standing: &mut EvalState,
     parses: &mut P,
     files: &mut F,
     budget: &mut Budget,
 ) -> Result<(), Stop<Fault>>
-    ensures gives { Gives (λ _. standing.new) result (account budget.new (F.shelf files.new)) (execution.execute_tree (works_of spot.entry (F.shelf files.old).files) (LoopTree head.now (block_of body.now)) (loops_of scope.entry) standing.old (account budget.old (F.shelf files.old))) }
-    ensures asked { IfOk result (λ _. Asked (F.shelf files.old) (F.shelf files.new)) }
-    ensures stops { IfErr result (LeavesAtStop F.fails_with (F.shelf files.old) (F.shelf files.new)) }
+    ensures gives { Gives (λ _. standing.new) result (account budget.new (F.view files.new))
+        (execution.execute_tree (works_of here.entry (F.view files.old).files)
+        (LoopTree head.now (block_of body.now)) (loops_of scope.entry) standing.old
+        (account budget.old (F.view files.old))) }
+    ensures asked { IfOk result (λ _. AfterQuestions (F.view files.old) (F.view files.new)) }
+    ensures stops { IfErr result (LeavesAtStop F.fails_with (F.view files.old) (F.view files.new)) }
     ensures later { IsLater budget.old budget.new }
 {
-    let header = header_of(alloc, spot, scope, head, standing, budget)?;
-    let turns = turns_of(alloc, spot, header.as_str(), head, standing, budget)?;
+    let header = header_of(alloc, here, scope, head, standing, budget)?;
+    let turns = turns_of(alloc, here, header.as_str(), head, standing, budget)?;
     for index in 0..turns.count() {
-        let scope = Scope::Turn(turns.turn(index), &scope);
+        let scope = LoopScope::Iteration(turns.turn(index), &scope);
         execute_turn(
-            alloc, spot, scope, head, body, standing, parses, files, budget,
+            alloc, here, scope, head, body, standing, parses, files, budget,
         )?;
     }
     Ok(())
 }
 
-/// Executes the body of a loop in one turn.
+/// Executes the body of a loop in one iteration.
 #[cycle(execution)]
 fn execute_turn<F: Files, P: Parses>(
     alloc: Global,
-    spot: Spot<'_>,
-    scope: Scope<'_>,
+    here: ExecutedFile<'_>,
+    scope: LoopScope<'_>,
     head: &Logical,
     body: &[Node],
-    standing: &mut Standing,
+    standing: &mut EvalState,
     parses: &mut P,
     files: &mut F,
     budget: &mut Budget,
 ) -> Result<(), Stop<Fault>>
-    ensures gives { Gives (λ _. standing.new) result (account budget.new (F.shelf files.new)) ((execution.turn_in ((works_of spot.entry (F.shelf files.old).files).begins head.now) (execution.execute (works_of spot.entry (F.shelf files.old).files) (block_of body.now)) (loops_of scope.entry) standing.old) (account budget.old (F.shelf files.old))) }
-    ensures asked { IfOk result (λ _. Asked (F.shelf files.old) (F.shelf files.new)) }
-    ensures stops { IfErr result (LeavesAtStop F.fails_with (F.shelf files.old) (F.shelf files.new)) }
+    ensures gives { Gives (λ _. standing.new) result (account budget.new (F.view files.new))
+        ((execution.turn_in ((works_of here.entry
+        (F.view files.old).files).begins head.now)
+        (execution.execute (works_of here.entry (F.view files.old).files)
+        (block_of body.now)) (loops_of scope.entry) standing.old)
+        (account budget.old (F.view files.old))) }
+    ensures asked { IfOk result (λ _. AfterQuestions (F.view files.old) (F.view files.new)) }
+    ensures stops { IfErr result (LeavesAtStop F.fails_with (F.view files.old) (F.view files.new)) }
     ensures later { IsLater budget.old budget.new }
 {
-    begin_turn(alloc, spot, head, budget)?;
-    execute_block(alloc, spot, scope, body, standing, parses, files, budget)
+    begin_turn(alloc, here, head, budget)?;
+    execute_block(alloc, here, scope, body, standing, parses, files, budget)
 }
 
-/// Does what a line says that frames no block, but for the file that it opens, if any.
+/// Does what a line that frames no block says, except executing the file that it opens, if any.
 fn open_line<F: Files>(
     alloc: Global,
-    spot: Spot<'_>,
-    scope: Scope<'_>,
+    here: ExecutedFile<'_>,
+    scope: LoopScope<'_>,
     line: &Logical,
-    standing: &mut Standing,
+    standing: &mut EvalState,
     files: &mut F,
     budget: &mut Budget,
 ) -> Result<Option<Included>, Stop<Fault>>
-    ensures gives { Gives (λ included. (standing.new, option_map file_of included)) result (account budget.new (F.shelf files.new)) (meaning.told_at (place_of spot.entry (F.shelf files.old).files) line.now (meaning.open_line (place_of spot.entry (F.shelf files.old).files) (loops_of scope.entry) line.now standing.old) (account budget.old (F.shelf files.old))) }
-    ensures asked { IfOk result (λ _. Asked (F.shelf files.old) (F.shelf files.new)) }
-    ensures stops { IfErr result (LeavesAtStop F.fails_with (F.shelf files.old) (F.shelf files.new)) }
+    ensures gives { Gives (λ included. (standing.new, option_map file_of included)) result
+        (account budget.new (F.view files.new))
+        (meaning.told_at (place_of here.entry (F.view files.old).files) line.now
+        (meaning.open_line (place_of here.entry (F.view files.old).files)
+        (loops_of scope.entry) line.now standing.old) (account budget.old (F.view files.old))) }
+    ensures asked { IfOk result (λ _. AfterQuestions (F.view files.old) (F.view files.new)) }
+    ensures stops { IfErr result (LeavesAtStop F.fails_with (F.view files.old) (F.view files.new)) }
     ensures later { IsLater budget.old budget.new }
-    ensures opens { IfOk result (Opens spot.entry.levels budget.old budget.new) }
+    ensures opens { IfOk result (Opens here.entry.levels budget.old budget.new) }
 {
     let opened = match perform(alloc, &mut standing.variables, scope, line.text(), budget) {
         Ok(None) => Ok(None),
-        Ok(Some(request)) => open_request(alloc, spot, standing, &request, files, budget),
+        Ok(Some(request)) => open_request(alloc, here, standing, &request, files, budget),
         Err(stop) => Err(stop),
     };
     match opened {
         Ok(opened) => Ok(opened),
-        Err(stop) => Err(stop.blame(alloc, spot.file.as_str(), line.line())),
+        Err(stop) => Err(stop.blame(alloc, here.file.as_str(), line.line())),
     }
 }
 
 /// Whether the condition of a line holds.
 fn holds<F: Names>(
     alloc: Global,
-    spot: Spot<'_>,
-    scope: Scope<'_>,
+    here: ExecutedFile<'_>,
+    scope: LoopScope<'_>,
     line: &Logical,
-    standing: &Standing,
+    standing: &EvalState,
     files: &mut F,
     budget: &mut Budget,
 ) -> Result<bool, Stop<Fault>>
-    ensures gives { Gives (λ held. held) result (account budget.new (F.shelf files.new)) ((works_of spot.entry (F.shelf files.old).files).holds (loops_of scope.entry) line.now standing.now (account budget.old (F.shelf files.old))) }
-    ensures asked { IfOk result (λ _. Asked (F.shelf files.old) (F.shelf files.new)) }
-    ensures stops { IfErr result (LeavesAtStop F.fails_with (F.shelf files.old) (F.shelf files.new)) }
+    ensures gives { Gives (λ held. held) result (account budget.new (F.view files.new))
+        ((works_of here.entry (F.view files.old).files).holds
+        (loops_of scope.entry) line.now standing.now (account budget.old (F.view files.old))) }
+    ensures asked { IfOk result (λ _. AfterQuestions (F.view files.old) (F.view files.new)) }
+    ensures stops { IfErr result (LeavesAtStop F.fails_with (F.view files.old) (F.view files.new)) }
     ensures later { IsLater budget.old budget.new }
     ensures paid { IfOk result (λ held. Pays budget.old budget.new) }
 {
     let variables = &standing.variables;
     match judge(
         alloc,
-        spot.makefile,
+        here.makefile,
         variables,
         scope,
         line.text(),
@@ -306,63 +332,69 @@ fn holds<F: Names>(
         budget,
     ) {
         Ok(held) => Ok(held),
-        Err(stop) => Err(stop.blame(alloc, spot.file.as_str(), line.line())),
+        Err(stop) => Err(stop.blame(alloc, here.file.as_str(), line.line())),
     }
 }
 
 /// The header of the loop that this line begins.
 fn header_of(
     alloc: Global,
-    spot: Spot<'_>,
-    scope: Scope<'_>,
+    here: ExecutedFile<'_>,
+    scope: LoopScope<'_>,
     line: &Logical,
-    standing: &Standing,
+    standing: &EvalState,
     budget: &mut Budget,
 ) -> Result<String, Stop<Fault>>
-    ensures gives { Gives string_bytes result budget.new (tell (meaning.at spot.entry.file.now line.now.line) (heads.head_text standing.now.variables (loops_of scope.entry) (line_kind line.now.text) budget.old)) }
+    ensures gives { Gives string_bytes result budget.new
+        (tell (meaning.at here.entry.file.now line.now.line)
+        (heads.head_text standing.now.variables (loops_of scope.entry)
+        (line_kind line.now.text) budget.old)) }
     ensures store { NeverStore result }
     ensures later { IsLater budget.old budget.new }
     ensures paid { IfOk result (λ _. Pays budget.old budget.new) }
 {
     match header_text(alloc, &standing.variables, scope, line.text(), budget) {
         Ok(header) => Ok(header),
-        Err(stop) => Err(stop.blame(alloc, spot.file.as_str(), line.line())),
+        Err(stop) => Err(stop.blame(alloc, here.file.as_str(), line.line())),
     }
 }
 
-/// The turns of the loop with this header.
+/// The iterations of the loop with this header.
 fn turns_of<'a>(
     alloc: Global,
-    spot: Spot<'_>,
+    here: ExecutedFile<'_>,
     header: &'a str,
     line: &Logical,
-    standing: &Standing,
+    standing: &EvalState,
     budget: &mut Budget,
-) -> Result<Turns<'a>, Stop<Fault>>
-    ensures gives { Gives turns_in result budget.new (tell (meaning.at spot.entry.file.now line.now.line) (headers.header standing.now.variables header.now budget.old)) }
+) -> Result<Iterations<'a>, Stop<Fault>>
+    ensures gives { Gives turns_in result budget.new
+        (tell (meaning.at here.entry.file.now line.now.line)
+        (headers.header standing.now.variables header.now budget.old)) }
     ensures store { NeverStore result }
     ensures later { IsLater budget.old budget.new }
 {
     match read_header(alloc, &standing.variables, header, budget) {
         Ok(turns) => Ok(turns),
-        Err(stop) => Err(stop.blame(alloc, spot.file.as_str(), line.line())),
+        Err(stop) => Err(stop.blame(alloc, here.file.as_str(), line.line())),
     }
 }
 
-/// Spends the unit of a turn.
+/// Spends the unit of an iteration.
 fn begin_turn(
     alloc: Global,
-    spot: Spot<'_>,
+    here: ExecutedFile<'_>,
     line: &Logical,
     budget: &mut Budget,
 ) -> Result<(), Stop<Fault>>
-    ensures gives { Gives (λ _. tt) result budget.new (tell (meaning.at spot.entry.file.now line.now.line) (pay budget.old)) }
+    ensures gives { Gives (λ _. tt) result budget.new
+        (tell (meaning.at here.entry.file.now line.now.line) (pay budget.old)) }
     ensures store { NeverStore result }
     ensures later { IsLater budget.old budget.new }
     ensures paid { IfOk result (λ _. Pays budget.old budget.new) }
 {
     match budget.pay() {
         Ok(()) => Ok(()),
-        Err(kind) => Err(Stop::Fault(kind).blame(alloc, spot.file.as_str(), line.line())),
+        Err(kind) => Err(Stop::Fault(kind).blame(alloc, here.file.as_str(), line.line())),
     }
 }

@@ -1,14 +1,14 @@
-//! How an evaluation stands between two lines.
+//! The state of an evaluation between two lines.
 
 use crate::outcome::Kind;
 use mk_env::Env;
 
-/// How an evaluation stands between two lines.
+/// The state of an evaluation between two lines.
 #[derive(Drop)]
-pub(crate) struct Standing {
+pub(crate) struct EvalState {
     /// The variables.
     pub(crate) variables: Env,
-    /// What the makefile describes, as far as was said.
+    /// What the makefile describes, as far as was said yet.
     pub(crate) kind: Kind,
     /// Whether `<bsd.port.mk>` was included.
     pub(crate) shared_asked: bool,

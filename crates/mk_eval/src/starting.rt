@@ -1,13 +1,13 @@
 //! The variables with which an evaluation begins.
 ghost use Rattle.std.specs.Prelude.{◌≡◌, IfOk, OnOk, map, string_bytes, codes};
-ghost use Rattle.text_order.specs.Order.{in_order};
+ghost use Rattle.text_parts.specs.Order.{in_order};
 ghost use Rattle.mk_eval.specs.Start as starts;
 ghost use Rattle.mk_eval.specs.Views.{flavors_in};
 
 use mk_env::Env;
 use mk_paths::{Name, Settings};
 use std::alloc::{AllocError, Global};
-use text_order::put_in_order;
+use text_parts::put_in_order;
 
 /// The variables with which the evaluation of the named makefile begins.
 pub(crate) fn start(
@@ -16,7 +16,8 @@ pub(crate) fn start(
     makefile: &Name,
     flavors: Option<&[String]>,
 ) -> Result<Env, AllocError>
-    ensures { IfOk result (λ variables. variables ≡ starts.start settings.now.path makefile.now (flavors_in flavors.entry)) }
+    ensures { IfOk result (λ variables. variables
+        ≡ starts.start settings.now.path makefile.now (flavors_in flavors.entry)) }
 {
     let variables = unflavored_start(alloc, settings, makefile)?;
     match flavors {
@@ -25,9 +26,10 @@ pub(crate) fn start(
     }
 }
 
-/// The variables with which it begins where no flavors are given.
+/// The variables with which it begins if no flavors are given.
 fn unflavored_start(alloc: Global, settings: &Settings, makefile: &Name) -> Result<Env, AllocError>
-    ensures { IfOk result (λ variables. variables ≡ starts.unflavored_start settings.now.path makefile.now) }
+    ensures { IfOk result (λ variables. variables
+        ≡ starts.unflavored_start settings.now.path makefile.now) }
 {
     let mut variables = Env::new(alloc);
     variables.set(".CURDIR", makefile.directory())?;
@@ -41,23 +43,26 @@ fn unflavored_start(alloc: Global, settings: &Settings, makefile: &Name) -> Resu
 
 /// The same with FLAVOR.
 fn with_flavors(alloc: Global, mut variables: Env, flavors: &[String]) -> Result<Env, AllocError>
-    ensures { IfOk result (λ flavored. flavored ≡ starts.with_flavors variables (map string_bytes flavors.now)) }
+    ensures { IfOk result (λ flavored. flavored
+        ≡ starts.with_flavors variables (map string_bytes flavors.now)) }
 {
     let text = flavor_text(alloc, flavors)?;
     variables.set("FLAVOR", text.as_str())?;
     Ok(variables)
 }
 
-/// The trees of the search path, with colons between.
+/// The trees of the search path, with colons between them.
 fn trees_text(alloc: Global, settings: &Settings) -> Result<String, AllocError>
-    ensures { IfOk result (λ text. string_bytes text ≡ starts.between (codes ":") settings.now.path) }
+    ensures { IfOk result (λ text. string_bytes text
+        ≡ starts.between (codes ":") settings.now.path) }
 {
     settings.path.trees().join(alloc, ":")
 }
 
-/// The flavors in the order of their bytes, each once, with spaces between.
+/// The flavors in the order of their bytes, each once, with spaces between them.
 fn flavor_text(alloc: Global, flavors: &[String]) -> Result<String, AllocError>
-    ensures { IfOk result (λ text. string_bytes text ≡ starts.between (codes " ") (in_order (map string_bytes flavors.now))) }
+    ensures { IfOk result (λ text. string_bytes text
+        ≡ starts.between (codes " ") (in_order (map string_bytes flavors.now))) }
 {
     let mut texts = copies_of(alloc, flavors)?;
     put_in_order(&mut texts);

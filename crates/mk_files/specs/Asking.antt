@@ -1,4 +1,5 @@
--- Asking about files, and what it costs. Which questions are counted, and how many there may be, is this project's choice.
+-- Asking about files, and what it costs. Which questions are counted, and how many there may be, is this
+-- project's choice.
 use Rattle.std.specs.Prelude.{ℕ, Bool, List, [], ◌∷◌, ◌++◌, Option, option_map, Result, Ok, Err}
 use Rattle.std.proofs.Common.{ap}
 use Rattle.std.specs.FinMap.{get, contains_key}
@@ -9,18 +10,19 @@ use Rattle.mk_base.specs.Meter.{Meter, question}
 use Rattle.mk_base.specs.Outcome.{Work, ◌>>=◌}
 use Rattle.mk_base.specs.Stopping.{Gives}
 use Rattle.mk_paths.specs.World.{FileMap}
-use Rattle.mk_paths.specs.Shelf.{Reply, Presence, Contents, Question, Shelf}
+use Rattle.mk_paths.specs.FilesView.{Reply, Presence, Contents, Question, FilesView}
 
--- what work on a makefile among files is accounted by: the meter of its budget, and the log of the questions asked, if the files keep one
+-- the account of work on a makefile among files: the meter of its budget, and the log of the questions
+-- asked, if the files keep one
 pub record Account : Type 0 where
   pub meter : Meter
   pub log : Option (List Question)
 
 -- the account of a budget with this meter and of these files
-abbrev pub account : Meter → Shelf → Account
+abbrev pub account : Meter → FilesView → Account
 account meter world = record { meter = meter; log = world.log }
 
--- the end of work that asked nothing, which leaves this log
+-- the end of work that asked nothing: it leaves this log
 abbrev pub beside : {A F : Type 0} → Option (List Question) → Result (A × Meter) (F × Meter) → Result (A × Account) (F × Account)
 beside log (Ok end) = Ok (end.0, record { meter = end.1; log = log })
 beside log (Err end) = Err (end.0, record { meter = end.1; log = log })
@@ -29,19 +31,20 @@ beside log (Err end) = Err (end.0, record { meter = end.1; log = log })
 abbrev pub quietly : {A F : Type 0} → Work Meter F A → Work Account F A
 quietly work a = beside a.log (work a.meter)
 
--- an answer that the files gave: with its name it joins the log, if there is one
+-- an answer that the files gave: it is added to the log with its name, if there is a log
 abbrev pub answered : {A F : Type 0} → (A → Reply) → List ℕ → A → Work Account F A
 answered reply name answer a = Ok (answer, record a { log = option_map (λ log. log ++ (name, reply answer) ∷ []) a.log })
 
--- a look whether the file of this name is there, which isn't counted
+-- a look at whether the file of this name is there; it isn't counted
 abbrev pub look_has : {F : Type 0} → FileMap → List ℕ → Work Account F Bool
 look_has files name = answered Presence name (contains_key files name)
 
--- a look at the content of the file of this name, if it is there, which isn't counted
+-- a look at the content of the file of this name, if it is there; it isn't counted
 abbrev pub look_read : {F : Type 0} → FileMap → List ℕ → Work Account F (Option (List ℕ))
 look_read files name = answered Contents name (get files name)
 
--- the question whether the file of this name is there: it is counted first, and where it would be one too many nothing is asked
+-- the question whether the file of this name is there: it is counted first, and if it is one too many,
+-- nothing is asked
 abbrev pub ask_has : FileMap → List ℕ → Work Account FaultKind Bool
 ask_has files name = quietly question >>= λ _. look_has files name
 
@@ -49,8 +52,9 @@ ask_has files name = quietly question >>= λ _. look_has files name
 abbrev pub ask_read : FileMap → List ℕ → Work Account FaultKind (Option (List ℕ))
 ask_read files name = quietly question >>= λ _. look_read files name
 
--- what does exactly some work over the meter does exactly that work over the account, beside any log
-pub Gives-quietly : {R A F : Type 0} (view : R → A) (result : Result R (Stop F)) (meter : Meter) (log : Option (List Question)) (outcome : Result (A × Meter) (F × Meter)) → Gives view result meter outcome
+-- a call that does exactly some work over the meter does exactly that work over the account, with any log
+pub Gives-quietly : {R A F : Type 0} (view : R → A) (result : Result R (Stop F)) (meter : Meter)
+    (log : Option (List Question)) (outcome : Result (A × Meter) (F × Meter)) → Gives view result meter outcome
     → Gives view result (record { meter = meter; log = log }) (beside log outcome)
 Gives-quietly view (Ok x) meter log outcome is = ap (beside log) is
 Gives-quietly view (Err (stops.Fault fault)) meter log outcome is = ap (beside log) is

@@ -6,7 +6,7 @@ use Rattle.std.specs.FinMap as finite
 use Rattle.mk_paths.specs.declared.asking.FilesFault.{FilesFault}
 use Rattle.mk_paths.specs.declared.asking.FilesFault.TheVariants.{Memory}
 use Rattle.mk_paths.specs.World.{FileMap}
-use Rattle.mk_paths.specs.Shelf.{Shelf}
+use Rattle.mk_paths.specs.FilesView.{FilesView}
 
 -- the files, and how many readings failed
 pub record Holding : Type 0 where
@@ -16,7 +16,8 @@ pub record Holding : Type 0 where
 -- a holding is stored as the pair of its parts
 abbrev pub holding_code : Coded Holding
 holding_code =
-    code_by (FileMap × ℕ) (coded× (finite.code (coded_list coded_ℕ) (coded_list coded_ℕ)) coded_ℕ) (λ held. (held.files, held.failures)) (λ parts. record { files = parts.0; failures = parts.1 }) (λ _. refl)
+    code_by (FileMap × ℕ) (coded× (finite.code (coded_list coded_ℕ) (coded_list coded_ℕ)) coded_ℕ)
+    (λ held. (held.files, held.failures)) (λ parts. record { files = parts.0; failures = parts.1 }) (λ _. refl)
 
 -- no file, and no failure
 abbrev pub nothing : Holding
@@ -30,11 +31,11 @@ with_file held name content = record held { files = finite.insert held.files nam
 abbrev pub without_file : Holding → List ℕ → Holding
 without_file held name = record held { files = finite.remove held.files name }
 
--- the world that it is: it keeps no log
-abbrev pub shelf_of : Holding → Shelf
-shelf_of held = record { files = held.files; log = None; failures = held.failures }
+-- the view of files that it is: it keeps no log
+abbrev pub view_of : Holding → FilesView
+view_of held = record { files = held.files; log = None; failures = held.failures }
 
--- files in memory fail for want of memory alone: there is no store
+-- files in memory fail only if memory runs out: there is no store
 abbrev pub IsMemory : FilesFault → Type 0
 IsMemory fault = fault ≡ Memory
 

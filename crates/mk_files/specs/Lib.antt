@@ -1,3 +1,4 @@
 pub mod Holding
 pub mod Asking
 pub mod Looking
+pub mod Limits

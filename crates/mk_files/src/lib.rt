@@ -1,13 +1,15 @@
 //! Worlds of files: what it is to read them and to ask about them, the contents that are shared, and a
-//! world kept in memory.
+//! world kept in memory. Also how many files and bytes a tenant may have: 2,000 and 8,388,608.
 #![tactic(auto)]
 
 mod asking;
 mod memory_files;
 mod shared;
+mod usage;
 mod worlds;
 
 pub use asking::{ask_has, ask_read, look_has, look_read};
 pub use memory_files::MemoryFiles;
 pub use shared::Content;
+pub use usage::{MOST_BYTES, MOST_FILES, Usage};
 pub use worlds::{Files, Listing};

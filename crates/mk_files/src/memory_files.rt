@@ -2,8 +2,8 @@
 ghost use Rattle.std.specs.Prelude.{◌≡◌, map as map_list, string_bytes, IfOk, OnOk, OnErr};
 ghost use Rattle.std.specs.Option.{option_copied};
 ghost use Rattle.std.specs.FinMap as map;
-ghost use Rattle.mk_paths.specs.Shelf.{Fails};
-ghost use Rattle.mk_files.specs.Holding.{nothing, with_file, without_file, shelf_of, IsMemory, files_of};
+ghost use Rattle.mk_paths.specs.FilesView.{Fails};
+ghost use Rattle.mk_files.specs.Holding.{nothing, with_file, without_file, view_of, IsMemory, files_of};
 
 use crate::shared::Content;
 use crate::worlds::{Files, Listing};
@@ -12,8 +12,8 @@ use std::alloc::{AllocError, Global};
 use std::collections::BTreeMap;
 use std::marker::Model;
 
-/// A world of files in memory, which keeps no log and fails for want of memory alone. Clauses see its map and
-/// how many readings failed.
+/// A world of files in memory. It keeps no log, and fails only if memory runs out. Clauses see its map
+/// and how many readings failed.
 #[derive(Debug, Drop)]
 pub struct MemoryFiles {
     files: BTreeMap<String, Content>,
@@ -41,8 +41,8 @@ impl MemoryFiles {
         }
     }
 
-    /// Gives the file of this name this content, whether or not it was there. Without memory nothing
-    /// changes.
+    /// Gives the file of this name this content, whether or not the file was there. It fails only if
+    /// memory runs out, and then nothing changes.
     pub fn put(&mut self, name: Name, content: Content) -> Result<(), AllocError>
         ensures ok { OnOk result (self.new ≡ with_file self.old name content) }
         ensures err { OnErr result (self.new ≡ self.old) }
@@ -51,7 +51,7 @@ impl MemoryFiles {
         Ok(())
     }
 
-    /// Takes the file of this name away, and tells whether it was there.
+    /// Removes the file of this name, and gives whether it was there.
     pub fn remove(&mut self, name: &Name) -> bool
         ensures was_there { result ≡ map.contains_key self.old.files name.now }
         ensures removed { self.new ≡ without_file self.old name.now }
@@ -59,16 +59,16 @@ impl MemoryFiles {
         self.files.remove(name.as_str()).is_some()
     }
 
-    /// The content of the file of this name; `None` where it isn't there.
+    /// The content of the file of this name; `None` if it isn't there.
     pub fn get(&self, name: &Name) -> Option<&Content>
         ensures { option_copied result ≡ map.get self.now.files name.now }
     {
         self.files.get(name.as_str())
     }
 
-    // Counts one more reading that failed, as it does for want of memory.
+    // Counts one more reading that failed, and gives its fault: memory ran out.
     fn fail(&mut self) -> FilesFault
-        ensures counted { Fails (shelf_of self.old) (shelf_of self.new) }
+        ensures counted { Fails (view_of self.old) (view_of self.new) }
         ensures memory { result ≡ FilesFault.Memory }
     {
         self.failures = self.failures.saturating_add(1);
@@ -77,7 +77,7 @@ impl MemoryFiles {
 }
 
 impl Names for MemoryFiles {
-    ghost shelf = { shelf_of };
+    ghost view = { view_of };
 
     ghost fails_with = { IsMemory };
 
@@ -109,7 +109,8 @@ impl Listing for MemoryFiles {
 
 // The names of these files, in the order of their bytes.
 fn names_of(alloc: Global, files: &BTreeMap<String, Content>) -> Result<Vec<String>, AllocError>
-    ensures { IfOk result (λ names. map_list string_bytes names.items ≡ map.keys (files_of files.now.entries)) }
+    ensures { IfOk result (λ names. map_list string_bytes names.items
+        ≡ map.keys (files_of files.now.entries)) }
 {
     let mut names = Vec::new(alloc);
     for name in files.keys() {

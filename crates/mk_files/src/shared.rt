@@ -1,4 +1,4 @@
-// Contents of files, which many may hold at once.
+// Contents of files, which many holders may share at once.
 ghost use Rattle.std.specs.Prelude.{◌≡◌, IfOk};
 
 use std::alloc::{AllocError, Global};
@@ -21,7 +21,7 @@ impl Model for Content {
 }
 
 impl Content {
-    /// The content of these bytes. The one error is want of memory.
+    /// The content of these bytes. It fails only if memory runs out.
     pub fn new(alloc: Global, bytes: Vec<u8>) -> Result<Content, AllocError>
         ensures { IfOk result (λ content. content ≡ bytes.items) }
     {
@@ -30,14 +30,14 @@ impl Content {
         })
     }
 
-    /// The bytes.
+    /// The bytes of the content.
     pub fn as_slice(&self) -> &[u8]
         ensures { result.now ≡ self.now }
     {
         self.bytes.as_slice()
     }
 
-    /// The same content once more, without a copy of its bytes. The one error is that no more can share it.
+    /// The same content once more, without a copy of its bytes. It fails only if no more can share it.
     pub fn share(&self) -> Result<Content, AllocError>
         ensures { IfOk result (λ content. content ≡ self.now) }
     {

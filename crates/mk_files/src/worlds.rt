@@ -1,7 +1,7 @@
 // Worlds of files that can be read.
 ghost use Rattle.std.specs.Prelude.{◌≡◌, map, string_bytes, IfOk, IfErr, OnOk, OnErr};
 ghost use Rattle.std.specs.FinMap.{keys};
-ghost use Rattle.mk_paths.specs.Shelf.{Contents, Answers, Fails};
+ghost use Rattle.mk_paths.specs.FilesView.{Contents, Answers, Fails};
 
 use crate::shared::Content;
 use mk_paths::{FilesFault, Name, Names};
@@ -9,16 +9,18 @@ use std::alloc::Global;
 
 /// A world of files that can be read.
 ///
-/// Its meaning is that of `Names`: one map, which no reading changes, a log of the questions asked where
-/// it keeps one, and the count of the questions that failed.
+/// Its meaning is that of `Names`. It is one map, which no reading changes, a log of the questions
+/// asked, if the world keeps one, and the count of the questions that failed.
 pub trait Files: Names {
-    /// The content of the file of this name; `None` where it isn't there.
+    /// The content of the file of this name; `None` if it isn't there.
     ///
-    /// The answer is the map's, and joins the log where there is one. A fault leaves the map and the log,
-    /// and adds one to the count of failures, which stands still at 2^64 - 1.
+    /// The answer is what the map says, and it is added to the log if there is one. A fault leaves
+    /// the map and the log as they are. It adds one to the count of failures, which goes no higher
+    /// than 2^64 - 1.
     fn read(&mut self, name: &Name) -> Result<Option<Content>, FilesFault>
-        ensures answer { IfOk result (λ content. Answers (Self.shelf self.old) (Self.shelf self.new) name.now (Contents content)) }
-        ensures fault { OnErr result (Fails (Self.shelf self.old) (Self.shelf self.new)) }
+        ensures answer { IfOk result (λ content. Answers (Self.view self.old)
+            (Self.view self.new) name.now (Contents content)) }
+        ensures fault { OnErr result (Fails (Self.view self.old) (Self.view self.new)) }
         ensures kind { IfErr result Self.fails_with };
 }
 
@@ -26,11 +28,12 @@ pub trait Files: Names {
 pub trait Listing: Files {
     /// The names of all files, in the order of their bytes.
     ///
-    /// Listing is no question, and joins no log. A fault leaves the map and the log, and adds one to the
-    /// count of failures, which stands still at 2^64 - 1.
+    /// Listing isn't a question, and nothing is added to the log. A fault leaves the map and the log as
+    /// they are. It adds one to the count of failures, which goes no higher than 2^64 - 1.
     fn names(&mut self, alloc: Global) -> Result<Vec<String>, FilesFault>
-        ensures names { IfOk result (λ names. map string_bytes names.items ≡ keys (Self.shelf self.old).files) }
-        ensures same { OnOk result (Self.shelf self.new ≡ Self.shelf self.old) }
-        ensures fault { OnErr result (Fails (Self.shelf self.old) (Self.shelf self.new)) }
+        ensures names { IfOk result (λ names. map string_bytes names.items
+            ≡ keys (Self.view self.old).files) }
+        ensures same { OnOk result (Self.view self.new ≡ Self.view self.old) }
+        ensures fault { OnErr result (Fails (Self.view self.old) (Self.view self.new)) }
         ensures kind { IfErr result Self.fails_with };
 }

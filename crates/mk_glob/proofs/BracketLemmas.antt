@@ -3,8 +3,8 @@ use Rattle.std.proofs.Common.{◌≡◌, ℕ, ◌≤◌, length, Bool, true, fal
 use Rattle.std.proofs.Math.Bool.{or-false}
 use Rattle.std.proofs.lemmas.Bool.{cond-true, cond-false, cases_Bool, both_ways, eqb-true, ne_eqb}
 use Rattle.std.specs.Option.{option_map}
-use Rattle.mk_glob.specs.declared.signs.Sign.{Sign}
-use Rattle.mk_glob.specs.declared.signs.Sign.TheVariants.{Bare, Plain}
+use Rattle.mk_glob.specs.declared.signs.PatternSign.{PatternSign}
+use Rattle.mk_glob.specs.declared.signs.PatternSign.TheVariants.{Bare, Plain}
 use Rattle.mk_glob.specs.Signs.{character, is_bare, signs_of}
 use Rattle.mk_glob.specs.Reading.{BeginsWithSign}
 use Rattle.mk_glob.proofs.SignLemmas.{signs_of-empty}
@@ -13,42 +13,42 @@ use Rattle.mk_glob.specs.Brackets.{MakesNoRange, MakesRange, EndsRange, HasMembe
 use Rattle.mk_glob.proofs.EndLemmas.{map_some, map_none}
 
 -- whether a character was found or is among members, and what stands behind them
-abbrev pub told : ℕ → Bool → Bracketed → Bool × List Sign
+abbrev pub told : ℕ → Bool → Bracketed → Bool × List PatternSign
 told c found b = (found || is_among (members b.inside) c, b.behind)
 
 -- the same where nothing was read of them
-abbrev pub told_all : ℕ → Bracketed → Bool × List Sign
+abbrev pub told_all : ℕ → Bracketed → Bool × List PatternSign
 told_all c b = (is_among (members b.inside) c, b.behind)
 
 -- the same where the first sign was read
-abbrev pub told_low : ℕ → Bool → Sign → Bracketed → Bool × List Sign
+abbrev pub told_low : ℕ → Bool → PatternSign → Bracketed → Bool × List PatternSign
 told_low c found low b = told c found (onto_inside low b)
 
 -- what is told of members that are read as far as a sign that begins one
-abbrev pub after_low : ℕ → Bool → Sign → List Sign → Option (Bool × List Sign)
+abbrev pub after_low : ℕ → Bool → PatternSign → List PatternSign → Option (Bool × List PatternSign)
 after_low c found low rest = option_map (told_low c found low) (up_to_close rest)
 
 -- what is told of members that are read as far as the end of one
-abbrev pub after_end : ℕ → Bool → List Sign → Option (Bool × List Sign)
+abbrev pub after_end : ℕ → Bool → List PatternSign → Option (Bool × List PatternSign)
 after_end c found rest = option_map (told c found) (up_to_close rest)
 
 -- what is told of all members
-abbrev pub of_body : ℕ → List Sign → Option (Bool × List Sign)
+abbrev pub of_body : ℕ → List PatternSign → Option (Bool × List PatternSign)
 of_body c body = option_map (told_all c) (bracketed body)
 
-abbrev with_answer : Bracketed → Bool → Bool × List Sign
+abbrev with_answer : Bracketed → Bool → Bool × List PatternSign
 with_answer b x = (x, b.behind)
 
-abbrev with_ranges : ℕ → Bool → Bracketed → List Range → Bool × List Sign
+abbrev with_ranges : ℕ → Bool → Bracketed → List Range → Bool × List PatternSign
 with_ranges c found b l = (found || is_among l c, b.behind)
 
-begun : (c : ℕ) (low : Sign) (o : Option Bracketed)
+begun : (c : ℕ) (low : PatternSign) (o : Option Bracketed)
     → option_map (told_all c) (option_map (onto_inside low) o)
     ≡ option_map (told_low c false low) o
 begun c low None = refl
 begun c low (Some b) = refl
 
-pub of_body-begins : (c : ℕ) (low : Sign) (rest : List Sign) → of_body c (low ∷ rest) ≡ after_low c false low rest
+pub of_body-begins : (c : ℕ) (low : PatternSign) (rest : List PatternSign) → of_body c (low ∷ rest) ≡ after_low c false low rest
 of_body-begins c low rest = begun c low (up_to_close rest)
 
 same_some : {A : Type 0} (a b : A) → Some a ≡ Some b → a ≡ b
@@ -58,7 +58,7 @@ none_is_none : {A : Type 0} (b : A) → None ≡ Some b → ⊥
 none_is_none b e = cc
 
 -- the same where the sign before and one more are read
-second_alone : (low s t : Sign) (rest : List Sign) (b : Bracketed) → MakesNoRange (s ∷ t ∷ rest) → up_to_close (t ∷ rest) ≡ Some b
+second_alone : (low s t : PatternSign) (rest : List PatternSign) (b : Bracketed) → MakesNoRange (s ∷ t ∷ rest) → up_to_close (t ∷ rest) ≡ Some b
     → members (low ∷ s ∷ b.inside) ≡ alone (character low) ∷ members (s ∷ b.inside)
 second_alone low s t rest b free e =
     let P : Bracketed → Type 0 = λ x. members (low ∷ s ∷ x.inside) ≡ alone (character low) ∷ members (s ∷ x.inside) in
@@ -73,7 +73,7 @@ second_alone low s t rest b free e =
     ]
 
 -- where no range is made the sign before is a member alone
-alone_member : (low : Sign) (rest : List Sign) (b : Bracketed) → MakesNoRange rest → up_to_close rest ≡ Some b
+alone_member : (low : PatternSign) (rest : List PatternSign) (b : Bracketed) → MakesNoRange rest → up_to_close rest ≡ Some b
     → members (low ∷ b.inside) ≡ alone (character low) ∷ members b.inside
 alone_member low [] b free e = absurd (none_is_none b e)
 alone_member low (s ∷ []) b free e = elim (cases_Bool (is_bare 93 s)) [
@@ -100,11 +100,11 @@ or_joined : (a b x : Bool) → (a || (b || x)) ≡ ((a || b) || x)
 or_joined true b x = refl
 or_joined false b x = refl
 
-dash_stays_inside : (dash : Sign) → is_bare 45 dash ≡ true → is_bare 93 dash ≡ false
+dash_stays_inside : (dash : PatternSign) → is_bare 45 dash ≡ true → is_bare 93 dash ≡ false
 dash_stays_inside (Bare d) e = ne_eqb d 93 (λ other. omega (arith, eqb-true d 45 e))
 dash_stays_inside (Plain d) e = refl
 
-ranged : (c : ℕ) (found : Bool) (low dash high : Sign) (o : Option Bracketed) → is_bare 45 dash ≡ true
+ranged : (c : ℕ) (found : Bool) (low dash high : PatternSign) (o : Option Bracketed) → is_bare 45 dash ≡ true
     → option_map (told_low c found low) (option_map (onto_inside dash) (option_map (onto_inside high) o))
     ≡ option_map (told c (found || is_within (character low) (character high) c)) o
 ranged c found low dash high None e = refl
@@ -115,7 +115,7 @@ ranged c found low dash high (Some b) e =
     ∙ ap (λ x. with_answer b x) (or_joined found (is_within (character low) (character high) c) (is_among (members b.inside) c)))
 
 -- a member is read: a range up to its end, or a sign alone
-pub after_low-range : (c : ℕ) (found : Bool) (low : Sign) (rest : List Sign) (end : ℕ) (behind : List Sign) → MakesRange rest end behind
+pub after_low-range : (c : ℕ) (found : Bool) (low : PatternSign) (rest : List PatternSign) (end : ℕ) (behind : List PatternSign) → MakesRange rest end behind
     → after_low c found low rest ≡ after_end c (found || is_within (character low) end c) behind
 after_low-range c found low rest end behind made =
     let high = made.high in
@@ -129,7 +129,7 @@ after_low-range c found low rest end behind made =
     ∙ ranged c found low made.dash high (up_to_close behind) made.is_dash
     ∙ ap (λ n. after_end c (found || is_within (character low) n c) behind) (sym made.is_end)
 
-pub after_low-alone : (c : ℕ) (found : Bool) (low : Sign) (rest : List Sign) → MakesNoRange rest
+pub after_low-alone : (c : ℕ) (found : Bool) (low : PatternSign) (rest : List PatternSign) → MakesNoRange rest
     → after_low c found low rest ≡ after_end c (found || is_within (character low) (character low) c) rest
 after_low-alone c found low rest free =
     map_same (told_low c found low)
@@ -140,34 +140,34 @@ after_low-alone c found low rest free =
     ∙ ap (λ x. with_answer b x) (or_joined found (is_within (character low) (character low) c) (is_among (members b.inside) c)))
 
 -- what stands behind a member closes, or begins the next
-pub after_end-closes : (c : ℕ) (found : Bool) (sign : Sign) (rest : List Sign) → is_bare 93 sign ≡ true
+pub after_end-closes : (c : ℕ) (found : Bool) (sign : PatternSign) (rest : List PatternSign) → is_bare 93 sign ≡ true
     → after_end c found (sign ∷ rest) ≡ Some (found, rest)
 after_end-closes c found sign rest e =
     ap (option_map (told c found)) (cond-true (is_bare 93 sign) _ _ e)
     ∙ ap (λ x. Some (with_answer record { inside = []; behind = rest } x)) (or-false found)
 
-next_one : (c : ℕ) (found : Bool) (sign : Sign) (o : Option Bracketed)
+next_one : (c : ℕ) (found : Bool) (sign : PatternSign) (o : Option Bracketed)
     → option_map (told c found) (option_map (onto_inside sign) o)
     ≡ option_map (told_low c found sign) o
 next_one c found sign None = refl
 next_one c found sign (Some b) = refl
 
-pub after_end-next : (c : ℕ) (found : Bool) (sign : Sign) (rest : List Sign) → is_bare 93 sign ≡ false
+pub after_end-next : (c : ℕ) (found : Bool) (sign : PatternSign) (rest : List PatternSign) → is_bare 93 sign ≡ false
     → after_end c found (sign ∷ rest) ≡ after_low c found sign rest
 after_end-next c found sign rest e =
     ap (option_map (told c found)) (cond-false (is_bare 93 sign) _ _ e)
     ∙ next_one c found sign (up_to_close rest)
 
-pub bracketed-from_told : (c : ℕ) (body : List Sign) → of_body c body ≡ None → bracketed body ≡ None
+pub bracketed-from_told : (c : ℕ) (body : List PatternSign) → of_body c body ≡ None → bracketed body ≡ None
 bracketed-from_told c body e = map_none (told_all c) (bracketed body) e
 
-abbrev found_of : Bool × List Sign → Bool
+abbrev found_of : Bool × List PatternSign → Bool
 found_of p = p.0
 
-abbrev behind_of : Bool × List Sign → List Sign
+abbrev behind_of : Bool × List PatternSign → List PatternSign
 behind_of p = p.1
 
-pub HasMembers-from_told : (c : ℕ) (body : List Sign) (found : Bool) (behind : List Sign) → of_body c body ≡ Some (found, behind)
+pub HasMembers-from_told : (c : ℕ) (body : List PatternSign) (found : Bool) (behind : List PatternSign) → of_body c body ≡ Some (found, behind)
     → HasMembers body c found behind
 HasMembers-from_told c body found behind e =
     let at = map_some (told_all c) (bracketed body) (found, behind) e in record {
@@ -180,13 +180,13 @@ HasMembers-from_told c body found behind e =
 pub MakesNoRange-empty : (rest : List ℕ) → rest ≡ [] → MakesNoRange (signs_of rest)
 MakesNoRange-empty rest e = subst MakesNoRange (sym (signs_of-empty rest e)) tt
 
-pub MakesNoRange-last : (rest : List ℕ) (dash : Sign) (behind : List ℕ) → BeginsWithSign rest dash behind → behind ≡ []
+pub MakesNoRange-last : (rest : List ℕ) (dash : PatternSign) (behind : List ℕ) → BeginsWithSign rest dash behind → behind ≡ []
     → MakesNoRange (signs_of rest)
 MakesNoRange-last rest dash behind begins e =
     subst MakesNoRange (sym (begins.reads ∙ ap (λ t. dash ∷ t) (signs_of-empty behind e))) tt
 
 -- the same by a character
-pub after_low-end : (c : ℕ) (found : Bool) (low : Sign) (rest : List ℕ) (end : ℕ) (behind : List ℕ) → EndsRange (character low) rest end behind
+pub after_low-end : (c : ℕ) (found : Bool) (low : PatternSign) (rest : List ℕ) (end : ℕ) (behind : List ℕ) → EndsRange (character low) rest end behind
     → after_low c found low (signs_of rest) ≡ after_end c (found || is_within (character low) end c) (signs_of behind)
 after_low-end c found low rest end behind (inl free) =
     after_low-alone c found low (signs_of rest) free.0
@@ -198,7 +198,7 @@ pub after_end-empty : (c : ℕ) (found : Bool) (rest : List ℕ) → rest ≡ []
 after_end-empty c found rest e = ap (after_end c found) (signs_of-empty rest e)
 
 -- one more member is read
-pub member_read : (c : ℕ) (body : List Sign) (found : Bool) (low : Sign) (rest : List ℕ) (first end : ℕ) (behind : List ℕ) (again : ℕ) (within : Bool)
+pub member_read : (c : ℕ) (body : List PatternSign) (found : Bool) (low : PatternSign) (rest : List ℕ) (first end : ℕ) (behind : List ℕ) (again : ℕ) (within : Bool)
     → of_body c body ≡ after_low c found low (signs_of rest) → first ≡ character low → EndsRange first rest end behind
     → again ≡ character low → within ≡ is_within again end c
     → of_body c body ≡ after_end c (found || within) (signs_of behind)

@@ -5,7 +5,7 @@ use Rattle.std.proofs.Math.Nat.{mul-le-mul_right}
 use Rattle.std.proofs.lemmas.Bool.{or_right}
 use Rattle.std.specs.Prelude.{◌↔◌, IsTrue}
 use Rattle.std.specs.Str.{chars}
-use Rattle.mk_glob.specs.declared.signs.Sign.{Sign}
+use Rattle.mk_glob.specs.declared.signs.PatternSign.{PatternSign}
 use Rattle.mk_glob.specs.declared.matching.Rest.{Rest}
 use Rattle.mk_glob.specs.Signs.{signs_of}
 use Rattle.mk_glob.specs.Items.{any_run, one_of, First, first_at, items, items_of}
@@ -26,7 +26,7 @@ by_back None = false
 by_back (Some back) = some_later (fits_items (items_of back.pattern.now)) (chars back.word.now)
 
 -- what is left at the place to go back to stands at the pattern's end
-abbrev pub BackWithin : List Sign → Option Rest → Type 0
+abbrev pub BackWithin : List PatternSign → Option Rest → Type 0
 BackWithin pattern None = Unit {0}
 BackWithin pattern (Some back) = EndsIn pattern (signs_of back.pattern.now)
 
@@ -63,7 +63,7 @@ fits-open : (pattern word : List ℕ) → fits pattern word ≡ fits_items (item
 unfolding fits
 fits-open pattern word = refl
 
-items_of-first : (pattern : List ℕ) (sign : Sign) (more : List Sign) (first : First) → signs_of pattern ≡ sign ∷ more
+items_of-first : (pattern : List ℕ) (sign : PatternSign) (more : List PatternSign) (first : First) → signs_of pattern ≡ sign ∷ more
     → first_at sign more ≡ first → items_of pattern ≡ first.item ∷ items first.behind
 unfolding items_of
 items_of-first pattern sign more first reads stands =
@@ -86,10 +86,10 @@ falls_second a b n p q h k =
     omega (arith, m)
 
 -- what stands behind the first sign, or behind the first item, stands at the pattern's end
-within_sign : (whole here behind : List Sign) (sign : Sign) → EndsIn whole here → here ≡ sign ∷ behind → EndsIn whole behind
+within_sign : (whole here behind : List PatternSign) (sign : PatternSign) → EndsIn whole here → here ≡ sign ∷ behind → EndsIn whole behind
 within_sign whole here behind sign within e = ends_along whole here behind within record { front = sign ∷ []; joins = e }
 
-within_first : (whole here : List Sign) (sign : Sign) (more : List Sign) (first : First) → EndsIn whole here → here ≡ sign ∷ more
+within_first : (whole here : List PatternSign) (sign : PatternSign) (more : List PatternSign) (first : First) → EndsIn whole here → here ≡ sign ∷ more
     → first_at sign more ≡ first → EndsIn whole first.behind
 within_first whole here sign more first within e stands =
     let later : EndsIn more first.behind = subst (λ f. EndsIn more (First.behind f)) stands (first_at-ends sign more) in

@@ -5,8 +5,8 @@ use Rattle.std.proofs.lemmas.Str.{chars_past_char, chars-nil, encodes-chars, len
 use Rattle.std.specs.Str.{IsUtf8, chars}
 use Rattle.std.specs.Char.{len_utf8}
 use lib.Utf8.{encodes, encode}
-use Rattle.mk_glob.specs.declared.signs.Sign.{Sign}
-use Rattle.mk_glob.specs.declared.signs.Sign.TheVariants.{Bare, Plain}
+use Rattle.mk_glob.specs.declared.signs.PatternSign.{PatternSign}
+use Rattle.mk_glob.specs.declared.signs.PatternSign.TheVariants.{Bare, Plain}
 use Rattle.mk_glob.specs.Signs.{signs, signs_of}
 use Rattle.mk_glob.specs.Reading.{width, BeginsWithChar, BeginsWithSign}
 use Rattle.mk_glob.specs.Steps.{widths}
@@ -78,11 +78,11 @@ pub widths-signs_of : (text : List ℕ) → IsUtf8 text → widths (signs_of tex
 unfolding signs_of
 widths-signs_of text utf8 = widths-signs (chars text) ∙ ap length (encodes-chars text utf8)
 
-pub width_positive : (sign : Sign) → 1 ≤ width sign
+pub width_positive : (sign : PatternSign) → 1 ≤ width sign
 width_positive (Bare c) = (len_utf8_bounds c).0
 width_positive (Plain c) = omega arith
 
-pub widths-append : (front rest : List Sign) → widths (front ++ rest) ≡ widths front + widths rest
+pub widths-append : (front rest : List PatternSign) → widths (front ++ rest) ≡ widths front + widths rest
 widths-append [] rest = omega arith
 widths-append (sign ∷ front) rest = omega (arith, widths-append front rest)
 

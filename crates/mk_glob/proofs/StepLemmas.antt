@@ -4,8 +4,8 @@ use Rattle.std.proofs.lemmas.Bool.{cond-true, cond-false, cond_both, cases_Bool,
 use Rattle.std.proofs.lemmas.Bool.Decides.{nat_tests}
 use Rattle.std.specs.Option.{option_map, unwrap_or}
 use Rattle.std.specs.Str.{IsUtf8, chars}
-use Rattle.mk_glob.specs.declared.signs.Sign.{Sign}
-use Rattle.mk_glob.specs.declared.signs.Sign.TheVariants.{Bare, Plain}
+use Rattle.mk_glob.specs.declared.signs.PatternSign.{PatternSign}
+use Rattle.mk_glob.specs.declared.signs.PatternSign.TheVariants.{Bare, Plain}
 use Rattle.mk_glob.specs.Signs.{character, is_bare, signs_of}
 use Rattle.mk_glob.specs.Items.{Range, alone, Item, one_of, exactly, First, members, Bracketed, bracketed, closed, bracket, first_at, items, items_of, is_within, admits}
 use Rattle.mk_glob.specs.Matching.{fits_items, fits}
@@ -13,12 +13,12 @@ use Rattle.mk_glob.specs.Steps.{widths, Finds, Learns, UnclosedWithin, TellsOne}
 use Rattle.mk_glob.proofs.SignLemmas.{widths-signs_of, signs_of-empty}
 use Rattle.mk_glob.proofs.EndLemmas.{items-cons, map_some}
 
-pub bare_sign : (n : ℕ) (sign : Sign) → is_bare n sign ≡ true → sign ≡ Bare n
+pub bare_sign : (n : ℕ) (sign : PatternSign) → is_bare n sign ≡ true → sign ≡ Bare n
 bare_sign n (Bare c) e = ap Bare (eqb-true c n e)
 bare_sign n (Plain c) e = absurd (true≢false (sym e))
 
 -- a sign that is neither `*` nor `?` and opens no bracket is itself
-first_at-exactly : (sign : Sign) (rest : List Sign) → is_bare 42 sign ≡ false → is_bare 63 sign ≡ false → (is_bare 91 sign ≡ true → bracket rest ≡ None)
+first_at-exactly : (sign : PatternSign) (rest : List PatternSign) → is_bare 42 sign ≡ false → is_bare 63 sign ≡ false → (is_bare 91 sign ≡ true → bracket rest ≡ None)
     → first_at sign rest ≡ record { item = exactly (character sign); behind = rest }
 first_at-exactly (Plain c) rest run one opens = refl
 first_at-exactly (Bare c) rest run one opens =
@@ -34,7 +34,7 @@ or_nothing : (x : Bool) → x ≡ (x || false)
 or_nothing true = refl
 or_nothing false = refl
 
-pub TellsOne-exactly : (sign : Sign) (rest : List Sign) (c own : ℕ) → is_bare 42 sign ≡ false → is_bare 63 sign ≡ false
+pub TellsOne-exactly : (sign : PatternSign) (rest : List PatternSign) (c own : ℕ) → is_bare 42 sign ≡ false → is_bare 63 sign ≡ false
     → (is_bare 91 sign ≡ true → bracket rest ≡ None) → own ≡ character sign → TellsOne sign rest c (eqb own c) rest
 TellsOne-exactly sign rest c own run one opens e = record {
   negated = false;
@@ -53,7 +53,7 @@ pub Finds-none : (behind : List ℕ) (old new : ℕ) → IsUtf8 behind → brack
 Finds-none behind old new utf8 none e = inr (e ∙ sym (widths-signs_of behind utf8), none)
 
 -- the test of a word by the pattern's first item
-pub fits-first : (pattern word : List ℕ) (sign : Sign) (more : List Sign) (first : First) → signs_of pattern ≡ sign ∷ more
+pub fits-first : (pattern word : List ℕ) (sign : PatternSign) (more : List PatternSign) (first : First) → signs_of pattern ≡ sign ∷ more
     → first_at sign more ≡ first → fits pattern word ≡ fits_items (first.item ∷ items first.behind) (chars word)
 unfolding fits items_of
 fits-first pattern word sign more first reads stands =
@@ -81,7 +81,7 @@ closed_is_one negated o f e =
     let at = map_some (closed negated) o f e in
     record { negated = negated; ranges = members at.0.inside; is = ap First.item at.2 }
 
-bracket_is_one : (rest : List Sign) (f : First) → bracket rest ≡ Some f → IsOne f.item
+bracket_is_one : (rest : List PatternSign) (f : First) → bracket rest ≡ Some f → IsOne f.item
 bracket_is_one [] f e = absurd cc
 bracket_is_one (sign ∷ rest) f e = elim (cases_Bool (is_bare 33 sign)) [
   | inl negates ↦ closed_is_one true (bracketed rest) f (sym (cond-true (is_bare 33 sign) _ _ negates) ∙ e)
@@ -91,12 +91,12 @@ bracket_is_one (sign ∷ rest) f e = elim (cases_Bool (is_bare 33 sign)) [
 exactly_is_one : (c : ℕ) → IsOne (exactly c)
 exactly_is_one c = record { negated = false; ranges = alone c ∷ []; is = refl }
 
-bracket_or_is_one : (rest : List Sign) (c : ℕ) (o : Option First) → bracket rest ≡ o
+bracket_or_is_one : (rest : List PatternSign) (c : ℕ) (o : Option First) → bracket rest ≡ o
     → IsOne (unwrap_or o record { item = exactly c; behind = rest }).item
 bracket_or_is_one rest c None e = exactly_is_one c
 bracket_or_is_one rest c (Some f) e = bracket_is_one rest f e
 
-first_at_is_one : (sign : Sign) (rest : List Sign) → is_bare 42 sign ≡ false → IsOne (first_at sign rest).item
+first_at_is_one : (sign : PatternSign) (rest : List PatternSign) → is_bare 42 sign ≡ false → IsOne (first_at sign rest).item
 first_at_is_one (Plain c) rest e = exactly_is_one c
 first_at_is_one (Bare c) rest e =
     let P : First → Type 0 = λ f. IsOne f.item in
@@ -104,7 +104,7 @@ first_at_is_one (Bare c) rest e =
     (λ _. cond_both (eqb c 63) _ _ P (λ _. record { negated = true; ranges = []; is = refl })
     (λ _. cond_both (eqb c 91) _ _ P (λ _. bracket_or_is_one rest c (bracket rest) refl) (λ _. exactly_is_one c)))
 
-pub fits-word_over : (pattern word : List ℕ) (sign : Sign) (more : List Sign) → signs_of pattern ≡ sign ∷ more → is_bare 42 sign ≡ false
+pub fits-word_over : (pattern word : List ℕ) (sign : PatternSign) (more : List PatternSign) → signs_of pattern ≡ sign ∷ more → is_bare 42 sign ≡ false
     → chars word ≡ [] → fits pattern word ≡ false
 fits-word_over pattern word sign more reads run over =
     let one = first_at_is_one sign more run in
@@ -113,7 +113,7 @@ fits-word_over pattern word sign more reads run over =
     ∙ ap (λ i. fits_items (i ∷ items (first_at sign more).behind) []) one.is
 
 -- a character that the first item refuses
-pub fits-refused : (pattern word : List ℕ) (sign : Sign) (more : List Sign) (c : ℕ) (rest : List ℕ) (allowed : Bool) (behind : List Sign)
+pub fits-refused : (pattern word : List ℕ) (sign : PatternSign) (more : List PatternSign) (c : ℕ) (rest : List ℕ) (allowed : Bool) (behind : List PatternSign)
     → signs_of pattern ≡ sign ∷ more → chars word ≡ c ∷ rest → allowed ≡ false → TellsOne sign more c allowed behind
     → fits pattern word ≡ false
 fits-refused pattern word sign more c rest allowed behind reads begins refused tells =
@@ -121,11 +121,11 @@ fits-refused pattern word sign more c rest allowed behind reads begins refused t
     ∙ ap (fits_items (one_of tells.negated tells.ranges ∷ items behind)) begins
     ∙ and_left (admits tells.negated tells.ranges c) (fits_items (items behind) rest) (sym tells.tells ∙ refused)
 
-pub known-behind : (pattern : List Sign) (sign : Sign) (more : List Sign) (unclosed : ℕ) → pattern ≡ sign ∷ more
+pub known-behind : (pattern : List PatternSign) (sign : PatternSign) (more : List PatternSign) (unclosed : ℕ) → pattern ≡ sign ∷ more
     → UnclosedWithin pattern unclosed → widths more ≤ unclosed → bracket more ≡ None
 known-behind pattern sign more unclosed reads known h = known (sign ∷ []) more reads h
 
-pub Learns-behind : (pattern : List Sign) (sign : Sign) (more : List Sign) (old new : ℕ) → pattern ≡ sign ∷ more → Finds more old new
+pub Learns-behind : (pattern : List PatternSign) (sign : PatternSign) (more : List PatternSign) (old new : ℕ) → pattern ≡ sign ∷ more → Finds more old new
     → Learns pattern old new
 Learns-behind pattern sign more old new reads (inl same) = inl same
 Learns-behind pattern sign more old new reads (inr found) = inr (sign ∷ [], more, reads, found.0, found.1)

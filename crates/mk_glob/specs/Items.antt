@@ -1,19 +1,22 @@
--- The items of a pattern: what it is put together from. That `*`, `?` and brackets match and that a backslash makes the next character
--- plain is make(1)'s; that `!` negates a bracket, that a `]` directly behind the opening is a member, and that a `[` that isn't closed and
--- a last backslash stand for themselves is this project's choice, as in sh(1).
-use Rattle.std.specs.Prelude.{ℕ, zero, suc, Bool, true, false, ◌==◌, ◌&&◌, not, nat_le, List, [], ◌∷◌, length, Option, Some, None, if◌then◌else◌}
+-- The items of a pattern: what it is put together from. make(1) says that `*`, `?` and brackets match, and
+-- that a backslash makes the next character plain. This project's choice, as in sh(1): `!` negates a
+-- bracket, a `]` directly after the opening is a member, and a `[` that isn't closed and a last backslash
+-- are themselves.
+use Rattle.std.specs.Prelude.{ℕ, zero, suc, Bool, true, false, ◌==◌, ◌&&◌, not, nat_le, List, [], ◌∷◌, length, Option}
+use Rattle.std.specs.Prelude.{Some, None, if◌then◌else◌}
 use Rattle.std.specs.List.{list_any}
 use Rattle.std.specs.Option.{option_map, unwrap_or}
-use Rattle.mk_glob.specs.declared.signs.Sign.{Sign}
-use Rattle.mk_glob.specs.declared.signs.Sign.TheVariants.{Bare, Plain}
+use Rattle.mk_glob.specs.declared.signs.PatternSign.{PatternSign}
+use Rattle.mk_glob.specs.declared.signs.PatternSign.TheVariants.{Bare, Plain}
 use Rattle.mk_glob.specs.Signs.{signs_of, character, is_bare}
 
--- the characters from a low one up to a high one, both among them; none where the low one is above the high one
+-- the characters from a low one up to a high one, both included; none if the low one is above the high one
 pub record Range : Type 0 where
   pub low : ℕ
   pub high : ℕ
 
--- an item: any run of characters, also none; or one character, that is among some ranges or, negated, that isn't among them
+-- an item: any run of characters, also none; or one character that is among some ranges or, if negated,
+-- isn't among them
 pub data Item : Type 0 where
   any_run : Item
   one_of : Bool → List Range → Item
@@ -22,7 +25,7 @@ pub data Item : Type 0 where
 abbrev pub alone : ℕ → Range
 alone c = record { low = c; high = c }
 
--- any one character: one that isn't among none
+-- any one character: one that isn't among no ranges
 abbrev pub any_one : Item
 any_one = one_of true []
 
@@ -30,8 +33,9 @@ any_one = one_of true []
 abbrev pub exactly : ℕ → Item
 exactly c = one_of false (alone c ∷ [])
 
--- the members that stand between brackets: ranges, which have a bare `-` (45) between two signs, and single characters
-abbrev pub members : List Sign → List Range
+-- the members between the brackets: ranges, which have a bare `-` (45) between two signs, and single
+-- characters
+abbrev pub members : List PatternSign → List Range
 members [] = []
 members (only ∷ []) = alone (character only) ∷ []
 members (first ∷ second ∷ []) = alone (character first) ∷ alone (character second) ∷ []
@@ -40,44 +44,45 @@ members (low ∷ dash ∷ high ∷ rest) =
     then record { low = character low; high = character high } ∷ members rest
     else alone (character low) ∷ members (dash ∷ high ∷ rest)
 
--- signs before their first bare `]` (93), and behind it
+-- the signs before the first bare `]` (93), and those after it
 pub record Bracketed : Type 0 where
-  pub inside : List Sign
-  pub behind : List Sign
+  pub inside : List PatternSign
+  pub behind : List PatternSign
 
--- the same with one more sign inside, in front
-abbrev pub onto_inside : Sign → Bracketed → Bracketed
+-- the same with one more sign inside, before the others
+abbrev pub onto_inside : PatternSign → Bracketed → Bracketed
 onto_inside sign b = record { inside = sign ∷ b.inside; behind = b.behind }
 
 -- the first bare `]` closes
-abbrev pub up_to_close : List Sign → Option Bracketed
+abbrev pub up_to_close : List PatternSign → Option Bracketed
 up_to_close [] = None
 up_to_close (sign ∷ rest) =
     if is_bare 93 sign then Some record { inside = []; behind = rest } else option_map (onto_inside sign) (up_to_close rest)
 
--- what stands behind the opening of a bracket: its first sign never closes
-abbrev pub bracketed : List Sign → Option Bracketed
+-- what follows the opening of a bracket: the first sign there never closes
+abbrev pub bracketed : List PatternSign → Option Bracketed
 bracketed [] = None
 bracketed (first ∷ rest) = option_map (onto_inside first) (up_to_close rest)
 
--- an item, and the signs behind it
+-- an item, and the signs after it
 pub record First : Type 0 where
   pub item : Item
-  pub behind : List Sign
+  pub behind : List PatternSign
 
 -- a closed bracket
 abbrev pub closed : Bool → Bracketed → First
 closed negated b = record { item = one_of negated (members b.inside); behind = b.behind }
 
--- the bracket that a `[` before these signs opens: a bare `!` (33) directly behind the `[` negates it; none where it isn't closed
-abbrev pub bracket : List Sign → Option First
+-- the bracket that a `[` before these signs opens: a bare `!` (33) directly after the `[` negates it; none
+-- if it isn't closed
+abbrev pub bracket : List PatternSign → Option First
 bracket [] = None
 bracket (sign ∷ rest) =
     if is_bare 33 sign then option_map (closed true) (bracketed rest) else option_map (closed false) (bracketed (sign ∷ rest))
 
--- the item that begins with a sign, and what stands behind it: `*` (42) is any run, `?` (63) any one character; a `[` (91) that opens no
--- bracket is itself, as every other sign is
-abbrev pub first_at : Sign → List Sign → First
+-- The item that begins with a sign, and what follows it. `*` (42) is any run, and `?` (63) is any one
+-- character. A `[` (91) that opens no bracket is itself, as every other sign is.
+abbrev pub first_at : PatternSign → List PatternSign → First
 first_at (Plain c) rest = record { item = exactly c; behind = rest }
 first_at (Bare c) rest =
     if c == 42 then record { item = any_run; behind = rest }
@@ -85,14 +90,14 @@ first_at (Bare c) rest =
     else if c == 91 then unwrap_or (bracket rest) record { item = exactly c; behind = rest }
     else record { item = exactly c; behind = rest }
 
--- so many items of a pattern, from the left
-abbrev pub first_items : ℕ → List Sign → List Item
+-- the first items of a pattern, from the left, at most this many
+abbrev pub first_items : ℕ → List PatternSign → List Item
 first_items zero pattern = []
 first_items (suc more) [] = []
 first_items (suc more) (sign ∷ rest) = let first = first_at sign rest in first.item ∷ first_items more first.behind
 
 -- the items of a pattern: it has at most as many as it has signs
-unfoldable pub items : List Sign → List Item
+unfoldable pub items : List PatternSign → List Item
 items pattern = first_items (length pattern) pattern
 
 -- the items of a pattern's bytes

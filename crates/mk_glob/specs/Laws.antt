@@ -4,6 +4,6 @@ use Rattle.std.specs.Str.{chars}
 use Rattle.mk_glob.specs.Items.{items_of}
 use Rattle.mk_glob.specs.Matching.{Fits, fits}
 
--- the test is true exactly where the word can be cut
+-- the test is true exactly if the word can be cut
 abbrev pub FitsWhereCut : Type 0
 FitsWhereCut = (pattern word : List ℕ) → IsTrue (fits pattern word) ↔ Fits (items_of pattern) (chars word)

@@ -4,7 +4,8 @@ use Rattle.std.specs.List.{concat}
 use Rattle.std.specs.Str.{chars}
 use Rattle.mk_glob.specs.Items.{Item, any_run, one_of, items_of, admits}
 
--- an item allows a part of a word: any run allows each, and an item of one character allows that character alone
+-- an item allows a part of a word: a run allows every part, and an item of one character allows a part that
+-- is such a character alone
 abbrev pub Allows : Item → List ℕ → Type 0
 Allows any_run part = Unit {0}
 Allows (one_of negated ranges) part = (c : ℕ) × (part ≡ c ∷ []) × IsTrue (admits negated ranges c)
@@ -20,12 +21,12 @@ EachAllows (item ∷ items) (part ∷ parts) = Allows item part × EachAllows it
 unfoldable pub Fits : List Item → List ℕ → Type 0
 Fits items word = (parts : List (List ℕ)) × (word ≡ concat parts) × EachAllows items parts
 
--- whether some end of a word, the whole and the empty one among them, passes a test
+-- whether some end of a word passes a test; the whole word and the empty end count too
 abbrev pub some_end : (List ℕ → Bool) → List ℕ → Bool
 some_end test [] = test []
 some_end test (c ∷ rest) = test (c ∷ rest) || some_end test rest
 
--- whether a word fits items, decided by trying each end of it behind a run
+-- whether a word fits items, decided by trying each end of it after a run
 abbrev pub fits_items : List Item → List ℕ → Bool
 fits_items [] [] = true
 fits_items [] (c ∷ rest) = false

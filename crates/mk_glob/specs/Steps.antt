@@ -1,7 +1,7 @@
 -- One item of a pattern against what is left of a word.
 use Rattle.std.specs.Prelude.{◌≡◌, ◌⊎◌, ℕ, ◌≤◌, ◌+◌, Bool, true, false, List, [], ◌∷◌, ◌++◌, Option, None, MatchOption}
 use Rattle.std.specs.Str.{chars}
-use Rattle.mk_glob.specs.declared.signs.Sign.{Sign}
+use Rattle.mk_glob.specs.declared.signs.PatternSign.{PatternSign}
 use Rattle.mk_glob.specs.declared.matching.Rest.{Rest}
 use Rattle.mk_glob.specs.declared.matching.Step.{Step}
 use Rattle.mk_glob.specs.declared.matching.Step.TheVariants.{Over, Run, One, Refused}
@@ -11,49 +11,51 @@ use Rattle.mk_glob.specs.Items.{Range, one_of, bracket, first_at, admits}
 use Rattle.mk_glob.specs.Matching.{fits}
 
 -- how many bytes signs take
-abbrev pub widths : List Sign → ℕ
+abbrev pub widths : List PatternSign → ℕ
 widths [] = 0
 widths (sign ∷ rest) = width sign + widths rest
 
--- no bracket is closed that opens where so many bytes of the pattern, or fewer, are left behind its `[`
-abbrev pub UnclosedWithin : List Sign → ℕ → Type 0
+-- if this many bytes of the pattern, or fewer, are left after a `[`, the bracket that it opens isn't closed
+abbrev pub UnclosedWithin : List PatternSign → ℕ → Type 0
 UnclosedWithin pattern unclosed =
-    (front rest : List Sign) → pattern ≡ front ++ rest → widths rest ≤ unclosed → bracket rest ≡ None
+    (front rest : List PatternSign) → pattern ≡ front ++ rest → widths rest ≤ unclosed → bracket rest ≡ None
 
--- what is known of unclosed brackets stays, or where one is found that isn't closed it is known from there
-abbrev pub Learns : List Sign → ℕ → ℕ → Type 0
+-- what is known of unclosed brackets stays; or a bracket is found that isn't closed, and then it is known
+-- from there
+abbrev pub Learns : List PatternSign → ℕ → ℕ → Type 0
 Learns pattern old new =
     (new ≡ old)
-    ⊎ ((front rest : List Sign) × (pattern ≡ front ++ rest) × (new ≡ widths rest) × (bracket rest ≡ None))
+    ⊎ ((front rest : List PatternSign) × (pattern ≡ front ++ rest) × (new ≡ widths rest) × (bracket rest ≡ None))
 
--- the same, where these signs alone may be found to open no bracket
-abbrev pub Finds : List Sign → ℕ → ℕ → Type 0
+-- the same, if only the bracket that opens before these signs may be found not to be closed
+abbrev pub Finds : List PatternSign → ℕ → ℕ → Type 0
 Finds rest old new = (new ≡ old) ⊎ ((new ≡ widths rest) × (bracket rest ≡ None))
 
--- the first item is one of one character, and allows this one or not
-pub record TellsOne (sign : Sign) (rest : List Sign) (c : ℕ) (allowed : Bool) (behind : List Sign) : Type 0 where
+-- the first item is an item of one character, and allows this character or not
+pub record TellsOne (sign : PatternSign) (rest : List PatternSign) (c : ℕ) (allowed : Bool) (behind : List PatternSign) : Type 0 where
   pub negated : Bool
   pub ranges : List Range
   pub stands : first_at sign rest ≡ record { item = one_of negated ranges; behind = behind }
   pub tells : allowed ≡ admits negated ranges c
 
--- the rest behind a run that the pattern begins with
+-- the rest after a run that the pattern begins with
 pub record IsBehindRun (rest behind : Rest) : Type 0 where
-  pub sign : Sign
+  pub sign : PatternSign
   pub is_run : is_bare 42 sign ≡ true
   pub pattern : signs_of rest.pattern.now ≡ sign ∷ signs_of behind.pattern.now
   pub word : behind.word.now ≡ rest.word.now
 
--- the rest behind an item of one character and a character that it allows
+-- the rest after an item of one character and a character that it allows
 pub record IsBehindOne (rest behind : Rest) : Type 0 where
-  pub sign : Sign
-  pub more : List Sign
+  pub sign : PatternSign
+  pub more : List PatternSign
   pub c : ℕ
   pub pattern : signs_of rest.pattern.now ≡ sign ∷ more
   pub word : chars rest.word.now ≡ c ∷ chars behind.word.now
   pub tells : TellsOne sign more c true (signs_of behind.pattern.now)
 
--- what the first item does with the word: nothing is left of either, it is a run, it takes a character, or the word doesn't fit
+-- what the first item does with the word: nothing is left of either, it is a run, it takes a character, or
+-- the word doesn't fit
 abbrev pub IsStep : Rest → Step → Type 0
 IsStep rest Over = (signs_of rest.pattern.now ≡ []) × (chars rest.word.now ≡ [])
 IsStep rest (Run behind) = IsBehindRun rest behind

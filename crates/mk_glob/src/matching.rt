@@ -7,7 +7,7 @@ ghost use Rattle.mk_glob.specs.Matching.{Fits, fits};
 ghost use Rattle.mk_glob.specs.Steps.{widths, Finds, TellsOne};
 
 use crate::brackets::bracket_allows;
-use crate::signs::{Sign, first_char, first_sign};
+use crate::signs::{PatternSign, first_char, first_sign};
 
 /// What is left of a pattern and of a word.
 #[derive(Clone, Copy)]
@@ -18,11 +18,11 @@ struct Rest<'t> {
 
 /// What the first item of a pattern does with a word.
 enum Step<'t> {
-    /// Nothing is left of either.
+    /// Nothing is left of the pattern or of the word.
     Over,
-    /// It is a run, here of no character; this is left behind it.
+    /// The item is a run, here of no character; this is left after it.
     Run(Rest<'t>),
-    /// It takes a character; this is left behind both.
+    /// The item takes a character; this is left after both.
     One(Rest<'t>),
     /// The word doesn't fit.
     Refused,
@@ -31,7 +31,7 @@ enum Step<'t> {
 impl<'t> Rest<'t> {
     ghost use Rattle.mk_glob.specs.Steps.{UnclosedWithin, Learns, IsStep, GoesFurther};
 
-    /// What the pattern's first item does with the word; `unclosed` as in `item_allows`.
+    /// What the pattern's first item does with the word; `unclosed` is as in `item_allows`.
     fn step(self, unclosed: &mut usize) -> Step<'t>
         requires known { UnclosedWithin (signs_of self.pattern.now) unclosed.old }
         ensures step { IsStep self.entry result }
@@ -58,7 +58,7 @@ impl<'t> Rest<'t> {
         }
     }
 
-    /// The same pattern, with one character less of the word; none where the word is empty.
+    /// The same pattern, with one character less of the word; `None` if the word is empty.
     fn one_further(self) -> Option<Rest<'t>>
         ensures { GoesFurther self.entry result }
     {
@@ -70,14 +70,20 @@ impl<'t> Rest<'t> {
     }
 }
 
-/// Whether the item that begins with `sign` and goes on in `behind`, which isn't `*`, allows `c`, and
-/// what stands behind it.
+/// Whether an item allows `c`, and what follows the item. It begins with `sign`, goes on in `behind`,
+/// and isn't `*`.
 ///
-/// `unclosed` says how many bytes before the pattern's end no bracket is closed any more: each `[`
-/// with no more than these behind it is itself, and no `]` is looked for.
-fn item_allows<'t>(sign: Sign, behind: &'t str, c: char, unclosed: &mut usize) -> (bool, &'t str)
+/// `unclosed` says from how many bytes before the pattern's end on no bracket is closed any more. If no
+/// more bytes than that follow a `[`, it is itself, and no `]` is looked for.
+fn item_allows<'t>(
+    sign: PatternSign,
+    behind: &'t str,
+    c: char,
+    unclosed: &mut usize,
+) -> (bool, &'t str)
     requires item { is_bare 42 sign ≡ false }
-    requires known { widths (signs_of behind.now) ≤ unclosed.old → bracket (signs_of behind.now) ≡ None }
+    requires known { widths (signs_of behind.now) ≤ unclosed.old
+        → bracket (signs_of behind.now) ≡ None }
     ensures tells { TellsOne sign (signs_of behind.now) c result.0 (signs_of result.1.now) }
     ensures learns { Finds (signs_of behind.now) unclosed.old unclosed.new }
 {
@@ -96,22 +102,23 @@ fn item_allows<'t>(sign: Sign, behind: &'t str, c: char, unclosed: &mut usize) -
 /// Whether `word` fits `pattern`: whether it can be cut into as many parts as the pattern has items,
 /// each allowed by its item.
 ///
-/// The items, from the left: `*` allows any run of characters, also none; `?` any one character; a
-/// bracket one of the characters that stand in it, singly or as a range with a `-` between its
-/// ends, and with a `!` directly behind the `[` one that isn't among them; a backslash makes the
-/// character behind it plain, also in a bracket; and every other character allows itself. A `]`
-/// directly behind `[` or `[!` is a member, a `-` that is the first or the last one inside is
-/// plain, and a range whose ends are reversed has no members. A `[` that isn't closed and a
-/// backslash with nothing behind it are themselves.
+/// The items, from the left: `*` allows any run of characters, also none. `?` allows any one character.
+/// A bracket allows one of the characters in it, given singly or as a range with a `-` between its
+/// ends. With a `!` directly after the `[`, it allows one character that isn't among them. A backslash
+/// makes the character after it plain, also in a bracket. Every other character allows itself.
 ///
-/// Characters are Unicode scalar values. No memory is taken, and the time is at most in proportion
+/// A `]` directly after `[` or `[!` is a member. A `-` that is the first or the last one inside is
+/// plain. A range whose ends are reversed has no members. A `[` that isn't closed is itself, and so is
+/// a backslash with nothing after it.
+///
+/// Characters are Unicode scalar values. It allocates no memory, and the time is at most in proportion
 /// to the product of the two lengths.
 pub fn glob(pattern: &str, word: &str) -> bool
     ensures value { result ≡ fits pattern.now word.now }
     ensures cut { IsTrue result ↔ Fits (items_of pattern.now) (chars word.now) }
 {
     let mut rest = Rest { pattern, word };
-    // what is left behind the last run, where that takes as few characters as it still may
+    // what is left after the last run, if that takes as few characters as it still may
     let mut back: Option<Rest<'_>> = None;
     let mut unclosed = 0;
     loop {

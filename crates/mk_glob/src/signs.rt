@@ -5,35 +5,35 @@ ghost use Rattle.mk_glob.specs.Reading.{ReadsChar, ReadsSign};
 
 /// A character of a pattern.
 #[derive(Clone, Copy)]
-pub(crate) enum Sign {
-    /// As it stands.
+pub(crate) enum PatternSign {
+    /// As it is written.
     Bare(char),
-    /// Made plain by a backslash in front of it.
+    /// Made plain by a backslash before it.
     Plain(char),
 }
 
-impl Sign {
+impl PatternSign {
     /// The character that it is.
     pub(crate) fn character(self) -> char
         ensures { result ≡ character self }
     {
         match self {
-            Sign::Bare(c) | Sign::Plain(c) => c,
+            PatternSign::Bare(c) | PatternSign::Plain(c) => c,
         }
     }
 
-    /// Whether it is this character with no backslash in front of it.
+    /// Whether it is this character with no backslash before it.
     pub(crate) fn is_bare(self, c: char) -> bool
         ensures { result ≡ is_bare c self }
     {
         match self {
-            Sign::Bare(bare) => bare == c,
-            Sign::Plain(_) => false,
+            PatternSign::Bare(bare) => bare == c,
+            PatternSign::Plain(_) => false,
         }
     }
 }
 
-/// The first character of a text, and what stands behind it; none where the text is empty.
+/// The first character of a text, and what follows it; `None` if the text is empty.
 pub(crate) fn first_char(text: &str) -> Option<(char, &str)>
     ensures { ReadsChar text.now result }
 {
@@ -44,16 +44,16 @@ pub(crate) fn first_char(text: &str) -> Option<(char, &str)>
     }
 }
 
-/// The first sign of a pattern, and what stands behind it; none where the pattern is empty. A
-/// backslash with nothing behind it is a sign of its own.
-pub(crate) fn first_sign(pattern: &str) -> Option<(Sign, &str)>
+/// The first sign of a pattern, and what follows it; `None` if the pattern is empty. A backslash with
+/// nothing after it is a sign of its own.
+pub(crate) fn first_sign(pattern: &str) -> Option<(PatternSign, &str)>
     ensures { ReadsSign pattern.now result }
 {
     let (first, behind) = first_char(pattern)?;
     if first == '\\' {
         if let Some((plain, further)) = first_char(behind) {
-            return Some((Sign::Plain(plain), further));
+            return Some((PatternSign::Plain(plain), further));
         }
     }
-    Some((Sign::Bare(first), behind))
+    Some((PatternSign::Bare(first), behind))
 }

@@ -4,7 +4,7 @@ use Rattle.std.proofs.lemmas.List.Elements.{All-nil, All-cons, All-head, All-tai
 use Rattle.mk_base.specs.declared.faults.FaultKind.{FaultKind}
 use Rattle.mk_base.specs.Meter.{Meter, pay}
 use Rattle.mk_base.specs.Outcome.{Work, after, each, give}
-use Rattle.mk_ref.specs.Units.{TextUnit, Byte, Pair, Reference, source, sources, units_of, left_of, cut, cut_on}
+use Rattle.mk_ref.specs.Units.{TextUnit, Byte, EscapedDollar, Reference, source, sources, units_of, left_of, cut, cut_on}
 use Rattle.mk_ref.specs.Laws.{AreMarks, IsPutTogether, with_colon}
 use Rattle.mk_ref.proofs.UnitSteps.{units-text, units-together, cut-next, first-nil}
 use Rattle.mk_env.specs.Texts.{Variables}
@@ -15,7 +15,7 @@ use Rattle.mk_loop.specs.Putting.{SoFar, nothing, as_written, with_word, finishe
 -- what stands in a reference is shorter than this
 abbrev pub HasSmallParts : ℕ → TextUnit → Type 0
 HasSmallParts size (Byte b) = Unit {0}
-HasSmallParts size Pair = Unit {0}
+HasSmallParts size EscapedDollar = Unit {0}
 HasSmallParts size (Reference written name modifiers) = (length (inside written) < size) × IfSome modifiers (λ text. length text < size)
 
 inside-small : (written : List ℕ) (size : ℕ) → 0 < length written → length written ≤ size → length (inside written) < size
@@ -32,7 +32,7 @@ front-some front mark marks = elim marks [ inl brace ↦ subst (λ l. 0 < length
 
 parts-small : (unit : TextUnit) (size : ℕ) → IsPutTogether unit → length (source unit) ≤ size → HasSmallParts size unit
 parts-small (Byte b) size together near = tt
-parts-small Pair size together near = tt
+parts-small EscapedDollar size together near = tt
 parts-small (Reference written name modifiers) size (inl letter) near = (
   inside-small written size (subst (λ l. 0 < length l) (sym letter.written_as) (omega arith)) near,
   subst (λ o. IfSome o (λ text. length text < size)) (sym letter.bare) tt,
@@ -101,7 +101,7 @@ module _ (words : LoopWords) (variables : Variables) where
   unit-same : (puts other : Puts) (size : ℕ) → AgreeBelow size puts other → (unit : TextUnit) → HasSmallParts size unit
       → (so_far : SoFar) (m : Meter) → put_unit words variables puts so_far unit m ≡ put_unit words variables other so_far unit m
   unit-same puts other size agree (Byte b) small so_far m = refl
-  unit-same puts other size agree Pair small so_far m = refl
+  unit-same puts other size agree EscapedDollar small so_far m = refl
   unit-same puts other size agree (Reference written name modifiers) small so_far m =
       reference-same puts other size agree written modifiers (word_named words name) small.0 small.1 so_far m
 

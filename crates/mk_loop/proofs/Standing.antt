@@ -2,7 +2,7 @@
 use Rattle.std.proofs.Common.{◌≡◌, ℕ, ◌+◌, ◌<◌, ◌≤◌, List, ◌∷◌, length, take, drop, get_or, Some, None, sym, ap, ◌∙◌, arith, drop-drop}
 use Rattle.std.proofs.lemmas.List.{drop_more}
 use Rattle.mk_ref.specs.declared.opening.Opening.TheVariants.{Doubled, Letter}
-use Rattle.mk_ref.specs.Units.{TextUnit, Byte, Pair, Reference, opening_of, first_unit}
+use Rattle.mk_ref.specs.Units.{TextUnit, Byte, EscapedDollar, Reference, opening_of, first_unit}
 use Rattle.mk_ref.proofs.ScanSteps.{first-opening}
 use Rattle.mk_ref.proofs.InsideSteps.{StandsAt, written_as}
 
@@ -17,9 +17,9 @@ stands-byte text at near opens =
     (ap first_unit here ∙ first-opening (get_or text at 0 ∷ drop (at + 1) text) None (ap opening_of (sym here) ∙ opens))
 
 -- a pair
-pub stands-pair : (text : List ℕ) (at : ℕ) → at + 2 ≤ length text → opening_of (drop at text) ≡ Some Doubled → StandsAt text at (at + 2) Pair
+pub stands-pair : (text : List ℕ) (at : ℕ) → at + 2 ≤ length text → opening_of (drop at text) ≡ Some Doubled → StandsAt text at (at + 2) EscapedDollar
 stands-pair text at room opens =
-    standing text at (at + 2) Pair (omega arith) room (first-opening (drop at text) (Some Doubled) opens ∙ ap (λ l. Some (Pair, l)) (drop-drop 2 at text))
+    standing text at (at + 2) EscapedDollar (omega arith) room (first-opening (drop at text) (Some Doubled) opens ∙ ap (λ l. Some (EscapedDollar, l)) (drop-drop 2 at text))
 
 -- a reference of one letter
 pub stands-letter : (text : List ℕ) (at : ℕ) → at + 2 ≤ length text → opening_of (drop at text) ≡ Some Letter

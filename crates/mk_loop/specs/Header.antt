@@ -1,4 +1,5 @@
--- The header of a loop (make(1), "FOR LOOPS"): variables, the word `in`, and a text whose words the variables take in turns.
+-- The header of a loop (make(1), "FOR LOOPS"): variables, the word `in`, and a text. Each iteration gives
+-- the variables the next words of that text.
 use Rattle.std.specs.Prelude.{ℕ, suc, zero, ◌/◌, ◌%◌, ◌==◌, if◌then◌else◌, List, [], ◌∷◌, length, drop, Option, Some, None, option_map}
 use Rattle.std.specs.List.{zip}
 use Rattle.std.specs.Str.{bytes_eq}
@@ -12,32 +13,36 @@ use Rattle.mk_env.specs.Texts.{Variables}
 use Rattle.mk_env.specs.Expansion.{expand}
 use Rattle.mk_loop.specs.LoopWords.{LoopWords}
 
--- a header by the places of its words: those in front of the first word `in` (105, 110), and what stands behind that; none without an `in`
+-- A header by the places of its words: the words before the first word `in` (105, 110), and what follows
+-- that word. None if there is no `in`.
 abbrev pub header_parts : List ℕ → List Span → Option (List (List ℕ) × List ℕ)
 header_parts text [] = None
 header_parts text (span ∷ spans) =
     if bytes_eq (span_text text span) (105 ∷ 110 ∷ []) then Some ([], drop span.end text)
     else option_map (λ parts. (span_text text span ∷ parts.0, parts.1)) (header_parts text spans)
 
--- a header has an `in`, and a variable in front of it
+-- a header must have an `in`, and a variable before it; anything else is a fault
 abbrev pub formed : Option (List (List ℕ) × List ℕ) → Work Meter FaultKind (List (List ℕ) × List ℕ)
 formed None = fail kinds.For
 formed (Some ([], rest)) = fail kinds.For
 formed (Some (name ∷ names, rest)) = give (name ∷ names, rest)
 
--- so many turns of these variables, one word for each variable in each
+-- this many iterations of these variables, with one word for each variable in each
 unfoldable pub turns_from : ℕ → List (List ℕ) → List (List ℕ) → List LoopWords
 turns_from zero names words = []
 turns_from (suc turns) names words = zip names words ∷ turns_from turns names (drop (length names) words)
 
--- the turns that words give
+-- the iterations that words give
 abbrev pub turns_of : List (List ℕ) → List (List ℕ) → List LoopWords
 turns_of names words = turns_from (length words / length names) names words
 
--- the same where no words are left over
+-- the same if no words are left over; words that are left over are a fault
 abbrev pub in_turns : List (List ℕ) → List (List ℕ) → Work Meter FaultKind (List LoopWords)
 in_turns names words = if length words % length names == 0 then give (turns_of names words) else fail kinds.For
 
--- The turns of a loop with this header. Its form is tested first; then what stands behind its `in` is expanded, and its words are counted.
+-- The iterations of a loop with this header. Its form is tested first. Then what follows its `in` is
+-- expanded, and the words of that are counted.
 abbrev pub header : Variables → List ℕ → Work Meter FaultKind (List LoopWords)
-header variables text = formed (header_parts text (word_spans text)) >>= λ parts. expand variables parts.1 >>= λ found. in_turns parts.0 (words_of found)
+header variables text =
+    formed (header_parts text (word_spans text)) >>= λ parts. expand variables parts.1
+    >>= λ found. in_turns parts.0 (words_of found)

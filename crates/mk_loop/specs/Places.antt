@@ -1,5 +1,7 @@
--- Where a pass over a line stands in it, and what it has still to do.
-use Rattle.std.specs.Prelude.{◌≡◌, ◌==◌, Bool, String, ◌≢◌, ◌≤◌, ◌<◌, ◌+◌, ℕ, true, false, List, [], ◌∷◌, All, map, length, drop, reverse, slice_index, slice_range, Option, Some, None, Result, Ok, Err, string_bytes}
+-- Where a pass over a line is, and what it still has to do.
+use Rattle.std.specs.Prelude.{◌≡◌, ◌==◌, Bool, String, ◌≢◌, ◌≤◌, ◌<◌, ◌+◌, ℕ, true, false, List, [], ◌∷◌, All, map}
+use Rattle.std.specs.Prelude.{length, drop, reverse, slice_index, slice_range, Option, Some, None, Result, Ok, Err}
+use Rattle.std.specs.Prelude.{string_bytes}
 use Rattle.std.specs.List.{list_any}
 use Rattle.std.specs.Str.{IsUtf8, IsCharBoundary}
 use Rattle.std.specs.declared.alloc.Global.{Global}
@@ -18,8 +20,8 @@ use Rattle.mk_loop.specs.declared.passing.Around.{Around}
 use Rattle.mk_loop.specs.declared.passing.Around.TheVariants as v
 use Rattle.mk_loop.specs.declared.passing.Pass.{Pass}
 
--- a reference in which a place stands: one that stays, with the mark that closes it; or one that is replaced, in whose modifiers the place
--- stands, with its mark, its word and what is joined in front of it
+-- A reference that a place is in. One that stays has the mark that closes it. One that is replaced, with the
+-- place in its modifiers, has its mark, its word and what is joined before it.
 pub data Surround : Type 0 where
   Staying : ℕ → Surround
   Changing : ℕ → List ℕ → SoFar → Surround
@@ -29,12 +31,13 @@ abbrev pub mark_of : Surround → ℕ
 mark_of (Staying mark) = mark
 mark_of (Changing mark word front) = mark
 
--- what is left of a line: the rest of its units; or the rest of those inside a reference, and then what is left behind its mark
+-- what is left of a line: the rest of its units; or the rest of the units inside a reference, and then what
+-- is left after its mark
 pub data Left : Type 0 where
   Outermost : List TextUnit → Left
   Within : List TextUnit → Surround → Left → Left
 
--- the references in which the place stands, the innermost first
+-- the references that the place is in, the innermost first
 abbrev pub surrounds : Left → List Surround
 surrounds (Outermost units) = []
 surrounds (Within units surround left) = surround ∷ surrounds left
@@ -44,27 +47,29 @@ abbrev pub IsLeft : Left → List ℕ → Type 0
 IsLeft (Outermost units) text = cut text ≡ (units, [])
 IsLeft (Within units surround left) text = (rest : List ℕ) × ((up_to_mark (mark_of surround) text ≡ Some (units, rest)) × IsLeft left rest)
 
--- the mark that closes a reference: with it stands one that stays, and one that is replaced gives its word
+-- What the mark that closes a reference does. If the reference stays, the mark is joined as it is written.
+-- If the reference is replaced, its word is put in, as its modifiers change it.
 abbrev pub closed : Variables → Surround → SoFar → Work Meter FaultKind SoFar
 closed variables (Staying mark) here = give (as_written here (mark ∷ []))
-closed variables (Changing mark word front) here = finished here >>= λ text. modified_by variables text word >>= λ found. with_word front found
+closed variables (Changing mark word front) here =
+    finished here >>= λ text. modified_by variables text word >>= λ found. with_word front found
 
--- what becomes of a line of which this is left, from what is joined of the innermost text so far
+-- what becomes of a line if this is left of it, given what is joined so far of the innermost text
 abbrev pub goes : LoopWords → Variables → Left → SoFar → Work Meter FaultKind (List ℕ)
 goes words variables (Outermost units) here m = (each (put_unit words variables (put words variables)) here units >>= finished) m
 goes words variables (Within units surround left) here m =
     (each (put_unit words variables (put words variables)) here units >>= closed variables surround >>= goes words variables left) m
 
--- a reference in which a pass stands
+-- a reference that a pass is in
 abbrev pub surround_of : Around → Surround
 surround_of (v.Kept mark) = Staying mark
 surround_of (v.Replaced mark word front) = Changing mark (string_bytes word) (so_far front)
 
--- what is joined at the place where a pass stands
+-- what is joined up to the place of a pass
 abbrev pub here : List ℕ → Pass → SoFar
 here line pass = as_written (so_far pass.joined) (slice_range line pass.copied pass.at)
 
--- whether a byte closes the innermost reference in which a pass stands
+-- whether a byte closes the innermost reference that a pass is in
 abbrev pub closes_first : List Surround → ℕ → Bool
 closes_first [] byte = false
 closes_first (surround ∷ outer) byte = byte == mark_of surround
@@ -72,48 +77,53 @@ closes_first (surround ∷ outer) byte = byte == mark_of surround
 abbrev pub closes : Pass → ℕ → Bool
 closes pass byte = closes_first (map surround_of (reverse pass.around.items)) byte
 
--- the text of a line of which this was made; the line itself where nothing was
+-- the text that was made of a line; the line itself if none was made
 abbrev pub text_of : List ℕ → Option (String Global) → List ℕ
 text_of line None = line
 text_of line (Some made) = string_bytes made
 
--- its mark is one byte of a text by itself
+-- its mark is a byte of a text by itself
 abbrev pub HasAsciiMark : Around → Type 0
 HasAsciiMark around = mark_of (surround_of around) < 128
 
--- the places of a pass lie in the line, a text
+-- the places of a pass are in the line, and the line is UTF-8
 pub record IsPlaced (line : List ℕ) (pass : Pass) : Type 0 where
   pub text : IsUtf8 line
   pub ordered : pass.copied ≤ pass.at
   pub within : pass.at ≤ length line
   pub starts : IsCharBoundary line pass.copied
   pub marks : All HasAsciiMark pass.around.items
-  -- nothing is copied where no reference was replaced yet
+  -- if no reference was replaced yet, nothing is copied
   pub untouched : pass.copied ≡ 0 → so_far pass.joined ≡ nothing
 
--- this is left of the line where a pass stands
+-- this is left of the line at the place of a pass
 pub record Stands (line : List ℕ) (pass : Pass) (left : Left) : Type 0 where
   pub units : IsLeft left (drop pass.at line)
   pub around : surrounds left ≡ map surround_of (reverse pass.around.items)
 
--- a step of a pass from what is left: what becomes of the line is the same from where the pass then stands, or it stops there
+-- A step of a pass, if this is left. What becomes of the line is the same from the new place on, or
+-- it stops there.
 abbrev pub GoesOn : LoopWords → Variables → List ℕ → Pass → Left → Meter → Result Pass (Stop FaultKind) → Meter → Type 0
 GoesOn words variables line pass left m (Ok next) m' =
     (more : Left) × (Stands line next more × (goes words variables left (here line pass) m ≡ goes words variables more (here line next) m'))
 GoesOn words variables line pass left m (Err stop) m' = StopsAt stop m' (goes words variables left (here line pass) m)
 
--- the name of a reference that has these units inside, the first of them at `start` and this rest behind its mark, ends at this index, and no
--- reference stands in it
+-- The name of a reference ends at this index, and there is no reference in the name. The reference has these
+-- units inside, the first of them at `start`, and this rest follows its mark.
 pub record NameEnds (text : List ℕ) (start mark end : ℕ) (units : List TextUnit) (rest : List ℕ) : Type 0 where
   pub plain : list_any is_reference (before_colon units) ≡ false
   pub name : sources (before_colon units) ≡ slice_range text start end
   pub closes : slice_index text end ≡ mark → (behind_colon units ≡ None) × (rest ≡ drop (end + 1) text)
-  pub goes_on : slice_index text end ≢ mark → (more : List TextUnit) × ((behind_colon units ≡ Some more) × (up_to_mark mark (drop (end + 1) text) ≡ Some (more, rest)))
+  pub goes_on : slice_index text end ≢ mark
+      → (more : List TextUnit)
+      × ((behind_colon units ≡ Some more) × (up_to_mark mark (drop (end + 1) text) ≡ Some (more, rest)))
 
--- where the name of a reference ends; nowhere where a reference stands in it
+-- where the name of a reference ends; None if there is a reference in the name
 abbrev pub EndsName : List ℕ → ℕ → ℕ → Option ℕ → Type 0
 EndsName text start mark None =
-    (units : List TextUnit) (rest : List ℕ) → up_to_mark mark (drop start text) ≡ Some (units, rest) → list_any is_reference (before_colon units) ≡ true
+    (units : List TextUnit) (rest : List ℕ) → up_to_mark mark (drop start text) ≡ Some (units, rest)
+    → list_any is_reference (before_colon units) ≡ true
 EndsName text start mark (Some end) =
     (start ≤ end) × (end < length text) × (slice_index text end < 128)
-    × ((units : List TextUnit) (rest : List ℕ) → up_to_mark mark (drop start text) ≡ Some (units, rest) → NameEnds text start mark end units rest)
+    × ((units : List TextUnit) (rest : List ℕ) → up_to_mark mark (drop start text) ≡ Some (units, rest)
+    → NameEnds text start mark end units rest)

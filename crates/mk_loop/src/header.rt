@@ -7,34 +7,36 @@ ghost use Rattle.mk_text.specs.Words.{word_spans, span_text};
 ghost use Rattle.mk_loop.specs.Header as headers;
 ghost use Rattle.mk_loop.specs.Scopes.{turn_words, turns_in};
 
-use crate::turn::{Turn, Turns};
+use crate::turn::{Iteration, Iterations};
 use mk_base::{Budget, FaultKind, Stop};
 use mk_env::{Env, expand};
 use mk_text::{Span, words};
 use std::alloc::Global;
 
-impl Turns<'_> {
-    /// How many they are.
+impl Iterations<'_> {
+    /// How many iterations there are.
     pub fn count(&self) -> usize
         ensures { result ≡ length (turns_in self.now) }
     {
         self.words.len() / self.names.len()
     }
 
-    /// The turn of this index, from 0.
-    pub fn turn(&self, index: usize) -> Turn<'_>
+    /// The iteration with this index, counted from 0.
+    pub fn turn(&self, index: usize) -> Iteration<'_>
         requires { index < length (turns_in self.now) }
         ensures { slice_get (turns_in self.now) index ≡ Some (turn_words result) }
     {
         self.turn_from(index * self.names.len())
     }
 
-    /// The turn whose words begin at this index of all words.
-    fn turn_from(&self, first: usize) -> Turn<'_>
+    /// The iteration whose words begin at this index among all words.
+    fn turn_from(&self, first: usize) -> Iteration<'_>
         requires { first + length self.now.names.items ≤ length self.now.words.items }
-        ensures { turn_words result ≡ zip (map (λ name. name.now) self.now.names.items) (map (span_text (string_bytes self.now.text)) (drop first self.now.words.items)) }
+        ensures { turn_words result
+            ≡ zip (map (λ name. name.now) self.now.names.items)
+            (map (span_text (string_bytes self.now.text)) (drop first self.now.words.items)) }
     {
-        Turn::new(
+        Iteration::new(
             self.names.as_slice(),
             self.text.as_str(),
             &self.words.as_slice()[first..],
@@ -42,25 +44,27 @@ impl Turns<'_> {
     }
 }
 
-/// The turns of the loop whose `.for` has this text behind it: `VARIABLES in WORDS` (make(1), "FOR
-/// LOOPS"). The first word `in` ends the variables; what stands behind it is expanded and split into
-/// words, and each turn takes one word for each variable. No words give no turns. Within an outer
-/// loop, the words of that are put into the text first, by `put_words`.
+/// The iterations of the loop whose `.for` is followed by this text: `VARIABLES in WORDS` (make(1),
+/// "FOR LOOPS"). The first word `in` ends the variables. What follows it is expanded and split into
+/// words, and each iteration takes one word for each variable. If there are no words, there are no
+/// iterations. If the loop is in an outer loop, the words of the outer loop are put into the text
+/// first, by `put_words`.
 ///
 /// # Errors
 ///
-/// The faults: `For` where there is no `in`, or no variable in front of it; then those that `expand`
-/// has; then `For` where the words aren't a multiple of the variables. Want of memory is the other
-/// error.
+/// The fault is `For` if there is no `in`, or no variable before it. Then come the faults of `expand`.
+/// Then it is `For` if the number of words isn't a multiple of the number of variables. The other error
+/// is that memory runs out.
 pub fn read_header<'a>(
     alloc: Global,
     variables: &Env,
     header: &'a str,
     budget: &mut Budget,
-) -> Result<Turns<'a>, Stop<FaultKind>>
+) -> Result<Iterations<'a>, Stop<FaultKind>>
     ensures store { NeverStore result }
     ensures later { IsLater budget.old budget.new }
-    ensures gives { Gives turns_in result budget.new (headers.header variables.now header.now budget.old) }
+    ensures gives { Gives turns_in result budget.new
+        (headers.header variables.now header.now budget.old) }
 {
     let (names, rest) = read_form(alloc, header)?;
     let text = expand(alloc, variables, rest, budget)?;
@@ -68,14 +72,17 @@ pub fn read_header<'a>(
     if words.len() % names.len() != 0 {
         return Err(Stop::Fault(FaultKind::For));
     }
-    Ok(Turns { names, text, words })
+    Ok(Iterations { names, text, words })
 }
 
-/// The variables of a header, and what stands behind its `in`.
+/// The variables of a header, and what follows its `in`. It is a fault if there is no `in`, or no
+/// variable before it.
 fn read_form<'a>(alloc: Global, header: &'a str) -> Result<(Vec<&'a str>, &'a str), Stop<FaultKind>>
     ensures store { NeverStore result }
     ensures named { IfOk result (λ form. 0 < length form.0.items) }
-    ensures gives { (m : Meter) → Gives (λ form. (map (λ name. name.now) form.0.items, form.1.now)) result m (headers.formed (headers.header_parts header.now (word_spans header.now)) m) }
+    ensures gives { (m : Meter)
+        → Gives (λ form. (map (λ name. name.now) form.0.items, form.1.now)) result m
+        (headers.formed (headers.header_parts header.now (word_spans header.now)) m) }
 {
     let mut names = Vec::new(alloc);
     for span in &words(alloc, header)? {

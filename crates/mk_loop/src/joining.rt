@@ -1,4 +1,4 @@
-//! What is joined of a text into which words are put.
+//! What is joined so far of a text that words are put into.
 ghost use Rattle.std.specs.Prelude.{◌≡◌, string_bytes, IfOk};
 ghost use Rattle.mk_base.specs.Meter.{Meter};
 ghost use Rattle.mk_base.specs.Stopping.{Gives, NeverStore};
@@ -18,7 +18,7 @@ pub(crate) struct Joined {
 }
 
 impl Joined {
-    /// Nothing of a text. It takes no memory.
+    /// Nothing of a text yet. It takes no memory.
     pub(crate) fn new(alloc: Global) -> Joined
         ensures { so_far result ≡ nothing }
     {
@@ -28,7 +28,7 @@ impl Joined {
         }
     }
 
-    /// More of the text, as it is written.
+    /// The same with more of the text, as it is written.
     pub(crate) fn as_written(self, text: &str) -> Result<Joined, AllocError>
         ensures { IfOk result (λ joined. so_far joined ≡ as_written (so_far self) text.now) }
     {
@@ -44,7 +44,8 @@ impl Joined {
         })
     }
 
-    /// A word put in.
+    /// The same with a word put in, each dollar of it doubled. It is a fault if the text is
+    /// then too long.
     pub(crate) fn with_word(self, alloc: Global, word: &str) -> Result<Joined, Stop<FaultKind>>
         ensures store { NeverStore result }
         ensures gives { (m : Meter) → Gives so_far result m (with_word (so_far self) word.now m) }
@@ -61,7 +62,7 @@ impl Joined {
         }
     }
 
-    /// The text at its end.
+    /// The text at its end. It is a fault if a word was put in and the text is too long.
     pub(crate) fn finished(self) -> Result<String, Stop<FaultKind>>
         ensures store { NeverStore result }
         ensures gives { (m : Meter) → Gives string_bytes result m (finished (so_far self) m) }

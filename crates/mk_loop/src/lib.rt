@@ -1,4 +1,5 @@
-//! Loops of a makefile: the header of `.for`, and lines with the words of a turn put in (make(1), "FOR LOOPS").
+//! Loops of a makefile: the header of `.for`, and lines with the words of an iteration put in (make(1),
+//! "FOR LOOPS").
 #![tactic(auto)]
 
 mod header;
@@ -11,5 +12,5 @@ mod turn;
 
 pub use header::read_header;
 pub use putting::put_words;
-pub use scopes::Scope;
-pub use turn::{Turn, Turns};
+pub use scopes::LoopScope;
+pub use turn::{Iteration, Iterations};

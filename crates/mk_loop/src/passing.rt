@@ -1,5 +1,6 @@
 //! The pass over a line of a loop's body, from left to right.
-ghost use Rattle.std.specs.Prelude.{◌≡◌, ◌≢◌, ℕ, ◌≤◌, ◌<◌, ◌+◌, ◌^◌, true, false, [], ◌∷◌, ◌++◌, map, length, drop, reverse, slice_index, string_bytes, option_map, Some, All, IfOk, OnOk};
+ghost use Rattle.std.specs.Prelude.{◌≡◌, ◌≢◌, ℕ, ◌≤◌, ◌<◌, ◌+◌, ◌^◌, true, false, [], ◌∷◌, ◌++◌, map, length, drop};
+ghost use Rattle.std.specs.Prelude.{reverse, slice_index, string_bytes, option_map, Some, All, IfOk, OnOk};
 ghost use Rattle.std.specs.Str.{IsCharBoundary};
 ghost use Rattle.mk_base.specs.Meter.{Meter, IsLater};
 ghost use Rattle.mk_base.specs.Stopping.{Gives, NeverStore};
@@ -9,11 +10,12 @@ ghost use Rattle.mk_loop.specs.declared.passing.Around.TheVariants as v;
 ghost use Rattle.mk_loop.specs.Putting as putting;
 ghost use Rattle.mk_loop.specs.Scopes.{words_in};
 ghost use Rattle.mk_loop.specs.Joinings.{so_far};
-ghost use Rattle.mk_loop.specs.Places.{Left, Changing, mark_of, surround_of, here, closed, closes, text_of, HasAsciiMark, IsPlaced, Stands, GoesOn};
+ghost use Rattle.mk_loop.specs.Places.{Left, Changing, mark_of, surround_of, here, closed, closes, text_of};
+ghost use Rattle.mk_loop.specs.Places.{HasAsciiMark, IsPlaced, Stands, GoesOn};
 
 use crate::joining::Joined;
 use crate::names::name_end;
-use crate::scopes::Scope;
+use crate::scopes::LoopScope;
 use mk_base::{Budget, FaultKind, Stop};
 use mk_env::{Env, modify};
 use mk_ref::{Opening, opening_at};
@@ -24,24 +26,24 @@ use std::alloc::{AllocError, Global};
 pub(crate) struct Body<'a> {
     /// Its text.
     pub(crate) line: &'a str,
-    /// The loops that stand round it.
-    pub(crate) words: Scope<'a>,
-    /// What other references stand for.
+    /// The loops around it.
+    pub(crate) words: LoopScope<'a>,
+    /// The variables, with what other references mean.
     pub(crate) variables: &'a Env,
 }
 
-/// A reference in which a place of the line stands.
+/// A reference that a place of the line is in.
 #[derive(Drop)]
 enum Around {
     /// It stays; this mark closes it.
     Kept(u8),
-    /// It is replaced, and the place stands in its modifiers.
+    /// It is replaced, and the place is in its modifiers.
     Replaced {
         /// The mark that closes it.
         mark: u8,
-        /// The word that comes in its place.
+        /// The word that replaces it.
         word: String,
-        /// What is joined in front of it.
+        /// What is joined before it.
         front: Joined,
     },
 }
@@ -61,12 +63,12 @@ impl Around {
 /// How far a line is read.
 #[derive(Drop)]
 pub(crate) struct Pass {
-    /// What is joined of the text of its own in which the place stands: of the line, or of the
-    /// modifiers of the innermost replaced reference.
+    /// What is joined of the innermost text that the place is in: the line, or the modifiers of the
+    /// innermost replaced reference.
     joined: Joined,
-    /// The references in which the place stands, the innermost last.
+    /// The references that the place is in, the innermost last.
     around: Vec<Around>,
-    /// From here up to the place the line isn't copied yet: it stays as it is written.
+    /// From here up to the place, the line isn't copied yet: it stays as it is written.
     copied: usize,
     /// The place.
     at: usize,
@@ -95,7 +97,7 @@ impl Pass {
         self.at
     }
 
-    /// Past the unit, or the mark, at the place, or into the reference that begins there.
+    /// Goes past the unit or the mark at the place, or into the reference that begins there.
     pub(crate) fn step(
         self,
         alloc: Global,
@@ -108,7 +110,8 @@ impl Pass {
         ensures later { IsLater budget.old budget.new }
         ensures placed { IfOk result (λ next. IsPlaced body.entry.line.now next) }
         ensures onward { IfOk result (λ next. self.at < next.at) }
-        ensures goes { (left : Left) → Stands body.entry.line.now self left → GoesOn (words_in body.entry.words) body.entry.variables.now body.entry.line.now self left budget.old result budget.new }
+        ensures goes { (left : Left) → Stands body.entry.line.now self left
+            → GoesOn (words_in body.entry.words) body.entry.variables.now body.entry.line.now self left budget.old result budget.new }
     {
         let bytes = body.line.as_bytes();
         if self.closes(bytes[self.at]) {
@@ -132,7 +135,7 @@ impl Pass {
         }
     }
 
-    /// So many bytes on, which stay as they are written.
+    /// Goes on by this many bytes, which stay as they are written.
     fn on(self, bytes: usize) -> Pass
         requires { self.at + bytes < 2 ^ 64 }
         ensures { result ≡ record self { at = self.at + bytes } }
@@ -143,7 +146,7 @@ impl Pass {
         }
     }
 
-    /// Past the reference of one letter at the place.
+    /// Goes past the reference of one letter at the place.
     fn letter(
         self,
         alloc: Global,
@@ -158,7 +161,8 @@ impl Pass {
         ensures later { IsLater budget.old budget.new }
         ensures placed { IfOk result (λ next. IsPlaced body.entry.line.now next) }
         ensures onward { IfOk result (λ next. self.at < next.at) }
-        ensures goes { (left : Left) → Stands body.entry.line.now self left → GoesOn (words_in body.entry.words) body.entry.variables.now body.entry.line.now self left budget.old result budget.new }
+        ensures goes { (left : Left) → Stands body.entry.line.now self left
+            → GoesOn (words_in body.entry.words) body.entry.variables.now body.entry.line.now self left budget.old result budget.new }
     {
         let behind = self.at + 2;
         match body.words.word(&body.line[self.at + 1..behind]) {
@@ -170,7 +174,7 @@ impl Pass {
         }
     }
 
-    /// Past the reference at the place which this mark closes, or into it.
+    /// Goes past the reference at the place, which this mark closes, or into it.
     fn marked(
         self,
         alloc: Global,
@@ -186,7 +190,8 @@ impl Pass {
         ensures later { IsLater budget.old budget.new }
         ensures placed { IfOk result (λ next. IsPlaced body.entry.line.now next) }
         ensures onward { IfOk result (λ next. self.at < next.at) }
-        ensures goes { (left : Left) → Stands body.entry.line.now self left → GoesOn (words_in body.entry.words) body.entry.variables.now body.entry.line.now self left budget.old result budget.new }
+        ensures goes { (left : Left) → Stands body.entry.line.now self left
+            → GoesOn (words_in body.entry.words) body.entry.variables.now body.entry.line.now self left budget.old result budget.new }
     {
         let bytes = body.line.as_bytes();
         let start = self.at + 2;
@@ -204,11 +209,12 @@ impl Pass {
         }
     }
 
-    /// Into the reference at the place, which stays.
+    /// Goes into the reference at the place, which stays.
     fn keep(self, mark: u8) -> Result<Pass, AllocError>
         requires { self.at + 2 < 2 ^ 64 }
         ensures joined { IfOk result (λ next. next.joined ≡ self.joined) }
-        ensures around { IfOk result (λ next. next.around.items ≡ self.around.items ++ v.Kept mark ∷ []) }
+        ensures around { IfOk result (λ next. next.around.items ≡ self.around.items
+            ++ v.Kept mark ∷ []) }
         ensures copied { IfOk result (λ next. next.copied ≡ self.copied) }
         ensures at { IfOk result (λ next. next.at ≡ self.at + 2) }
     {
@@ -222,7 +228,7 @@ impl Pass {
         })
     }
 
-    /// Into the modifiers, which begin at this index, of the reference at the place.
+    /// Goes into the modifiers of the reference at the place; they begin at this index.
     fn replace(
         self,
         alloc: Global,
@@ -237,7 +243,9 @@ impl Pass {
         requires ascii { mark < 128 }
         ensures marks { IfOk result (λ next. All HasAsciiMark next.around.items) }
         ensures joined { IfOk result (λ next. so_far next.joined ≡ putting.nothing) }
-        ensures around { IfOk result (λ next. map surround_of next.around.items ≡ map surround_of self.around.items ++ Changing mark word.now (here body.entry.line.now self) ∷ []) }
+        ensures around { IfOk result (λ next. map surround_of next.around.items
+            ≡ map surround_of self.around.items
+            ++ Changing mark word.now (here body.entry.line.now self) ∷ []) }
         ensures copied { IfOk result (λ next. next.copied ≡ modifiers) }
         ensures at { IfOk result (λ next. next.at ≡ modifiers) }
     {
@@ -253,7 +261,7 @@ impl Pass {
         })
     }
 
-    /// Past the reference from the place up to this index, in whose place the word comes.
+    /// Goes past the reference from the place up to this index, and puts the word in its place.
     fn put(
         self,
         alloc: Global,
@@ -265,7 +273,9 @@ impl Pass {
         requires dollar { slice_index body.line.now self.at ≡ 36 }
         requires near { self.at < length body.line.now }
         ensures store { NeverStore result }
-        ensures gives { (m : Meter) → Gives (λ next. so_far next.joined) result m (putting.with_word (here body.entry.line.now self) word.now m) }
+        ensures gives { (m : Meter)
+            → Gives (λ next. so_far next.joined) result m
+            (putting.with_word (here body.entry.line.now self) word.now m) }
         ensures around { IfOk result (λ next. next.around.items ≡ self.around.items) }
         ensures copied { IfOk result (λ next. next.copied ≡ behind) }
         ensures at { IfOk result (λ next. next.at ≡ behind) }
@@ -279,7 +289,7 @@ impl Pass {
         })
     }
 
-    /// Past the mark at the place, which closes the innermost reference.
+    /// Goes past the mark at the place, which closes the innermost reference.
     fn close(
         self,
         alloc: Global,
@@ -293,7 +303,8 @@ impl Pass {
         ensures later { IsLater budget.old budget.new }
         ensures placed { IfOk result (λ next. IsPlaced body.entry.line.now next) }
         ensures onward { IfOk result (λ next. self.at < next.at) }
-        ensures goes { (left : Left) → Stands body.entry.line.now self left → GoesOn (words_in body.entry.words) body.entry.variables.now body.entry.line.now self left budget.old result budget.new }
+        ensures goes { (left : Left) → Stands body.entry.line.now self left
+            → GoesOn (words_in body.entry.words) body.entry.variables.now body.entry.line.now self left budget.old result budget.new }
     {
         let Pass {
             joined,
@@ -329,12 +340,14 @@ impl Pass {
         }
     }
 
-    /// The text at the end of a line; `None` where no word was put in.
+    /// The text at the end of a line; `None` if no word was put in.
     pub(crate) fn finished(self, body: Body<'_>) -> Result<Option<String>, Stop<FaultKind>>
         requires placed { IsPlaced body.line.now self }
         requires all { self.at ≡ length body.line.now }
         ensures store { NeverStore result }
-        ensures gives { (m : Meter) → Gives (text_of body.entry.line.now) result m (putting.finished (here body.entry.line.now self) m) }
+        ensures gives { (m : Meter)
+            → Gives (text_of body.entry.line.now) result m
+            (putting.finished (here body.entry.line.now self) m) }
     {
         if self.copied == 0 {
             return Ok(None);
@@ -344,8 +357,7 @@ impl Pass {
     }
 }
 
-/// What is joined behind `front` once a reference there is replaced by what its modifiers make of this
-/// word.
+/// What is joined once the reference after `front` is replaced by what its modifiers make of this word.
 fn change(
     alloc: Global,
     variables: &Env,
@@ -356,7 +368,10 @@ fn change(
 ) -> Result<Joined, Stop<FaultKind>>
     ensures store { NeverStore result }
     ensures later { IsLater budget.old budget.new }
-    ensures gives { (mark : ℕ) → Gives so_far result budget.new (closed variables.now (Changing mark word.now (so_far front)) (so_far modifiers) budget.old) }
+    ensures gives { (mark : ℕ)
+        → Gives so_far result budget.new
+        (closed variables.now (Changing mark word.now (so_far front))
+        (so_far modifiers) budget.old) }
 {
     let modifiers = modifiers.finished()?;
     let changed = modify(alloc, variables, word, modifiers.as_str(), budget)?;

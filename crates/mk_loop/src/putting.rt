@@ -9,44 +9,51 @@ ghost use Rattle.mk_loop.specs.Scopes.{words_in};
 ghost use Rattle.mk_loop.specs.Places.{text_of};
 
 use crate::passing::{Body, Pass};
-use crate::scopes::Scope;
+use crate::scopes::LoopScope;
 use mk_base::{Budget, FaultKind, Stop};
 use mk_env::Env;
 use mk_ref::{PiecesFault, pieces};
 use std::alloc::Global;
 
-/// The line of a loop's body with the words of its turn put in, all at once, in one pass over the line
-/// as it is written (make(1), "FOR LOOPS"); `None` where no word is put in, and the line stands as it
-/// is. `words` are the loops round the line.
+/// The line of a loop's body with the words of its iteration put in, all at once, in one pass over the
+/// line as it is written (make(1), "FOR LOOPS"). If no word is put in, it is `None`, and the line stays
+/// as it is. `words` are the loops around the line.
 ///
-/// Each reference whose name, as it is written, is a loop's variable is replaced by the word of that:
-/// also one that stands in the name or the modifiers of another. It costs one unit. Words are put into
-/// its own modifiers first; then these are applied to its word, the other references in them being
-/// expanded among `variables`, with this one round them; then each `$` of the result is doubled. A name
-/// in which a reference stands is that of no loop's variable.
+/// If the name of a reference, as it is written, is a loop's variable, the reference is replaced by the
+/// word of that variable. That holds too for a reference in the name or the modifiers of another. A
+/// name with a reference in it isn't the name of a loop's variable. Each replaced reference costs one
+/// unit. Words are put into its own modifiers first. Then these are applied to its word; the other
+/// references in them are expanded among `variables`, and count as inside this one. Then each `$` of
+/// the result is doubled.
 ///
 /// The time is linear in the length of the line, the texts that are made and the units that are spent,
-/// but for the search for each name among the variables in scope. It takes no stack: references may
-/// stand one inside another as deep as the line is long.
+/// except for the search for each name among the variables in scope. It takes no stack: references may
+/// be nested as deep as the line is long.
 ///
 /// # Errors
 ///
-/// The faults: `Reference` where a reference of the line doesn't end, before any is replaced. Then, from
-/// the left, for each reference that is replaced: `Budget` where no unit is left for it, those of the
-/// references in its modifiers, and those that `modify` has for its word. `Length` where what is joined
-/// of the line, or of the modifiers of a replaced reference, passes 65,536 bytes behind a word that was
-/// put in, or at its end where one was; a line into which no word is put has no limit. Want of memory
-/// is the other error.
+/// The fault is `Reference` if a reference of the line doesn't end, before any is replaced.
+///
+/// Then come, from the left, the faults of each reference that is replaced. It is `Budget` if no unit is
+/// left for the reference. Then come those of the references in its modifiers, and those that `modify`
+/// has for its word.
+///
+/// A text here is the line, or the modifiers of a replaced reference. It is `Length` if what is joined
+/// of a text is longer than 65,536 bytes after a word was put in, or at the text's end if one was. A
+/// line into which no word is put has no limit.
+///
+/// The other error is that memory runs out.
 pub fn put_words(
     alloc: Global,
     variables: &Env,
-    words: Scope<'_>,
+    words: LoopScope<'_>,
     line: &str,
     budget: &mut Budget,
 ) -> Result<Option<String>, Stop<FaultKind>>
     ensures store { NeverStore result }
     ensures later { IsLater budget.old budget.new }
-    ensures gives { Gives (text_of line.now) result budget.new (putting.put_words (words_in words.entry) variables.now line.now budget.old) }
+    ensures gives { Gives (text_of line.now) result budget.new
+        (putting.put_words (words_in words.entry) variables.now line.now budget.old) }
 {
     check_closed(alloc, line)?;
     let body = Body {

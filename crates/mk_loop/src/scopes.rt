@@ -1,4 +1,4 @@
-//! The variables of the loops that stand round a line.
+//! The variables of the loops around a line.
 ghost use Rattle.std.specs.Prelude.{◌≡◌, ◌≤◌, length, map, All};
 ghost use Rattle.std.specs.Option.{option_copied};
 ghost use Rattle.std.specs.List.{zip};
@@ -6,29 +6,30 @@ ghost use Rattle.mk_text.specs.Words.{IsSpanOf, span_text};
 ghost use Rattle.mk_loop.specs.LoopWords.{word_of};
 ghost use Rattle.mk_loop.specs.Scopes.{turn_words, words_in};
 
-use crate::turn::Turn;
+use crate::turn::Iteration;
 use mk_text::Span;
 
-/// The loops that stand round a line, each at one of its turns.
+/// The loops around a line, each at one of its iterations.
 #[derive(Clone, Copy)]
-pub enum Scope<'a> {
-    /// No loop stands round it.
+pub enum LoopScope<'a> {
+    /// There is no loop around it.
     Outside,
-    /// A loop stands round it directly, at this turn, and these stand round that loop.
-    Turn(Turn<'a>, &'a Scope<'a>),
+    /// The innermost loop around it, at this iteration, and the loops around that loop.
+    Iteration(Iteration<'a>, &'a LoopScope<'a>),
 }
 
-impl<'a> Turn<'a> {
-    /// The turn in which these variables have the words at these places of a text.
-    pub(crate) fn new(names: &'a [&'a str], text: &'a str, words: &'a [Span]) -> Turn<'a>
+impl<'a> Iteration<'a> {
+    /// The iteration in which these variables have the words at these places of a text.
+    pub(crate) fn new(names: &'a [&'a str], text: &'a str, words: &'a [Span]) -> Iteration<'a>
         requires within { All (IsSpanOf text.now) words.now }
         requires enough { length names.now ≤ length words.now }
-        ensures { turn_words result ≡ zip (map (λ name. name.now) names.now) (map (span_text text.now) words.now) }
+        ensures { turn_words result
+            ≡ zip (map (λ name. name.now) names.now) (map (span_text text.now) words.now) }
     {
-        Turn { names, text, words }
+        Iteration { names, text, words }
     }
 
-    /// The word of the variable of this name; the first counts, of two with one name.
+    /// The word of the variable of this name. If two variables have this name, the first counts.
     fn word(&self, name: &str) -> Option<&'a str>
         ensures { option_copied result ≡ word_of (turn_words self.now) name.now }
     {
@@ -41,14 +42,15 @@ impl<'a> Turn<'a> {
     }
 }
 
-impl<'a> Scope<'a> {
-    /// The word of the variable of this name: that of the innermost loop counts.
+impl<'a> LoopScope<'a> {
+    /// The word of the variable of this name. If several loops have one, that of the
+    /// innermost loop counts.
     pub(crate) fn word(&self, name: &str) -> Option<&'a str>
         ensures { option_copied result ≡ word_of (words_in self.now) name.now }
     {
         match self {
-            Scope::Outside => None,
-            Scope::Turn(turn, outer) => match turn.word(name) {
+            LoopScope::Outside => None,
+            LoopScope::Iteration(turn, outer) => match turn.word(name) {
                 Some(word) => Some(word),
                 None => outer.word(name),
             },

@@ -1,26 +1,26 @@
-//! The turns of a loop.
+//! The iterations of a loop.
 ghost use Rattle.std.specs.Prelude.{◌≤◌, ◌<◌, length, string_bytes, All};
 ghost use Rattle.mk_text.specs.Words.{IsSpanOf};
 
 use mk_text::Span;
 
-/// A turn of a loop: the variables of its header, each with its word. Of two variables of one name the
-/// first counts.
+/// An iteration of a loop: the variables of its header, each with its word. If two variables have one
+/// name, the first counts.
 #[derive(Clone, Copy)]
-pub struct Turn<'a> {
+pub struct Iteration<'a> {
     /// The variables.
     pub(crate) names: &'a [&'a str],
-    /// The text in which the words stand.
+    /// The text that the words are in.
     pub(crate) text: &'a str,
-    /// The places of the words, in the order of the variables; there may be more than variables.
+    /// The places of the words, in the order of the variables; there may be more places than variables.
     pub(crate) words: &'a [Span],
     ghost within: { All (IsSpanOf text.now) words.now },
     ghost enough: { length names.now ≤ length words.now },
 }
 
-/// The turns of a loop, in order.
+/// The iterations of a loop, in order.
 #[derive(Drop)]
-pub struct Turns<'a> {
+pub struct Iterations<'a> {
     /// The variables of its header.
     pub(crate) names: Vec<&'a str>,
     /// The text of its header, expanded.

@@ -8,7 +8,8 @@ use Rattle.mk_mods.specs.declared.modifiers.Modifier.{Modifier}
 use Rattle.mk_mods.specs.declared.modifiers.Modifier.TheVariants as modifiers
 use Rattle.mk_mods.specs.declared.modifiers.WordMap.{WordMap}
 
--- what a text of `:S` is made of: bytes that stand for themselves, the whole old text, references by their source
+-- what a text of `:S` is made of: bytes that mean themselves, the whole old text, and references by their
+-- source
 pub data Symbol : Type 0 where
   Byte : ℕ → Symbol
   Whole : Symbol

@@ -8,14 +8,16 @@ use Rattle.mk_mods.specs.WordChanges.{word_change}
 use Rattle.mk_mods.specs.Actions.{Action, Match, Exclude, Substitute, Change, Replacement}
 use Rattle.mk_mods.specs.Substituted.{text_of, substituted}
 
--- whether a word is kept, by whether it fits: one that fits by `:M`, one that doesn't by `:N`
+-- whether a word is kept, by whether it fits: `:M` keeps one that fits, and `:N` one that doesn't
 abbrev pub kept : Bool → Bool → Bool
 kept matching is = if matching then is else not is
 
--- the old text, then the new one in which `&` stands for the old one, each within the limit; and then the words with the one for the other
+-- first the old text, then the new one in which `&` means the old one, each within the limit; and then the
+-- words with the new text in place of the old one
 abbrev pub words_substituted : Replacement → List (List ℕ) → Option (List (List ℕ))
 words_substituted s words =
-    option_and_then (λ old. option_map (λ new. substituted s old new words) (within_limit (text_of old s.new))) (within_limit (text_of [] s.old))
+    option_and_then (λ old. option_map (λ new. substituted s old new words) (within_limit (text_of old s.new)))
+    (within_limit (text_of [] s.old))
 
 -- what a modifier makes of words: `:M` and `:N` are filters, the others maps
 abbrev pub words_changed : Action → List (List ℕ) → Option (List (List ℕ))
@@ -24,6 +26,6 @@ words_changed (Exclude pattern) words = Some (filter (λ word. kept false (fits 
 words_changed (Substitute s) words = words_substituted s words
 words_changed (Change word_map) words = Some (map (word_change word_map) words)
 
--- what a modifier makes of a value; None where a text would be too long
+-- what a modifier makes of a value; None if a text would be too long
 unfoldable pub applied : Action → List ℕ → Option (List ℕ)
 applied action value = option_and_then (λ words. within_limit (joined words)) (words_changed action (words_of value))

@@ -1,25 +1,27 @@
 -- The modifiers that a text reads as: one or more, with a colon between (make(1), "VARIABLES").
-use Rattle.std.specs.Prelude.{ℕ, zero, suc, Bool, true, false, not, ◌==◌, ◌&&◌, List, [], ◌∷◌, ◌++◌, length, Option, Some, None, option_map, if◌then◌else◌}
+use Rattle.std.specs.Prelude.{ℕ, zero, suc, Bool, true, false, not, ◌==◌, ◌&&◌, List, [], ◌∷◌, ◌++◌, length, Option}
+use Rattle.std.specs.Prelude.{Some, None, option_map, if◌then◌else◌}
 use Rattle.std.specs.List.{flat_map}
 use Rattle.std.specs.Option.{option_and_then}
 use Rattle.mk_mods.specs.declared.modifiers.WordMap.{WordMap}
 use Rattle.mk_mods.specs.declared.modifiers.WordMap.TheVariants as maps
 use Rattle.mk_mods.specs.Actions.{Action, Match, Exclude, Substitute, Change, Replacement}
-use Rattle.mk_mods.specs.Marks.{TextMark, Char, Pair, Written, marks_of, is_char, mark_source}
+use Rattle.mk_mods.specs.Marks.{TextMark, Char, EscapedDollar, Written, marks_of, is_char, mark_source}
 use Rattle.mk_mods.specs.Signs.{TextSign, signs_before, without_start, without_end, sign_symbols}
 
--- a mark in front of a pattern that was read
+-- a mark before a pattern that was read
 abbrev pub in_pattern : TextMark → List ℕ × List TextMark → List ℕ × List TextMark
 in_pattern mark read = (mark_source mark ++ read.0, read.1)
 
--- A pattern, and what stands behind it: it ends before the first colon (58) outside references that no backslash (92) directly precedes.
--- The first argument says whether one stands directly before the marks.
+-- A pattern, and what follows it. The pattern ends before the first colon (58) outside references that has
+-- no backslash (92) directly before it. The first argument says whether there is one directly before the
+-- marks.
 abbrev pub pattern_from : Bool → List TextMark → List ℕ × List TextMark
 pattern_from escaped [] = ([], [])
 pattern_from escaped (mark ∷ marks) =
     if is_char 58 mark && not escaped then ([], mark ∷ marks) else in_pattern mark (pattern_from (is_char 92 mark) marks)
 
--- the flags of `:S`, and what stands behind them
+-- the flags of `:S`, and what follows them
 pub record Flags : Type 0 where
   pub every : Bool
   pub once : Bool
@@ -47,7 +49,7 @@ replacement_by old new flags =
       once = flags.once;
     }
 
--- the new text and the flags behind an old text
+-- the new text and the flags, which follow an old text
 abbrev pub behind_new : List TextSign → Option (List TextSign × List TextMark) → Option (Replacement × List TextMark)
 behind_new old None = None
 behind_new old (Some new) = Some (replacement_by old new.0 (flags_of new.1), (flags_of new.1).behind)
@@ -57,11 +59,11 @@ abbrev pub behind_old : ℕ → Option (List TextSign × List TextMark) → Opti
 behind_old delimiter None = None
 behind_old delimiter (Some old) = behind_new old.0 (signs_before delimiter old.1)
 
--- what stands behind the letter of `:S`, and behind the flags; any character is a delimiter
+-- what follows the letter of `:S`, and what follows the flags; any character is a delimiter
 abbrev pub substitution_from : List TextMark → Option (Replacement × List TextMark)
 substitution_from [] = None
 substitution_from (Char delimiter ∷ marks) = behind_old delimiter (signs_before delimiter marks)
-substitution_from (Pair ∷ marks) = None
+substitution_from (EscapedDollar ∷ marks) = None
 substitution_from (Written source ∷ marks) = None
 
 -- the modifiers of one letter: R (82), E (69), H (72), T (84), L (76), U (85)
@@ -75,7 +77,8 @@ word_map_of c =
     else if c == 85 then Some maps.Upper
     else None
 
--- the modifier that begins with this letter, and what stands behind it: M (77), N (78), S (83), or one of one letter
+-- the modifier that begins with this letter, and what follows it: M (77), N (78), S (83), or one of one
+-- letter
 abbrev pub modifier_at : ℕ → List TextMark → Option (Action × List TextMark)
 modifier_at letter marks =
     if letter == 77 then (let read = pattern_from false marks in Some (Match read.0, read.1))
@@ -83,14 +86,14 @@ modifier_at letter marks =
     else if letter == 83 then option_map (λ read. (Substitute read.0, read.1)) (substitution_from marks)
     else option_map (λ word_map. (Change word_map, marks)) (word_map_of letter)
 
--- the first modifier, and what stands behind it
+-- the first modifier, and what follows it
 abbrev pub first_modifier : List TextMark → Option (Action × List TextMark)
 first_modifier [] = None
 first_modifier (Char letter ∷ marks) = modifier_at letter marks
-first_modifier (Pair ∷ marks) = None
+first_modifier (EscapedDollar ∷ marks) = None
 first_modifier (Written source ∷ marks) = None
 
--- the modifiers that `later` reads behind a colon, where anything follows
+-- the modifiers that `later` reads after a colon, if anything follows
 abbrev pub after_colon : (List TextMark → Option (List Action)) → List TextMark → Option (List Action)
 after_colon later [] = Some []
 after_colon later (mark ∷ marks) = if is_char 58 mark then later marks else None
@@ -109,6 +112,6 @@ modifiers_by (suc fuel) marks = and_later (modifiers_by fuel) (first_modifier ma
 abbrev pub modifiers_in : List TextMark → Option (List Action)
 modifiers_in marks = modifiers_by (length marks) marks
 
--- the modifiers of a text; None where it isn't one or more modifiers
+-- the modifiers of a text; None if it isn't one or more modifiers
 unfoldable pub modifiers_of : List ℕ → Option (List Action)
 modifiers_of text = option_and_then modifiers_in (marks_of text)

@@ -1,5 +1,6 @@
 -- Values made of words: the words joined by single spaces, within the limit of a text.
-use Rattle.std.specs.Prelude.{◌≡◌, ◌≤◌, ℕ, Bool, true, false, nat_le, List, [], ◌∷◌, ◌++◌, length, filter, Option, Some, None, if◌then◌else◌, String, string_bytes}
+use Rattle.std.specs.Prelude.{◌≡◌, ◌≤◌, ℕ, Bool, true, false, nat_le, List, [], ◌∷◌, ◌++◌, length, filter, Option}
+use Rattle.std.specs.Prelude.{Some, None, if◌then◌else◌, String, string_bytes}
 use Rattle.std.specs.declared.alloc.Global.{Global}
 use Rattle.std.specs.List.{join_with_byte}
 use Rattle.mk_text.specs.declared.limits.TheConstants.{TEXT_LIMIT}
@@ -20,7 +21,7 @@ joined words = join_with_byte 32 (filter has_bytes words)
 abbrev pub within_limit : List ℕ → Option (List ℕ)
 within_limit text = if nat_le (length text) TEXT_LIMIT then Some text else None
 
--- why a text wasn't made: it would be too long, or there was no memory, which says nothing of the text
+-- why a text wasn't made: it would be too long, or memory ran out, which says nothing about the text
 abbrev pub IsUnmade : {X : Type 0} → Option X → TextFault → Type 0
 IsUnmade made faults.Length = made ≡ None
 IsUnmade made faults.Memory = Unit {0}
@@ -35,7 +36,7 @@ with_word (m ∷ made) (b ∷ word) = m ∷ made ++ 32 ∷ b ∷ word
 abbrev pub IsMade : List ℕ → String Global → Type 0
 IsMade text made = (length text ≤ TEXT_LIMIT) × (string_bytes made ≡ text)
 
--- why a text wasn't made, where there is one to make
+-- why a text wasn't made, if there is one to make; if there is none, memory ran out
 abbrev pub IsOverlong : Option (List ℕ) → TextFault → Type 0
 IsOverlong None fault = fault ≡ faults.Memory
 IsOverlong (Some text) fault = IsTooLong text fault

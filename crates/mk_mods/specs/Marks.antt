@@ -1,39 +1,40 @@
--- The marks of a text of modifiers: its characters, pairs and references, of which references are taken whole.
+-- The marks of a text of modifiers: its characters, pairs and references. References are taken whole.
 use Rattle.std.specs.Prelude.{ℕ, Bool, false, ◌==◌, List, [], ◌∷◌, map, Option, Some, None}
 use Rattle.std.specs.Char.{encode_utf8}
 use Rattle.std.specs.Str.{chars}
 use Rattle.std.specs.List.{flat_map}
 use Rattle.mk_ref.specs.Units.{units_of, left_of}
-use Rattle.mk_ref.specs.Pieces.{TextPiece, LiteralPiece, PairPiece, ReferencePiece, pieces_of}
+use Rattle.mk_ref.specs.Pieces.{TextPiece, LiteralPiece, EscapedDollarPiece, ReferencePiece, pieces_of}
 
 -- a character outside references, a pair `$$`, or a reference as it is written
 pub data TextMark : Type 0 where
   Char : ℕ → TextMark
-  Pair : TextMark
+  EscapedDollar : TextMark
   Written : List ℕ → TextMark
 
 abbrev pub piece_marks : TextPiece → List TextMark
 piece_marks (LiteralPiece bytes) = map Char (chars bytes)
-piece_marks PairPiece = Pair ∷ []
+piece_marks EscapedDollarPiece = EscapedDollar ∷ []
 piece_marks (ReferencePiece written name modifiers) = Written written ∷ []
 
--- a text of which this is left behind its units is marked only where nothing is left: where each reference ends
+-- if this is left of a text after its units, the text has its marks only if nothing is left, that is, if
+-- each reference ends
 abbrev pub where_whole : List ℕ → List TextMark → Option (List TextMark)
 where_whole [] marks = Some marks
 where_whole (b ∷ left) marks = None
 
--- the marks of a text; None where a reference doesn't end
+-- the marks of a text; None if a reference doesn't end
 unfoldable pub marks_of : List ℕ → Option (List TextMark)
 marks_of text = where_whole (left_of text) (flat_map piece_marks (pieces_of (units_of text)))
 
 -- whether a mark is this character
 abbrev pub is_char : ℕ → TextMark → Bool
 is_char c (Char d) = d == c
-is_char c Pair = false
+is_char c EscapedDollar = false
 is_char c (Written source) = false
 
 -- what a mark is written as (36 is the dollar)
 abbrev pub mark_source : TextMark → List ℕ
 mark_source (Char c) = encode_utf8 c
-mark_source Pair = 36 ∷ 36 ∷ []
+mark_source EscapedDollar = 36 ∷ 36 ∷ []
 mark_source (Written source) = source

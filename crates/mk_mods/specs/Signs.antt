@@ -1,20 +1,22 @@
--- The old and the new text of `:S`, as they are written up to the delimiter behind each (make(1), "VARIABLES").
-use Rattle.std.specs.Prelude.{ℕ, zero, suc, ◌-◌, Bool, true, false, ◌==◌, ◌||◌, ◌&&◌, List, [], ◌∷◌, map, Option, Some, None, option_map, if◌then◌else◌}
+-- The old and the new text of `:S`, as they are written up to the delimiter after each (make(1),
+-- "VARIABLES").
+use Rattle.std.specs.Prelude.{ℕ, zero, suc, ◌-◌, Bool, true, false, ◌==◌, ◌||◌, ◌&&◌, List, [], ◌∷◌, map, Option}
+use Rattle.std.specs.Prelude.{Some, None, option_map, if◌then◌else◌}
 use Rattle.std.specs.Char.{encode_utf8}
-use Rattle.mk_mods.specs.Marks.{TextMark, Char, Pair, Written, is_char}
+use Rattle.mk_mods.specs.Marks.{TextMark, Char, EscapedDollar, Written, is_char}
 use Rattle.mk_mods.specs.Actions.{Symbol, Byte, Whole, Reference}
 
--- a character that is plain, because a backslash stands before it or a pair stands for it; one that may be an anchor or stand for the old
--- text; or a reference, as it is written
+-- a character that is plain, because a backslash comes before it or a pair means it; one that may be an
+-- anchor or mean the old text; or a reference, as it is written
 pub data TextSign : Type 0 where
   Plain : ℕ → TextSign
   Bare : ℕ → TextSign
   Inner : List ℕ → TextSign
 
--- a mark without a backslash that makes it plain
+-- the sign of a mark that no backslash makes plain
 abbrev pub sign_of : TextMark → TextSign
 sign_of (Char c) = Bare c
-sign_of Pair = Plain 36
+sign_of EscapedDollar = Plain 36
 sign_of (Written source) = Inner source
 
 -- what a backslash makes plain: the delimiter, `^`, `$`, `&` and itself
@@ -24,12 +26,13 @@ is_escapable delimiter c = (c == delimiter) || (c == 94) || (c == 36) || (c == 3
 -- the plain character that two marks are, if the first is a backslash that makes the second plain
 abbrev pub escaped : ℕ → TextMark → TextMark → Option TextSign
 escaped delimiter (Char b) (Char c) = if (b == 92) && is_escapable delimiter c then Some (Plain c) else None
-escaped delimiter (Char b) Pair = None
+escaped delimiter (Char b) EscapedDollar = None
 escaped delimiter (Char b) (Written source) = None
-escaped delimiter Pair next = None
+escaped delimiter EscapedDollar next = None
 escaped delimiter (Written source) next = None
 
--- the sign that a mark begins, and of how many marks it is made: of it and the next one where they are escaped, else of it alone
+-- the sign that a mark begins, and of how many marks it is made: of it and the next one if they are an
+-- escape, else of it alone
 abbrev pub or_alone : TextMark → Option TextSign → TextSign × ℕ
 or_alone mark None = (sign_of mark, 1)
 or_alone mark (Some plain) = (plain, 2)
@@ -38,12 +41,13 @@ abbrev pub sign_at : ℕ → TextMark → List TextMark → TextSign × ℕ
 sign_at delimiter mark [] = or_alone mark None
 sign_at delimiter mark (next ∷ marks) = or_alone mark (escaped delimiter mark next)
 
--- a sign in front of signs that were read
+-- a sign before signs that were read
 abbrev pub sign_before : TextSign → List TextSign × List TextMark → List TextSign × List TextMark
 sign_before sign read = (sign ∷ read.0, read.1)
 
--- The signs up to the delimiter, and what stands behind it; None where there is no delimiter. It is looked for before an escape is, and
--- references are passed over. The first argument says how many marks are still to pass, which belong to the sign before.
+-- The signs up to the delimiter, and what follows it; None if there is no delimiter. The delimiter is
+-- looked for before an escape is, and references are passed over. The first argument says how many marks
+-- are still to pass, which belong to the sign before.
 abbrev pub signs_from : ℕ → ℕ → List TextMark → Option (List TextSign × List TextMark)
 signs_from left delimiter [] = None
 signs_from (suc left) delimiter (mark ∷ marks) = signs_from left delimiter marks
@@ -60,18 +64,18 @@ is_bare c (Plain d) = false
 is_bare c (Bare d) = d == c
 is_bare c (Inner source) = false
 
--- whether signs begin with the anchor `^` (94), and the others
+-- whether signs begin with the anchor `^` (94), and the other signs
 abbrev pub without_start : List TextSign → Bool × List TextSign
 without_start [] = (false, [])
 without_start (sign ∷ signs) = if is_bare 94 sign then (true, signs) else (false, sign ∷ signs)
 
--- whether signs end with the anchor `$` (36), and the others
+-- whether signs end with the anchor `$` (36), and the other signs
 abbrev pub without_end : List TextSign → Bool × List TextSign
 without_end [] = (false, [])
 without_end (sign ∷ []) = if is_bare 36 sign then (true, []) else (false, sign ∷ [])
 without_end (sign ∷ next ∷ signs) = let later = without_end (next ∷ signs) in (later.0, sign ∷ later.1)
 
--- the symbols of a sign: `&` (38) stands for the old text, in the new one
+-- the symbols of a sign: `&` (38) means the old text, in the new one
 abbrev pub sign_symbols : Bool → TextSign → List Symbol
 sign_symbols in_new (Plain c) = map Byte (encode_utf8 c)
 sign_symbols in_new (Bare c) = if in_new && (c == 38) then Whole ∷ [] else map Byte (encode_utf8 c)

@@ -2,31 +2,31 @@
 use Rattle.std.specs.Prelude.{◌≡◌, Option, None}
 use Rattle.mk_mods.specs.declared.marks.Mark.{Mark}
 use Rattle.mk_mods.specs.declared.marks.Mark.TheVariants as marks
-use Rattle.mk_mods.specs.declared.signs.Sign.{Sign}
-use Rattle.mk_mods.specs.declared.signs.Sign.TheVariants as signs
+use Rattle.mk_mods.specs.declared.signs.SubstitutionSign.{SubstitutionSign}
+use Rattle.mk_mods.specs.declared.signs.SubstitutionSign.TheVariants as signs
 use Rattle.mk_mods.specs.declared.reading.ModsFault.{ModsFault}
 use Rattle.mk_mods.specs.declared.reading.ModsFault.TheVariants as faults
 use Rattle.mk_ref.specs.declared.cutting.PiecesFault.{PiecesFault}
 use Rattle.mk_ref.specs.declared.cutting.PiecesFault.TheVariants as pieces_faults
-use Rattle.mk_mods.specs.Marks.{TextMark, Char, Pair, Written}
+use Rattle.mk_mods.specs.Marks.{TextMark, Char, EscapedDollar, Written}
 use Rattle.mk_mods.specs.Signs.{TextSign, Plain, Bare, Inner}
 
 abbrev pub shown_mark : Mark → TextMark
 shown_mark (marks.Char c) = Char c
-shown_mark marks.Pair = Pair
+shown_mark marks.EscapedDollar = EscapedDollar
 shown_mark (marks.Reference source) = Written source.now
 
-abbrev pub shown_sign : Sign → TextSign
+abbrev pub shown_sign : SubstitutionSign → TextSign
 shown_sign (signs.Plain c) = Plain c
 shown_sign (signs.Bare c) = Bare c
 shown_sign (signs.Reference source) = Inner source.now
 
--- why a text wasn't read: it can't be, or there was no memory, which says nothing of the text
+-- why a text wasn't read: it can't be, or memory ran out, which says nothing about the text
 abbrev pub IsUnread : {X : Type 0} → Option X → ModsFault → Type 0
 IsUnread read faults.BadMod = read ≡ None
 IsUnread read faults.Memory = Unit {0}
 
--- what a text without pieces is told as: a reference that doesn't end makes it no modifiers
+-- how a text without pieces is reported: if a reference doesn't end, the text isn't modifiers
 abbrev pub unread_by : PiecesFault → ModsFault
 unread_by (pieces_faults.Unclosed at) = faults.BadMod
 unread_by pieces_faults.Memory = faults.Memory

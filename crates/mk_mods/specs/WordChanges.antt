@@ -1,21 +1,23 @@
--- What the modifiers of one letter make of a word (make(1), "VARIABLES": `:R`, `:E`, `:H`, `:T`, `:L`, `:U`).
+-- What the modifiers of one letter make of a word (make(1), "VARIABLES": `:R`, `:E`, `:H`, `:T`, `:L`,
+-- `:U`).
 use Rattle.std.specs.Prelude.{ℕ, ◌==◌, List, [], ◌∷◌, map, Option, Some, None, if◌then◌else◌}
 use Rattle.std.specs.Option.{option_map_or}
 use Rattle.std.specs.Char.{to_ascii_lowercase, to_ascii_uppercase}
 use Rattle.mk_mods.specs.declared.modifiers.WordMap.{WordMap}
 use Rattle.mk_mods.specs.declared.modifiers.WordMap.TheVariants as maps
 
--- the same before what stands around its last place in the rest of a text
+-- what comes before and after the last `byte` in `b ∷ rest`, from what comes before and after the last one
+-- in `rest`
 abbrev pub around_here : ℕ → ℕ → List ℕ → Option (List ℕ × List ℕ) → Option (List ℕ × List ℕ)
 around_here byte b rest None = if b == byte then Some ([], rest) else None
 around_here byte b rest (Some parts) = Some (b ∷ parts.0, parts.1)
 
--- what stands before and after the last byte of this value in a text; None where there is none
+-- what comes before and after the last byte of this value in a text; None if there is none
 abbrev pub around_last : ℕ → List ℕ → Option (List ℕ × List ℕ)
 around_last byte [] = None
 around_last byte (b ∷ rest) = around_here byte b rest (around_last byte rest)
 
--- a head, or a slash where that is empty
+-- a head, or a slash if that is empty
 abbrev pub or_slash : List ℕ → List ℕ
 or_slash [] = 47 ∷ []
 or_slash (b ∷ rest) = b ∷ rest

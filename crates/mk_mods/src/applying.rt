@@ -16,22 +16,24 @@ use mk_glob::glob;
 use mk_text::{TextFault, words};
 use std::alloc::Global;
 
-/// What a modifier makes of a value.
+/// What a modifier makes of a value. No part of the modifier may be a reference
+/// (`Modifier::is_expanded`).
 ///
-/// The value is split into words at blanks (spaces and tabs). `Match` and `Exclude` keep those that
-/// match the pattern, or don't; the other modifiers make something of each. The words are then joined
-/// by single spaces; those that became empty are left out.
+/// The value is split into words at blanks (spaces and tabs). `Match` keeps the words that match the
+/// pattern, and `Exclude` those that don't. The other modifiers make something of each word. The words
+/// are then joined by single spaces, and those that became empty are left out.
 ///
 /// The time is at most in proportion to the length of the pattern, or of the old text, times that of
-/// the value, beside that of the result.
+/// the value, plus that of the result.
 ///
 /// # Errors
 ///
-/// `Length` where the result, or the old or the new text of a substitution, has more than 65,536
-/// bytes; no text is made that is longer than that. `Memory` where there is no memory.
+/// `Length` if the result, or the old or the new text of a substitution, has more than 65,536 bytes; no
+/// longer text is made. `Memory` if memory runs out.
 pub fn apply(alloc: Global, modifier: &Modifier, value: &str) -> Result<String, TextFault>
     requires { IsExpanded (action_of modifier.now) }
-    ensures ok { IfOk result (λ made. applied (action_of modifier.now) value.now ≡ Some (string_bytes made)) }
+    ensures ok { IfOk result (λ made. applied (action_of modifier.now) value.now
+        ≡ Some (string_bytes made)) }
     ensures err { IfErr result (IsUnmade (applied (action_of modifier.now) value.now)) }
 {
     match modifier {
@@ -44,8 +46,10 @@ pub fn apply(alloc: Global, modifier: &Modifier, value: &str) -> Result<String, 
 
 /// The words that match a pattern, or those that don't, joined.
 fn join_kept(alloc: Global, pattern: &str, matching: bool, value: &str) -> Result<String, TextFault>
-    ensures ok { IfOk result (IsMade (joined (filter (λ word. kept matching (fits pattern.now word)) (words_of value.now)))) }
-    ensures err { IfErr result (IsTooLong (joined (filter (λ word. kept matching (fits pattern.now word)) (words_of value.now)))) }
+    ensures ok { IfOk result (IsMade (joined
+        (filter (λ word. kept matching (fits pattern.now word)) (words_of value.now)))) }
+    ensures err { IfErr result (IsTooLong
+        (joined (filter (λ word. kept matching (fits pattern.now word)) (words_of value.now)))) }
 {
     let mut made = String::new(alloc);
     for span in &words(alloc, value)? {
@@ -60,7 +64,8 @@ fn join_kept(alloc: Global, pattern: &str, matching: bool, value: &str) -> Resul
 /// What is made of each word, joined.
 fn join_changed(alloc: Global, word_map: WordMap, value: &str) -> Result<String, TextFault>
     ensures ok { IfOk result (IsMade (joined (map (word_change word_map) (words_of value.now)))) }
-    ensures err { IfErr result (IsTooLong (joined (map (word_change word_map) (words_of value.now)))) }
+    ensures err { IfErr result (IsTooLong
+        (joined (map (word_change word_map) (words_of value.now)))) }
 {
     let mut made = String::new(alloc);
     for span in &words(alloc, value)? {

@@ -5,11 +5,12 @@ ghost use Rattle.mk_mods.specs.Joined.{with_word};
 
 use mk_text::{TEXT_LIMIT, TextFault, add_text};
 
-/// Adds a word to words that are joined by single spaces, unless it is empty or the whole is then too
-/// long.
+/// Adds a word to words that are joined by single spaces, unless the word is empty. If the whole would
+/// then be too long, it fails with `Length`; if memory runs out, it fails with `Memory`.
 pub(crate) fn add_word(made: &mut String, word: &str) -> Result<(), TextFault>
     requires { length (string_bytes made.old) ≤ TEXT_LIMIT }
-    ensures ok { IfOk result (λ _. (length (string_bytes made.new) ≤ TEXT_LIMIT) × (string_bytes made.new ≡ with_word (string_bytes made.old) word.now)) }
+    ensures ok { IfOk result (λ _. (length (string_bytes made.new) ≤ TEXT_LIMIT)
+        × (string_bytes made.new ≡ with_word (string_bytes made.old) word.now)) }
     ensures err { IfErr result (IsTooLong (with_word (string_bytes made.old) word.now)) }
 {
     if word.is_empty() {

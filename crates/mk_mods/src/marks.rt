@@ -12,10 +12,10 @@ use std::alloc::{AllocError, Global};
 /// A character outside references, a pair, or a reference.
 #[derive(Debug, Clone, Copy)]
 pub(crate) enum Mark<'t> {
-    /// A character that stands outside references and pairs.
+    /// A character outside references and pairs.
     Char(char),
     /// `$$`.
-    Pair,
+    EscapedDollar,
     /// A reference, as it is written.
     Reference(&'t str),
 }
@@ -27,23 +27,24 @@ impl Mark<'_> {
     {
         match self {
             Mark::Char(own) => *own == character,
-            Mark::Pair | Mark::Reference(_) => false,
+            Mark::EscapedDollar | Mark::Reference(_) => false,
         }
     }
 
     /// Adds what it is written as to a text.
     pub(crate) fn write_to(&self, text: &mut String) -> Result<(), AllocError>
-        ensures { OnOk result (string_bytes text.new ≡ string_bytes text.old ++ mark_source (shown_mark self.now)) }
+        ensures { OnOk result (string_bytes text.new ≡ string_bytes text.old
+            ++ mark_source (shown_mark self.now)) }
     {
         match self {
             Mark::Char(own) => text.push(*own),
-            Mark::Pair => text.push_str("$$"),
+            Mark::EscapedDollar => text.push_str("$$"),
             Mark::Reference(source) => text.push_str(source),
         }
     }
 }
 
-/// The marks of a text, from left to right; `BadMod` where a reference doesn't end.
+/// The marks of a text, from left to right. It fails with `BadMod` if a reference doesn't end.
 pub(crate) fn marks(alloc: Global, text: &str) -> Result<Vec<Mark<'_>>, ModsFault>
     ensures ok { IfOk result (λ marks. marks_of text.now ≡ Some (map shown_mark marks.items)) }
     ensures err { IfErr result (IsUnread (marks_of text.now)) }
@@ -58,11 +59,12 @@ pub(crate) fn marks(alloc: Global, text: &str) -> Result<Vec<Mark<'_>>, ModsFaul
 /// Adds the marks of a piece of a text.
 fn push_piece<'t>(marks: &mut Vec<Mark<'t>>, piece: &Piece, text: &'t str) -> Result<(), AllocError>
     requires { IsPieceIn text.now piece.now }
-    ensures { OnOk result (map shown_mark marks.new.items ≡ map shown_mark marks.old.items ++ piece_marks (shown text.now piece.now)) }
+    ensures { OnOk result (map shown_mark marks.new.items ≡ map shown_mark marks.old.items
+        ++ piece_marks (shown text.now piece.now)) }
 {
     match piece {
         Piece::Literal(span) => push_chars(marks, span.of(text))?,
-        Piece::Pair(_) => marks.push(Mark::Pair)?,
+        Piece::EscapedDollar(_) => marks.push(Mark::EscapedDollar)?,
         Piece::Reference(reference) => marks.push(Mark::Reference(reference.whole.of(text)))?,
     }
     Ok(())
@@ -70,7 +72,8 @@ fn push_piece<'t>(marks: &mut Vec<Mark<'t>>, piece: &Piece, text: &'t str) -> Re
 
 /// Adds the characters of a text.
 fn push_chars(marks: &mut Vec<Mark<'_>>, literal: &str) -> Result<(), AllocError>
-    ensures { OnOk result (map shown_mark marks.new.items ≡ map shown_mark marks.old.items ++ map Char (chars literal.now)) }
+    ensures { OnOk result (map shown_mark marks.new.items ≡ map shown_mark marks.old.items
+        ++ map Char (chars literal.now)) }
 {
     for character in literal.chars() {
         marks.push(Mark::Char(character))?;

@@ -17,8 +17,8 @@ pub enum Modifier {
 }
 
 impl Modifier {
-    /// Whether no part of it is a reference, so that it can be applied. A pattern is a text: as it
-    /// is read it may hold references, and whether these were expanded can't be seen in it.
+    /// Whether no part of it is a reference, so that it can be applied. A pattern is a text: when it is
+    /// read it may hold references, and it doesn't show whether these were expanded.
     pub fn is_expanded(&self) -> bool
         ensures { IsTrue result ↔ IsExpanded (action_of self.now) }
     {
@@ -34,14 +34,13 @@ impl Modifier {
 /// What a modifier of one letter makes of a word.
 #[derive(Debug, Clone, Copy, PartialEq, Eq)]
 pub enum WordMap {
-    /// `:R`: what stands before the last dot, and without a dot the word.
+    /// `:R`: what comes before the last dot; without a dot, the word.
     Root,
-    /// `:E`: what stands after the last dot, and without a dot nothing.
+    /// `:E`: what follows the last dot; without a dot, nothing.
     Extension,
-    /// `:H`: what stands before the last slash, a slash where that is nothing, and without a slash
-    /// a dot.
+    /// `:H`: what comes before the last slash, or a slash if that is nothing; without a slash, a dot.
     Head,
-    /// `:T`: what stands after the last slash, and without a slash the word.
+    /// `:T`: what follows the last slash; without a slash, the word.
     Tail,
     /// `:L`: the word with its ASCII letters lowered.
     Lower,
@@ -49,10 +48,10 @@ pub enum WordMap {
     Upper,
 }
 
-/// What `:S` puts in place of what.
+/// A substitution, `:S`: what is looked for, what is put in its place, and where.
 #[derive(Debug, Drop)]
 pub struct Substitution {
-    /// The text that is sought, in parts from left to right.
+    /// The text that is looked for, in parts from left to right.
     pub old: Vec<Part>,
     /// The text that is put in its place, in parts from left to right.
     pub new: Vec<Part>,
@@ -60,7 +59,7 @@ pub struct Substitution {
     pub starts: bool,
     /// Whether it acts only at the end of a word (`$`).
     pub ends: bool,
-    /// Whether it acts wherever the old text stands in a word, and not only at the first place (`g`).
+    /// Whether it acts at each place of the old text in a word, and not only at the first (`g`).
     pub every: bool,
     /// Whether it acts only in the first word that matches (`1`).
     pub once: bool,
@@ -69,7 +68,7 @@ pub struct Substitution {
 /// A part of a text of `:S`.
 #[derive(Debug, Drop)]
 pub enum Part {
-    /// Text that stands for itself.
+    /// Text that means itself.
     Text(String),
     /// The old text as a whole (`&` in the new one).
     Whole,

@@ -11,13 +11,16 @@ use crate::modifiers::{Modifier, Substitution, WordMap};
 use crate::signs::{parts_of, signs_before, without_end, without_start};
 use mk_ref::PiecesFault;
 use std::alloc::{AllocError, AllocFailed, Global};
+use thiserror::Error;
 
 /// Why a text wasn't read as modifiers.
-#[derive(Debug, Clone, Copy, PartialEq, Eq)]
+#[derive(Debug, Clone, Copy, PartialEq, Eq, Error)]
 pub enum ModsFault {
-    /// It isn't one or more modifiers with a colon between.
+    /// The text isn't one or more modifiers with colons between them.
+    #[error("not modifiers with colons between")]
     BadMod,
-    /// No memory.
+    /// Memory ran out.
+    #[error("out of memory")]
     Memory,
 }
 
@@ -56,28 +59,29 @@ pub struct Mods {
 }
 
 impl Mods {
-    /// Reads what stands behind the colon of a reference: modifiers with a colon between each two.
+    /// Reads what follows the colon of a reference: modifiers with a colon between each two.
     ///
     /// References in it are taken whole and stay as they are written; a backslash before one hides
     /// nothing.
     ///
-    /// - `M` or `N` and a pattern, which ends before the next colon that no backslash directly
-    ///   precedes. Backslashes stay in it.
-    /// - `S`, a delimiter, the old text, the delimiter, the new text, the delimiter, and any run of
-    ///   the flags `g` and `1`. Any character that begins no reference and no `$$` is a delimiter. In
-    ///   both texts a backslash makes the delimiter, `^`, `$`, `&` and itself plain and stays before
-    ///   anything else, and `$$` is a plain dollar. An old text may begin with the anchor `^` and end
-    ///   with the anchor `$`; in the new one `&` stands for the old text.
+    /// - `M` or `N`, and a pattern. The pattern ends before the next colon that has no backslash
+    ///   directly before it. Backslashes stay in it.
+    /// - `S`, a delimiter, the old text, the delimiter, the new text, the delimiter, and any run of the
+    ///   flags `g` and `1`. Any character that begins no reference and no `$$` is a delimiter. In both
+    ///   texts a backslash makes the delimiter, `^`, `$`, `&` and itself plain, and before anything
+    ///   else it stays. `$$` is a plain dollar. An old text may begin with the anchor `^` and end with
+    ///   the anchor `$`; in the new one `&` means the old text.
     /// - One of `R`, `E`, `H`, `T`, `L` and `U`.
     ///
     /// The time is linear in the length of `text`.
     ///
     /// # Errors
     ///
-    /// `BadMod` where the text is anything else, empty among them, or where a reference in it doesn't
-    /// end; `Memory` where there is no memory.
+    /// `BadMod` if the text is anything else, also if it is empty, or if a reference in it doesn't end.
+    /// `Memory` if memory runs out.
     pub fn read(alloc: Global, text: &str) -> Result<Mods, ModsFault>
-        ensures ok { IfOk result (λ mods. modifiers_of text.now ≡ Some (map action_of mods.modifiers.items)) }
+        ensures ok { IfOk result (λ mods. modifiers_of text.now
+            ≡ Some (map action_of mods.modifiers.items)) }
         ensures err { IfErr result (IsUnread (modifiers_of text.now)) }
     {
         let marks = marks(alloc, text)?;
@@ -86,9 +90,10 @@ impl Mods {
     }
 }
 
-/// The modifiers that marks are, with colons between.
+/// The modifiers that marks are, with colons between them.
 fn modifiers_in(alloc: Global, marks: &[Mark<'_>]) -> Result<Vec<Modifier>, ModsFault>
-    ensures ok { IfOk result (λ modifiers. modifiers_in (map shown_mark marks.now) ≡ Some (map action_of modifiers.items)) }
+    ensures ok { IfOk result (λ modifiers. modifiers_in (map shown_mark marks.now)
+        ≡ Some (map action_of modifiers.items)) }
     ensures err { IfErr result (IsUnread (modifiers_in (map shown_mark marks.now))) }
 {
     let mut modifiers = Vec::new(alloc);
@@ -105,12 +110,13 @@ fn modifiers_in(alloc: Global, marks: &[Mark<'_>]) -> Result<Vec<Modifier>, Mods
     Ok(modifiers)
 }
 
-/// The first modifier, and the marks behind it.
+/// The first modifier, and the marks after it.
 fn first_modifier<'m, 't>(
     alloc: Global,
     marks: &'m [Mark<'t>],
 ) -> Result<(Modifier, &'m [Mark<'t>]), ModsFault>
-    ensures ok { IfOk result (λ read. first_modifier (map shown_mark marks.now) ≡ Some (action_of read.0, map shown_mark read.1.now)) }
+    ensures ok { IfOk result (λ read. first_modifier (map shown_mark marks.now)
+        ≡ Some (action_of read.0, map shown_mark read.1.now)) }
     ensures err { IfErr result (IsUnread (first_modifier (map shown_mark marks.now))) }
     ensures shorter { IfOk result (λ read. length read.1.now < length marks.now) }
 {
@@ -137,7 +143,7 @@ fn first_modifier<'m, 't>(
     }
 }
 
-/// The modifier of one letter.
+/// The modifier of one letter; `None` if the letter has none.
 fn word_map_of(letter: char) -> Option<WordMap>
     ensures { result ≡ word_map_of letter }
 {
@@ -152,12 +158,13 @@ fn word_map_of(letter: char) -> Option<WordMap>
     }
 }
 
-/// A pattern, and the marks behind it.
+/// A pattern, and the marks after it.
 fn pattern_from<'m, 't>(
     alloc: Global,
     marks: &'m [Mark<'t>],
 ) -> Result<(String, &'m [Mark<'t>]), AllocError>
-    ensures read { IfOk result (λ read. pattern_from false (map shown_mark marks.now) ≡ (string_bytes read.0, map shown_mark read.1.now)) }
+    ensures read { IfOk result (λ read. pattern_from false (map shown_mark marks.now)
+        ≡ (string_bytes read.0, map shown_mark read.1.now)) }
     ensures shorter { IfOk result (λ read. length read.1.now ≤ length marks.now) }
 {
     let mut pattern = String::new(alloc);
@@ -172,12 +179,13 @@ fn pattern_from<'m, 't>(
     Ok((pattern, &[]))
 }
 
-/// A substitution from its delimiter on, and the marks behind it.
+/// A substitution from its delimiter on, and the marks after it.
 fn substitution_from<'m, 't>(
     alloc: Global,
     marks: &'m [Mark<'t>],
 ) -> Result<(Substitution, &'m [Mark<'t>]), ModsFault>
-    ensures ok { IfOk result (λ read. substitution_from (map shown_mark marks.now) ≡ Some (replacement_of read.0, map shown_mark read.1.now)) }
+    ensures ok { IfOk result (λ read. substitution_from (map shown_mark marks.now)
+        ≡ Some (replacement_of read.0, map shown_mark read.1.now)) }
     ensures err { IfErr result (IsUnread (substitution_from (map shown_mark marks.now))) }
     ensures shorter { IfOk result (λ read. length read.1.now ≤ length marks.now) }
 {
@@ -200,9 +208,10 @@ fn substitution_from<'m, 't>(
     Ok((substitution, behind))
 }
 
-/// The flags `g` and `1` of a substitution, and the marks behind them.
+/// Whether the flags `g` and `1` of a substitution are given, and the marks after the flags.
 fn flags_of<'m, 't>(marks: &'m [Mark<'t>]) -> (bool, bool, &'m [Mark<'t>])
-    ensures flags { flags_of (map shown_mark marks.now) ≡ record { every = result.0; once = result.1; behind = map shown_mark result.2.now } }
+    ensures flags { flags_of (map shown_mark marks.now)
+        ≡ record { every = result.0; once = result.1; behind = map shown_mark result.2.now } }
     ensures shorter { length result.2.now ≤ length marks.now }
 {
     let mut every = false;

@@ -3,7 +3,8 @@ ghost use Rattle.std.specs.Prelude.{◌≡◌, ◌<◌, ◌++◌, [], length, ma
 ghost use Rattle.std.specs.Option.{option_map};
 ghost use Rattle.std.specs.List.{flat_map};
 ghost use Rattle.mk_mods.specs.Actions.{symbols_of, Byte};
-ghost use Rattle.mk_mods.specs.Signs.{signs_before, sign_of, escaped, sign_at, is_escapable, is_bare, without_start, without_end, sign_symbols};
+ghost use Rattle.mk_mods.specs.Signs.{signs_before, sign_of, escaped, sign_at, is_escapable, is_bare, without_start};
+ghost use Rattle.mk_mods.specs.Signs.{without_end, sign_symbols};
 ghost use Rattle.mk_mods.specs.Views.{shown_mark, shown_sign, IsUnread};
 
 use crate::marks::Mark;
@@ -13,35 +14,35 @@ use std::alloc::{AllocError, Global};
 
 /// A character or a reference of the old or the new text of `:S`.
 #[derive(Debug, Clone, Copy)]
-pub(crate) enum Sign<'t> {
-    /// A character that stands for itself: behind a backslash, or the dollar that a pair is.
+pub(crate) enum SubstitutionSign<'t> {
+    /// A character that means itself: one after a backslash, or the dollar that a pair is.
     Plain(char),
-    /// A character that may be an anchor, or stand for the old text.
+    /// A character that may be an anchor, or mean the old text.
     Bare(char),
     /// A reference, as it is written.
     Reference(&'t str),
 }
 
-impl Sign<'_> {
-    /// Whether it is this character, and no plain one.
+impl SubstitutionSign<'_> {
+    /// Whether it is this character, and isn't plain.
     fn is_bare(&self, character: char) -> bool
         ensures { result ≡ is_bare character (shown_sign self.now) }
     {
         match self {
-            Sign::Bare(own) => *own == character,
-            Sign::Plain(_) | Sign::Reference(_) => false,
+            SubstitutionSign::Bare(own) => *own == character,
+            SubstitutionSign::Plain(_) | SubstitutionSign::Reference(_) => false,
         }
     }
 }
 
-/// A mark without a backslash that makes it plain.
-fn sign_of<'t>(mark: Mark<'t>) -> Sign<'t>
+/// The sign of a mark that no backslash makes plain.
+fn sign_of<'t>(mark: Mark<'t>) -> SubstitutionSign<'t>
     ensures { shown_sign result ≡ sign_of (shown_mark mark.entry) }
 {
     match mark {
-        Mark::Char(character) => Sign::Bare(character),
-        Mark::Pair => Sign::Plain('$'),
-        Mark::Reference(source) => Sign::Reference(source),
+        Mark::Char(character) => SubstitutionSign::Bare(character),
+        Mark::EscapedDollar => SubstitutionSign::Plain('$'),
+        Mark::Reference(source) => SubstitutionSign::Reference(source),
     }
 }
 
@@ -53,20 +54,27 @@ fn is_escapable(delimiter: char, character: char) -> bool
 }
 
 /// The plain character that two marks are, if the first is a backslash that makes the second plain.
-fn escaped<'t>(delimiter: char, mark: Mark<'t>, next: Mark<'t>) -> Option<Sign<'t>>
-    ensures { option_map shown_sign result ≡ escaped delimiter (shown_mark mark.entry) (shown_mark next.entry) }
+fn escaped<'t>(delimiter: char, mark: Mark<'t>, next: Mark<'t>) -> Option<SubstitutionSign<'t>>
+    ensures { option_map shown_sign result
+        ≡ escaped delimiter (shown_mark mark.entry) (shown_mark next.entry) }
 {
     match (mark, next) {
         (Mark::Char('\\'), Mark::Char(character)) if is_escapable(delimiter, character) => {
-            Some(Sign::Plain(character))
+            Some(SubstitutionSign::Plain(character))
         }
         _ => None,
     }
 }
 
-/// The sign that a mark begins, and of how many marks it is made; some marks stand behind that mark.
-fn sign_at<'t>(delimiter: char, mark: Mark<'t>, behind: &[Mark<'t>]) -> (Sign<'t>, usize)
-    ensures { (shown_sign result.0, result.1) ≡ sign_at delimiter (shown_mark mark.entry) (map shown_mark behind.now) }
+/// The sign that a mark begins, and of how many marks it is made. `behind` is the marks after that
+/// mark.
+fn sign_at<'t>(
+    delimiter: char,
+    mark: Mark<'t>,
+    behind: &[Mark<'t>],
+) -> (SubstitutionSign<'t>, usize)
+    ensures { (shown_sign result.0, result.1)
+        ≡ sign_at delimiter (shown_mark mark.entry) (map shown_mark behind.now) }
 {
     if let Some(next) = behind.first() {
         if let Some(plain) = escaped(delimiter, mark, *next) {
@@ -76,13 +84,15 @@ fn sign_at<'t>(delimiter: char, mark: Mark<'t>, behind: &[Mark<'t>]) -> (Sign<'t
     (sign_of(mark), 1)
 }
 
-/// The signs up to the delimiter, and the marks behind it; `BadMod` where there is no delimiter.
+/// The signs up to the delimiter, and the marks after it. It fails with `BadMod` if there is no
+/// delimiter.
 pub(crate) fn signs_before<'m, 't>(
     alloc: Global,
     delimiter: char,
     marks: &'m [Mark<'t>],
-) -> Result<(Vec<Sign<'t>>, &'m [Mark<'t>]), ModsFault>
-    ensures ok { IfOk result (λ read. signs_before delimiter (map shown_mark marks.now) ≡ Some (map shown_sign read.0.items, map shown_mark read.1.now)) }
+) -> Result<(Vec<SubstitutionSign<'t>>, &'m [Mark<'t>]), ModsFault>
+    ensures ok { IfOk result (λ read. signs_before delimiter (map shown_mark marks.now)
+        ≡ Some (map shown_sign read.0.items, map shown_mark read.1.now)) }
     ensures err { IfErr result (IsUnread (signs_before delimiter (map shown_mark marks.now))) }
     ensures shorter { IfOk result (λ read. length read.1.now < length marks.now) }
 {
@@ -100,8 +110,10 @@ pub(crate) fn signs_before<'m, 't>(
     Err(ModsFault::BadMod)
 }
 
-/// Whether signs begin with the anchor `^`, and the others.
-pub(crate) fn without_start<'s, 't>(signs: &'s [Sign<'t>]) -> (bool, &'s [Sign<'t>])
+/// Whether signs begin with the anchor `^`, and the other signs.
+pub(crate) fn without_start<'s, 't>(
+    signs: &'s [SubstitutionSign<'t>],
+) -> (bool, &'s [SubstitutionSign<'t>])
     ensures { (result.0, map shown_sign result.1.now) ≡ without_start (map shown_sign signs.now) }
 {
     match signs.split_first() {
@@ -110,8 +122,10 @@ pub(crate) fn without_start<'s, 't>(signs: &'s [Sign<'t>]) -> (bool, &'s [Sign<'
     }
 }
 
-/// Whether signs end with the anchor `$`, and the others.
-pub(crate) fn without_end<'s, 't>(signs: &'s [Sign<'t>]) -> (bool, &'s [Sign<'t>])
+/// Whether signs end with the anchor `$`, and the other signs.
+pub(crate) fn without_end<'s, 't>(
+    signs: &'s [SubstitutionSign<'t>],
+) -> (bool, &'s [SubstitutionSign<'t>])
     ensures { (result.0, map shown_sign result.1.now) ≡ without_end (map shown_sign signs.now) }
 {
     match signs.split_last() {
@@ -120,13 +134,14 @@ pub(crate) fn without_end<'s, 't>(signs: &'s [Sign<'t>]) -> (bool, &'s [Sign<'t>
     }
 }
 
-/// The parts that signs stand for, in the old text or in the new one.
+/// The parts that signs give, in the old text or in the new one.
 pub(crate) fn parts_of(
     alloc: Global,
     in_new: bool,
-    signs: &[Sign<'_>],
+    signs: &[SubstitutionSign<'_>],
 ) -> Result<Vec<Part>, AllocError>
-    ensures { IfOk result (λ parts. flat_map symbols_of parts.items ≡ flat_map (sign_symbols in_new) (map shown_sign signs.now)) }
+    ensures { IfOk result (λ parts. flat_map symbols_of parts.items
+        ≡ flat_map (sign_symbols in_new) (map shown_sign signs.now)) }
 {
     let mut parts = Vec::new(alloc);
     let mut text = String::new(alloc);
@@ -137,17 +152,18 @@ pub(crate) fn parts_of(
     Ok(parts)
 }
 
-/// Adds a sign to parts and a text that stands behind them, and gives the text that stands behind
-/// them then.
+/// Adds a sign to parts and the text that follows them, and gives the text that follows them then.
 fn push_sign(
     alloc: Global,
     in_new: bool,
-    sign: Sign<'_>,
+    sign: SubstitutionSign<'_>,
     parts: &mut Vec<Part>,
     mut text: String,
 ) -> Result<String, AllocError>
-    ensures { IfOk result (λ left. flat_map symbols_of parts.new.items ++ map Byte (string_bytes left)
-        ≡ (flat_map symbols_of parts.old.items ++ map Byte (string_bytes text)) ++ sign_symbols in_new (shown_sign sign.entry)) }
+    ensures { IfOk result (λ left. flat_map symbols_of parts.new.items
+        ++ map Byte (string_bytes left)
+        ≡ (flat_map symbols_of parts.old.items ++ map Byte (string_bytes text))
+        ++ sign_symbols in_new (shown_sign sign.entry)) }
 {
     if in_new && sign.is_bare('&') {
         let left = push_text(alloc, parts, text)?;
@@ -155,11 +171,11 @@ fn push_sign(
         return Ok(left);
     }
     match sign {
-        Sign::Plain(character) | Sign::Bare(character) => {
+        SubstitutionSign::Plain(character) | SubstitutionSign::Bare(character) => {
             text.push(character)?;
             Ok(text)
         }
-        Sign::Reference(source) => {
+        SubstitutionSign::Reference(source) => {
             let left = push_text(alloc, parts, text)?;
             parts.push(Part::Reference(String::from_str(alloc, source)?))?;
             Ok(left)
@@ -167,10 +183,11 @@ fn push_sign(
     }
 }
 
-/// Adds a text as a part, unless it is empty, and gives an empty text for what comes behind it.
+/// Adds a text as a part, unless it is empty, and gives an empty text for what comes after it.
 fn push_text(alloc: Global, parts: &mut Vec<Part>, text: String) -> Result<String, AllocError>
     ensures empty { IfOk result (λ empty. string_bytes empty ≡ []) }
-    ensures parts { OnOk result (flat_map symbols_of parts.new.items ≡ flat_map symbols_of parts.old.items ++ map Byte (string_bytes text)) }
+    ensures parts { OnOk result (flat_map symbols_of parts.new.items
+        ≡ flat_map symbols_of parts.old.items ++ map Byte (string_bytes text)) }
 {
     if !text.is_empty() {
         parts.push(Part::Text(text))?;

@@ -22,25 +22,29 @@ pub(crate) fn join_substituted(
 ) -> Result<String, TextFault>
     requires old { AllPlain (flat_map symbols_of substitution.now.old.items) }
     requires new { AllPlain (flat_map symbols_of substitution.now.new.items) }
-    ensures ok { IfOk result (λ made. option_and_then (λ words. within_limit (joined words)) (words_substituted (replacement_of substitution.now) (words_of value.now)) ≡ Some (string_bytes made)) }
-    ensures err { IfErr result (IsUnmade (option_and_then (λ words. within_limit (joined words)) (words_substituted (replacement_of substitution.now) (words_of value.now)))) }
+    ensures ok { IfOk result (λ made. option_and_then (λ words. within_limit (joined words))
+        (words_substituted (replacement_of substitution.now) (words_of value.now))
+        ≡ Some (string_bytes made)) }
+    ensures err { IfErr result (IsUnmade
+        (option_and_then (λ words. within_limit (joined words))
+        (words_substituted (replacement_of substitution.now) (words_of value.now)))) }
 {
     let old = text_of(alloc, &substitution.old, "")?;
     let new = text_of(alloc, &substitution.new, old.as_str())?;
     join_replaced(alloc, substitution, old.as_str(), new.as_str(), value)
 }
 
-/// What a substitution makes of a value where its old and its new text are these, already expanded;
-/// what parts the substitution has doesn't matter, only where and how often it acts. An old text that
-/// is empty acts at an anchor alone. The words are split and joined as `apply` does it.
+/// What a substitution makes of a value if `old` and `new` are its old and its new text, already
+/// expanded. The parts of the substitution don't matter, only where and how often it acts. If the old
+/// text is empty, it acts only at an anchor. The words are split and joined as by `apply`.
 ///
-/// The time is at most in proportion to the length of the old text times that of the value, beside
-/// that of the result.
+/// The time is at most in proportion to the length of the old text times that of the value, plus that
+/// of the result.
 ///
 /// # Errors
 ///
-/// `Length` where the result has more than 65,536 bytes; no text is made that is longer than that.
-/// `Memory` where there is no memory.
+/// `Length` if the result has more than 65,536 bytes; no longer text is made. `Memory` if memory runs
+/// out.
 pub fn substitute(
     alloc: Global,
     substitution: &Substitution,
@@ -48,13 +52,17 @@ pub fn substitute(
     new: &str,
     value: &str,
 ) -> Result<String, TextFault>
-    ensures ok { IfOk result (λ made. within_limit (joined (substituted (replacement_of substitution.now) old.now new.now (words_of value.now))) ≡ Some (string_bytes made)) }
-    ensures err { IfErr result (IsUnmade (within_limit (joined (substituted (replacement_of substitution.now) old.now new.now (words_of value.now))))) }
+    ensures ok { IfOk result (λ made. within_limit
+        (joined (substituted (replacement_of substitution.now) old.now new.now
+        (words_of value.now))) ≡ Some (string_bytes made)) }
+    ensures err { IfErr result (IsUnmade
+        (within_limit (joined
+        (substituted (replacement_of substitution.now) old.now new.now (words_of value.now))))) }
 {
     join_replaced(alloc, substitution, old, new, value)
 }
 
-/// The text that parts stand for, beside an old text.
+/// The text that parts give, among which `Part::Whole` means the old text.
 fn text_of(alloc: Global, parts: &[Part], old: &str) -> Result<String, TextFault>
     requires { AllPlain (flat_map symbols_of parts.now) }
     ensures ok { IfOk result (IsMade (text_of old.now (flat_map symbols_of parts.now))) }
@@ -79,8 +87,11 @@ fn join_replaced(
     new: &str,
     value: &str,
 ) -> Result<String, TextFault>
-    ensures ok { IfOk result (IsMade (joined (substituted (replacement_of substitution.now) old.now new.now (words_of value.now)))) }
-    ensures err { IfErr result (IsTooLong (joined (substituted (replacement_of substitution.now) old.now new.now (words_of value.now)))) }
+    ensures ok { IfOk result (IsMade (joined
+        (substituted (replacement_of substitution.now) old.now new.now (words_of value.now)))) }
+    ensures err { IfErr result (IsTooLong
+        (joined (substituted (replacement_of substitution.now) old.now new.now
+        (words_of value.now)))) }
 {
     let mut made = String::new(alloc);
     let mut done = false;
@@ -101,7 +112,7 @@ fn join_replaced(
     Ok(made)
 }
 
-/// A word with the new text in place of the old one; `None` where it doesn't match.
+/// A word with the new text in place of the old one; `None` if the word doesn't match.
 fn replaced(
     alloc: Global,
     substitution: &Substitution,
@@ -109,8 +120,10 @@ fn replaced(
     new: &str,
     word: &str,
 ) -> Result<Option<String>, TextFault>
-    ensures ok { IfOk result (λ made. replaced (replacement_of substitution.now) old.now new.now word.now ≡ option_map string_bytes made) }
-    ensures err { IfErr result (IsOverlong (replaced (replacement_of substitution.now) old.now new.now word.now)) }
+    ensures ok { IfOk result (λ made. replaced
+        (replacement_of substitution.now) old.now new.now word.now ≡ option_map string_bytes made) }
+    ensures err { IfErr result (IsOverlong
+        (replaced (replacement_of substitution.now) old.now new.now word.now)) }
 {
     match (substitution.starts, substitution.ends) {
         (true, true) => {
@@ -132,8 +145,8 @@ fn replaced(
     }
 }
 
-/// A word with the new text in place of the old one, at the first place or at every; `None` where it
-/// stands nowhere or is empty.
+/// A word with the new text in place of the old one, at the first place or at every one. It is `None`
+/// if the old text is nowhere in the word, or is empty.
 fn somewhere_replaced(
     alloc: Global,
     every: bool,
@@ -141,7 +154,8 @@ fn somewhere_replaced(
     new: &str,
     word: &str,
 ) -> Result<Option<String>, TextFault>
-    ensures ok { IfOk result (λ made. somewhere_replaced every old.now new.now word.now ≡ option_map string_bytes made) }
+    ensures ok { IfOk result (λ made. somewhere_replaced every old.now new.now word.now
+        ≡ option_map string_bytes made) }
     ensures err { IfErr result (IsOverlong (somewhere_replaced every old.now new.now word.now)) }
 {
     if old.is_empty() {
@@ -159,8 +173,8 @@ fn somewhere_replaced(
     }
 }
 
-/// A word with the new text in place of each old one from the left: its front before the first old
-/// one, and what stands behind that.
+/// A word with the new text in place of each old one, from the left. `front` is the part of the word
+/// before the first old one, and `behind` is what follows that.
 fn all_replaced(
     alloc: Global,
     old: &str,
@@ -169,8 +183,10 @@ fn all_replaced(
     behind: &str,
 ) -> Result<String, TextFault>
     requires { 0 < length old.now }
-    ensures ok { IfOk result (IsMade (front.now ++ (new.now ++ all_replaced old.now new.now zero behind.now))) }
-    ensures err { IfErr result (IsTooLong (front.now ++ (new.now ++ all_replaced old.now new.now zero behind.now))) }
+    ensures ok { IfOk result (IsMade (front.now
+        ++ (new.now ++ all_replaced old.now new.now zero behind.now))) }
+    ensures err { IfErr result (IsTooLong
+        (front.now ++ (new.now ++ all_replaced old.now new.now zero behind.now))) }
 {
     let mut made = joined(alloc, front, new, "")?;
     let mut rest = behind;

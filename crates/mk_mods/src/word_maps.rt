@@ -10,7 +10,7 @@ use crate::modifiers::WordMap;
 use mk_text::{TEXT_LIMIT, TextFault};
 use std::alloc::Global;
 
-/// What stands before the last dot of a word, and without a dot the word.
+/// What comes before the last dot of a word; without a dot, the word.
 fn root(word: &str) -> &str
     ensures { result.now ≡ word_change maps.Root word.now }
 {
@@ -20,7 +20,7 @@ fn root(word: &str) -> &str
     }
 }
 
-/// What stands after the last dot of a word, and without a dot nothing.
+/// What follows the last dot of a word; without a dot, nothing.
 fn extension(word: &str) -> &str
     ensures { result.now ≡ word_change maps.Extension word.now }
 {
@@ -30,8 +30,7 @@ fn extension(word: &str) -> &str
     }
 }
 
-/// What stands before the last slash of a word, a slash where that is nothing, and without a slash a
-/// dot.
+/// What comes before the last slash of a word, or a slash if that is nothing; without a slash, a dot.
 fn head(word: &str) -> &str
     ensures { result.now ≡ word_change maps.Head word.now }
 {
@@ -41,7 +40,7 @@ fn head(word: &str) -> &str
     }
 }
 
-/// What stands after the last slash of a word, and without a slash the word.
+/// What follows the last slash of a word; without a slash, the word.
 fn tail(word: &str) -> &str
     ensures { result.now ≡ word_change maps.Tail word.now }
 {
@@ -59,8 +58,10 @@ pub(crate) fn add_changed(
     word: &str,
 ) -> Result<(), TextFault>
     requires { length (string_bytes made.old) ≤ TEXT_LIMIT }
-    ensures ok { IfOk result (λ _. (length (string_bytes made.new) ≤ TEXT_LIMIT) × (string_bytes made.new ≡ with_word (string_bytes made.old) (word_change map word.now))) }
-    ensures err { IfErr result (IsTooLong (with_word (string_bytes made.old) (word_change map word.now))) }
+    ensures ok { IfOk result (λ _. (length (string_bytes made.new) ≤ TEXT_LIMIT)
+        × (string_bytes made.new ≡ with_word (string_bytes made.old) (word_change map word.now))) }
+    ensures err { IfErr result (IsTooLong
+        (with_word (string_bytes made.old) (word_change map word.now))) }
 {
     match map {
         WordMap::Root => add_word(made, root(word)),

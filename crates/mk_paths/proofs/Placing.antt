@@ -7,11 +7,11 @@ use Rattle.std.specs.Result.{result_ok}
 use Rattle.std.specs.FinMap.{contains_key}
 use Rattle.mk_paths.specs.FileName.{resolved}
 use Rattle.mk_paths.specs.World.{FileMap}
-use Rattle.mk_paths.specs.Shelf.{Presence, Question, Shelf, Answers, noted}
+use Rattle.mk_paths.specs.FilesView.{Presence, Question, FilesView, Answers, noted}
 use Rattle.mk_paths.specs.Place.{makefile_in, candidates, place_among, up_to_first, places_asked, AsksPlaces}
 
 -- the search has these trees before it: what was asked, and what is to be asked and found, are those of all trees
-pub record IsUnderway (old now : Shelf) (trees all : List (List ℕ)) (directory : List ℕ) : Type 0 where
+pub record IsUnderway (old now : FilesView) (trees all : List (List ℕ)) (directory : List ℕ) : Type 0 where
   pub asked : List Question
   pub state : now ≡ noted old asked
   pub rest : asked ++ places_asked old.files trees directory ≡ places_asked old.files all directory
@@ -21,17 +21,17 @@ log_kept : (log : Option (List Question)) → option_map (λ questions. question
 log_kept None = refl
 log_kept (Some questions) = ap Some (append-nil questions)
 
-noted-nil : (world : Shelf) → noted world [] ≡ world
+noted-nil : (world : FilesView) → noted world [] ≡ world
 noted-nil world = ap (λ log. record world { log = log }) (log_kept world.log)
 
 log_twice : (log : Option (List Question)) (first second : List Question) → option_map (λ questions. questions ++ second) (option_map (λ questions. questions ++ first) log) ≡ option_map (λ questions. questions ++ (first ++ second)) log
 log_twice None first second = refl
 log_twice (Some questions) first second = ap Some (append_assoc questions first second)
 
-noted-noted : (world : Shelf) (first second : List Question) → noted (noted world first) second ≡ noted world (first ++ second)
+noted-noted : (world : FilesView) (first second : List Question) → noted (noted world first) second ≡ noted world (first ++ second)
 noted-noted world first second = ap (λ log. record world { log = log }) (log_twice world.log first second)
 
-pub begins : (old : Shelf) (all : List (List ℕ)) (directory : List ℕ) → IsUnderway old old all all directory
+pub begins : (old : FilesView) (all : List (List ℕ)) (directory : List ℕ) → IsUnderway old old all all directory
 begins old all directory = record { asked = []; state = sym (noted-nil old); rest = refl; finds = refl }
 
 -- the candidates of the trees, the first tree's first
@@ -46,10 +46,10 @@ asked_of : FileMap → List (List ℕ) → List Question
 asked_of files names = map (λ name. (name, Presence (contains_key files name))) (up_to_first files names)
 
 -- an answer joins what was asked before
-asked_next : (old now new : Shelf) (asked : List Question) (name : List ℕ) (there : Bool) → now ≡ noted old asked → Answers now new name (Presence there)
+asked_next : (old now new : FilesView) (asked : List Question) (name : List ℕ) (there : Bool) → now ≡ noted old asked → Answers now new name (Presence there)
     → (there ≡ contains_key old.files name) × (new ≡ noted old (asked ++ (name, Presence there) ∷ []))
 asked_next old now new asked name there state answer = (
-  answer.0 ∙ ap (λ (world : Shelf). contains_key world.files name) state,
+  answer.0 ∙ ap (λ (world : FilesView). contains_key world.files name) state,
   answer.1 ∙ ap (λ world. noted world ((name, Presence there) ∷ [])) state ∙ noted-noted old asked ((name, Presence there) ∷ []),
 )
 
@@ -64,7 +64,7 @@ found_from : (files : FileMap) (name : List ℕ) (names : List (List ℕ)) (ther
     → find (contains_key files) (name ∷ names) ≡ cond there (Some name) (find (contains_key files) names)
 found_from files name names there is = ap (λ b. cond b (Some name) (find (contains_key files) names)) (sym is)
 
-pub passes : {old now : Shelf} {all : List (List ℕ)} (tree : List ℕ) (trees : List (List ℕ)) (directory : List ℕ) → result_ok (resolved (makefile_in tree directory)) ≡ None → IsUnderway old now (tree ∷ trees) all directory → IsUnderway old now trees all directory
+pub passes : {old now : FilesView} {all : List (List ℕ)} (tree : List ℕ) (trees : List (List ℕ)) (directory : List ℕ) → result_ok (resolved (makefile_in tree directory)) ≡ None → IsUnderway old now (tree ∷ trees) all directory → IsUnderway old now trees all directory
 unfolding asked_of
 passes {old} {now} {all} tree trees directory none h =
     let same = no_candidate old.files tree trees directory none in
@@ -75,7 +75,7 @@ passes {old} {now} {all} tree trees directory none h =
       finds = ap (find (contains_key old.files)) (sym same) ∙ h.finds;
     }
 
-pub misses : {old now new : Shelf} {all : List (List ℕ)} (tree : List ℕ) (trees : List (List ℕ)) (directory name : List ℕ) → result_ok (resolved (makefile_in tree directory)) ≡ Some name → Answers now new name (Presence false)
+pub misses : {old now new : FilesView} {all : List (List ℕ)} (tree : List ℕ) (trees : List (List ℕ)) (directory name : List ℕ) → result_ok (resolved (makefile_in tree directory)) ≡ Some name → Answers now new name (Presence false)
     → IsUnderway old now (tree ∷ trees) all directory → IsUnderway old new trees all directory
 unfolding asked_of
 misses {old} {now} {new} {all} tree trees directory name some answer h =
@@ -90,7 +90,7 @@ misses {old} {now} {new} {all} tree trees directory name some answer h =
       finds = sym (ap (find (contains_key old.files)) one ∙ found_from old.files name names false next.0) ∙ h.finds;
     }
 
-pub hits : {old now new : Shelf} {all : List (List ℕ)} (tree : List ℕ) (trees : List (List ℕ)) (directory name : List ℕ) → result_ok (resolved (makefile_in tree directory)) ≡ Some name → Answers now new name (Presence true)
+pub hits : {old now new : FilesView} {all : List (List ℕ)} (tree : List ℕ) (trees : List (List ℕ)) (directory name : List ℕ) → result_ok (resolved (makefile_in tree directory)) ≡ Some name → Answers now new name (Presence true)
     → IsUnderway old now (tree ∷ trees) all directory → (Some name ≡ place_among old.files all directory) × AsksPlaces old new all directory
 unfolding asked_of
 hits {old} {now} {new} {all} tree trees directory name some answer h =
@@ -101,5 +101,5 @@ hits {old} {now} {new} {all} tree trees directory name some answer h =
       next.1 ∙ ap (noted old) (ap (λ more. h.asked ++ more) (sym (ap (asked_of old.files) one ∙ asked_from old.files name names true next.0)) ∙ h.rest),
     )
 
-pub ends : {old now : Shelf} {all : List (List ℕ)} (directory : List ℕ) → IsUnderway old now [] all directory → (None ≡ place_among old.files all directory) × AsksPlaces old now all directory
+pub ends : {old now : FilesView} {all : List (List ℕ)} (directory : List ℕ) → IsUnderway old now [] all directory → (None ≡ place_among old.files all directory) × AsksPlaces old now all directory
 ends {old} {now} {all} directory h = (h.finds, h.state ∙ ap (noted old) (sym (append-nil h.asked) ∙ h.rest))

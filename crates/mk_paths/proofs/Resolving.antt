@@ -4,8 +4,8 @@ use Rattle.std.proofs.lemmas.Bool.{and_parts, and_from}
 use Rattle.std.proofs.lemmas.Grind.{common_steps}
 use Rattle.std.proofs.lemmas.List.{append-nil, take-append-drop}
 use Rattle.std.proofs.lemmas.List.Folds.{list_all-append}
-use Rattle.text_cuts.specs.Laws.{is_between, are_between}
-use Rattle.text_cuts.proofs.PartTexts.{parts_are_between, written_is_cut_again, written_stands}
+use Rattle.text_parts.specs.Laws.{is_between, are_between}
+use Rattle.text_parts.proofs.PartTexts.{parts_are_between, written_is_cut_again, written_stands}
 use Rattle.std.specs.List.{list_all}
 use Rattle.std.specs.Option.{option_and_then}
 use Rattle.std.specs.Str.{bytes_eq}

@@ -1,5 +1,6 @@
--- What file a name stands for: names of files in ports trees, as in /ports/editors/vim/Makefile (ports(7)).
-use Rattle.std.specs.Prelude.{◌≡◌, ℕ, ◌-◌, ◌==◌, nat_le, ◌&&◌, ◌||◌, if◌then◌else◌, Bool, List, [], ◌∷◌, ◌++◌, length, take, Option, Some, None, Result, Ok, Err, option_and_then, codes, slice_index}
+-- Which file a name means: names of files in ports trees, as in /ports/editors/vim/Makefile (ports(7)).
+use Rattle.std.specs.Prelude.{◌≡◌, ℕ, ◌-◌, ◌==◌, nat_le, ◌&&◌, ◌||◌, if◌then◌else◌, Bool, List, [], ◌∷◌, ◌++◌, length}
+use Rattle.std.specs.Prelude.{take, Option, Some, None, Result, Ok, Err, option_and_then, codes, slice_index}
 use Rattle.std.specs.List.{slice_split, flat_map, list_all, before_last}
 use Rattle.std.specs.Str.{bytes_eq}
 use Rattle.mk_paths.specs.declared.file_name.NameFault.{NameFault}
@@ -17,36 +18,37 @@ is_plain byte = nat_le 33 byte && nat_le byte 126
 abbrev pub parts_of : List ℕ → List (List ℕ)
 parts_of text = slice_split (λ byte. byte == slash) text
 
--- the parts without the last, where there is one
+-- the parts without the last; None if there is no part
 abbrev pub without_last : List (List ℕ) → Option (List (List ℕ))
 without_last kept = if length kept == 0 then None else Some (take (length kept - 1) kept)
 
--- the parts kept so far, with the next: an empty part and `.` add nothing, and `..` removes the part before it
+-- the parts kept so far, with the next: an empty part and `.` add nothing, and `..` removes the
+-- part before it
 abbrev pub with_part : List (List ℕ) → List ℕ → Option (List (List ℕ))
 with_part kept part =
     if bytes_eq part [] || bytes_eq part (codes ".") then Some kept
     else if bytes_eq part (codes "..") then without_last kept
     else Some (kept ++ part ∷ [])
 
--- the parts kept so far, with all that come; none where a `..` has no part before it
+-- the parts kept so far, with all that follow; None if a `..` has no part before it
 unfoldable pub kept_parts : List (List ℕ) → List (List ℕ) → Option (List (List ℕ))
 kept_parts kept [] = Some kept
 kept_parts kept (part ∷ more) = option_and_then (λ next. kept_parts next more) (with_part kept part)
 
--- each part behind a slash
+-- the parts one after another, each after a slash
 abbrev pub joined : List (List ℕ) → List ℕ
 joined parts = flat_map (λ part. slash ∷ part) parts
 
--- the name of the parts, of which there are two or more, in 255 bytes at most
+-- the name that these parts make: there must be two or more, and the name has 255 bytes at most
 abbrev pub name_of : Option (List (List ℕ)) → Result (List ℕ) NameFault
 name_of None = Err Above
 name_of (Some parts) = if nat_le 2 (length parts) && nat_le (length (joined parts)) 255 then Ok (joined parts) else Err BadName
 
--- the file that a text names: a slash comes first, and each byte is plain
+-- the file that a text names: the first byte is a slash, and each byte is plain
 abbrev pub resolved : List ℕ → Result (List ℕ) NameFault
 resolved text = if slice_index text 0 == slash && list_all is_plain text then name_of (kept_parts [] (parts_of text)) else Err BadName
 
--- the name of a file that a makefile in a directory means: an absolute name stands as it is
+-- the name of a file that a makefile in a directory means: an absolute name is taken as it is
 abbrev pub name_under : List ℕ → List ℕ → List ℕ
 name_under directory file = if slice_index file 0 == slash then file else directory ++ slash ∷ file
 

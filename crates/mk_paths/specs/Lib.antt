@@ -1,5 +1,5 @@
 pub mod FileName
 pub mod SearchPath
 pub mod World
-pub mod Shelf
+pub mod FilesView
 pub mod Place

@@ -26,15 +26,15 @@ search_path_of world = world.1.path
 abbrev pub opening_world : World
 opening_world = (empty, record { path = standard_trees })
 
--- the same with this content as the file of this name
+-- the same world, with this content as the file of this name
 abbrev pub with_file : World → List ℕ → List ℕ → World
 with_file world name content = (insert world.0 name content, world.1)
 
--- the same without the file of this name
+-- the same world, without the file of this name
 abbrev pub without_file : World → List ℕ → World
 without_file world name = (remove world.0 name, world.1)
 
--- the same with this search path
+-- the same world, with this search path
 abbrev pub with_search_path : World → List (List ℕ) → World
 with_search_path world trees = (world.0, record world.1 { path = trees })
 

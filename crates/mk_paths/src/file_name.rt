@@ -3,25 +3,29 @@ ghost use Rattle.std.specs.Prelude.{◌≡◌, IfOk, IsErrOf, option_map, [], if
 ghost use Rattle.std.specs.List.{list_all};
 ghost use Rattle.std.specs.String.{string_bytes};
 ghost use Rattle.mk_paths.specs.FileName.{resolved, IsResolved, name_under, directory_of, is_plain, kept_parts, with_part, joined};
-ghost use Rattle.text_cuts.specs.Cuts.{now_all};
+ghost use Rattle.text_parts.specs.Cuts.{now_all};
 ghost use Rattle.mk_paths.specs.declared.file_name.NameFault.TheVariants.{Memory};
 
 use std::alloc::{AllocError, Global};
 use std::marker::Model;
-use text_cuts::split_at;
+use text_parts::split_at;
+use thiserror::Error;
 
 /// The most bytes of a resolved name.
 const LONGEST_NAME: usize = 255;
 
 /// Why a text names no file.
-#[derive(Clone, Copy, Debug, PartialEq, Eq)]
+#[derive(Clone, Copy, Debug, PartialEq, Eq, Error)]
 pub enum NameFault {
-    /// A byte that isn't printable ASCII without blanks, no slash at the front, fewer than two parts,
-    /// or more than 255 bytes when resolved.
+    /// A byte isn't printable ASCII or is a blank, the first byte isn't a slash, or the resolved name
+    /// has fewer than two parts or more than 255 bytes.
+    #[error("not the name of a file")]
     BadName,
-    /// A `..` with no part before it.
+    /// A `..` has no part before it.
+    #[error("a `..` has no part before it")]
     Above,
-    /// No memory for the resolved name.
+    /// There was no memory for the resolved name.
+    #[error("out of memory")]
     Memory,
 }
 
@@ -33,8 +37,8 @@ impl From<AllocError> for NameFault {
     }
 }
 
-/// A resolved file name, `/tree/a/b`: at least two parts, none of them empty, `.` or `..`, of printable
-/// ASCII without blanks, in at most 255 bytes. Clauses see its bytes.
+/// A resolved file name, as in `/tree/a/b`. It has at least two parts of printable ASCII without blanks,
+/// and no part is empty, `.` or `..`. It has at most 255 bytes. Clauses see its bytes.
 #[derive(Debug, Drop)]
 pub struct Name {
     text: String,
@@ -53,14 +57,17 @@ impl Model for Name {
 }
 
 impl Name {
-    /// The file that an absolute name stands for: empty and `.` parts are dropped, and `..` removes the part
-    /// before it.
+    /// The file that an absolute name means. Empty and `.` parts are dropped, and `..` removes the
+    /// part before it.
     ///
-    /// A bad byte or a missing first slash is `BadName`; then a `..` with no part before it is `Above`; then
-    /// fewer than two parts or more than 255 bytes are `BadName`. `Memory` comes where none is left.
+    /// The faults are looked for in this order. It is `BadName` if a byte isn't printable ASCII or is a
+    /// blank, or if the first byte isn't a slash. It is `Above` if a `..` has no part before it. It is
+    /// `BadName` if the resolved name has fewer than two parts or more than 255 bytes. Whenever memory
+    /// runs out, it is `Memory`.
     pub fn read(alloc: Global, text: &str) -> Result<Name, NameFault>
         ensures ok { IfOk result (λ name. resolved text.now ≡ Ok name) }
-        ensures bad_name { IsErrOf result NameFault.BadName → resolved text.now ≡ Err NameFault.BadName }
+        ensures bad_name { IsErrOf result NameFault.BadName
+            → resolved text.now ≡ Err NameFault.BadName }
         ensures above { IsErrOf result NameFault.Above → resolved text.now ≡ Err NameFault.Above }
     {
         if !text.starts_with('/') || !is_plain_text(text) {
@@ -77,14 +84,16 @@ impl Name {
         Ok(Name { text })
     }
 
-    /// The file that a name in a makefile stands for: an absolute name as `read` takes it, and any other
-    /// under the directory, with a slash between.
+    /// The file that a name in a makefile means. An absolute name is taken as `read` takes it. Any other
+    /// name is put after the directory, with a slash between.
     ///
     /// Its faults are those of `read` for that text.
     pub fn under(alloc: Global, directory: &str, file: &str) -> Result<Name, NameFault>
         ensures ok { IfOk result (λ name. resolved (name_under directory.now file.now) ≡ Ok name) }
-        ensures bad_name { IsErrOf result NameFault.BadName → resolved (name_under directory.now file.now) ≡ Err NameFault.BadName }
-        ensures above { IsErrOf result NameFault.Above → resolved (name_under directory.now file.now) ≡ Err NameFault.Above }
+        ensures bad_name { IsErrOf result NameFault.BadName
+            → resolved (name_under directory.now file.now) ≡ Err NameFault.BadName }
+        ensures above { IsErrOf result NameFault.Above
+            → resolved (name_under directory.now file.now) ≡ Err NameFault.Above }
     {
         if file.starts_with('/') {
             return Name::read(alloc, file);
@@ -103,7 +112,7 @@ impl Name {
         self.text.as_str()
     }
 
-    /// The directory that the file is in: what stands before the last slash of its name.
+    /// The directory that the file is in: what is before the last slash of its name.
     pub fn directory(&self) -> &str
         ensures { result.now ≡ directory_of self.now }
     {
@@ -138,10 +147,11 @@ fn is_plain_text(text: &str) -> bool
     text.bytes().all(|byte| is_plain_byte(byte))
 }
 
-// The parts that are left where empty and `.` parts are dropped and each `..` removes the part before it;
-// `None` where a `..` has none before it.
+// The parts that are left when empty and `.` parts are dropped and each `..` removes the part before it;
+// `None` if a `..` has no part before it.
 fn kept_of<'a>(alloc: Global, parts: &[&'a str]) -> Result<Option<Vec<&'a str>>, AllocError>
-    ensures { IfOk result (λ kept. option_map (λ parts. now_all parts.items) kept ≡ kept_parts [] (now_all parts.now)) }
+    ensures { IfOk result (λ kept. option_map (λ parts. now_all parts.items) kept
+        ≡ kept_parts [] (now_all parts.now)) }
 {
     let mut kept = Vec::new(alloc);
     for part in parts {
@@ -153,10 +163,11 @@ fn kept_of<'a>(alloc: Global, parts: &[&'a str]) -> Result<Option<Vec<&'a str>>,
     Ok(Some(kept))
 }
 
-// Takes the next part after those kept so far, and tells whether it has its place, which a `..` with no part
-// before it hasn't.
+// Takes the next part after those kept so far. It gives false if the part is a `..` with no part before
+// it, and otherwise true.
 fn take_part<'a>(kept: &mut Vec<&'a str>, part: &'a str) -> Result<bool, AllocError>
-    ensures { IfOk result (λ placed. with_part (now_all kept.old.items) part.now ≡ (if placed then Some (now_all kept.new.items) else None)) }
+    ensures { IfOk result (λ placed. with_part (now_all kept.old.items) part.now
+        ≡ (if placed then Some (now_all kept.new.items) else None)) }
 {
     match part {
         "" | "." => Ok(true),
@@ -168,7 +179,7 @@ fn take_part<'a>(kept: &mut Vec<&'a str>, part: &'a str) -> Result<bool, AllocEr
     }
 }
 
-// Each part behind a slash, one after another.
+// The parts one after another, each after a slash.
 fn join(alloc: Global, parts: &[&str]) -> Result<String, AllocError>
     ensures { IfOk result (λ text. string_bytes text ≡ joined (now_all parts.now)) }
 {

@@ -9,21 +9,25 @@ use crate::file_name::{Name, NameFault};
 use crate::search_path::SearchPath;
 use std::alloc::{AllocError, Global};
 
-/// The name of a directory's makefile in the first tree of the search path that has it, as in
-/// `/ports/editors/vim/Makefile`; `None` where no tree has it.
+/// The name of a directory's makefile in the first tree of the search path that has such a file, as in
+/// `/ports/editors/vim/Makefile`; `None` if no tree has one.
 ///
-/// The trees are asked in their order, up to the first that has the makefile; a tree in which the text is no
-/// file name has none, and asks nothing. A fault of the files, which then count one more failure, is told as it
-/// is; `Memory` comes too where none is left for a name, and then nothing is counted.
+/// The trees are asked in their order, up to the first that has the makefile. If the text is no file
+/// name in a tree, that tree has no makefile, and nothing is asked. If the files fail, they count one
+/// more failure, and their fault is returned as it is. If there is no memory for a name, the fault is
+/// `Memory`, and nothing is counted.
 pub fn find<N: Names>(
     alloc: Global,
     names: &mut N,
     path: &SearchPath,
     directory: &str,
 ) -> Result<Option<Name>, FilesFault>
-    ensures place { IfOk result (λ found. found ≡ place_among (N.shelf names.old).files path.now directory.now) }
-    ensures asked { OnOk result (AsksPlaces (N.shelf names.old) (N.shelf names.new) path.now directory.now) }
-    ensures fault { IfErr result (StopsAsking N.fails_with (N.shelf names.old) (N.shelf names.new) path.now directory.now) }
+    ensures place { IfOk result (λ found. found
+        ≡ place_among (N.view names.old).files path.now directory.now) }
+    ensures asked { OnOk result (AsksPlaces (N.view names.old)
+        (N.view names.new) path.now directory.now) }
+    ensures fault { IfErr result (StopsAsking N.fails_with (N.view names.old)
+        (N.view names.new) path.now directory.now) }
 {
     let trees = path.trees();
     for tree in trees {
@@ -38,9 +42,10 @@ pub fn find<N: Names>(
     Ok(None)
 }
 
-// The name of a directory's makefile in a tree, if the text is one.
+// The name of a directory's makefile in a tree; `None` if the text is no file name.
 fn candidate(alloc: Global, tree: &str, directory: &str) -> Result<Option<Name>, AllocError>
-    ensures { IfOk result (λ name. name ≡ result_ok (resolved (makefile_in tree.now directory.now))) }
+    ensures { IfOk result (λ name. name
+        ≡ result_ok (resolved (makefile_in tree.now directory.now))) }
 {
     let mut text = String::from_str(alloc, tree)?;
     text.push_str("/")?;

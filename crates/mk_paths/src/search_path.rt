@@ -3,23 +3,26 @@ ghost use Rattle.std.specs.Prelude.{◌≡◌, IfOk, IsErrOf, map};
 ghost use Rattle.std.specs.List.{list_all};
 ghost use Rattle.std.specs.String.{string_bytes};
 ghost use Rattle.mk_paths.specs.SearchPath.{search_path, is_search_path, may_be_in_part, is_part, is_tree, standard_trees, IsSearchPath};
-ghost use Rattle.text_cuts.specs.Cuts.{now_all};
+ghost use Rattle.text_parts.specs.Cuts.{now_all};
 ghost use Rattle.mk_paths.specs.declared.search_path.PathFault.TheVariants.{Memory};
 
 use crate::file_name::is_plain_byte;
 use std::alloc::{AllocError, Global};
 use std::marker::Model;
-use text_cuts::{copies_of, split_at};
+use text_parts::{copies_of, split_at};
+use thiserror::Error;
 
 /// The most trees of a search path.
 const MOST_TREES: usize = 8;
 
 /// Why a text is no search path.
-#[derive(Clone, Copy, Debug, PartialEq, Eq)]
+#[derive(Clone, Copy, Debug, PartialEq, Eq, Error)]
 pub enum PathFault {
-    /// No tree or more than eight, or one that isn't a slash and one part.
+    /// There is no tree, there are more than eight, or one isn't a slash and one part.
+    #[error("not a search path of one to eight trees")]
     BadPath,
-    /// No memory for the trees.
+    /// There was no memory for the trees.
+    #[error("out of memory")]
     Memory,
 }
 
@@ -51,10 +54,11 @@ impl Model for SearchPath {
 }
 
 impl SearchPath {
-    /// The trees of a text, which colons separate: one to eight, each a slash and one part of printable ASCII
-    /// without blanks, which isn't `.` or `..` and has no slash or colon. A tree may be named again.
+    /// The trees of a text, with colons between them. There are one to eight, each a slash and one part.
+    /// The part is printable ASCII without blanks, slashes or colons, and isn't empty, `.` or `..`. A
+    /// tree may be named again.
     ///
-    /// Any other text is `BadPath`; `Memory` comes where none is left.
+    /// Any other text is `BadPath`. It is `Memory` if memory runs out.
     pub fn read(alloc: Global, text: &str) -> Result<SearchPath, PathFault>
         ensures ok { IfOk result (λ path. search_path text.now ≡ Some path) }
         ensures bad_path { IsErrOf result PathFault.BadPath → search_path text.now ≡ None }
@@ -68,7 +72,7 @@ impl SearchPath {
         })
     }
 
-    /// The path `/ports:/mystuff`, with which a tenant begins.
+    /// The path `/ports:/mystuff`, with which a tenant begins. It fails only if memory runs out.
     pub fn standard(alloc: Global) -> Result<SearchPath, AllocError>
         ensures { IfOk result (λ path. path ≡ standard_trees) }
     {
@@ -125,14 +129,14 @@ fn is_part_text(part: &str) -> bool
     }
 }
 
-// Whether each byte may stand in the part of a tree's name.
+// Whether each byte may be in the part of a tree's name.
 fn has_part_bytes(text: &str) -> bool
     ensures { result ≡ list_all may_be_in_part text.now }
 {
     text.bytes().all(|byte| is_part_byte(byte))
 }
 
-// Whether a byte may stand in the part of a tree's name.
+// Whether a byte may be in the part of a tree's name.
 fn is_part_byte(byte: u8) -> bool
     ensures { result ≡ may_be_in_part byte }
 {

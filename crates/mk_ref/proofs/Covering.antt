@@ -1,9 +1,9 @@
 -- What stands outside references stands where it stood.
 use Rattle.std.proofs.Common.{◌≡◌, ◌≢◌, ◌⊎◌, ℕ, zero, suc, ◌+◌, ◌<◌, List, [], ◌∷◌, ◌++◌, length, take, drop, map, get_or, refl, sym, ap, subst, ◌∙◌, inl, inr, append-nil}
 use Rattle.std.specs.List.{flat_map}
-use Rattle.mk_ref.specs.Units.{TextUnit, Byte, Pair, Reference, source, sources, units_of, left_of}
+use Rattle.mk_ref.specs.Units.{TextUnit, Byte, EscapedDollar, Reference, source, sources, units_of, left_of}
 use Rattle.mk_ref.proofs.UnitSteps.{units-text}
-use Rattle.mk_ref.specs.Pieces.{TextPiece, LiteralPiece, PairPiece, ReferencePiece, with_byte, pieces_of}
+use Rattle.mk_ref.specs.Pieces.{TextPiece, LiteralPiece, EscapedDollarPiece, ReferencePiece, with_byte, pieces_of}
 use Rattle.std.proofs.lemmas.List.{drop_more, drop-map}
 use Rattle.mk_ref.specs.declared.cutting.Piece.{Piece}
 use Rattle.mk_ref.specs.Places.{shown, IsUnclosedAt}
@@ -29,7 +29,7 @@ covers-append (b ∷ plain) (c ∷ text) more rest front back = (front.0, covers
 
 covers-unit : (unit : TextUnit) → Covers (covered unit) (source unit)
 covers-unit (Byte b) = (inr refl, tt)
-covers-unit Pair = (inl refl, (inl refl, tt))
+covers-unit EscapedDollar = (inl refl, (inl refl, tt))
 covers-unit (Reference written name modifiers) = covers-dollars written
 
 covers-units : (units : List TextUnit) → Covers (flat_map covered units) (sources units)
@@ -66,13 +66,13 @@ outside-at text at other = covers-at (outside text) text at (covers-outside text
 covered-with_byte : (b : ℕ) (pieces : List TextPiece) → flat_map covered_piece (with_byte b pieces) ≡ b ∷ flat_map covered_piece pieces
 covered-with_byte b [] = refl
 covered-with_byte b (LiteralPiece bytes ∷ pieces) = refl
-covered-with_byte b (PairPiece ∷ pieces) = refl
+covered-with_byte b (EscapedDollarPiece ∷ pieces) = refl
 covered-with_byte b (ReferencePiece written name modifiers ∷ pieces) = refl
 
 pub covered-pieces : (units : List TextUnit) → flat_map covered_piece (pieces_of units) ≡ flat_map covered units
 covered-pieces [] = refl
 covered-pieces (Byte b ∷ units) = covered-with_byte b (pieces_of units) ∙ ap (λ l. b ∷ l) (covered-pieces units)
-covered-pieces (Pair ∷ units) = ap (λ l. 36 ∷ 36 ∷ l) (covered-pieces units)
+covered-pieces (EscapedDollar ∷ units) = ap (λ l. 36 ∷ 36 ∷ l) (covered-pieces units)
 covered-pieces (Reference written name modifiers ∷ units) = ap (λ l. dollars written ++ l) (covered-pieces units)
 
 -- a text whose references all end, from its pieces

@@ -10,7 +10,7 @@ use Rattle.std.proofs.lemmas.Option.{none-some, same_Some}
 use Rattle.std.proofs.lemmas.Grind.{flat_map-append}
 use Rattle.mk_ref.specs.declared.opening.Opening.{Opening}
 use Rattle.mk_ref.specs.declared.opening.Opening.TheVariants.{Doubled, Letter, Marked}
-use Rattle.mk_ref.specs.Units.{TextUnit, Byte, Pair, Reference, source, sources, is_colon, before_colon, behind_colon, opening_behind, opening_of, marked_first, unit_by, unit_before, with_more, up_to_mark, first_unit}
+use Rattle.mk_ref.specs.Units.{TextUnit, Byte, EscapedDollar, Reference, source, sources, is_colon, before_colon, behind_colon, opening_behind, opening_of, marked_first, unit_by, unit_before, with_more, up_to_mark, first_unit}
 use Rattle.mk_ref.specs.Ends.{GoesOnAt, IsInside}
 use Rattle.mk_ref.proofs.ScanSteps.{up_to-unit}
 use Rattle.mk_ref.proofs.UnitSteps.{up_to-nil, up_to-cons, first_whole, IsUnitOf}
@@ -133,7 +133,7 @@ before-all units none = ap before_colon (sym (append-nil units)) ∙ before-none
 
 colon_one : (unit : TextUnit) → is_colon unit ≡ true → length (source unit) ≡ 1
 colon_one (Byte b) is = refl
-colon_one Pair is = cc
+colon_one EscapedDollar is = cc
 colon_one (Reference written name modifiers) is = cc
 
 pub length-range : (text : List ℕ) (start end : ℕ) → start ≤ end → end ≤ length text → length (slice_range text start end) ≡ end - start

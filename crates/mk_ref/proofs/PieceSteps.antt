@@ -9,7 +9,7 @@ use Rattle.mk_ref.specs.declared.opening.Opening.{Opening}
 use Rattle.mk_ref.specs.declared.opening.Opening.TheVariants.{Doubled, Letter, Marked}
 use Rattle.mk_ref.specs.declared.ending.Inside.{Inside}
 use Rattle.mk_ref.specs.declared.cutting.Piece.TheVariants as v
-use Rattle.mk_ref.specs.Units.{TextUnit, Pair, Reference, source, sources, before_colon, opening_of, marked_reference, marked_first, up_to_mark, first_unit}
+use Rattle.mk_ref.specs.Units.{TextUnit, EscapedDollar, Reference, source, sources, before_colon, opening_of, marked_reference, marked_first, up_to_mark, first_unit}
 use Rattle.mk_ref.specs.Ends.{IsInside}
 use Rattle.mk_ref.specs.Pieces.{ReferencePiece}
 use Rattle.mk_ref.specs.Places.{IsReferenceIn, IsMarkedPlaced}
@@ -61,13 +61,13 @@ may_cut text at opening utf8 room is =
       two = subst (IsCharBoundary text) on (IsCharBoundary-after_ascii text (at + 1) utf8 second (second_below text at opening is));
     }
 
-pub piece_pair : (text : List ℕ) (at : ℕ) → IsUtf8 text → at + 2 ≤ length text → opening_of (drop at text) ≡ Some Doubled
-    → IsPieceAt text at (v.Pair (record { start = at; end = at + 2 }))
-piece_pair text at utf8 room is =
+pub piece_escaped_dollar : (text : List ℕ) (at : ℕ) → IsUtf8 text → at + 2 ≤ length text → opening_of (drop at text) ≡ Some Doubled
+    → IsPieceAt text at (v.EscapedDollar (record { start = at; end = at + 2 }))
+piece_escaped_dollar text at utf8 room is =
     let cuts = may_cut text at Doubled utf8 room is in
     record {
-      unit = Pair;
-      first = first-opening (drop at text) (Some Doubled) is ∙ ap (λ l. Some (Pair, l)) (drop-drop 2 at text);
+      unit = EscapedDollar;
+      first = first-opening (drop at text) (Some Doubled) is ∙ ap (λ l. Some (EscapedDollar, l)) (drop-drop 2 at text);
       alone = refl;
       start = refl;
       later = omega arith;

@@ -8,7 +8,7 @@ use Rattle.std.proofs.Math.Seq.{drop-length}
 use Rattle.std.proofs.lemmas.Str.{IsCharBoundary-start, IsCharBoundary-end}
 use Rattle.mk_ref.specs.declared.cutting.Piece.{Piece}
 use Rattle.mk_ref.specs.declared.cutting.Piece.TheVariants as v
-use Rattle.mk_ref.specs.Units.{TextUnit, Byte, Pair, Reference, opening_of, unit_before, first_unit, cut_on, cut, units_of, left_of}
+use Rattle.mk_ref.specs.Units.{TextUnit, Byte, EscapedDollar, Reference, opening_of, unit_before, first_unit, cut_on, cut, units_of, left_of}
 use Rattle.mk_ref.specs.Pieces.{TextPiece, LiteralPiece, with_byte, pieces_of}
 use Rattle.mk_ref.specs.Places.{shown, place_of, StandFrom, IsPieceIn, IsUnclosedAt}
 use Rattle.mk_ref.specs.Firsts.{literal_at, IsAlone, IsPieceAt}
@@ -81,12 +81,12 @@ literal_pieces (b ∷ bytes) = LiteralPiece (b ∷ bytes) ∷ []
 
 alone_first : (unit : TextUnit) (piece : TextPiece) (units : List TextUnit) → IsAlone unit piece → pieces_of (unit ∷ units) ≡ piece ∷ pieces_of units
 alone_first (Byte b) piece units is = absurd is
-alone_first Pair piece units is = ap (λ p. p ∷ pieces_of units) (sym is)
+alone_first EscapedDollar piece units is = ap (λ p. p ∷ pieces_of units) (sym is)
 alone_first (Reference written name modifiers) piece units is = ap (λ p. p ∷ pieces_of units) (sym is)
 
 alone_byte : (b : ℕ) (unit : TextUnit) (piece : TextPiece) (pieces : List TextPiece) → IsAlone unit piece → with_byte b (piece ∷ pieces) ≡ LiteralPiece (b ∷ []) ∷ piece ∷ pieces
 alone_byte b (Byte c) piece pieces is = absurd is
-alone_byte b Pair piece pieces is = rw is refl
+alone_byte b EscapedDollar piece pieces is = rw is refl
 alone_byte b (Reference written name modifiers) piece pieces is = rw is refl
 
 alone_after : (bytes : List ℕ) (unit : TextUnit) (piece : TextPiece) (units : List TextUnit) → IsAlone unit piece
@@ -140,12 +140,12 @@ literal_by false text start end is ordered within starts ends =
 
 starts_cut : (text : List ℕ) (piece : Piece) → IsPieceIn text piece → IsCharBoundary text (place_of piece).start
 starts_cut text (v.Literal span) is = is.starts
-starts_cut text (v.Pair span) is = is.0.starts
+starts_cut text (v.EscapedDollar span) is = is.0.starts
 starts_cut text (v.Reference reference) is = is.whole.starts
 
 ends_cut : (text : List ℕ) (piece : Piece) → IsPieceIn text piece → IsCharBoundary text (place_of piece).end
 ends_cut text (v.Literal span) is = is.ends
-ends_cut text (v.Pair span) is = is.0.ends
+ends_cut text (v.EscapedDollar span) is = is.0.ends
 ends_cut text (v.Reference reference) is = is.whole.ends
 
 -- a pair or a reference, with the literal before it

@@ -5,7 +5,7 @@ use Rattle.std.proofs.lemmas.List.{drop_more, reverse-append}
 use Rattle.std.proofs.Math.ListN.{drop_of_length-le}
 use Rattle.mk_ref.specs.declared.opening.Opening.{Opening}
 use Rattle.mk_ref.specs.declared.opening.Opening.TheVariants.{Doubled, Letter, Marked}
-use Rattle.mk_ref.specs.Units.{TextUnit, Byte, Pair, Reference, opening_of, marked_reference, marked_first, unit_by, unit_before, with_more, up_to_mark, first_unit}
+use Rattle.mk_ref.specs.Units.{TextUnit, Byte, EscapedDollar, Reference, opening_of, marked_reference, marked_first, unit_by, unit_before, with_more, up_to_mark, first_unit}
 use Rattle.mk_ref.specs.Ends.{GoesOnAt, EndsAt, UnitEndsAt}
 use Rattle.mk_ref.proofs.UnitSteps.{up_to-nil, up_to-cons}
 
@@ -129,7 +129,7 @@ open-two text start closing around mark at Doubled two h room other is =
     let near : at < length text = omega arith in
     open-step text start closing around mark at (at + 2) around mark h (omega arith) room
     (ap (behind_marks (mark ∷ reverse around)) (from_here text at near)
-    ∙ behind-first mark (reverse around) (get_or text at 0) (drop (at + 1) text) Pair (drop 1 (drop (at + 1) text))
+    ∙ behind-first mark (reverse around) (get_or text at 0) (drop (at + 1) text) EscapedDollar (drop 1 (drop (at + 1) text))
     (ne_eqb (get_or text at 0) mark other) (first_here text at near (Some Doubled) is)
     ∙ ap (behind_marks (mark ∷ reverse around)) (two_on text at near))
 open-two text start closing around mark at Letter two h room other is =

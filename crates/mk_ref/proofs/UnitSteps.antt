@@ -5,7 +5,7 @@ use Rattle.std.proofs.lemmas.List.Elements.{All-nil, All-cons}
 use Rattle.std.specs.Char.{is_ascii_alphabetic}
 use Rattle.mk_ref.specs.declared.opening.Opening.{Opening}
 use Rattle.mk_ref.specs.declared.opening.Opening.TheVariants.{Doubled, Letter, Marked}
-use Rattle.mk_ref.specs.Units.{TextUnit, Byte, Pair, Reference, source, sources, before_colon, behind_colon, opening_behind, opening_of, marked_first, unit_by, unit_before, with_more, read_up_to, up_to_mark, first_unit, cut_on, cut_by, cut}
+use Rattle.mk_ref.specs.Units.{TextUnit, Byte, EscapedDollar, Reference, source, sources, before_colon, behind_colon, opening_behind, opening_of, marked_first, unit_by, unit_before, with_more, read_up_to, up_to_mark, first_unit, cut_on, cut_by, cut}
 use Rattle.mk_ref.specs.Laws.{AreMarks, with_colon, IsPutTogether}
 
 -- the two bytes that an opening takes
@@ -231,7 +231,7 @@ around_colon (Byte b ∷ units) =
       | inl colon ↦ rw colon.0 (ap (λ n. n ∷ sources units) (sym colon.1))
       | inr other ↦ rw other.0 (ap (λ l. b ∷ l) (around_colon units))
     ]
-around_colon (Pair ∷ units) = ap (λ l. 36 ∷ 36 ∷ l) (around_colon units)
+around_colon (EscapedDollar ∷ units) = ap (λ l. 36 ∷ 36 ∷ l) (around_colon units)
 around_colon (Reference written name modifiers ∷ units) =
     append_assoc written (sources (before_colon units)) (with_colon (option_map sources (behind_colon units))) ∙ ap (λ l. written ++ l) (around_colon units)
 

@@ -1,25 +1,26 @@
 -- Where units end, as places in their text.
-use Rattle.std.specs.Prelude.{◌≡◌, ◌<◌, ◌≤◌, ℕ, ◌+◌, List, drop, length, Option, Some, None, option_map, slice_index, slice_range, unwrap_or}
+use Rattle.std.specs.Prelude.{◌≡◌, ◌<◌, ◌≤◌, ℕ, ◌+◌, List, drop, length, Option, Some, None, option_map, slice_index}
+use Rattle.std.specs.Prelude.{slice_range, unwrap_or}
 use Rattle.std.specs.Option.{IfSome, MatchOption}
 use Rattle.mk_ref.specs.declared.ending.Inside.{Inside}
 use Rattle.mk_ref.specs.Units.{TextUnit, sources, before_colon, behind_colon, first_unit, up_to_mark}
 
--- what stands behind the units that were read of a text from a place on is what stands behind another place
+-- what follows the units that were read of a text from `start` on is the text from `end` on
 pub record GoesOnAt {A : Type 0} (text : List ℕ) (start : ℕ) (read : Option (A × List ℕ)) (end : ℕ) : Type 0 where
   pub rest : option_map (λ x. x.1) read ≡ Some (drop end text)
   pub later : start < end
   pub within : end ≤ length text
 
--- a place directly behind the mark that closes what begins at `start`
+-- the place directly after the mark that closes what begins at `start`, or none if nothing closes it
 abbrev pub EndsAt : List ℕ → ℕ → ℕ → Option ℕ → Type 0
 EndsAt text start mark end =
     MatchOption end (up_to_mark mark (drop start text) ≡ None) (GoesOnAt text start (up_to_mark mark (drop start text)))
 
--- a place directly behind the unit that begins at `start`
+-- the place directly after the unit that begins at `start`, or none if there is no unit
 abbrev pub UnitEndsAt : List ℕ → ℕ → Option ℕ → Type 0
 UnitEndsAt text start end = MatchOption end (first_unit (drop start text) ≡ None) (GoesOnAt text start (first_unit (drop start text)))
 
--- the colon and the closing mark of what stands inside a reference from `start` on
+-- the colon and the closing mark of what is inside a reference from `start` on
 pub record IsInside (text : List ℕ) (start mark : ℕ) (inside : Inside) : Type 0 where
   pub units : List TextUnit
   pub read : up_to_mark mark (drop start text) ≡ Some (units, drop (inside.close + 1) text)
@@ -30,6 +31,6 @@ pub record IsInside (text : List ℕ) (start mark : ℕ) (inside : Inside) : Typ
   pub modifiers : option_map sources (behind_colon units) ≡ option_map (λ colon. slice_range text (colon + 1) inside.close) inside.colon
   pub colon : IfSome inside.colon (λ colon. (start ≤ colon) × (colon < inside.close) × (slice_index text colon ≡ 58))
 
--- the same, or none where nothing closes it
+-- the same, or none if nothing closes it
 abbrev pub EndsInside : List ℕ → ℕ → ℕ → Option Inside → Type 0
 EndsInside text start mark inside = MatchOption inside (up_to_mark mark (drop start text) ≡ None) (IsInside text start mark)

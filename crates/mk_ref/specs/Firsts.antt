@@ -1,11 +1,12 @@
 -- The piece that a text has at a place.
-use Rattle.std.specs.Prelude.{◌≡◌, ◌<◌, ◌≤◌, ℕ, ◌+◌, nat_lt, List, [], ◌∷◌, length, drop, Option, Some, None, option_map, unwrap_or, if◌then◌else◌}
+use Rattle.std.specs.Prelude.{◌≡◌, ◌<◌, ◌≤◌, ℕ, ◌+◌, nat_lt, List, [], ◌∷◌, length, drop, Option, Some, None}
+use Rattle.std.specs.Prelude.{option_map, unwrap_or, if◌then◌else◌}
 use Rattle.mk_ref.specs.declared.ending.Inside.{Inside}
 use Rattle.mk_ref.specs.declared.cutting.Reference.{Reference}
 use Rattle.mk_ref.specs.declared.cutting.Piece.{Piece}
 use Rattle.mk_ref.specs.declared.cutting.Piece.TheVariants as v
-use Rattle.mk_ref.specs.Units.{TextUnit, Byte, Pair, Reference as ReferenceUnit, first_unit}
-use Rattle.mk_ref.specs.Pieces.{TextPiece, PairPiece, ReferencePiece}
+use Rattle.mk_ref.specs.Units.{TextUnit, Byte, EscapedDollar, Reference as ReferenceUnit, first_unit}
+use Rattle.mk_ref.specs.Pieces.{TextPiece, EscapedDollarPiece, ReferencePiece}
 use Rattle.mk_ref.specs.Places.{shown, place_of, IsPieceIn}
 
 -- the literal from a place up to another, unless it is empty
@@ -23,7 +24,7 @@ reference_at at inside = record {
 -- a pair or a reference, which is a piece of its own
 abbrev pub IsAlone : TextUnit → TextPiece → Type 0
 IsAlone (Byte b) piece = ⊥
-IsAlone Pair piece = piece ≡ PairPiece
+IsAlone EscapedDollar piece = piece ≡ EscapedDollarPiece
 IsAlone (ReferenceUnit written name modifiers) piece = piece ≡ ReferencePiece written name modifiers
 
 -- the piece, a pair or a reference, that a text has at a place
@@ -36,7 +37,7 @@ pub record IsPieceAt (text : List ℕ) (at : ℕ) (piece : Piece) : Type 0 where
   pub within : (place_of piece).end ≤ length text
   pub places : IsPieceIn text piece
 
--- the same, or none where a reference begins there that doesn't end
+-- the same, or none if a reference begins there that doesn't end
 abbrev pub BeginsAt : List ℕ → ℕ → Option Piece → Type 0
 BeginsAt text at None = first_unit (drop at text) ≡ None
 BeginsAt text at (Some piece) = IsPieceAt text at piece

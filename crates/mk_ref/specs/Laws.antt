@@ -1,10 +1,12 @@
 -- What holds of the units of every text.
-use Rattle.std.specs.Prelude.{◌≡◌, ◌≢◌, ◌⊎◌, ℕ, true, false, ◌==◌, List, [], ◌∷◌, ◌++◌, length, slice_index, Option, Some, None, IfSome, All, map, if◌then◌else◌}
+use Rattle.std.specs.Prelude.{◌≡◌, ◌≢◌, ◌⊎◌, ℕ, true, false, ◌==◌, List, [], ◌∷◌, ◌++◌, length, slice_index, Option}
+use Rattle.std.specs.Prelude.{Some, None, IfSome, All, map, if◌then◌else◌}
 use Rattle.std.specs.Char.{is_ascii_alphabetic}
 use Rattle.std.specs.List.{flat_map, list_any}
 use Rattle.mk_ref.specs.Outside.{outside}
 use Rattle.mk_ref.specs.Pieces.{units_in, pieces_of}
-use Rattle.mk_ref.specs.Units.{TextUnit, Byte, Pair, Reference, sources, before_colon, behind_colon, with_more, cut_on, up_to_mark, first_unit, cut, units_of, left_of}
+use Rattle.mk_ref.specs.Units.{TextUnit, Byte, EscapedDollar, Reference, sources, before_colon, behind_colon}
+use Rattle.mk_ref.specs.Units.{with_more, cut_on, up_to_mark, first_unit, cut, units_of, left_of}
 
 -- the units of a text and what is left, put together, are the text
 abbrev pub UnitsAreText : Type 0
@@ -15,7 +17,7 @@ abbrev pub with_colon : Option (List ℕ) → List ℕ
 with_colon None = []
 with_colon (Some modifiers) = 58 ∷ modifiers
 
--- the two bytes in front of a reference and its closing mark: `${` and `}`, or `$(` and `)`
+-- the first two bytes of a reference and its closing mark: `${` and `}`, or `$(` and `)`
 abbrev pub AreMarks : List ℕ → ℕ → Type 0
 AreMarks front mark = ((front ≡ 36 ∷ 123 ∷ []) × (mark ≡ 125)) ⊎ ((front ≡ 36 ∷ 40 ∷ []) × (mark ≡ 41))
 
@@ -27,7 +29,7 @@ pub record IsLetterReference (written name : List ℕ) (modifiers : Option (List
   pub named : name ≡ letter ∷ []
   pub bare : modifiers ≡ None
 
--- a reference with marks: its name, and the colon and its modifiers where it has these, between its marks
+-- a reference with marks: between its marks are its name and, if it has modifiers, the colon and these
 pub record IsMarkedReference (written name : List ℕ) (modifiers : Option (List ℕ)) : Type 0 where
   pub front : List ℕ
   pub mark : ℕ
@@ -37,30 +39,31 @@ pub record IsMarkedReference (written name : List ℕ) (modifiers : Option (List
 -- a reference is its name and its modifiers put together with their marks
 abbrev pub IsPutTogether : TextUnit → Type 0
 IsPutTogether (Byte b) = Unit {0}
-IsPutTogether Pair = Unit {0}
+IsPutTogether EscapedDollar = Unit {0}
 IsPutTogether (Reference written name modifiers) = IsLetterReference written name modifiers ⊎ IsMarkedReference written name modifiers
 
--- each reference of a text is put together of its name and its modifiers
+-- each reference of a text is put together from its name and its modifiers
 abbrev pub ReferencesArePutTogether : Type 0
 ReferencesArePutTogether = (text : List ℕ) → All IsPutTogether (units_of text)
 
 -- every reference in the name and in the modifiers of a reference ends there: cut alone, they leave nothing
 abbrev pub HasWholeParts : TextUnit → Type 0
 HasWholeParts (Byte b) = Unit {0}
-HasWholeParts Pair = Unit {0}
+HasWholeParts EscapedDollar = Unit {0}
 HasWholeParts (Reference written name modifiers) = (left_of name ≡ []) × IfSome modifiers (λ text. left_of text ≡ [])
 
 -- the name and the modifiers of each reference of a text are cut alone with nothing left
 abbrev pub PartsAreWhole : Type 0
 PartsAreWhole = (text : List ℕ) → All HasWholeParts (units_of text)
 
--- what stands inside a reference, its name and its modifiers, cut alone, have the units that are read of them where they stand
+-- the inside of a reference, its name and its modifiers, each cut alone, have the units that are read of
+-- them in their place
 pub record AreCutAlone (units : List TextUnit) : Type 0 where
   pub inside : cut (sources units) ≡ (units, [])
   pub name : cut (sources (before_colon units)) ≡ (before_colon units, [])
   pub modifiers : IfSome (behind_colon units) (λ more. cut (sources more) ≡ (more, []))
 
--- so it is with what stands inside each reference
+-- this holds for the inside of each reference
 abbrev pub InsidesAreCutAlone : Type 0
 InsidesAreCutAlone = (mark : ℕ) (text : List ℕ) → IfSome (up_to_mark mark text) (λ read. AreCutAlone read.0)
 
@@ -68,11 +71,11 @@ InsidesAreCutAlone = (mark : ℕ) (text : List ℕ) → IfSome (up_to_mark mark 
 abbrev pub PiecesAreUnits : Type 0
 PiecesAreUnits = (units : List TextUnit) → flat_map units_in (pieces_of units) ≡ units
 
--- a text is cut by cutting off its first unit and then what stands behind that
+-- a text is cut by cutting off its first unit and then cutting what follows that
 abbrev pub CutGoesOn : Type 0
 CutGoesOn = (text : List ℕ) → cut text ≡ cut_on cut text (first_unit text)
 
--- units up to a mark are read one after another, until the mark stands first
+-- units up to a mark are read one after another, until the mark comes first
 abbrev pub ReadGoesOn : Type 0
 ReadGoesOn = (mark b : ℕ) (rest : List ℕ)
     → up_to_mark mark (b ∷ rest) ≡ (if b == mark then Some ([], rest) else with_more (up_to_mark mark) (first_unit (b ∷ rest)))
@@ -81,7 +84,9 @@ ReadGoesOn = (mark b : ℕ) (rest : List ℕ)
 abbrev pub DollarsAlonePartTexts : Type 0
 DollarsAlonePartTexts = (text : List ℕ) → list_any (λ b. b == 36) text ≡ false → cut text ≡ (map Byte text, [])
 
--- a text outside its references is as long as the text, and each of its bytes that is no dollar (36) is the text's at that place
+-- what `outside` gives is as long as the text, and each of its bytes that isn't a dollar (36) is the text's
+-- byte at the same place
 abbrev pub OutsideStandsInPlace : Type 0
 OutsideStandsInPlace = (text : List ℕ)
-    → (length (outside text) ≡ length text) × ((at : ℕ) → slice_index (outside text) at ≢ 36 → slice_index (outside text) at ≡ slice_index text at)
+    → (length (outside text) ≡ length text)
+    × ((at : ℕ) → slice_index (outside text) at ≢ 36 → slice_index (outside text) at ≡ slice_index text at)

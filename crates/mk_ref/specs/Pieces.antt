@@ -1,30 +1,30 @@
--- The pieces of a text of the make language: its units, where bytes that stand for themselves are put together.
+-- The pieces of a text of the make language: its units, with the bytes that mean themselves put together.
 use Rattle.std.specs.Prelude.{ℕ, List, [], ◌∷◌, map, Option}
-use Rattle.mk_ref.specs.Units.{TextUnit, Byte, Pair, Reference}
+use Rattle.mk_ref.specs.Units.{TextUnit, Byte, EscapedDollar, Reference}
 
--- a literal, one or more bytes that stand for themselves; a pair, `$$`; or a reference, with all that it is written as, its name and
--- its modifiers
+-- a literal, one or more bytes that mean themselves; a pair, `$$`; or a reference, with all that it is
+-- written as, its name and its modifiers
 pub data TextPiece : Type 0 where
   LiteralPiece : List ℕ → TextPiece
-  PairPiece : TextPiece
+  EscapedDollarPiece : TextPiece
   ReferencePiece : List ℕ → List ℕ → Option (List ℕ) → TextPiece
 
--- a byte in front of pieces: it goes into the literal that they begin with, or is one of its own
+-- a byte before pieces: if they begin with a literal, it goes into that; else it is a literal of its own
 abbrev pub with_byte : ℕ → List TextPiece → List TextPiece
 with_byte b [] = LiteralPiece (b ∷ []) ∷ []
 with_byte b (LiteralPiece bytes ∷ pieces) = LiteralPiece (b ∷ bytes) ∷ pieces
-with_byte b (PairPiece ∷ pieces) = LiteralPiece (b ∷ []) ∷ PairPiece ∷ pieces
+with_byte b (EscapedDollarPiece ∷ pieces) = LiteralPiece (b ∷ []) ∷ EscapedDollarPiece ∷ pieces
 with_byte b (ReferencePiece written name modifiers ∷ pieces) = LiteralPiece (b ∷ []) ∷ ReferencePiece written name modifiers ∷ pieces
 
 -- the pieces of units
 abbrev pub pieces_of : List TextUnit → List TextPiece
 pieces_of [] = []
 pieces_of (Byte b ∷ units) = with_byte b (pieces_of units)
-pieces_of (Pair ∷ units) = PairPiece ∷ pieces_of units
+pieces_of (EscapedDollar ∷ units) = EscapedDollarPiece ∷ pieces_of units
 pieces_of (Reference written name modifiers ∷ units) = ReferencePiece written name modifiers ∷ pieces_of units
 
 -- the units that a piece is made of
 abbrev pub units_in : TextPiece → List TextUnit
 units_in (LiteralPiece bytes) = map Byte bytes
-units_in PairPiece = Pair ∷ []
+units_in EscapedDollarPiece = EscapedDollar ∷ []
 units_in (ReferencePiece written name modifiers) = Reference written name modifiers ∷ []

@@ -9,28 +9,28 @@ use Rattle.mk_ref.specs.declared.cutting.Piece.TheVariants as v
 use Rattle.mk_ref.specs.declared.cutting.PiecesFault.{PiecesFault}
 use Rattle.mk_ref.specs.declared.cutting.PiecesFault.TheVariants as f
 use Rattle.mk_ref.specs.Units.{left_of}
-use Rattle.mk_ref.specs.Pieces.{TextPiece, LiteralPiece, PairPiece, ReferencePiece}
+use Rattle.mk_ref.specs.Pieces.{TextPiece, LiteralPiece, EscapedDollarPiece, ReferencePiece}
 
--- the piece that stands at the places of one
+-- a piece, with the parts of the text at its places
 abbrev pub shown : List ℕ → Piece → TextPiece
 shown text (v.Literal span) = LiteralPiece (span_text text span)
-shown text (v.Pair span) = PairPiece
+shown text (v.EscapedDollar span) = EscapedDollarPiece
 shown text (v.Reference reference) =
     ReferencePiece (span_text text reference.whole) (span_text text reference.name) (option_map (span_text text) reference.modifiers)
 
 -- the place of a whole piece
 abbrev pub place_of : Piece → Span
 place_of (v.Literal span) = span
-place_of (v.Pair span) = span
+place_of (v.EscapedDollar span) = span
 place_of (v.Reference reference) = reference.whole
 
--- pieces stand one directly behind another, from a place up to another, none of them empty
+-- pieces follow one another directly, from one place up to another, and none of them is empty
 abbrev pub StandFrom : ℕ → List Piece → ℕ → Type 0
 StandFrom start [] end = start ≡ end
 StandFrom start (piece ∷ pieces) end =
     ((place_of piece).start ≡ start) × (start < (place_of piece).end) × StandFrom (place_of piece).end pieces end
 
--- where the modifiers of a reference end, or its name where it has none
+-- where the modifiers of a reference end, or its name if it has none
 abbrev pub inside_end : Span → Option Span → ℕ
 inside_end name None = name.end
 inside_end name (Some modifiers) = modifiers.end
@@ -42,14 +42,15 @@ pub record IsLetterPlaced (reference : Reference) : Type 0 where
   pub whole_end : reference.whole.end ≡ reference.whole.start + 2
   pub modifiers : reference.modifiers ≡ None
 
--- a reference with marks: its name begins behind the two bytes in front, its modifiers directly behind the colon that directly follows
--- the name, and its closing mark follows these
+-- A reference with marks. Its name begins after its first two bytes. Its modifiers begin directly after the
+-- colon that directly follows the name. Its closing mark directly follows the modifiers, or the name if it
+-- has none.
 pub record IsMarkedPlaced (reference : Reference) : Type 0 where
   pub name_start : reference.name.start ≡ reference.whole.start + 2
   pub modifiers : IfSome reference.modifiers (λ modifiers. modifiers.start ≡ reference.name.end + 1)
   pub whole_end : reference.whole.end ≡ inside_end reference.name reference.modifiers + 1
 
--- the places of a reference can be cut out of the text, and lie in one another as they are written
+-- the places of a reference can be cut out of the text, and are inside one another as they are written
 pub record IsReferenceIn (text : List ℕ) (reference : Reference) : Type 0 where
   pub whole : IsSpanOf text reference.whole
   pub name : IsSpanOf text reference.name
@@ -59,15 +60,16 @@ pub record IsReferenceIn (text : List ℕ) (reference : Reference) : Type 0 wher
 -- the places of a piece can be cut out of the text; a pair is two bytes
 abbrev pub IsPieceIn : List ℕ → Piece → Type 0
 IsPieceIn text (v.Literal span) = IsSpanOf text span
-IsPieceIn text (v.Pair span) = IsSpanOf text span × (span.end ≡ span.start + 2)
+IsPieceIn text (v.EscapedDollar span) = IsSpanOf text span × (span.end ≡ span.start + 2)
 IsPieceIn text (v.Reference reference) = IsReferenceIn text reference
 
--- the text from a place on is what is left of it behind its units, and begins a reference that doesn't end
+-- the text from a place on is what is left of it after its units, and begins a reference that doesn't end
 pub record IsUnclosedAt (text : List ℕ) (at : ℕ) : Type 0 where
   pub inside : at < length text
   pub left : left_of text ≡ drop at text
 
--- why a text has no pieces: a reference that doesn't end, and where it begins; want of memory says nothing
+-- why a text has no pieces: a reference doesn't end, and this is where it begins; or memory ran out, which
+-- says nothing
 abbrev pub IsFaultOf : List ℕ → PiecesFault → Type 0
 IsFaultOf text (f.Unclosed at) = IsUnclosedAt text at
 IsFaultOf text f.Memory = ⊤

@@ -1,23 +1,26 @@
--- References in a text of the make language. That `${NAME}` and `$(NAME)` refer to a variable, that a `$` with one letter does, that
--- `$$` stands for a dollar and that modifiers stand behind a colon is make(1)'s ("VARIABLES"). That only an ASCII letter makes a
--- reference of one letter, that any other `$` is itself and where exactly a reference ends is this project's choice. A text is its bytes.
-use Rattle.std.specs.Prelude.{◌==◌, ℕ, suc, zero, Bool, false, List, [], ◌∷◌, ◌++◌, length, take, drop, Option, Some, None, option_map, if◌then◌else◌}
+-- References in a text of the make language. make(1) ("VARIABLES") says that `${NAME}` and `$(NAME)` refer
+-- to a variable, that a `$` with one letter does, that `$$` means a dollar, and that modifiers follow a
+-- colon. It is this project's choice that only an ASCII letter makes a reference of one letter, that any
+-- other `$` is itself, and where exactly a reference ends. A text is its bytes.
+use Rattle.std.specs.Prelude.{◌==◌, ℕ, suc, zero, Bool, false, List, [], ◌∷◌, ◌++◌, length, take, drop, Option, Some}
+use Rattle.std.specs.Prelude.{None, option_map, if◌then◌else◌}
 use Rattle.std.specs.Char.{is_ascii_alphabetic}
 use Rattle.std.specs.List.{flat_map}
 use Rattle.mk_ref.specs.declared.opening.Opening.{Opening}
 use Rattle.mk_ref.specs.declared.opening.Opening.TheVariants.{Doubled, Letter, Marked}
 
--- what a text is made of: a byte that stands for itself; a pair, `$$`; or a reference, with all that it is written as, its name, and
--- its modifiers, which are what stands behind the colon if there is one. References may stand in a name and in modifiers.
+-- what a text is made of: a byte that means itself; a pair, `$$`; or a reference, with all that it is
+-- written as, its name and its modifiers. The modifiers are what follows the colon, if there is one.
+-- References may be in a name and in modifiers.
 pub data TextUnit : Type 0 where
   Byte : ℕ → TextUnit
-  Pair : TextUnit
+  EscapedDollar : TextUnit
   Reference : List ℕ → List ℕ → Option (List ℕ) → TextUnit
 
 -- what a unit is written as (36 is the dollar)
 abbrev pub source : TextUnit → List ℕ
 source (Byte b) = b ∷ []
-source Pair = 36 ∷ 36 ∷ []
+source EscapedDollar = 36 ∷ 36 ∷ []
 source (Reference written name modifiers) = written
 
 -- what units are written as, one after another
@@ -27,21 +30,22 @@ sources units = flat_map source units
 -- a colon outside references (58 is `:`)
 abbrev pub is_colon : TextUnit → Bool
 is_colon (Byte b) = b == 58
-is_colon Pair = false
+is_colon EscapedDollar = false
 is_colon (Reference written name modifiers) = false
 
--- the units before the first colon outside references; all of them where there is none
+-- the units before the first colon outside references; all of them if there is none
 abbrev pub before_colon : List TextUnit → List TextUnit
 before_colon [] = []
 before_colon (unit ∷ units) = if is_colon unit then [] else unit ∷ before_colon units
 
--- the units behind the first colon outside references, if there is one
+-- the units after the first colon outside references, if there is one
 abbrev pub behind_colon : List TextUnit → Option (List TextUnit)
 behind_colon [] = None
 behind_colon (unit ∷ units) = if is_colon unit then Some units else behind_colon units
 
--- What a `$` makes with what stands behind it: with a second `$` a pair, with an ASCII letter a reference of one letter; `{` (123) and
--- `(` (40) begin a reference which `}` (125) and `)` (41) close. With anything else, or nothing, it stands for itself.
+-- What a `$` makes with what follows it. With a second `$` it makes a pair, and with an ASCII letter a
+-- reference of one letter. With `{` (123) or `(` (40) it begins a reference, which `}` (125) or `)` (41)
+-- closes. With anything else, or nothing, it is itself.
 abbrev pub opening_behind : List ℕ → Option Opening
 opening_behind [] = None
 opening_behind (b ∷ rest) =
@@ -51,41 +55,42 @@ opening_behind (b ∷ rest) =
     else if is_ascii_alphabetic b then Some Letter
     else None
 
--- what a text begins with, where that is a `$` which makes more than itself; it takes two bytes
+-- what a text begins with, if that is a `$` which makes more than itself; it takes two bytes
 abbrev pub opening_of : List ℕ → Option Opening
 opening_of [] = None
 opening_of (b ∷ rest) = if b == 36 then opening_behind rest else None
 
--- the reference with these two bytes in front, these units inside and this closing mark
+-- the reference that begins with these two bytes and has these units inside and this closing mark
 abbrev pub marked_reference : List ℕ → List TextUnit → ℕ → TextUnit
 marked_reference front inside mark =
     Reference (front ++ sources inside ++ mark ∷ []) (sources (before_colon inside)) (option_map sources (behind_colon inside))
 
--- such a reference and what stands behind it, from what was read behind its two bytes in front
+-- such a reference and what follows it, from what was read after its first two bytes
 abbrev pub marked_first : List ℕ → ℕ → List TextUnit × List ℕ → TextUnit × List ℕ
 marked_first front mark read = (marked_reference front read.0 mark, read.1)
 
--- The unit that a text begins with, and what stands behind it, where `up_to` gives the units up to a closing mark. None for an empty
--- text, and where a reference begins that doesn't end.
+-- The unit that a text begins with, and what follows it; `up_to` gives the units up to a closing mark. None
+-- if the text is empty, and if a reference begins that doesn't end.
 abbrev pub unit_by : (ℕ → List ℕ → Option (List TextUnit × List ℕ)) → Option Opening → List ℕ → Option (TextUnit × List ℕ)
 unit_by up_to None [] = None
 unit_by up_to None (b ∷ rest) = Some (Byte b, rest)
-unit_by up_to (Some Doubled) text = Some (Pair, drop 2 text)
+unit_by up_to (Some Doubled) text = Some (EscapedDollar, drop 2 text)
 unit_by up_to (Some Letter) text = Some (Reference (take 2 text) (take 1 (drop 1 text)) None, drop 2 text)
 unit_by up_to (Some (Marked mark)) text =
     option_map (marked_first (take 2 text) mark) (up_to mark (drop 2 text))
 
--- a unit in front of units that were read
+-- a unit before units that were read
 abbrev pub unit_before : TextUnit → List TextUnit × List ℕ → List TextUnit × List ℕ
 unit_before unit read = (unit ∷ read.0, read.1)
 
--- a unit in front of the units that `more` reads behind it
+-- a unit before the units that `more` reads after it
 abbrev pub with_more : (List ℕ → Option (List TextUnit × List ℕ)) → Option (TextUnit × List ℕ) → Option (List TextUnit × List ℕ)
 with_more more None = None
 with_more more (Some (unit, rest)) = option_map (unit_before unit) (more rest)
 
--- The units of a text up to the first closing mark outside references, and what stands behind that mark; none where there is no such
--- mark or a reference before it doesn't end. The first argument bounds how many units are read.
+-- The units of a text up to the first closing mark outside references, and what follows that mark. None if
+-- there is no such mark or a reference before it doesn't end. The first argument bounds how many units are
+-- read.
 unfoldable pub read_up_to : ℕ → ℕ → List ℕ → Option (List TextUnit × List ℕ)
 read_up_to zero mark text = None
 read_up_to (suc fuel) mark [] = None
@@ -97,11 +102,13 @@ read_up_to (suc fuel) mark (b ∷ rest) =
 unfoldable pub up_to_mark : ℕ → List ℕ → Option (List TextUnit × List ℕ)
 up_to_mark mark text = read_up_to (length text) mark text
 
--- the unit that a text begins with, and what stands behind it; none for an empty text, and where a reference begins that doesn't end
+-- the unit that a text begins with, and what follows it; none if the text is empty, and if a reference
+-- begins that doesn't end
 unfoldable pub first_unit : List ℕ → Option (TextUnit × List ℕ)
 first_unit text = unit_by up_to_mark (opening_of text) text
 
--- a unit in front of the cutting that `more` makes of what stands behind it; nothing is cut off a text that begins with no unit
+-- a unit before the cut that `more` makes of what follows it; if a text begins with no unit, nothing is cut
+-- off it
 abbrev pub cut_on : (List ℕ → List TextUnit × List ℕ) → List ℕ → Option (TextUnit × List ℕ) → List TextUnit × List ℕ
 cut_on more text None = ([], text)
 cut_on more text (Some (unit, rest)) = unit_before unit (more rest)
@@ -111,7 +118,7 @@ unfoldable pub cut_by : ℕ → List ℕ → List TextUnit × List ℕ
 cut_by zero text = ([], text)
 cut_by (suc fuel) text = cut_on (cut_by fuel) text (first_unit text)
 
--- all units of a text, and what is left: nothing, or from the first reference on that doesn't end
+-- all units of a text, and what is left: nothing, or the text from the first reference on that doesn't end
 unfoldable pub cut : List ℕ → List TextUnit × List ℕ
 cut text = cut_by (length text) text
 
@@ -119,6 +126,6 @@ cut text = cut_by (length text) text
 abbrev pub units_of : List ℕ → List TextUnit
 units_of text = (cut text).0
 
--- what is left of a text behind its units: nothing, or from the first reference on that doesn't end
+-- what is left of a text after its units: nothing, or the text from the first reference on that doesn't end
 abbrev pub left_of : List ℕ → List ℕ
 left_of text = (cut text).1

@@ -11,14 +11,15 @@ use crate::ending::{Inside, inside_from};
 use crate::opening::{Opening, opening_at};
 use mk_text::Span;
 use std::alloc::{AllocError, Global};
+use thiserror::Error;
 
 /// A piece of a text, as places in it.
 #[derive(Debug, Clone, Copy, PartialEq, Eq)]
 pub enum Piece {
-    /// Text that stands for itself, of one byte at least.
+    /// Text that means itself, at least one byte.
     Literal(Span),
-    /// `$$`, which stands for one dollar.
-    Pair(Span),
+    /// `$$`, which means one dollar.
+    EscapedDollar(Span),
     /// A reference to a variable.
     Reference(Reference),
 }
@@ -31,20 +32,22 @@ pub struct Reference {
     pub whole: Span,
     /// Its name, which may be empty and may hold references.
     pub name: Span,
-    /// What stands behind its colon, up to its closing mark: its modifiers, without that colon. They
-    /// may be empty and may hold references.
+    /// Its modifiers: what follows its colon, up to its closing mark. They may be empty and may hold
+    /// references. `None` if it has no colon.
     pub modifiers: Option<Span>,
 }
 
 /// Why a text has no pieces.
-#[derive(Debug, Clone, Copy, PartialEq, Eq)]
+#[derive(Debug, Clone, Copy, PartialEq, Eq, Error)]
 pub enum PiecesFault {
     /// A reference doesn't end.
+    #[error("the reference at byte {at} doesn't end")]
     Unclosed {
         /// The index of the `$` that begins the outermost such reference.
         at: usize,
     },
-    /// There is no memory.
+    /// Memory ran out.
+    #[error("out of memory")]
     Memory,
 }
 
@@ -57,33 +60,34 @@ impl From<AllocError> for PiecesFault {
 }
 
 impl Piece {
-    /// The index behind it.
+    /// The index after its last byte.
     fn end(&self) -> usize
         ensures { result ≡ (place_of self.now).end }
     {
         match self {
-            Piece::Literal(span) | Piece::Pair(span) => span.end,
+            Piece::Literal(span) | Piece::EscapedDollar(span) => span.end,
             Piece::Reference(reference) => reference.whole.end,
         }
     }
 }
 
-/// The pieces of a text, from left to right: literals, pairs and references. They stand directly one
-/// behind another, from the beginning of the text to its end.
+/// The pieces of a text, from left to right: literals, pairs and references. Each directly follows the
+/// one before it, from the beginning of the text to its end.
 ///
-/// `$$` is a pair. `${` and `$(` begin a reference, which ends at the first `}`, or `)`, outside
-/// references inside it; a pair inside is passed over. Its name goes up to the first `:` outside
-/// inner references, and its modifiers are what stands behind that. A `$` with an ASCII letter behind
-/// it is a reference whose name is this letter. Any other `$`, also a last one, stands for itself.
+/// `$$` is a pair. `${` and `$(` begin a reference, which ends at the first `}`, or `)`, outside the
+/// references inside it; a pair inside is passed over. Its name goes up to the first `:` outside inner
+/// references, and its modifiers are what follows that `:`. A `$` with an ASCII letter after it is a
+/// reference whose name is this letter. Any other `$` is itself, also at the end of the text.
 ///
 /// The time is linear in the length of `text`.
 ///
 /// # Errors
 ///
-/// `Unclosed` where a reference doesn't end; `Memory` where there is no memory for the pieces, or for
-/// the marks of references that stand one in another.
+/// `Unclosed` if a reference doesn't end. `Memory` if memory runs out, either for the pieces or for the
+/// marks of references that are one inside another.
 pub fn pieces(alloc: Global, text: &str) -> Result<Vec<Piece>, PiecesFault>
-    ensures pieces { IfOk result (λ found. map (shown text.now) found.items ≡ pieces_of (units_of text.now)) }
+    ensures pieces { IfOk result (λ found. map (shown text.now) found.items
+        ≡ pieces_of (units_of text.now)) }
     ensures whole { IfOk result (λ found. left_of text.now ≡ []) }
     ensures order { IfOk result (λ found. StandFrom 0 found.items (length text.now)) }
     ensures places { IfOk result (λ found. All (IsPieceIn text.now) found.items) }
@@ -129,7 +133,7 @@ fn push(found: &mut Vec<Piece>, piece: Piece) -> Result<(), AllocError>
     Ok(())
 }
 
-/// The piece that `opening` begins at `at`; `None` where it is a reference that doesn't end.
+/// The piece that `opening` begins at `at`; `None` if it is a reference that doesn't end.
 fn piece_at(
     alloc: Global,
     text: &str,
@@ -145,7 +149,7 @@ fn piece_at(
         end: at + 2,
     };
     match opening {
-        Opening::Doubled => Ok(Some(Piece::Pair(two))),
+        Opening::Doubled => Ok(Some(Piece::EscapedDollar(two))),
         Opening::Letter => Ok(Some(Piece::Reference(Reference {
             whole: two,
             name: Span {

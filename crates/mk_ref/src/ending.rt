@@ -5,7 +5,7 @@ ghost use Rattle.mk_ref.specs.Ends.{EndsAt, UnitEndsAt, EndsInside};
 use crate::opening::{Opening, opening_at};
 use std::alloc::{AllocError, Global};
 
-/// The places of what stands inside a reference with marks.
+/// The places of what is inside a reference with marks.
 #[derive(Clone, Copy, Debug)]
 pub(crate) struct Inside {
     /// The index of the first colon outside inner references, if there is one.
@@ -14,8 +14,8 @@ pub(crate) struct Inside {
     pub(crate) close: usize,
 }
 
-/// The index behind the mark that closes what begins at `start`, passing over inner references;
-/// `None` where nothing closes it.
+/// The index after the mark that closes what begins at `start`. Inner references are passed over. It is
+/// `None` if nothing closes it.
 pub(crate) fn behind_mark(
     alloc: Global,
     bytes: &[u8],
@@ -51,8 +51,8 @@ pub(crate) fn behind_mark(
     Ok(None)
 }
 
-/// The index behind the unit that begins at `at`: behind a reference, a pair or a single byte. `None`
-/// where a reference begins there that doesn't end.
+/// The index after the unit that begins at `at`: after a reference, a pair or a single byte. It is
+/// `None` if a reference begins there that doesn't end.
 fn behind_unit(alloc: Global, bytes: &[u8], at: usize) -> Result<Option<usize>, AllocError>
     requires { at < length bytes.now }
     ensures { IfOk result (UnitEndsAt bytes.now at) }
@@ -65,8 +65,8 @@ fn behind_unit(alloc: Global, bytes: &[u8], at: usize) -> Result<Option<usize>, 
     }
 }
 
-/// The places of what stands inside the reference whose marks are closed by `closing` and whose inside
-/// begins at `start`; `None` where it doesn't end.
+/// The places of what is inside a reference. Its inside begins at `start`, and `closing` closes its
+/// marks. It is `None` if the reference doesn't end.
 pub(crate) fn inside_from(
     alloc: Global,
     bytes: &[u8],

@@ -1,5 +1,6 @@
 //! What holds of every text. Each function does nothing: its clause is the law.
-ghost use Rattle.mk_ref.specs.Laws.{UnitsAreText, ReferencesArePutTogether, CutGoesOn, ReadGoesOn, PartsAreWhole, InsidesAreCutAlone, PiecesAreUnits, DollarsAlonePartTexts, OutsideStandsInPlace};
+ghost use Rattle.mk_ref.specs.Laws.{UnitsAreText, ReferencesArePutTogether, CutGoesOn, ReadGoesOn, PartsAreWhole};
+ghost use Rattle.mk_ref.specs.Laws.{InsidesAreCutAlone, PiecesAreUnits, DollarsAlonePartTexts, OutsideStandsInPlace};
 
 /// The units of a text and what is left of it, put together, are the text.
 pub fn units_are_text()
@@ -11,12 +12,12 @@ pub fn references_are_put_together()
     ensures { ReferencesArePutTogether }
 {}
 
-/// A text is cut by cutting off its first unit, and then what stands behind that.
+/// A text is cut by cutting off its first unit, and then cutting what follows that.
 pub fn cut_goes_on()
     ensures { CutGoesOn }
 {}
 
-/// The units up to a closing mark are read one after another, until the mark stands first.
+/// The units up to a closing mark are read one after another, until the mark comes first.
 pub fn read_goes_on()
     ensures { ReadGoesOn }
 {}
@@ -26,13 +27,13 @@ pub fn parts_are_whole()
     ensures { PartsAreWhole }
 {}
 
-/// What stands inside a reference, its name and its modifiers, cut alone, have the units that are read
-/// of them where they stand.
+/// The inside of a reference, its name and its modifiers, each cut alone, have the units that are read
+/// of them in their place.
 pub fn insides_are_cut_alone()
     ensures { InsidesAreCutAlone }
 {}
 
-/// The pieces of units are made of just these units: nothing is lost where bytes are put together.
+/// The pieces of units are made of exactly these units: nothing is lost when bytes are put together.
 pub fn pieces_are_units()
     ensures { PiecesAreUnits }
 {}
@@ -42,8 +43,8 @@ pub fn dollars_alone_part_texts()
     ensures { DollarsAlonePartTexts }
 {}
 
-/// What stands outside the references of a text is as long as the text, and each of its bytes that is
-/// no dollar is the text's at that place.
+/// What `outside` gives is as long as the text. Each of its bytes that isn't a dollar is the text's
+/// byte at the same place.
 pub fn outside_stands_in_place()
     ensures { OutsideStandsInPlace }
 {}

@@ -2,7 +2,7 @@
 ghost use Rattle.std.specs.Prelude.{◌≡◌, ◌+◌, ◌<◌, ◌≤◌, length, drop, OnSome};
 ghost use Rattle.mk_ref.specs.Units.{opening_of};
 
-/// What a `$` makes with the byte behind it.
+/// What a `$` makes with the byte after it.
 #[derive(Clone, Copy, Debug)]
 pub enum Opening {
     /// `$$`.
@@ -13,8 +13,8 @@ pub enum Opening {
     Marked(u8),
 }
 
-/// What the `$` at this index makes with the byte behind it; `None` where another byte stands there,
-/// and where the `$` stands for itself.
+/// What the `$` at this index makes with the byte after it. It is `None` if another byte is at this
+/// index, and if the `$` is itself.
 pub fn opening_at(bytes: &[u8], at: usize) -> Option<Opening>
     requires { at < length bytes.now }
     ensures opening { result ≡ opening_of (drop at bytes.now) }

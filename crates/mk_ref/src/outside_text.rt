@@ -1,4 +1,4 @@
-//! What of a text stands outside references.
+//! What of a text is outside references.
 ghost use Rattle.std.specs.Prelude.{◌≡◌, ◌++◌, map, All, IfOk, OnOk};
 ghost use Rattle.std.specs.List.{flat_map};
 ghost use Rattle.mk_ref.specs.Places.{shown, IsPieceIn, IsUnclosedAt};
@@ -7,14 +7,14 @@ ghost use Rattle.mk_ref.specs.Outside.{outside, dollars, covered_piece};
 use crate::cutting::{Piece, PiecesFault, pieces};
 use std::alloc::{AllocError, Global};
 
-/// The bytes of `text`, with a dollar in place of each byte of references and pairs, and of a
-/// reference that doesn't end, which reaches to the end of the text. Every other byte is the text's
-/// own, at its own place, so what is found in these bytes can be cut out of the text there. The time
-/// is linear in the length of `text`.
+/// The bytes of `text`, with a dollar in place of each byte of references and pairs. A reference that
+/// doesn't end reaches to the end of the text, and dollars replace it too. Every other byte is the
+/// text's own, at its own place, so what is found in these bytes can be cut out of the text there. The
+/// time is linear in the length of `text`.
 ///
 /// # Errors
 ///
-/// `AllocError` where there is no memory for the bytes, or for the places of the references.
+/// `AllocError` if memory runs out, either for the bytes or for the places of the references.
 pub fn outside(alloc: Global, text: &str) -> Result<Vec<u8>, AllocError>
     ensures { IfOk result (λ bytes. bytes.items ≡ outside text.now) }
 {
@@ -25,7 +25,7 @@ pub fn outside(alloc: Global, text: &str) -> Result<Vec<u8>, AllocError>
     }
 }
 
-/// The same, of a text in which the reference that begins at `at` is the first that doesn't end.
+/// The same for a text in which the reference that begins at `at` is the first that doesn't end.
 fn outside_up_to(alloc: Global, text: &str, at: usize) -> Result<Vec<u8>, AllocError>
     requires { IsUnclosedAt text.now at }
     ensures { IfOk result (λ bytes. bytes.items ≡ outside text.now) }
@@ -37,7 +37,7 @@ fn outside_up_to(alloc: Global, text: &str, at: usize) -> Result<Vec<u8>, AllocE
             push_dollars(&mut bytes, &text[at..])?;
             Ok(bytes)
         }
-        // In front of the first reference that doesn't end, each one ends.
+        // Before the first reference that doesn't end, each reference ends.
         Err(PiecesFault::Unclosed { at: _ }) => unreachable!(),
         Err(PiecesFault::Memory) => Err(AllocError),
     }
@@ -46,7 +46,8 @@ fn outside_up_to(alloc: Global, text: &str, at: usize) -> Result<Vec<u8>, AllocE
 /// The bytes of pieces of a text, with dollars in place of references and pairs.
 fn covered(alloc: Global, text: &str, found: &[Piece]) -> Result<Vec<u8>, AllocError>
     requires { All (IsPieceIn text.now) found.now }
-    ensures { IfOk result (λ bytes. bytes.items ≡ flat_map covered_piece (map (shown text.now) found.now)) }
+    ensures { IfOk result (λ bytes. bytes.items
+        ≡ flat_map covered_piece (map (shown text.now) found.now)) }
 {
     let mut bytes = Vec::new(alloc);
     for piece in found {
@@ -55,14 +56,15 @@ fn covered(alloc: Global, text: &str, found: &[Piece]) -> Result<Vec<u8>, AllocE
     Ok(bytes)
 }
 
-/// Adds the bytes of a piece of a text, or dollars.
+/// Adds the bytes of a piece of a text, or dollars in their place.
 fn push_piece(bytes: &mut Vec<u8>, piece: &Piece, text: &str) -> Result<(), AllocError>
     requires { IsPieceIn text.now piece.now }
-    ensures { OnOk result (bytes.new.items ≡ bytes.old.items ++ covered_piece (shown text.now piece.now)) }
+    ensures { OnOk result (bytes.new.items ≡ bytes.old.items
+        ++ covered_piece (shown text.now piece.now)) }
 {
     match piece {
         Piece::Literal(span) => bytes.extend_from_slice(span.of(text).as_bytes()),
-        Piece::Pair(_) => bytes.extend_from_slice(b"$$"),
+        Piece::EscapedDollar(_) => bytes.extend_from_slice(b"$$"),
         Piece::Reference(reference) => push_dollars(bytes, reference.whole.of(text)),
     }
 }

@@ -1,16 +1,19 @@
--- The logical lines of a makefile. That a backslash at its end joins a line to the next, that a tab begins a command line and a number
--- sign a comment is make(1)'s; what a joint becomes, and that `\#` is plain whatever stands before it, is this project's choice.
-use Rattle.std.specs.Prelude.{◌==◌, ℕ, ◌+◌, ◌-◌, Bool, true, false, ◌&&◌, nat_eq, List, [], ◌∷◌, ◌++◌, length, take, slice_index, if◌then◌else◌}
+-- The logical lines of a makefile. make(1) says that a backslash at the end of a line joins it to the next,
+-- that a tab begins a command line, and that a number sign begins a comment. What a continuation becomes is
+-- this project's choice, and so is that `\#` is plain whatever comes before it.
+use Rattle.std.specs.Prelude.{◌==◌, ℕ, ◌+◌, ◌-◌, Bool, true, false, ◌&&◌, nat_eq, List, [], ◌∷◌, ◌++◌, length, take}
+use Rattle.std.specs.Prelude.{slice_index, if◌then◌else◌}
 use Rattle.std.specs.List.{slice_split, onto_first, ends_with, flat_map}
 use Rattle.mk_text.specs.Blanks.{skip_blanks, trim_blanks}
 
--- a logical line: its text, the number of its first source line from 1, and whether it is a command line
+-- a logical line: its text, the number of its first source line counted from 1, and whether it is a command
+-- line
 pub record LogicalLine : Type 0 where
   pub text : List ℕ
   pub line : ℕ
   pub command : Bool
 
--- a source line goes on in the next where its last byte is a backslash
+-- a source line goes on in the next if its last byte is a backslash
 abbrev pub goes_on : List ℕ → Bool
 goes_on piece = ends_with nat_eq piece (92 ∷ [])
 
@@ -18,12 +21,13 @@ goes_on piece = ends_with nat_eq piece (92 ∷ [])
 abbrev pub unmarked : List ℕ → List ℕ
 unmarked piece = if goes_on piece then take (length piece - 1) piece else piece
 
--- the source lines in runs: a line that goes on stands in one run with the next
+-- the source lines in runs: a line that goes on is in one run with the next
 abbrev pub runs_of : List (List ℕ) → List (List (List ℕ))
 runs_of [] = []
 runs_of (piece ∷ rest) = if goes_on piece then onto_first piece (runs_of rest) else (piece ∷ []) ∷ runs_of rest
 
--- what a later source line adds to a run: one space for the joint, and the line without the blanks in front of it
+-- what a later source line adds to a run: one space for the continuation, and the line without the blanks
+-- that it begins with and without a backslash at its end
 abbrev pub continued : List ℕ → List ℕ
 continued piece = 32 ∷ unmarked (skip_blanks piece)
 
@@ -32,21 +36,23 @@ abbrev pub joined : List (List ℕ) → List ℕ
 joined [] = []
 joined (piece ∷ rest) = unmarked piece ++ flat_map continued rest
 
--- a line up to its comment: `\#` stands for a plain `#`, and any other `#` opens the comment (35 is `#`, 92 the backslash)
+-- a line up to its comment: `\#` becomes a plain `#`, and any other `#` begins the comment (35 is `#`, 92
+-- the backslash)
 abbrev pub without_comment : List ℕ → List ℕ
 without_comment [] = []
 without_comment (b ∷ []) = if b == 35 then [] else b ∷ []
 without_comment (b ∷ c ∷ rest) =
     if b == 35 then [] else if b == 92 && c == 35 then 35 ∷ without_comment rest else b ∷ without_comment (c ∷ rest)
 
--- a joined line: a command line, taken as it stands, where its first byte is a tab; else without its comment and the blanks at its ends
+-- a joined line: if its first byte is a tab, it is a command line and is kept as it is; else its comment
+-- and the blanks at its ends are left out
 abbrev pub line_at : ℕ → List ℕ → LogicalLine
 line_at number text =
     if slice_index text 0 == 9
     then record { text = text; line = number; command = true }
     else record { text = trim_blanks (without_comment text); line = number; command = false }
 
--- the lines that runs give, where the first run begins at the source line of this number
+-- the lines that runs give, if the first run begins at the source line of this number
 abbrev pub lines_from : ℕ → List (List (List ℕ)) → List LogicalLine
 lines_from number [] = []
 lines_from number (run ∷ rest) = line_at number (joined run) ∷ lines_from (number + length run) rest

@@ -11,8 +11,8 @@ pub fn is_blank(byte: u8) -> bool
     byte == b' ' || byte == b'\t'
 }
 
-/// `text` without the blanks (spaces and tabs) that it begins with, as a slice of it. Those further
-/// on stay.
+/// `text` without the blanks (spaces and tabs) that it begins with, as a slice of it. Later blanks
+/// stay.
 pub fn skip_blanks(text: &str) -> &str
     ensures { result.now ≡ skip_blanks text.now }
 {
@@ -20,7 +20,7 @@ pub fn skip_blanks(text: &str) -> &str
 }
 
 /// `text` without the blanks (spaces and tabs) at both its ends, as a slice of it. Line feeds and
-/// carriage returns are no blanks.
+/// carriage returns are not blanks.
 pub fn trim_blanks(text: &str) -> &str
     ensures { result.now ≡ trim_blanks text.now }
 {

@@ -4,8 +4,8 @@ ghost use Rattle.mk_text.specs.Lines.{without_comment};
 
 use std::alloc::{AllocError, Global};
 
-/// `line` up to its comment, which its first `#` without a backslash directly before it opens. Each
-/// `\#` in front of that stands for a plain `#`, also where more backslashes stand before it.
+/// `line` up to its comment. The comment begins at the first `#` that has no backslash directly before
+/// it. Each `\#` before that becomes a plain `#`, also if more backslashes come before it.
 pub(crate) fn without_comment(alloc: Global, line: &str) -> Result<String, AllocError>
     ensures { IfOk result (λ plain. string_bytes plain ≡ without_comment line.now) }
 {

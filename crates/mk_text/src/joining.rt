@@ -1,4 +1,4 @@
-//! Logical lines: source lines joined where they end in a backslash.
+//! Logical lines: a source line that ends in a backslash is joined to the next.
 ghost use Rattle.std.specs.Prelude.{◌≡◌, ◌++◌, IfOk, string_bytes};
 ghost use Rattle.mk_text.specs.Lines.{goes_on, unmarked, continued, line_at, logical_lines};
 
@@ -26,8 +26,8 @@ impl Model for Logical {
 }
 
 impl Logical {
-    /// Its text: of a command line as it stands, the leading tab too; of any other without its
-    /// comment and without blanks at both its ends.
+    /// Its text. The text of a command line is kept as it is, with the leading tab. Any other line is
+    /// without its comment and without blanks at both its ends.
     pub fn text(&self) -> &str
         ensures { result.now ≡ self.now.text }
     {
@@ -49,7 +49,7 @@ impl Logical {
     }
 }
 
-/// The source lines of one logical line as far as they are read, joined.
+/// The source lines of one logical line that are read so far, joined.
 #[derive(Drop)]
 struct Run {
     joined: String,
@@ -119,24 +119,24 @@ fn unmarked(piece: &str) -> &str
 
 /// The logical lines of a makefile, blank ones too.
 ///
-/// Source lines end at line feeds alone, and behind a last line feed stands one more, empty, source
-/// line: so there is always a logical line. A carriage return is an ordinary character.
+/// Source lines end only at line feeds. After a last line feed there is one more source line, which is
+/// empty, so there is always a logical line. A carriage return is an ordinary character.
 ///
-/// A source line with a backslash as its last character is joined to the next. In place of the
-/// joint, from that backslash up to the first byte of the next source line that is no blank (space
-/// or tab), stands a single space; what the source line has before its backslash stays, blanks too.
-/// A backslash that is the last character of the whole text is left out.
+/// A source line whose last character is a backslash is joined to the next. The continuation goes from
+/// that backslash up to the first byte of the next source line that isn't a blank (space or tab). A
+/// single space replaces it; what the source line has before its backslash stays, blanks too. A
+/// backslash that is the last character of the whole text is left out.
 ///
-/// Then, for each joined line: with a tab in front it is a command line, and nothing more is done to
-/// it. Else it ends before its first `#` that has no backslash directly before it, each `\#` in front
-/// of that stands for a plain `#`, and the blanks at both its ends are left out.
+/// Then each joined line is read. If it begins with a tab, it is a command line, and nothing more is
+/// done to it. Any other line ends before its first `#` that has no backslash directly before it. Each
+/// `\#` before that becomes a plain `#`, and the blanks at both ends of the line are left out.
 ///
-/// Each line has the number of its first source line, from 1. The time is linear in the length of
-/// `text`.
+/// Each line has the number of its first source line, counted from 1. The time is linear in the length
+/// of `text`.
 ///
 /// # Errors
 ///
-/// `AllocError` where there is no memory for the lines.
+/// `AllocError` if memory for the lines runs out.
 pub fn logical_lines(alloc: Global, text: &str) -> Result<Vec<Logical>, AllocError>
     ensures { IfOk result (λ lines. lines.items ≡ logical_lines text.now) }
 {

@@ -4,17 +4,20 @@ ghost use Rattle.mk_text.specs.TextLimit.{IsTooLong};
 ghost use Rattle.mk_text.specs.declared.limits.TextFault.TheVariants.{Memory};
 
 use std::alloc::AllocError;
+use thiserror::Error;
 
-/// The most bytes that a text of the make language may have: one that is stored, one that is expanded,
-/// and what a modifier makes.
+/// The most bytes that a text of the make language may have. It holds for a text that is stored, a text
+/// that is expanded, and what a modifier makes.
 pub const TEXT_LIMIT: usize = 65_536;
 
 /// Why a text wasn't made.
-#[derive(Debug, Clone, Copy, PartialEq, Eq)]
+#[derive(Debug, Clone, Copy, PartialEq, Eq, Error)]
 pub enum TextFault {
     /// It would have more than 65,536 bytes.
+    #[error("the text would have more than 65,536 bytes")]
     Length,
-    /// There is no memory.
+    /// Memory ran out.
+    #[error("out of memory")]
     Memory,
 }
 
@@ -26,14 +29,15 @@ impl From<AllocError> for TextFault {
     }
 }
 
-/// Puts a text behind another, unless the whole is then too long: so nothing longer is ever made. Where
-/// it isn't put there, the other stays.
+/// Adds `text` at the end of `made`, unless the whole would be too long: so no longer text is ever
+/// made. If it fails, `made` stays as it was.
 ///
 /// # Errors
 ///
-/// `Length` where the whole would have more than 65,536 bytes; `Memory` where there is none for it.
+/// `Length` if the whole would have more than 65,536 bytes; `Memory` if memory for it runs out.
 pub fn add_text(made: &mut String, text: &str) -> Result<(), TextFault>
-    ensures ok { IfOk result (λ _. (length (string_bytes made.new) ≤ TEXT_LIMIT) × (string_bytes made.new ≡ string_bytes made.old ++ text.now)) }
+    ensures ok { IfOk result (λ _. (length (string_bytes made.new) ≤ TEXT_LIMIT)
+        × (string_bytes made.new ≡ string_bytes made.old ++ text.now)) }
     ensures err { IfErr result (IsTooLong (string_bytes made.old ++ text.now)) }
     ensures kept { OnErr result (string_bytes made.new ≡ string_bytes made.old) }
 {
@@ -44,7 +48,7 @@ pub fn add_text(made: &mut String, text: &str) -> Result<(), TextFault>
     Ok(())
 }
 
-/// A text may have 65,536 bytes. The function does nothing: its clause is the law.
+/// The limit of a text is 65,536 bytes. The function does nothing: its clause is the law.
 pub fn text_limit()
     ensures { TEXT_LIMIT ≡ 65536 }
 {}

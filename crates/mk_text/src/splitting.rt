@@ -5,7 +5,7 @@ ghost use Rattle.mk_text.specs.Words.{words_of, word_spans, span_text, IsSpanOf}
 use crate::blanks::is_blank;
 use std::alloc::{AllocError, Global};
 
-/// A place in a text, in bytes: from `start` up to `end`, which is no part of it.
+/// A place in a text, in bytes: from `start` up to `end`, which isn't part of it.
 #[derive(Debug, Clone, Copy, PartialEq, Eq)]
 pub struct Span {
     /// The index of its first byte.
@@ -15,7 +15,7 @@ pub struct Span {
 }
 
 impl Span {
-    /// What stands at this place of `text`, the text that the place was found in.
+    /// The part of `text` at this place. `text` is the text that the place was found in.
     pub fn of<'t>(&self, text: &'t str) -> &'t str
         requires { IsSpanOf text.now self.now }
         ensures { result.now ≡ span_text text.now self.now }
@@ -24,16 +24,17 @@ impl Span {
     }
 }
 
-/// The words of `text`: the longest stretches of it that hold no blank (space or tab), from left to
-/// right, as places in `text` in bytes. `Span::of` gives what stands at each. The time is linear in
+/// The words of `text`, from left to right: the longest stretches of it without a blank (space or tab).
+/// They are places in `text`, in bytes, and `Span::of` gives the text of each. The time is linear in
 /// the length of `text`.
 ///
 /// # Errors
 ///
-/// `AllocError` where there is no memory for the list.
+/// `AllocError` if memory for the list runs out.
 pub fn words(alloc: Global, text: &str) -> Result<Vec<Span>, AllocError>
     ensures spans { IfOk result (λ spans. spans.items ≡ word_spans text.now) }
-    ensures texts { IfOk result (λ spans. map (span_text text.now) spans.items ≡ words_of text.now) }
+    ensures texts { IfOk result (λ spans. map (span_text text.now) spans.items
+        ≡ words_of text.now) }
     ensures within { IfOk result (λ spans. All (IsSpanOf text.now) spans.items) }
 {
     let mut spans = Vec::new(alloc);

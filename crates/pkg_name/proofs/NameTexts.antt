@@ -5,8 +5,8 @@ use Rattle.std.proofs.lemmas.List.Splits.{join_with_byte-slice_split}
 use Rattle.std.specs.Option.{option_and_then}
 use Rattle.std.specs.List.{list_all, slice_split, flat_map, join_with_byte}
 use Rattle.pkg_name.specs.Version.{begins_with_digit, is_version}
-use Rattle.text_cuts.specs.Cuts.{Cut}
-use Rattle.text_cuts.proofs.CutTexts.{cut_is_its_text}
+use Rattle.text_parts.specs.Cuts.{Cut}
+use Rattle.text_parts.proofs.CutTexts.{cut_is_its_text}
 use Rattle.pkg_name.specs.Name.{NameParts, IsName, at_version, name_of, name_if, name_text, split_name, is_word, dash}
 use Rattle.pkg_name.specs.Laws.{NameIsItsText}
 

@@ -1,4 +1,4 @@
--- The laws of the order of versions and of names' texts, in the words of who packages.
+-- The laws of the order of versions and of names' texts, in the words of a packager.
 use Rattle.std.specs.Prelude.{◌≡◌, ◌⊎◌, ◌↔◌, ℕ, List, Some}
 use Rattle.std.specs.Ordering.{ordering_reverse}
 use Rattle.std.specs.declared.cmp.Ordering.TheVariants.{Less, Equal}
@@ -9,23 +9,23 @@ use Rattle.pkg_name.specs.Name.{NameParts, split_name, name_text}
 abbrev pub IsLower : List ℕ → List ℕ → Type 0
 IsLower version other = version_cmp version other ≡ Less
 
--- of two versions the first is lower, or the second, or they are the same text
+-- of two versions, the first is lower, or the second is, or they are the same text
 abbrev pub AnyTwoCompare : Type 0
 AnyTwoCompare = (version other : List ℕ) → IsLower version other ⊎ (version ≡ other) ⊎ IsLower other version
 
--- no version is lower than one that is lower than it; so none is lower than itself
+-- if a version is lower than another, the other isn't lower than it; so no version is lower than itself
 abbrev pub NeverBothLower : Type 0
 NeverBothLower = (version other : List ℕ) → IsLower version other → ¬ (IsLower other version)
 
--- what is lower than a lower version is lower
+-- if a version is lower than a second one, and that is lower than a third, the first is lower than the third
 abbrev pub LowerThanLower : Type 0
 LowerThanLower = (first second third : List ℕ) → IsLower first second → IsLower second third → IsLower first third
 
--- two versions are equal just where their texts are the same
+-- two versions are equal exactly if their texts are the same
 abbrev pub EqualAsTexts : Type 0
 EqualAsTexts = (version other : List ℕ) → (version_cmp version other ≡ Equal) ↔ (version ≡ other)
 
--- what the first version is to the second, the second is to the first the other way round
+-- comparing two versions the other way round gives the opposite result
 abbrev pub OtherWayRound : Type 0
 OtherWayRound = (version other : List ℕ) → version_cmp version other ≡ ordering_reverse (version_cmp other version)
 

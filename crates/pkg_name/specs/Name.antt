@@ -1,15 +1,16 @@
--- Names of packages: a stem, a version and flavors, with dashes between (packages-specs(7)). A text is its bytes.
+-- Names of packages: a stem, a version and flavors, with dashes between them (packages-specs(7)). A text
+-- is its bytes.
 use Rattle.std.specs.Prelude.{◌≡◌, ℕ, ◌==◌, ◌&&◌, ◌||◌, not, if◌then◌else◌, Bool, List, [], ◌∷◌, ◌++◌, Option, Some, None, option_and_then}
 use Rattle.std.specs.List.{list_all, slice_split, flat_map}
 use Rattle.std.specs.Str.{bytes_eq}
-use Rattle.text_cuts.specs.Cuts.{Cut, cut_where}
+use Rattle.text_parts.specs.Cuts.{Cut, cut_where}
 use Rattle.pkg_name.specs.Version.{begins_with_digit, is_version}
 
 -- the byte `-`
 abbrev pub dash : ℕ
 dash = 45
 
--- a byte that stands in no stem and in no flavor: a blank, or one of `/ , | < > = * !`
+-- a byte that is in no stem and in no flavor: a blank, or one of `/ , | < > = * !`
 abbrev pub is_forbidden : ℕ → Bool
 is_forbidden byte =
     byte == 32 || byte == 9 || byte == 47 || byte == 44 || byte == 124 || byte == 60 || byte == 62 || byte == 61
@@ -25,24 +26,24 @@ pub record NameParts : Type 0 where
   pub version : List ℕ
   pub flavors : List (List ℕ)
 
--- what stands before the first dash with a digit behind it, and what stands behind that dash
+-- what is before the first dash that a digit follows, and what follows that dash
 abbrev pub at_version : List ℕ → Option Cut
 at_version text = cut_where dash begins_with_digit text
 
--- the name of these parts, where they are parts of a name
+-- the name of these parts, if they are parts of a name
 abbrev pub name_if : Bool → List ℕ → List ℕ → List (List ℕ) → Option NameParts
 name_if are_parts stem version flavors = if are_parts then Some (record { stem = stem; version = version; flavors = flavors }) else None
 
--- the name of a stem and the words behind it, of which the first is the version and the others are flavors
+-- the name of a stem and the words after it: the first word is the version, and the others are flavors
 abbrev pub name_of : List ℕ → List (List ℕ) → Option NameParts
 name_of stem [] = None
 name_of stem (version ∷ flavors) = name_if (is_word stem && is_version version && list_all is_word flavors) stem version flavors
 
--- the parts of the name that a text is, if it is one: dashes separate them from where the version begins
+-- the parts of the name that a text is, if it is one: from where the version begins, dashes separate them
 abbrev pub split_name : List ℕ → Option NameParts
 split_name text = option_and_then (λ cut. name_of cut.before (slice_split (λ byte. byte == dash) cut.behind)) (at_version text)
 
--- the text of a name: the stem, and then the version and the flavors, each behind a dash
+-- the text of a name: the stem, and then the version and the flavors, each after a dash
 abbrev pub name_text : NameParts → List ℕ
 name_text parts = parts.stem ++ flat_map (λ word. dash ∷ word) (parts.version ∷ parts.flavors)
 

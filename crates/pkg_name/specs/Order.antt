@@ -1,5 +1,5 @@
--- The order of versions of packages (packages-specs(7)): the lexicographic order of a list of keys. A text is its
--- bytes.
+-- The order of versions of packages (packages-specs(7)): the lexicographic order of a list of keys. A text
+-- is its bytes.
 use Rattle.std.specs.Prelude.{ℕ, ◌==◌, ◌&&◌, if◌then◌else◌, Bool, false, List, [], ◌∷◌, map, drop, codes, Option, Some, None}
 use Rattle.std.specs.List.{list_all, prefix_len, take_while, slice_split}
 use Rattle.std.specs.Char.{is_ascii_digit, is_ascii_alphabetic}
@@ -10,12 +10,12 @@ use Rattle.std.specs.Ordering.{nat_cmp, on, then_cmp}
 use Rattle.std.specs.declared.cmp.Ordering.{Ordering}
 use Rattle.std.specs.Cmp.Lexicographic.{slice_cmp}
 
--- the number that decimal digits write, none where there are no digits
+-- the number that decimal digits write; None if there are no digits
 abbrev pub number_of : List ℕ → Option ℕ
 number_of [] = None
 number_of (digit ∷ digits) = Some (digits_value 10 (digit ∷ digits))
 
--- what stands behind the bytes at the front that pass a test
+-- what follows the bytes at the front that pass a test
 abbrev pub past_while : (ℕ → Bool) → List ℕ → List ℕ
 past_while test text = drop (prefix_len test text) text
 
@@ -24,8 +24,8 @@ abbrev pub is_number : List ℕ → Bool
 is_number [] = false
 is_number (byte ∷ rest) = list_all is_ascii_digit (byte ∷ rest)
 
--- a text whose end, a letter and a number, is taken off: what stands before it, and the number, none where the text
--- has no such end
+-- a text whose end, a letter and a number, is taken off: what is before that end, and the number; if the
+-- text has no such end, the number is None
 pub record Ended : Type 0 where
   pub before : List ℕ
   pub number : Option ℕ
@@ -38,7 +38,8 @@ ended_by letter (byte ∷ rest) =
     then record { before = []; number = number_of rest }
     else record { before = byte ∷ (ended_by letter rest).before; number = (ended_by letter rest).number }
 
--- the keys of a part: the number it begins with, the letters after that, the number after these, and the rest
+-- the keys of a part: the number it begins with, the letters after that, the number after
+-- these, and the rest
 pub record PartKey : Type 0 where
   pub number : Option ℕ
   pub letters : List ℕ
@@ -61,8 +62,8 @@ part_key part =
 abbrev pub part_keys : List ℕ → List PartKey
 part_keys text = map part_key (slice_split (λ byte. byte == 46) text)
 
--- the keys of a version: the number of its end `v`, the parts between the dots before its ends, the number of its end
--- `p`, and the whole text
+-- the keys of a version: the number of its end `v`, the parts between the dots before its ends, the number
+-- of its end `p`, and the whole text
 pub record VersionKey : Type 0 where
   pub epoch : Option ℕ
   pub parts : List PartKey
@@ -81,7 +82,7 @@ version_key text =
       text = text;
     }
 
--- numbers by size, and none before each
+-- numbers by size, and no number before any number
 abbrev pub number_cmp : Option ℕ → Option ℕ → Ordering
 number_cmp = option_cmp nat_cmp
 
@@ -89,7 +90,8 @@ number_cmp = option_cmp nat_cmp
 abbrev pub text_cmp : List ℕ → List ℕ → Ordering
 text_cmp = slice_cmp nat_cmp
 
--- the place of letters: `alpha`, `beta`, `pre` and `rc` stand before a release, which has none, and others behind it
+-- the rank of letters: `alpha`, `beta`, `pre` and `rc` come before a release, which has no letters, and
+-- others after it
 abbrev pub letters_rank : List ℕ → ℕ
 letters_rank letters =
     if bytes_eq letters (codes "alpha") then 0
@@ -99,7 +101,7 @@ letters_rank letters =
     else if bytes_eq letters [] then 4
     else 5
 
--- letters by their place, and then by their bytes
+-- letters by their rank, and then by their bytes
 abbrev pub letters_cmp : List ℕ → List ℕ → Ordering
 letters_cmp = then_cmp (on letters_rank nat_cmp) text_cmp
 
@@ -111,8 +113,8 @@ part_cmp =
     (then_cmp (on (λ (key : PartKey). key.second) number_cmp)
     (on (λ (key : PartKey). key.rest) text_cmp)))
 
--- versions by their keys, one after another; of the lists of parts the first difference decides, and a missing part
--- is before one that is there
+-- versions by their keys, one after another; in the lists of parts the first difference decides, and a
+-- missing part is before one that is there
 abbrev pub key_cmp : VersionKey → VersionKey → Ordering
 key_cmp =
     then_cmp (on (λ (key : VersionKey). key.epoch) number_cmp)

@@ -7,7 +7,8 @@ use Rattle.std.specs.Cmp.{Equal-is, IsPartialOrder, IsTotalOrder, both_ways, nat
 use Rattle.std.specs.Cmp.Lexicographic.{slice_cmp, lists_total, options_total, nat_list_cmp_total, nat_list_eq_equiv, texts_ties}
 use Rattle.std.specs.Str.{bytes_eq}
 use Rattle.std.specs.FinMap.{nat_cmp-IsAntisymmetric, slice_cmp-IsAntisymmetric}
-use Rattle.pkg_name.specs.Order.{PartKey, VersionKey, version_key, number_cmp, text_cmp, letters_rank, letters_cmp, part_cmp, key_cmp, version_cmp}
+use Rattle.pkg_name.specs.Order.{PartKey, VersionKey, version_key, number_cmp, text_cmp, letters_rank, letters_cmp}
+use Rattle.pkg_name.specs.Order.{part_cmp, key_cmp, version_cmp}
 
 pub number_total : IsTotalOrder number_cmp
 number_total = options_total nat_cmp_total
@@ -32,7 +33,7 @@ key_total =
 pub version_cmp_total : IsTotalOrder version_cmp
 version_cmp_total = on_total version_key key_total
 
--- of two orders, one after the other, that tie, the second ties
+-- if two orders, one after the other, tie, the second ties
 second_ties : (r s : Ordering) → ordering_then r s ≡ Equal → s ≡ Equal
 second_ties Less s e = cc e
 second_ties Equal s e = e
@@ -63,7 +64,7 @@ version_cmp-itself a = tied_itself version_cmp_total a
 pub bytes_eq-same : (a b : List ℕ) → bytes_eq a b ≡ true → a ≡ b
 bytes_eq-same a b e = text_cmp-same a b ((Equal-is (text_cmp a b)).0 (sym (texts_ties a b) ∙ e))
 
--- `==` holds just where the order ties
+-- `==` holds exactly if the order ties
 pub version_cmp_ties : (a b : List ℕ) → bytes_eq a b ≡ eq_by_cmp version_cmp a b
 version_cmp_ties a b = both_ways (bytes_eq a b) (eq_by_cmp version_cmp a b)
     (λ e. rw (bytes_eq-same a b e) ((Equal-is (version_cmp b b)).1 (version_cmp-itself b)))

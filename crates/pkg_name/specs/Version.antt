@@ -7,7 +7,7 @@ use Rattle.std.specs.Char.{is_ascii_digit, is_ascii_alphanumeric}
 abbrev pub is_version_byte : ℕ → Bool
 is_version_byte byte = is_ascii_alphanumeric byte || byte == 46 || byte == 95 || byte == 43
 
--- how many digits stand at the front of a text
+-- how many digits are at the front of a text
 abbrev pub digit_count : List ℕ → ℕ
 digit_count text = prefix_len is_ascii_digit text
 
@@ -16,7 +16,7 @@ unfoldable pub has_short_numbers : List ℕ → Bool
 has_short_numbers [] = true
 has_short_numbers (byte ∷ rest) = nat_le (digit_count (byte ∷ rest)) 18 && has_short_numbers rest
 
--- a digit stands first
+-- the first byte is a digit
 abbrev pub begins_with_digit : List ℕ → Bool
 begins_with_digit text = is_ascii_digit (slice_index text 0)
 

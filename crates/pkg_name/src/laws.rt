@@ -2,27 +2,29 @@
 //! clause is the law.
 ghost use Rattle.pkg_name.specs.Laws.{AnyTwoCompare, NeverBothLower, LowerThanLower, EqualAsTexts, OtherWayRound, NameIsItsText};
 
-/// Of two versions the first is lower, or the second, or they are the same text.
+/// Of two versions, the first is lower, or the second is, or they are the same text.
 pub fn any_two_compare()
     ensures { AnyTwoCompare }
 {}
 
-/// No version is lower than one that is lower than it; so none is lower than itself.
+/// If a version is lower than another, the other isn't lower than it. So no version is
+/// lower than itself.
 pub fn never_both_lower()
     ensures { NeverBothLower }
 {}
 
-/// What is lower than a lower version is lower.
+/// If a version is lower than a second one, and that is lower than a third, the first is lower
+/// than the third.
 pub fn lower_than_lower()
     ensures { LowerThanLower }
 {}
 
-/// Two versions are equal just where their texts are the same.
+/// Two versions are equal exactly if their texts are the same.
 pub fn equal_as_texts()
     ensures { EqualAsTexts }
 {}
 
-/// What the first version is to the second, the second is to the first the other way round.
+/// Comparing two versions the other way round gives the opposite result.
 pub fn other_way_round()
     ensures { OtherWayRound }
 {}

@@ -5,22 +5,25 @@ ghost use Rattle.std.specs.String.{string_bytes};
 ghost use Rattle.std.specs.Char.{is_ascii_digit};
 ghost use Rattle.pkg_name.specs.Version.{is_version};
 ghost use Rattle.pkg_name.specs.Name.{split_name, name_text, at_version, name_of, name_if, is_word, is_forbidden};
-ghost use Rattle.text_cuts.specs.Cuts.{now_all};
+ghost use Rattle.text_parts.specs.Cuts.{now_all};
 ghost use Rattle.pkg_name.specs.declared.name.NameFault.TheVariants.{Memory};
 
 use crate::version::{Version, VersionFault, begins_with_digit};
 use std::alloc::{AllocError, Global};
 use std::fmt;
 use std::marker::Model;
-use text_cuts::{copies_of, cut_where, split_at};
+use text_parts::{copies_of, cut_where, split_at};
+use thiserror::Error;
 
-/// Why a text gives no name of a package.
-#[derive(Clone, Copy, Debug, PartialEq, Eq)]
+/// Why a text is no name of a package.
+#[derive(Clone, Copy, Debug, PartialEq, Eq, Error)]
 pub enum NameFault {
-    /// No dash has a digit behind it, no version stands between the first that has and the next dash, or the
-    /// stem or a flavor is empty or has a blank or one of `/ , | < > = * !`.
+    /// There is no dash that a digit follows, or no version between the first such dash and the next
+    /// dash. Or the stem or a flavor is empty, or has a blank or one of `/ , | < > = * !`.
+    #[error("not the name of a package")]
     NoName,
-    /// No memory for the name.
+    /// There was no memory for the name.
+    #[error("out of memory")]
     Memory,
 }
 
@@ -32,8 +35,8 @@ impl From<AllocError> for NameFault {
     }
 }
 
-/// The name of a package, `stem-version-flavors`, as `py3-foo-1.0p2-gtk` (packages-specs(7)). Clauses see the
-/// bytes of its parts.
+/// The name of a package, `stem-version-flavors`, such as `py3-foo-1.0p2-gtk` (packages-specs(7)).
+/// Clauses see the bytes of its parts.
 #[derive(Debug, Drop)]
 pub struct PkgName {
     stem: String,
@@ -48,16 +51,25 @@ impl Model for PkgName {
 
     ghost Value = { NameParts };
 
-    ghost view = { λ name. record { stem = string_bytes name.stem; version = name.version; flavors = map string_bytes name.flavors.items } };
+    ghost view = { λ name. record {
+      stem = string_bytes name.stem;
+      version = name.version;
+      flavors = map string_bytes name.flavors.items;
+    } };
 
-    ghost invariant = { λ name. IsName (record { stem = string_bytes name.stem; version = name.version; flavors = map string_bytes name.flavors.items }) };
+    ghost invariant = { λ name. IsName (record {
+      stem = string_bytes name.stem;
+      version = name.version;
+      flavors = map string_bytes name.flavors.items;
+    }) };
 }
 
 impl PkgName {
-    /// The parts of the name that a text is. The version begins at the first digit behind a dash and ends
-    /// before the next dash; a stem stands before it, and flavors behind it, each behind a dash.
+    /// The parts of the name that a text is. The version begins at the first digit that follows a
+    /// dash, and ends before the next dash. The stem is before it, and the flavors are after it, each
+    /// after a dash.
     ///
-    /// A text that is no name is `NoName`; `Memory` comes where none is left.
+    /// The fault is `NoName` if the text is no name, and `Memory` if memory runs out.
     pub fn split(alloc: Global, text: &str) -> Result<PkgName, NameFault>
         ensures ok { IfOk result (λ name. split_name text.now ≡ Some name) }
         ensures no_name { IsErrOf result NameFault.NoName → split_name text.now ≡ None }
@@ -81,7 +93,7 @@ impl PkgName {
         })
     }
 
-    /// What stands before the version.
+    /// The stem: what is before the version.
     pub fn stem(&self) -> &str
         ensures { result.now ≡ self.now.stem }
     {
@@ -118,16 +130,20 @@ impl fmt::Display for PkgName {
     }
 }
 
-// What stands before the first dash with a digit behind it, and what stands behind that dash.
+// What is before the first dash that a digit follows, and what follows that dash.
 fn cut_at_version(text: &str) -> Option<(&str, &str)>
-    ensures { MatchOption result (at_version text.now ≡ None) (λ cut. at_version text.now ≡ Some (record { before = cut.0.now; behind = cut.1.now })) }
+    ensures { MatchOption result (at_version text.now ≡ None)
+        (λ cut. at_version text.now ≡ Some (record { before = cut.0.now; behind = cut.1.now })) }
 {
     cut_where(text, '-', begins_with_digit)
 }
 
-// The words behind a stem as a version, not read yet, and flavors; `None` where the stem or a flavor is none.
+// The words after a stem as a version, not read yet, and flavors; `None` if the stem or a
+// flavor isn't one.
 fn version_and_flavors<'a, 'b>(stem: &str, words: &'b [&'a str]) -> Option<(&'a str, &'b [&'a str])>
-    ensures { MatchOption result (name_of stem.now (now_all words.now) ≡ None) (λ cut. name_of stem.now (now_all words.now) ≡ name_if (is_version cut.0.now) stem.now cut.0.now (now_all cut.1.now)) }
+    ensures { MatchOption result (name_of stem.now (now_all words.now) ≡ None)
+        (λ cut. name_of stem.now (now_all words.now)
+        ≡ name_if (is_version cut.0.now) stem.now cut.0.now (now_all cut.1.now)) }
 {
     let (version, flavors) = words.split_first()?;
     if is_word_text(stem) && are_words(flavors) {
@@ -151,14 +167,14 @@ fn is_word_text(text: &str) -> bool
     !text.is_empty() && has_word_bytes(text)
 }
 
-// Whether each byte may stand in a stem or a flavor.
+// Whether each byte may be in a stem or a flavor.
 fn has_word_bytes(text: &str) -> bool
     ensures { result ≡ list_all (λ byte. not (is_forbidden byte)) text.now }
 {
     text.bytes().all(|byte| !is_forbidden_byte(byte))
 }
 
-// Whether a byte stands in no stem and in no flavor.
+// Whether a byte is in no stem and in no flavor.
 fn is_forbidden_byte(byte: u8) -> bool
     ensures { result ≡ is_forbidden byte }
 {

@@ -5,7 +5,8 @@ ghost use Rattle.std.specs.List.{list_all, take_while, prefix_len, position_or_l
 ghost use Rattle.std.specs.Char.{is_ascii_digit, is_ascii_alphabetic};
 ghost use Rattle.std.specs.Cmp.Lexicographic.{slice_cmp};
 ghost use Rattle.pkg_name.specs.Version.{has_short_numbers};
-ghost use Rattle.pkg_name.specs.Order.{number_of, past_while, ended_by, part_key, part_keys, part_cmp, letters_rank, letters_cmp, version_cmp};
+ghost use Rattle.pkg_name.specs.Order.{number_of, past_while, ended_by, part_key, part_keys, part_cmp, letters_rank};
+ghost use Rattle.pkg_name.specs.Order.{letters_cmp, version_cmp};
 
 use std::cmp::Ordering;
 use std::str;
@@ -71,7 +72,7 @@ fn take_ending(text: &[u8], letter: u8) -> Ended<'_>
     }
 }
 
-// Where the digits begin that end a text.
+// The index at which the digits that end a text begin.
 fn final_digits(text: &[u8]) -> usize
     ensures bound { result ≤ length text.now }
     ensures digits { IsTrue (list_all is_ascii_digit (drop result text.now)) }
@@ -84,7 +85,7 @@ fn final_digits(text: &[u8]) -> usize
     start
 }
 
-// The number that at most 18 digits write, none where there are no digits.
+// The number that at most 18 digits write; `None` if there are no digits.
 fn number(digits: &[u8]) -> Option<u64>
     requires digits { IsTrue (list_all is_ascii_digit digits.now) }
     requires few { length digits.now ≤ 18 }
@@ -122,10 +123,11 @@ fn compare_parts(text: &[u8], other: &[u8]) -> Ordering
     }
 }
 
-// The first part of a text, and what stands behind its dot, if there is one.
+// The first part of a text, and what follows its dot, if there is one.
 fn first_part(text: &[u8]) -> (&[u8], Option<&[u8]>)
     requires short { IsTrue (has_short_numbers text.now) }
-    ensures parts { MatchOption result.1 (part_keys text.now ≡ part_key result.0.now ∷ []) (λ behind. part_keys text.now ≡ part_key result.0.now ∷ part_keys behind.now) }
+    ensures parts { MatchOption result.1 (part_keys text.now ≡ part_key result.0.now ∷ [])
+        (λ behind. part_keys text.now ≡ part_key result.0.now ∷ part_keys behind.now) }
     ensures short { IsTrue (has_short_numbers result.0.now) }
     ensures behind_short { IfSome result.1 (λ behind. IsTrue (has_short_numbers behind.now)) }
     ensures shorter { IfSome result.1 (λ behind. length behind.now < length text.now) }
@@ -138,7 +140,7 @@ fn first_part(text: &[u8]) -> (&[u8], Option<&[u8]>)
     }
 }
 
-// Where the first dot of a text stands, or the text ends.
+// The index of the first dot of a text, or of the text's end if there is no dot.
 fn dot_or_end(text: &[u8]) -> usize
     ensures value { result ≡ position_or_len (λ byte. byte == 46) text.now }
     ensures bound { result ≤ length text.now }
@@ -179,7 +181,7 @@ fn keys_of_part(part: &[u8]) -> PartKeys<'_>
     }
 }
 
-// The number that a text begins with, if it does, and what stands behind it.
+// The number that a text begins with, if any, and what follows it.
 fn take_number(text: &[u8]) -> (Option<u64>, &[u8])
     requires short { IsTrue (has_short_numbers text.now) }
     ensures number { result.0 ≡ number_of (take_while is_ascii_digit text.now) }
@@ -190,7 +192,7 @@ fn take_number(text: &[u8]) -> (Option<u64>, &[u8])
     (number(digits), behind)
 }
 
-// The ASCII letters that a text begins with, and what stands behind them.
+// The ASCII letters that a text begins with, and what follows them.
 fn take_letters(text: &[u8]) -> (&[u8], &[u8])
     requires short { IsTrue (has_short_numbers text.now) }
     ensures letters { result.0.now ≡ take_while is_ascii_alphabetic text.now }
@@ -227,7 +229,7 @@ fn compare_letters(letters: &[u8], other: &[u8]) -> Ordering
         .then(letters.cmp(other))
 }
 
-// The place of letters: those that stand before a release, none, and others.
+// The rank of letters: those that come before a release, then none, then others.
 fn rank_of_letters(letters: &[u8]) -> u8
     ensures { result ≡ letters_rank letters.now }
 {

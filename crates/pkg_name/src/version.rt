@@ -15,16 +15,19 @@ use std::alloc::{AllocError, Global};
 use std::cmp::Ordering;
 use std::fmt;
 use std::marker::Model;
+use thiserror::Error;
 
 /// The most digits of a number in a version.
 const MOST_DIGITS: usize = 18;
 
-/// Why a text gives no version.
-#[derive(Clone, Copy, Debug, PartialEq, Eq)]
+/// Why a text is no version.
+#[derive(Clone, Copy, Debug, PartialEq, Eq, Error)]
 pub enum VersionFault {
     /// It doesn't begin with a digit, has a byte that no version has, or a number of more than 18 digits.
+    #[error("not a version")]
     NoVersion,
-    /// No memory for the version.
+    /// There was no memory for the version.
+    #[error("out of memory")]
     Memory,
 }
 
@@ -36,13 +39,14 @@ impl From<AllocError> for VersionFault {
     }
 }
 
-/// The version of a package, as `1.0rc1p2v0`: ASCII letters, digits, `.`, `_` and `+`, the first of them a
-/// digit, with no number of more than 18 digits (packages-specs(7)). Clauses see its bytes.
+/// The version of a package, such as `1.0rc1p2v0`. It has ASCII letters, digits, `.`, `_` and `+`, and
+/// the first of them is a digit. It has no number of more than 18 digits (packages-specs(7)). Clauses
+/// see its bytes.
 ///
-/// Versions are ordered by a final `v` and its number; then by the parts between the dots of what stands
-/// before a final `p` and `v`, each by the number it begins with, the letters after that, the number after
-/// these, and the rest; then by a final `p` and its number; then by their texts. So two are equal where
-/// their texts are the same.
+/// Versions are ordered first by a final `v` and its number. Then come the parts between the dots of
+/// what is before a final `p` and `v`. Each part is ordered by the number that it begins with, the
+/// letters after that, the number after these, and the rest. Then come a final `p` and its number, and
+/// then the texts. So two versions are equal exactly if their texts are the same.
 #[derive(Debug, Drop)]
 pub struct Version {
     text: String,
@@ -63,7 +67,7 @@ impl Model for Version {
 impl Version {
     /// The version that a text is.
     ///
-    /// A text that is none is `NoVersion`; `Memory` comes where none is left.
+    /// The fault is `NoVersion` if the text is no version, and `Memory` if memory runs out.
     pub fn read(alloc: Global, text: &str) -> Result<Version, VersionFault>
         ensures text { IfOk result (λ version. version ≡ text.now) }
         ensures ok { IfOk result (λ version. IsVersion version) }
@@ -149,14 +153,14 @@ pub(crate) fn begins_with_digit(text: &[u8]) -> bool
     }
 }
 
-// Whether each byte may stand in a version.
+// Whether each byte may be in a version.
 fn has_version_bytes(text: &[u8]) -> bool
     ensures { result ≡ list_all is_version_byte text.now }
 {
     text.iter().all(|byte| may_be_in_version(*byte))
 }
 
-// Whether a byte may stand in a version.
+// Whether a byte may be in a version.
 fn may_be_in_version(byte: u8) -> bool
     ensures { result ≡ is_version_byte byte }
 {

@@ -5,7 +5,7 @@ use Rattle.std.proofs.lemmas.List.Splits.{length-slice_split}
 use Rattle.std.specs.Borrow.{Bor}
 use Rattle.std.specs.List.{filter, find}
 use Rattle.pkg_path.specs.Paths.{PathValue, elements_of, is_subpackage, has_two_subpackages, is_well_cut, is_well_written, directory_of, choices_of, flavors_of, value_of, path_of}
-use Rattle.text_cuts.specs.Cuts.{now_all}
+use Rattle.text_parts.specs.Cuts.{now_all}
 use Rattle.pkg_path.specs.declared.faults.PkgPathFault.TheVariants.{Empty, TwoSubpackages, BadCharacter}
 
 counted : {X Y : Type 0} (b : Bool) (x : X) (y : Y) (xs : List X) (ys : List Y) → length xs ≡ length ys → length (cond b (x ∷ xs) xs) ≡ length (cond b (y ∷ ys) ys)

@@ -3,14 +3,14 @@ use Rattle.std.proofs.Common.{◌≡◌, ◌∙◌, sym, ap, subst, refl, ℕ, B
 use Rattle.std.proofs.lemmas.Bool.{false≢true, and_parts, and_from, or_parts}
 use Rattle.std.proofs.lemmas.Grind.{common_steps, flat_map-append}
 use Rattle.std.proofs.lemmas.List.Folds.{list_all-append}
-use Rattle.text_cuts.specs.Laws.{is_between}
-use Rattle.text_cuts.proofs.PartTexts.{parts_are_between, written_is_cut_again, written_stands}
+use Rattle.text_parts.specs.Laws.{is_between}
+use Rattle.text_parts.proofs.PartTexts.{parts_are_between, written_is_cut_again, written_stands}
 use Rattle.std.specs.List.{list_all, list_any, filter, find}
 use Rattle.std.specs.Option.{option_to_list}
 use Rattle.std.specs.Str.{bytes_eq}
-use Rattle.text_order.specs.Ordered.{among-in_order, in_order-again}
+use Rattle.text_parts.specs.Ordered.{among-in_order, in_order-again}
 use Rattle.pkg_path.specs.Paths.{comma, PathValue, elements_of, directory_of, choices_of, is_subpackage, is_flavor, flavors_of, value_of, has_two_subpackages, may_stand, is_directory, is_bare_dash, is_well_written, path_of, flavor_choices, choices_text, canonical, IsPath, without_subpackage}
-use Rattle.text_order.specs.Order.{in_order}
+use Rattle.text_parts.specs.Order.{in_order}
 use Rattle.pkg_path.specs.declared.faults.PkgPathFault.TheVariants.{Empty, TwoSubpackages, BadCharacter}
 
 -- a byte of an element: it may stand in a path and is no comma

@@ -2,7 +2,7 @@
 use Rattle.std.specs.Prelude.{◌≡◌, ℕ, List, Ok}
 use Rattle.pkg_path.specs.Paths.{PathValue, path_of, canonical, IsPath, without_subpackage}
 
--- what a text names is named by its canonical text, too
+-- a path that a text names is named by its canonical text, too
 abbrev pub CanonicalNamesThePath : Type 0
 CanonicalNamesThePath = (text : List ℕ) (path : PathValue) → path_of text ≡ Ok path → path_of (canonical path) ≡ Ok path
 

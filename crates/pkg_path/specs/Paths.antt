@@ -1,15 +1,18 @@
--- Package paths (pkgpath(7)): the directory of a port below a ports tree, the flavors that are chosen, and a subpackage, as in
--- `editors/vim,gtk3,-lang`. That flavors and subpackage may come in any order, and what is refused, is this project's choice.
-use Rattle.std.specs.Prelude.{◌≡◌, ℕ, ◌==◌, nat_lt, nat_le, ◌&&◌, ◌||◌, if◌then◌else◌, Bool, false, not, List, [], ◌∷◌, ◌++◌, length, filter, find, Option, Some, None, Result, Ok, Err, option_to_list, codes}
+-- Package paths (pkgpath(7)): the directory of a port below a ports tree, the flavors that are chosen, and a
+-- subpackage, as in `editors/vim,gtk3,-lang`. That flavors and subpackage may come in any order, and what is
+-- refused, is this project's choice.
+use Rattle.std.specs.Prelude.{◌≡◌, ℕ, ◌==◌, nat_lt, nat_le, ◌&&◌, ◌||◌, if◌then◌else◌, Bool, false, not, List, []}
+use Rattle.std.specs.Prelude.{◌∷◌, ◌++◌, length, filter, find, Option, Some, None, Result, Ok, Err, option_to_list}
+use Rattle.std.specs.Prelude.{codes}
 use Rattle.std.specs.List.{slice_split, flat_map, list_all, list_any}
 use Rattle.std.specs.Result.{result_ok}
 use Rattle.std.specs.Str.{bytes_eq}
-use Rattle.text_order.specs.Order.{in_order}
+use Rattle.text_parts.specs.Order.{in_order}
 use Rattle.pkg_path.specs.declared.faults.PkgPathFault.{PkgPathFault}
 use Rattle.pkg_path.specs.declared.faults.PkgPathFault.TheVariants.{Empty, TwoSubpackages, BadCharacter, Memory}
 
--- what a package path says: a directory; the flavors, where some are chosen, maybe none of them (the empty flavor), and else the
--- port's default; the subpackage, with its dash, where there is one
+-- What a package path says. It has a directory. It has the flavors that are chosen, maybe none of them (the
+-- empty flavor), or None for the port's default. It has the subpackage, with its dash, if one is named.
 pub record PathValue : Type 0 where
   pub directory : List ℕ
   pub flavors : Option (List (List ℕ))
@@ -46,7 +49,7 @@ is_subpackage (first ∷ rest) = first == dash
 abbrev pub is_flavor : List ℕ → Bool
 is_flavor choice = nat_lt 0 (length choice) && not (is_subpackage choice)
 
--- the flavors of choices: a choice that is no subpackage, be it empty, makes them explicit
+-- the flavors of choices: a choice that isn't a subpackage, even an empty one, makes them explicit
 abbrev pub flavors_of : List (List ℕ) → Option (List (List ℕ))
 flavors_of choices =
     if list_any (λ choice. not (is_subpackage choice)) choices then Some (in_order (filter is_flavor choices)) else None
@@ -66,7 +69,8 @@ has_two_subpackages elements = nat_lt 1 (length (filter is_subpackage (choices_o
 -- a byte of a path: printable ASCII, no blank, and none of `: | < > = *`
 abbrev pub may_stand : ℕ → Bool
 may_stand byte =
-    nat_le 33 byte && nat_le byte 126 && not (byte == 58) && not (byte == 124) && not (byte == 60) && not (byte == 62) && not (byte == 61) && not (byte == 42)
+    nat_le 33 byte && nat_le byte 126 && not (byte == 58) && not (byte == 124) && not (byte == 60) && not (byte == 62)
+    && not (byte == 61) && not (byte == 42)
 
 -- a part of a directory: not empty, and not `.` or `..`
 abbrev pub is_part : List ℕ → Bool
@@ -80,7 +84,7 @@ is_directory directory = list_all is_part (slice_split (λ byte. byte == slash) 
 abbrev pub is_bare_dash : List ℕ → Bool
 is_bare_dash choice = bytes_eq choice (codes "-")
 
--- the bytes may stand, the directory is one, and no choice is a bare dash
+-- the bytes may be in a path, the directory is one, and no choice is a bare dash
 abbrev pub is_well_cut : List ℕ → List ℕ → List (List ℕ) → Bool
 is_well_cut text directory choices = list_all may_stand text && is_directory directory && not (list_any is_bare_dash choices)
 
@@ -99,7 +103,7 @@ path_of text =
 abbrev pub path_if_one : List ℕ → Option PathValue
 path_if_one text = result_ok (path_of text)
 
--- the number of a refusal; want of memory has none
+-- the number of a refusal; running out of memory has none
 abbrev pub refusal_number : PkgPathFault → Option ℕ
 refusal_number Empty = Some 1
 refusal_number TwoSubpackages = Some 2
@@ -112,7 +116,7 @@ flavor_choices None = []
 flavor_choices (Some []) = [] ∷ []
 flavor_choices (Some (flavor ∷ flavors)) = flavor ∷ flavors
 
--- each choice behind a comma
+-- the choices, each after a comma
 abbrev pub choices_text : List (List ℕ) → List ℕ
 choices_text choices = flat_map (λ choice. comma ∷ choice) choices
 
@@ -120,7 +124,7 @@ choices_text choices = flat_map (λ choice. comma ∷ choice) choices
 unfoldable pub canonical : PathValue → List ℕ
 canonical path = path.directory ++ choices_text (flavor_choices path.flavors) ++ choices_text (option_to_list path.subpackage)
 
--- a value that its canonical text names: that of a package path
+-- the value of a package path: its own canonical text names it
 pub record IsPath (path : PathValue) : Type 0 where
   pub itself : path_of (canonical path) ≡ Ok path
 

@@ -3,13 +3,13 @@ ghost use Rattle.std.specs.Prelude.{◌≡◌, IfOk, map, filter, find, length, 
 ghost use Rattle.std.specs.List.{list_all, list_any};
 ghost use Rattle.std.specs.String.{string_bytes};
 ghost use Rattle.pkg_path.specs.Paths.{is_subpackage, is_flavor, flavors_of, may_stand, is_part, is_directory, is_bare_dash, is_well_cut};
-ghost use Rattle.text_order.specs.Order.{in_order};
+ghost use Rattle.text_parts.specs.Order.{in_order};
 ghost use Rattle.pkg_path.specs.Seen.{flavors_seen};
-ghost use Rattle.text_cuts.specs.Cuts.{now_all};
+ghost use Rattle.text_parts.specs.Cuts.{now_all};
 
 use crate::flavors::Flavors;
 use std::alloc::{AllocError, Global};
-use text_order::put_in_order;
+use text_parts::put_in_order;
 
 // Whether a choice names a subpackage.
 fn is_subpackage(choice: &str) -> bool
@@ -42,21 +42,22 @@ pub(crate) fn count_subpackages(choices: &[&str]) -> usize
         .count()
 }
 
-// Whether the bytes of a text may stand in a path, its directory is one, and none of its choices is a bare dash.
+// Whether the bytes of a text may be in a path, its directory is one, and none of its choices
+// is a bare dash.
 pub(crate) fn is_well_written(text: &str, directory: &str, choices: &[&str]) -> bool
     ensures { result ≡ is_well_cut text.now directory.now (now_all choices.now) }
 {
     has_path_bytes(text) && is_directory(directory) && !has_bare_dash(choices)
 }
 
-// Whether each byte may stand in a path.
+// Whether each byte may be in a path.
 fn has_path_bytes(text: &str) -> bool
     ensures { result ≡ list_all may_stand text.now }
 {
     text.bytes().all(|byte| is_path_byte(byte))
 }
 
-// Whether a byte may stand in a path.
+// Whether a byte may be in a path.
 fn is_path_byte(byte: u8) -> bool
     ensures { result ≡ may_stand byte }
 {
@@ -70,14 +71,14 @@ fn is_path_byte(byte: u8) -> bool
         && byte != b'*'
 }
 
-// Whether the parts between the slashes of a text may stand in a directory.
+// Whether the parts between the slashes of a text may be in a directory.
 fn is_directory(text: &str) -> bool
     ensures { result ≡ is_directory text.now }
 {
     text.split('/').all(|part| is_part(part))
 }
 
-// Whether a part may stand in a directory.
+// Whether a part may be in a directory.
 fn is_part(part: &str) -> bool
     ensures { result ≡ is_part part.now }
 {
@@ -103,9 +104,10 @@ pub(crate) fn flavors_of(alloc: Global, choices: &[&str]) -> Result<Flavors, All
     Ok(Flavors::Explicit(flavors))
 }
 
-// The flavors that choices name, as they stand.
+// The flavors that choices name, as they are written.
 fn named_flavors(alloc: Global, choices: &[&str]) -> Result<Vec<String>, AllocError>
-    ensures { IfOk result (λ flavors. map string_bytes flavors.items ≡ filter is_flavor (now_all choices.now)) }
+    ensures { IfOk result (λ flavors. map string_bytes flavors.items
+        ≡ filter is_flavor (now_all choices.now)) }
 {
     let mut flavors = Vec::new(alloc);
     for choice in choices {
@@ -116,9 +118,10 @@ fn named_flavors(alloc: Global, choices: &[&str]) -> Result<Vec<String>, AllocEr
     Ok(flavors)
 }
 
-// The first subpackage that choices name.
+// The first subpackage that choices name; `None` if they name none.
 pub(crate) fn subpackage_of(alloc: Global, choices: &[&str]) -> Result<Option<String>, AllocError>
-    ensures { IfOk result (λ name. option_map string_bytes name ≡ find is_subpackage (now_all choices.now)) }
+    ensures { IfOk result (λ name. option_map string_bytes name
+        ≡ find is_subpackage (now_all choices.now)) }
 {
     for choice in choices {
         if is_subpackage(choice) {

@@ -4,23 +4,28 @@ ghost use Rattle.pkg_path.specs.Paths.{refusal_number};
 ghost use Rattle.pkg_path.specs.declared.faults.PkgPathFault.TheVariants.{Memory};
 
 use std::alloc::AllocError;
+use thiserror::Error;
 
-/// Why a text is no package path. Where several refusals fit, the first of them is told.
-#[derive(Clone, Copy, Debug, PartialEq, Eq)]
+/// Why a text is no package path. If several refusals fit, it is the first of them.
+#[derive(Clone, Copy, Debug, PartialEq, Eq, Error)]
 pub enum PkgPathFault {
     /// The text is empty.
+    #[error("the package path is empty")]
     Empty,
     /// More than one element begins with a dash.
+    #[error("the package path has two subpackages")]
     TwoSubpackages,
-    /// A byte that isn't printable ASCII, a blank or one of `: | < > = *`; a part of the directory that is
-    /// empty, `.` or `..`; or a dash with no name.
+    /// There is a byte that isn't printable ASCII, a blank or one of `: | < > = *`. Or a part of the
+    /// directory is empty, `.` or `..`, or a dash has no name.
+    #[error("the package path has a bad character")]
     BadCharacter,
-    /// No memory for the path.
+    /// There was no memory for the path.
+    #[error("out of memory")]
     Memory,
 }
 
 impl PkgPathFault {
-    /// The number of the refusal, 1 to 3; `None` for `Memory`, which is none.
+    /// The number of the refusal, 1 to 3; `None` for `Memory`, which isn't a refusal.
     pub fn number(&self) -> Option<u8>
         ensures { result ≡ refusal_number self.now }
     {

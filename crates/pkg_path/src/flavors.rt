@@ -12,7 +12,7 @@ use std::fmt;
 pub(crate) enum Flavors {
     /// None are chosen: the port's default flavor.
     Default,
-    /// Just these, in the order of their bytes, each once; with none of them, the empty flavor.
+    /// Exactly these, in the order of their bytes, each once; if there are none, it is the empty flavor.
     Explicit(Vec<String>),
 }
 
@@ -55,12 +55,13 @@ fn copy_names(alloc: Global, names: &[String]) -> Result<Vec<String>, AllocError
     Ok(copied)
 }
 
-// Writes flavors as a path has them, each behind a comma.
+// Writes flavors as a path has them, each after a comma.
 pub(crate) fn write_flavors<W: fmt::Write>(
     flavors: &Flavors,
     f: &mut fmt::Formatter<W>,
 ) -> fmt::Result
-    ensures { DisplaysOnOk W.write_str_gives f.old result (Some (choices_text (flavor_choices (flavors_seen flavors.now)))) f.new }
+    ensures { DisplaysOnOk W.write_str_gives f.old result
+        (Some (choices_text (flavor_choices (flavors_seen flavors.now)))) f.new }
 {
     match flavors {
         Flavors::Default => Ok(()),
@@ -69,9 +70,10 @@ pub(crate) fn write_flavors<W: fmt::Write>(
     }
 }
 
-// Writes names, each behind a comma.
+// Writes names, each after a comma.
 fn write_names<W: fmt::Write>(names: &[String], f: &mut fmt::Formatter<W>) -> fmt::Result
-    ensures { DisplaysOnOk W.write_str_gives f.old result (Some (choices_text (map string_bytes names.now))) f.new }
+    ensures { DisplaysOnOk W.write_str_gives f.old result
+        (Some (choices_text (map string_bytes names.now))) f.new }
 {
     for name in names {
         f.write_str(",")?;

@@ -6,7 +6,7 @@ pub fn canonical_names_the_path()
     ensures { CanonicalNamesThePath }
 {}
 
-/// Two paths are the same exactly where their canonical texts are.
+/// Two paths are the same exactly if their canonical texts are the same.
 pub fn same_text_same_path()
     ensures { SameTextSamePath }
 {}

@@ -6,7 +6,8 @@ ghost use Rattle.std.specs.Ordering.{nat_cmp};
 ghost use Rattle.std.specs.Str.{bytes_eq};
 ghost use Rattle.std.specs.Cmp.{partial_equiv_from_equiv};
 ghost use Rattle.std.proofs.lemmas.Cmp.{on_equiv, nat_list_eq_equiv};
-ghost use Rattle.pkg_path.specs.Paths.{path_of, path_if_one, canonical, port_path, IsPath, without_subpackage, flavor_choices, choices_text};
+ghost use Rattle.pkg_path.specs.Paths.{path_of, path_if_one, canonical, port_path, IsPath, without_subpackage};
+ghost use Rattle.pkg_path.specs.Paths.{flavor_choices, choices_text};
 
 use crate::elements::{count_subpackages, flavors_of, is_well_written, subpackage_of};
 use crate::faults::PkgPathFault;
@@ -14,7 +15,7 @@ use crate::flavors::{Flavors, copy_flavors, same_flavors, write_flavors};
 use std::alloc::{AllocError, Global};
 use std::fmt;
 use std::marker::Model;
-use text_cuts::split_at;
+use text_parts::split_at;
 
 /// A package path: the directory of a port below a ports tree, the flavors that are chosen, and maybe a
 /// subpackage, as in `editors/vim,gtk3,-lang` (pkgpath(7)).
@@ -51,19 +52,24 @@ impl Model for PkgPath {
 impl PkgPath {
     /// The path that a text names.
     ///
-    /// Commas separate its elements. The first is the directory. Of the others, in any order, one that
-    /// begins with a dash is the subpackage, and one that doesn't is a flavor, or, where it is empty,
-    /// chooses none; without either the flavors are the port's default.
+    /// Commas separate its elements. The first is the directory. The others may be in any order: one
+    /// that begins with a dash is the subpackage, and one that doesn't is a flavor. If such an element
+    /// is empty, it chooses no flavor. If every other element begins with a dash, or there is no other,
+    /// the flavors are the port's default.
     ///
-    /// Refused, the first that fits: `Empty`, an empty text; `TwoSubpackages`, more than one subpackage;
-    /// `BadCharacter`, a byte that isn't printable ASCII, a blank or one of `: | < > = *`, a part of the
-    /// directory that is empty, `.` or `..`, or a lone dash as an element behind the directory. `Memory`
-    /// comes where none is left.
+    /// The fault is the first that fits. It is `Empty` if the text is empty. It is `TwoSubpackages`
+    /// if there is more than one subpackage. It is `BadCharacter` for a byte that isn't printable
+    /// ASCII, a blank or one of `: | < > = *`. It is `BadCharacter` too if a part of the directory is
+    /// empty, `.` or `..`, or if an element after the directory is a lone dash. Whenever memory runs
+    /// out, it is `Memory`.
     pub fn read(alloc: Global, text: &str) -> Result<PkgPath, PkgPathFault>
         ensures ok { IfOk result (λ path. path_of text.now ≡ Ok path) }
-        ensures empty { IsErrOf result PkgPathFault.Empty → path_of text.now ≡ Err PkgPathFault.Empty }
-        ensures two { IsErrOf result PkgPathFault.TwoSubpackages → path_of text.now ≡ Err PkgPathFault.TwoSubpackages }
-        ensures bad { IsErrOf result PkgPathFault.BadCharacter → path_of text.now ≡ Err PkgPathFault.BadCharacter }
+        ensures empty { IsErrOf result PkgPathFault.Empty
+            → path_of text.now ≡ Err PkgPathFault.Empty }
+        ensures two { IsErrOf result PkgPathFault.TwoSubpackages
+            → path_of text.now ≡ Err PkgPathFault.TwoSubpackages }
+        ensures bad { IsErrOf result PkgPathFault.BadCharacter
+            → path_of text.now ≡ Err PkgPathFault.BadCharacter }
     {
         if text.is_empty() {
             return Err(PkgPathFault::Empty);
@@ -85,8 +91,8 @@ impl PkgPath {
         })
     }
 
-    /// The path that a text names, if it names one, by whatever it is refused. It fails where no memory is
-    /// left.
+    /// The path that a text names; `None` if it names none, whatever the refusal. It fails only if
+    /// memory runs out.
     pub fn read_if_one(alloc: Global, text: &str) -> Result<Option<PkgPath>, AllocError>
         ensures { IfOk result (λ path. path ≡ path_if_one text.now) }
     {
@@ -99,16 +105,16 @@ impl PkgPath {
         }
     }
 
-    /// The canonical text: the directory, the flavors in the order of their bytes without doubles (a lone
-    /// comma for the empty flavor), the subpackage.
+    /// The canonical text: the directory, the flavors in the order of their bytes without doubles (a
+    /// lone comma for the empty flavor), and the subpackage. It fails only if memory runs out.
     pub fn canonical(&self, alloc: Global) -> Result<String, AllocError>
         ensures { IfOk result (λ text. string_bytes text ≡ canonical self.now) }
     {
         format!(in alloc; "{self}")
     }
 
-    /// The canonical text of the port that the path names: without the subpackage. It fails where no memory
-    /// is left.
+    /// The canonical text of the port that the path names: without the subpackage. It fails only if
+    /// memory runs out.
     pub fn port_path(&self, alloc: Global) -> Result<String, AllocError>
         ensures { IfOk result (λ text. string_bytes text ≡ port_path self.now) }
     {
@@ -126,7 +132,7 @@ impl PkgPath {
         }
     }
 
-    /// Another path that is the same. It fails where no memory is left.
+    /// Another path that is the same. It fails only if memory runs out.
     pub fn copy(&self, alloc: Global) -> Result<PkgPath, AllocError>
         ensures { IfOk result (λ path. path ≡ self.now) }
     {
@@ -137,7 +143,7 @@ impl PkgPath {
         })
     }
 
-    /// The directory of the port below a ports tree, as `editors/vim`.
+    /// The directory of the port below a ports tree, such as `editors/vim`.
     pub fn directory(&self) -> &str
         ensures directory { result.now ≡ self.now.directory }
         ensures is_path { IsPath self.now }
@@ -145,8 +151,8 @@ impl PkgPath {
         self.directory.as_str()
     }
 
-    /// The flavors, where some are chosen: just these, in the order of their bytes, each once; with none of
-    /// them, the empty flavor. `None` is the port's default flavor.
+    /// The flavors, if some are chosen: exactly these, in the order of their bytes, each once. An empty
+    /// list is the empty flavor. `None` is the port's default flavor.
     pub fn flavors(&self) -> Option<&[String]>
         ensures { option_map (λ names. map string_bytes names.now) result ≡ self.now.flavors }
     {
@@ -156,7 +162,7 @@ impl PkgPath {
         }
     }
 
-    /// The subpackage with its dash, as `-main`, where one is named.
+    /// The subpackage with its dash, such as `-main`; `None` if none is named.
     pub fn subpackage(&self) -> Option<&str>
         ensures { option_copied result ≡ self.now.subpackage }
     {
@@ -187,7 +193,7 @@ impl PartialEq for PkgPath {
 
     ghost laws = { partial_equiv_from_equiv (on_equiv canonical nat_list_eq_equiv) };
 
-    /// Whether the paths are the same, which is where their canonical texts are.
+    /// Whether the paths are the same, which is so exactly if their canonical texts are the same.
     fn eq(&self, other: &PkgPath) -> bool
         ensures same { IsTrue result ↔ (self.now ≡ other.now) }
         ensures texts { result ≡ bytes_eq (canonical self.now) (canonical other.now) }
@@ -204,7 +210,8 @@ impl Eq for PkgPath {
 
 // The same subpackage, or none.
 fn copy_name(alloc: Global, name: &Option<String>) -> Result<Option<String>, AllocError>
-    ensures { IfOk result (λ copied. option_map string_bytes copied ≡ option_map string_bytes name.now) }
+    ensures { IfOk result (λ copied. option_map string_bytes copied
+        ≡ option_map string_bytes name.now) }
 {
     match name {
         Some(name) => Ok(Some(String::from_str(alloc, name.as_str())?)),
@@ -214,7 +221,8 @@ fn copy_name(alloc: Global, name: &Option<String>) -> Result<Option<String>, All
 
 // Whether these are the same subpackage, or both none.
 fn same_subpackage(one: &Option<String>, other: &Option<String>) -> bool
-    ensures { IsTrue result ↔ (option_map string_bytes one.now ≡ option_map string_bytes other.now) }
+    ensures { IsTrue result ↔ (option_map string_bytes one.now
+        ≡ option_map string_bytes other.now) }
 {
     one == other
 }

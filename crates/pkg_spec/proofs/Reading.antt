@@ -5,7 +5,7 @@ use Rattle.std.specs.Borrow.{Bor}
 use Rattle.std.specs.List.{list_all, slice_split}
 use Rattle.std.specs.Option.{option_map}
 use Rattle.pkg_spec.specs.Alternatives.{AlternativeValue, ComparisonValue, at_versions, alternative_of, alternative_of_cut, alternative_of_words, are_versions, comparisons_of, has_name, forbids}
-use Rattle.text_cuts.specs.Cuts.{Cut, now_all}
+use Rattle.text_parts.specs.Cuts.{Cut, now_all}
 use Rattle.pkg_name.specs.Name.{dash}
 use Rattle.pkg_spec.specs.declared.faults.SpecFault.TheVariants.{NoStem, BadVersion, EmptyAlternative}
 

@@ -1,5 +1,5 @@
--- A spec as the set of the packages' names that it admits: a union over alternatives of intersections over comparisons and flavors
--- (packages-specs(7)). A set of names is its test.
+-- A spec as the set of the packages' names that it admits: a union over alternatives of intersections over
+-- comparisons and flavors (packages-specs(7)). A set of names is its test.
 use Rattle.std.specs.Prelude.{ℕ, ◌||◌, Bool, not, List, [], ◌∷◌, ◌++◌, map, codes, Result, Ok, Err, ◌≡◌}
 use Rattle.std.specs.List.{list_all, list_any}
 use Rattle.std.specs.Ordering.{is_lt, is_le, is_eq, is_ge, is_gt}
@@ -8,8 +8,8 @@ use Rattle.std.specs.declared.cmp.Ordering.{Ordering}
 use Rattle.pkg_name.specs.Name.{NameParts}
 use Rattle.pkg_name.specs.Order.{version_cmp}
 use Rattle.pkg_spec.specs.Alternatives.{ComparisonValue, AlternativeValue, spec_of}
-use Rattle.pkg_spec.specs.declared.comparisons.Sign.{Sign}
-use Rattle.pkg_spec.specs.declared.comparisons.Sign.TheVariants.{Below, AtMost, Equals, AtLeast, Above}
+use Rattle.pkg_spec.specs.declared.comparisons.ComparisonSign.{ComparisonSign}
+use Rattle.pkg_spec.specs.declared.comparisons.ComparisonSign.TheVariants.{Below, AtMost, Equals, AtLeast, Above}
 use Rattle.pkg_spec.specs.declared.faults.SpecFault.{SpecFault}
 
 abbrev pub NameSet : Type 0
@@ -21,15 +21,15 @@ union sets = λ name. list_any (λ set. set name) sets
 abbrev pub intersection : List NameSet → NameSet
 intersection sets = λ name. list_all (λ set. set name) sets
 
--- how a version that compares so stands to a sign
-abbrev pub holds : Sign → Ordering → Bool
+-- whether a version that compares like this meets a sign
+abbrev pub holds : ComparisonSign → Ordering → Bool
 holds Below = is_lt
 holds AtMost = is_le
 holds Equals = is_eq
 holds AtLeast = is_ge
 holds Above = is_gt
 
--- the names with this stem; `STEM` stands for every stem
+-- the names with this stem; `STEM` means every stem
 abbrev pub with_stem : List ℕ → NameSet
 with_stem stem = λ name. bytes_eq stem (codes "STEM") || bytes_eq stem name.stem
 
@@ -47,7 +47,8 @@ lacking flavor = λ name. not (having flavor name)
 -- what an alternative admits
 abbrev pub set_of_alternative : AlternativeValue → NameSet
 set_of_alternative alternative =
-    intersection (with_stem alternative.stem ∷ map meeting alternative.comparisons ++ map having alternative.wanted ++ map lacking alternative.forbidden)
+    intersection (with_stem alternative.stem ∷ map meeting alternative.comparisons ++ map having alternative.wanted
+    ++ map lacking alternative.forbidden)
 
 -- what alternatives admit
 abbrev pub set_of : List AlternativeValue → NameSet
@@ -57,7 +58,7 @@ set_of alternatives = union (map set_of_alternative alternatives)
 pub record IsSpec (text : List ℕ) (alternatives : List AlternativeValue) : Type 0 where
   pub read : spec_of text ≡ Ok alternatives
 
--- what the spec of a text admits; a text that is none admits nothing
+-- what the spec of a text admits; a text that is no spec admits nothing
 abbrev pub set_of_reading : Result (List AlternativeValue) SpecFault → NameSet
 set_of_reading (Ok alternatives) = set_of alternatives
 set_of_reading (Err fault) = union []

@@ -1,21 +1,23 @@
--- Specs of packages (packages-specs(7)): alternatives, each a stem, the versions that it takes and maybe flavors, as in
--- `foo->=1.0,<2-gtk-!debug|bar-*`. What is refused, and the order of the refusals, is this project's choice.
-use Rattle.std.specs.Prelude.{ℕ, ◌==◌, ◌&&◌, ◌||◌, if◌then◌else◌, Bool, true, false, not, List, [], ◌∷◌, length, drop, map, filter, slice_index, nat_eq, Option, Some, None, Result, Ok, Err, codes}
+-- Specs of packages (packages-specs(7)): alternatives, each a stem, the versions that it takes and maybe
+-- flavors, as in `foo->=1.0,<2-gtk-!debug|bar-*`. What is refused, and the order of the refusals, is this
+-- project's choice.
+use Rattle.std.specs.Prelude.{ℕ, ◌==◌, ◌&&◌, ◌||◌, if◌then◌else◌, Bool, true, false, not, List, [], ◌∷◌, length, drop}
+use Rattle.std.specs.Prelude.{map, filter, slice_index, nat_eq, Option, Some, None, Result, Ok, Err, codes}
 use Rattle.std.specs.List.{slice_split, list_all, list_any, starts_with, filter_map}
 use Rattle.std.specs.Char.{is_ascii_digit}
 use Rattle.std.specs.Result.{result_ok}
 use Rattle.std.specs.Str.{bytes_eq}
-use Rattle.text_cuts.specs.Cuts.{Cut, cut_where}
+use Rattle.text_parts.specs.Cuts.{Cut, cut_where}
 use Rattle.pkg_name.specs.Version.{is_version}
 use Rattle.pkg_name.specs.Name.{dash}
-use Rattle.pkg_spec.specs.declared.comparisons.Sign.{Sign}
-use Rattle.pkg_spec.specs.declared.comparisons.Sign.TheVariants.{Below, AtMost, Equals, AtLeast, Above}
+use Rattle.pkg_spec.specs.declared.comparisons.ComparisonSign.{ComparisonSign}
+use Rattle.pkg_spec.specs.declared.comparisons.ComparisonSign.TheVariants.{Below, AtMost, Equals, AtLeast, Above}
 use Rattle.pkg_spec.specs.declared.faults.SpecFault.{SpecFault}
 use Rattle.pkg_spec.specs.declared.faults.SpecFault.TheVariants.{NoStem, BadVersion, EmptyAlternative, Memory}
 
--- a comparison: a version is set against this one
+-- a comparison: a version is compared with this one
 pub record ComparisonValue : Type 0 where
-  pub sign : Sign
+  pub sign : ComparisonSign
   pub version : List ℕ
 
 -- an alternative: a stem, comparisons that all hold, flavors that must be there, and flavors that must not
@@ -35,7 +37,8 @@ comma = 44
 abbrev pub bar : ℕ
 bar = 124
 
--- the sign that a comparison begins with, the longer where two fit, and the version behind it; without a sign it is `=`
+-- the sign that a comparison begins with, the longer one if two fit, and the version after it; without a
+-- sign it is `=`
 abbrev pub signed : List ℕ → ComparisonValue
 signed text =
     if starts_with nat_eq text (codes "<=") then record { sign = AtMost; version = drop 2 text }
@@ -45,7 +48,7 @@ signed text =
     else if starts_with nat_eq text (codes "=") then record { sign = Equals; version = drop 1 text }
     else record { sign = Equals; version = text }
 
--- a comparison has a version behind its sign
+-- a comparison has a version after its sign
 abbrev pub is_comparison : List ℕ → Bool
 is_comparison text = is_version (signed text).version
 
@@ -63,7 +66,7 @@ are_versions versions = is_any versions || list_all is_comparison (pieces_of ver
 abbrev pub comparisons_of : List ℕ → List ComparisonValue
 comparisons_of versions = if is_any versions then [] else map signed (pieces_of versions)
 
--- a flavor behind `!` is forbidden, and any other wanted
+-- a flavor after `!` is forbidden, and any other is wanted
 abbrev pub forbids : List ℕ → Bool
 forbids [] = false
 forbids (first ∷ name) = first == bang
@@ -76,11 +79,11 @@ has_name flavor = not (bytes_eq flavor []) && not (bytes_eq flavor (codes "!"))
 abbrev pub begins_versions : List ℕ → Bool
 begins_versions text = let byte = slice_index text 0 in is_ascii_digit byte || byte == 42 || byte == 60 || byte == 61 || byte == 62
 
--- what stands before the first dash behind which versions begin, and what stands behind that dash
+-- what is before the first dash that versions follow, and what follows that dash
 abbrev pub at_versions : List ℕ → Option Cut
 at_versions text = cut_where dash begins_versions text
 
--- the alternative of a stem and the words behind it: the versions, and then the flavors
+-- the alternative of a stem and the words after it: the versions, and then the flavors
 abbrev pub alternative_of_words : List ℕ → List (List ℕ) → Result AlternativeValue SpecFault
 alternative_of_words stem [] = Err NoStem
 alternative_of_words stem (versions ∷ flavors) =
@@ -93,7 +96,7 @@ alternative_of_words stem (versions ∷ flavors) =
     })
     else Err BadVersion
 
--- the alternative of a text that is cut before its versions: there is a stem
+-- the alternative of a text that is cut before its versions: there must be a stem
 abbrev pub alternative_of_cut : Option Cut → Result AlternativeValue SpecFault
 alternative_of_cut None = Err NoStem
 alternative_of_cut (Some cut) =
@@ -103,14 +106,14 @@ alternative_of_cut (Some cut) =
 unfoldable pub alternative_of : List ℕ → Result AlternativeValue SpecFault
 alternative_of text = if length text == 0 then Err EmptyAlternative else alternative_of_cut (at_versions text)
 
--- the number of a refusal; want of memory has none
+-- the number of a refusal; running out of memory has none
 abbrev pub refusal_number : SpecFault → Option ℕ
 refusal_number NoStem = Some 1
 refusal_number BadVersion = Some 2
 refusal_number EmptyAlternative = Some 3
 refusal_number Memory = None
 
--- a reading was refused so
+-- a reading had this refusal
 abbrev pub is_refused : SpecFault → Result AlternativeValue SpecFault → Bool
 is_refused NoStem (Err NoStem) = true
 is_refused BadVersion (Err BadVersion) = true

@@ -1,4 +1,4 @@
--- What the types of the code are seen as.
+-- How the definitions see the types of the code.
 use Rattle.std.specs.Prelude.{◌≡◌, ℕ, Bool, ◌&&◌, List, map, string_bytes}
 use Rattle.std.specs.List.{list_all, list_any, filter_map}
 use Rattle.std.specs.Result.{result_ok}
@@ -26,9 +26,11 @@ alternative_seen alternative = record {
 -- a name has the flavors that an alternative wants, and none that it forbids
 abbrev pub admits_flavors : Alternative → NameParts → Bool
 admits_flavors alternative name =
-    list_all (λ flavor. having (string_bytes flavor) name) alternative.wanted.items && list_all (λ flavor. lacking (string_bytes flavor) name) alternative.forbidden.items
+    list_all (λ flavor. having (string_bytes flavor) name) alternative.wanted.items
+    && list_all (λ flavor. lacking (string_bytes flavor) name) alternative.forbidden.items
 
--- what was read of parts: the alternatives that were kept, and whether one of the parts had each refusal
+-- what was read of parts: the alternatives that were kept, and for each refusal whether one of
+-- the parts had it
 pub record ReadsParts (parts : List (List ℕ)) (reading : Reading) : Type 0 where
   pub kept : map alternative_seen reading.alternatives.items ≡ filter_map result_ok (map alternative_of parts)
   pub no_stem : reading.no_stem ≡ list_any (is_refused NoStem) (map alternative_of parts)

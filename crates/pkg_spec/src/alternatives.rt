@@ -1,10 +1,11 @@
 // The alternatives of a spec.
-ghost use Rattle.std.specs.Prelude.{◌≡◌, ◌==◌, ◌&&◌, not, IfOk, IsErrOf, MatchOption, Some, None, true, false, map, filter, drop, slice_index};
+ghost use Rattle.std.specs.Prelude.{◌≡◌, ◌==◌, ◌&&◌, not, IfOk, IsErrOf, MatchOption, Some, None, true, false, map};
+ghost use Rattle.std.specs.Prelude.{filter, drop, slice_index};
 ghost use Rattle.std.specs.List.{list_all, list_any, slice_split};
 ghost use Rattle.std.specs.Str.{bytes_eq};
 ghost use Rattle.std.specs.String.{string_bytes};
 ghost use Rattle.pkg_spec.specs.Alternatives.{alternative_of, at_versions, begins_versions, forbids, has_name};
-ghost use Rattle.text_cuts.specs.Cuts.{now_all};
+ghost use Rattle.text_parts.specs.Cuts.{now_all};
 ghost use Rattle.pkg_spec.specs.Admitting.{set_of_alternative, with_stem, meeting, having, lacking};
 ghost use Rattle.pkg_spec.specs.Seen.{comparison_seen};
 
@@ -12,7 +13,7 @@ use crate::comparisons::{Comparison, read_versions};
 use crate::faults::SpecFault;
 use pkg_name::PkgName;
 use std::alloc::{AllocError, Global};
-use text_cuts::{cut_where, split_at};
+use text_parts::{cut_where, split_at};
 
 /// An alternative of a spec.
 #[derive(Debug, Drop)]
@@ -28,10 +29,14 @@ impl Alternative {
 
     /// The alternative that a text is, or the refusal that fits.
     pub(crate) fn read(alloc: Global, text: &str) -> Result<Alternative, SpecFault>
-        ensures ok { IfOk result (λ alternative. alternative_of text.now ≡ Ok (alternative_seen alternative)) }
-        ensures no_stem { IsErrOf result SpecFault.NoStem → alternative_of text.now ≡ Err SpecFault.NoStem }
-        ensures bad_version { IsErrOf result SpecFault.BadVersion → alternative_of text.now ≡ Err SpecFault.BadVersion }
-        ensures empty { IsErrOf result SpecFault.EmptyAlternative → alternative_of text.now ≡ Err SpecFault.EmptyAlternative }
+        ensures ok { IfOk result (λ alternative. alternative_of text.now
+            ≡ Ok (alternative_seen alternative)) }
+        ensures no_stem { IsErrOf result SpecFault.NoStem
+            → alternative_of text.now ≡ Err SpecFault.NoStem }
+        ensures bad_version { IsErrOf result SpecFault.BadVersion
+            → alternative_of text.now ≡ Err SpecFault.BadVersion }
+        ensures empty { IsErrOf result SpecFault.EmptyAlternative
+            → alternative_of text.now ≡ Err SpecFault.EmptyAlternative }
     {
         if text.is_empty() {
             return Err(SpecFault::EmptyAlternative);
@@ -69,7 +74,10 @@ impl Alternative {
 
     // Whether the version and the flavors of a name are those that are asked for.
     fn admits_behind_stem(&self, name: &PkgName) -> bool
-        ensures { result ≡ (list_all (λ comparison. meeting (comparison_seen comparison) name.now) self.now.comparisons.items && admits_flavors self.now name.now) }
+        ensures { result
+            ≡ (list_all (λ comparison. meeting
+            (comparison_seen comparison) name.now) self.now.comparisons.items
+            && admits_flavors self.now name.now) }
     {
         all_hold(&self.comparisons, name) && self.admits_flavors(name)
     }
@@ -91,7 +99,8 @@ fn fits_stem(stem: &str, name: &PkgName) -> bool
 
 // Whether the version of a name meets each comparison.
 fn all_hold(comparisons: &[Comparison], name: &PkgName) -> bool
-    ensures { result ≡ list_all (λ comparison. meeting (comparison_seen comparison) name.now) comparisons.now }
+    ensures { result
+        ≡ list_all (λ comparison. meeting (comparison_seen comparison) name.now) comparisons.now }
 {
     let version = name.version();
     comparisons
@@ -131,14 +140,15 @@ fn is_among(others: &[String], text: &str) -> bool
     others.iter().any(|other| text == other.as_str())
 }
 
-// What stands before the first dash with a digit, `*` or a sign behind it, and what stands behind that dash.
+// What is before the first dash that a digit, `*` or a sign follows, and what follows that dash.
 fn cut_at_versions(text: &str) -> Option<(&str, &str)>
-    ensures { MatchOption result (at_versions text.now ≡ None) (λ cut. at_versions text.now ≡ Some (record { before = cut.0.now; behind = cut.1.now })) }
+    ensures { MatchOption result (at_versions text.now ≡ None)
+        (λ cut. at_versions text.now ≡ Some (record { before = cut.0.now; behind = cut.1.now })) }
 {
     cut_where(text, '-', begins_versions)
 }
 
-// Whether versions begin a text.
+// Whether a text begins with versions.
 fn begins_versions(text: &[u8]) -> bool
     ensures { result ≡ begins_versions text.now }
 {
@@ -162,9 +172,10 @@ fn has_name(flavor: &str) -> bool
     flavor != "" && flavor != "!"
 }
 
-// The name of a forbidden flavor.
+// The name of a forbidden flavor; `None` if the flavor isn't forbidden.
 fn forbidden_name(flavor: &str) -> Option<&str>
-    ensures { MatchOption result (forbids flavor.now ≡ false) (λ name. (forbids flavor.now ≡ true) × (name.now ≡ drop 1 flavor.now)) }
+    ensures { MatchOption result (forbids flavor.now ≡ false)
+        (λ name. (forbids flavor.now ≡ true) × (name.now ≡ drop 1 flavor.now)) }
 {
     flavor.strip_prefix('!')
 }
@@ -178,7 +189,8 @@ fn forbids(flavor: &str) -> bool
 
 // The flavors that must be there.
 fn wanted_of(alloc: Global, flavors: &[&str]) -> Result<Vec<String>, AllocError>
-    ensures { IfOk result (λ wanted. map string_bytes wanted.items ≡ filter (λ flavor. not (forbids flavor)) (now_all flavors.now)) }
+    ensures { IfOk result (λ wanted. map string_bytes wanted.items
+        ≡ filter (λ flavor. not (forbids flavor)) (now_all flavors.now)) }
 {
     let mut wanted = Vec::new(alloc);
     for flavor in flavors {
@@ -191,7 +203,8 @@ fn wanted_of(alloc: Global, flavors: &[&str]) -> Result<Vec<String>, AllocError>
 
 // The flavors that must not be there.
 fn forbidden_of(alloc: Global, flavors: &[&str]) -> Result<Vec<String>, AllocError>
-    ensures { IfOk result (λ forbidden. map string_bytes forbidden.items ≡ map (drop 1) (filter forbids (now_all flavors.now))) }
+    ensures { IfOk result (λ forbidden. map string_bytes forbidden.items
+        ≡ map (drop 1) (filter forbids (now_all flavors.now))) }
 {
     let mut forbidden = Vec::new(alloc);
     for flavor in flavors {

@@ -4,23 +4,28 @@ ghost use Rattle.pkg_spec.specs.Alternatives.{refusal_number};
 ghost use Rattle.pkg_spec.specs.declared.faults.SpecFault.TheVariants.{Memory};
 
 use std::alloc::AllocError;
+use thiserror::Error;
 
-/// Why a text is no spec. Where several refusals fit, in one alternative or in several, the first of them
-/// is told.
-#[derive(Clone, Copy, Debug, PartialEq, Eq)]
+/// Why a text is no spec. If several refusals fit, in one alternative or in several, it is the
+/// first of them.
+#[derive(Clone, Copy, Debug, PartialEq, Eq, Error)]
 pub enum SpecFault {
-    /// An alternative has no stem, or no versions: no dash with a digit, `*` or a sign behind it.
+    /// An alternative has no stem, or no versions: no dash that a digit, `*` or a sign follows.
+    #[error("an alternative of the spec has no stem or no versions")]
     NoStem,
-    /// What should be a version is none, or a flavor has no name.
+    /// What should be a version isn't one, or a flavor has no name.
+    #[error("the spec has a bad version or a flavor without a name")]
     BadVersion,
     /// An alternative is empty.
+    #[error("an alternative of the spec is empty")]
     EmptyAlternative,
-    /// No memory for the spec.
+    /// There was no memory for the spec.
+    #[error("out of memory")]
     Memory,
 }
 
 impl SpecFault {
-    /// The number of the refusal, 1 to 3; `None` for `Memory`, which is none.
+    /// The number of the refusal, 1 to 3; `None` for `Memory`, which isn't a refusal.
     pub fn number(&self) -> Option<u8>
         ensures { result ≡ refusal_number self.now }
     {

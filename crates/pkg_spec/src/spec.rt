@@ -3,7 +3,7 @@ ghost use Rattle.std.specs.Prelude.{◌≡◌, ◌==◌, ◌++◌, ◌||◌, IfO
 ghost use Rattle.std.specs.List.{slice_split, filter_map, list_any};
 ghost use Rattle.std.specs.Result.{result_ok};
 ghost use Rattle.pkg_spec.specs.Alternatives.{spec_of, alternative_of, is_refused, bar};
-ghost use Rattle.text_cuts.specs.Cuts.{now_all};
+ghost use Rattle.text_parts.specs.Cuts.{now_all};
 ghost use Rattle.pkg_spec.specs.Seen.{alternative_seen, ReadsParts};
 ghost use Rattle.pkg_spec.specs.Admitting.{admitted_by, set_of_alternative};
 ghost use Rattle.pkg_spec.specs.declared.faults.SpecFault.TheVariants.{NoStem, BadVersion, EmptyAlternative};
@@ -14,13 +14,13 @@ use pkg_name::PkgName;
 use std::alloc::{AllocError, Global};
 use std::fmt;
 use std::marker::Model;
-use text_cuts::split_at;
+use text_parts::split_at;
 
-/// A spec of packages: alternatives, each a stem, the versions that it takes and maybe flavors, as
+/// A spec of packages: alternatives, each a stem, the versions that it takes and maybe flavors, such as
 /// `foo->=1.0,<2-gtk-!debug|bar-*` (packages-specs(7)).
 ///
-/// It stands for a set of packages' names. It prints as the text that it was read from, and clauses see
-/// the bytes of that text.
+/// It means a set of packages' names. It prints as the text that it was read from, and clauses see the
+/// bytes of that text.
 #[derive(Debug, Drop)]
 pub struct Spec {
     text: String,
@@ -43,20 +43,24 @@ impl Model for Spec {
 impl Spec {
     /// The spec that a text is.
     ///
-    /// Bars separate its alternatives. The stem of an alternative ends before the first dash that a digit,
-    /// `*` or a sign follows; then come the versions, which are `*` or comparisons with commas between, and
-    /// behind further dashes the flavors. A comparison is a version behind one of `< <= = >= >`, and
-    /// without a sign is `=`.
+    /// Bars separate its alternatives. The stem of an alternative ends before the first dash that a
+    /// digit, `*` or a sign follows. Then come the versions, which are `*` or comparisons with commas
+    /// between them. Then come the flavors, each after a further dash. A comparison is a version after
+    /// one of `< <= = >= >`; without a sign it is `=`.
     ///
-    /// Refused, the first that fits any alternative: `NoStem`, one without a stem or versions;
-    /// `BadVersion`, one with a comparison whose version is none or a flavor without a name;
-    /// `EmptyAlternative`, one that is empty. `Memory` comes where none is left.
+    /// The fault is the first of these that fits any alternative. It is `NoStem` if the alternative has
+    /// no stem or no versions. It is `BadVersion` if what should be the version of a comparison isn't
+    /// one, or a flavor has no name. It is `EmptyAlternative` if the alternative is empty. Whenever
+    /// memory runs out, it is `Memory`.
     pub fn read(alloc: Global, text: &str) -> Result<Spec, SpecFault>
         ensures text { IfOk result (λ spec. spec ≡ text.now) }
         ensures ok { IfOk result (λ spec. IsOk (spec_of spec)) }
-        ensures no_stem { IsErrOf result SpecFault.NoStem → spec_of text.now ≡ Err SpecFault.NoStem }
-        ensures bad_version { IsErrOf result SpecFault.BadVersion → spec_of text.now ≡ Err SpecFault.BadVersion }
-        ensures empty { IsErrOf result SpecFault.EmptyAlternative → spec_of text.now ≡ Err SpecFault.EmptyAlternative }
+        ensures no_stem { IsErrOf result SpecFault.NoStem
+            → spec_of text.now ≡ Err SpecFault.NoStem }
+        ensures bad_version { IsErrOf result SpecFault.BadVersion
+            → spec_of text.now ≡ Err SpecFault.BadVersion }
+        ensures empty { IsErrOf result SpecFault.EmptyAlternative
+            → spec_of text.now ≡ Err SpecFault.EmptyAlternative }
     {
         let parts = split_at(alloc, text, '|')?;
         let reading = read_parts(alloc, &parts)?;
@@ -75,9 +79,10 @@ impl Spec {
         })
     }
 
-    /// Whether the spec admits a name: whether one of its alternatives has the name's stem, or the stem
-    /// `STEM`, which stands for every stem; comparisons that the version meets, all of them; flavors that
-    /// the name has; and behind `!` flavors that it hasn't. It takes no memory.
+    /// Whether the spec admits a name: whether one of its alternatives does. An alternative admits a
+    /// name if all of this holds. Its stem is the name's stem, or is `STEM`, which means every stem. The
+    /// version meets all of its comparisons. The name has each flavor that it gives without `!`, and no
+    /// flavor that it gives after `!`. It takes no memory.
     pub fn matches(&self, name: &PkgName) -> bool
         ensures { result ≡ admitted_by self.now name.now }
     {
@@ -103,14 +108,16 @@ impl fmt::Display for Spec {
 
 // Whether one of the alternatives admits a name.
 fn one_admits(alternatives: &[Alternative], name: &PkgName) -> bool
-    ensures { result ≡ list_any (λ alternative. set_of_alternative (alternative_seen alternative) name.now) alternatives.now }
+    ensures { result
+        ≡ list_any (λ alternative. set_of_alternative
+        (alternative_seen alternative) name.now) alternatives.now }
 {
     alternatives
         .iter()
         .any(|alternative| alternative.admits(name))
 }
 
-// The alternatives that are read so far, and whether one of them had each refusal.
+// The alternatives that are read so far, and for each refusal whether one of the texts had it.
 #[derive(Drop)]
 struct Reading {
     alternatives: Vec<Alternative>,
@@ -124,10 +131,16 @@ impl Reading {
 
     // With one more alternative.
     fn with(mut self, alloc: Global, text: &str) -> Result<Reading, AllocError>
-        ensures alternatives { IfOk result (λ reading. map alternative_seen reading.alternatives.items ≡ map alternative_seen self.alternatives.items ++ option_to_list (result_ok (alternative_of text.now))) }
-        ensures no_stem { IfOk result (λ reading. reading.no_stem ≡ (self.no_stem || is_refused NoStem (alternative_of text.now))) }
-        ensures bad_version { IfOk result (λ reading. reading.bad_version ≡ (self.bad_version || is_refused BadVersion (alternative_of text.now))) }
-        ensures empty { IfOk result (λ reading. reading.empty ≡ (self.empty || is_refused EmptyAlternative (alternative_of text.now))) }
+        ensures alternatives { IfOk result (λ reading.
+            map alternative_seen reading.alternatives.items
+            ≡ map alternative_seen self.alternatives.items
+            ++ option_to_list (result_ok (alternative_of text.now))) }
+        ensures no_stem { IfOk result (λ reading. reading.no_stem
+            ≡ (self.no_stem || is_refused NoStem (alternative_of text.now))) }
+        ensures bad_version { IfOk result (λ reading. reading.bad_version
+            ≡ (self.bad_version || is_refused BadVersion (alternative_of text.now))) }
+        ensures empty { IfOk result (λ reading. reading.empty
+            ≡ (self.empty || is_refused EmptyAlternative (alternative_of text.now))) }
     {
         match Alternative::read(alloc, text) {
             Ok(alternative) => self.alternatives.push(alternative)?,

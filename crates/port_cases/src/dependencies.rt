@@ -13,7 +13,7 @@ use ports_query::{
 use std::alloc::{AllocError, Global};
 use text_cases::{add_texts, path_of};
 
-/// The path at which the makefile's port stands.
+/// The path at which the makefile's port is.
 const ROOT: &str = "a/b";
 
 /// `index`: the roots of the world, each with its path and whether a fault is met there, and then each
@@ -35,7 +35,8 @@ pub fn index(alloc: Global, world: &mut World) -> Result<Answer, Trouble> {
     Ok(answer)
 }
 
-/// `items`: of the makefile's port, each with its kind, its package, its path and its spec, or `BadItem`.
+/// `items`: the items of the makefile's port, each with its kind, its package, its path
+/// and its spec, or `BadItem`.
 pub fn items_told(alloc: Global, world: &mut World) -> Result<Answer, Trouble> {
     let mut answer = Answer::new(alloc);
     for item in &items(alloc, &port(alloc, world)?)? {
@@ -57,8 +58,8 @@ fn add_item(alloc: Global, answer: &mut Answer, item: &Item) -> Result<(), Troub
     Ok(())
 }
 
-/// `statuses WHAT`: of the items of the makefile's port where each path leads to this: `absent`, `flavor`
-/// (a fault of a flavor), `fault` (another), `other` (no port), `port` (that port itself).
+/// `statuses WHAT`: the statuses of the items of the makefile's port, if each path leads to this: `absent`,
+/// `flavor` (a fault of a flavor), `fault` (another), `other` (no port), `port` (that port itself).
 pub fn statuses(alloc: Global, world: &mut World, given: &[Vec<u8>]) -> Result<Answer, Trouble> {
     let what = one_text(given)?;
     let port = port(alloc, world)?;
@@ -87,9 +88,9 @@ fn found_there<'a>(what: &str, port: &'a PortRecord) -> Option<Found<'a>> {
     }
 }
 
-/// `first KIND PATH`, `to KIND PATH`: the items of the makefile's port at `a/b`, each of whose paths leads
-/// to that port, that the path has, or that lead to it; `reached KIND PATH`, `reaching KIND PATH`: the paths
-/// that are reached from there over these, or reach it.
+/// Questions about the items of the makefile's port at `a/b`, each of whose paths leads to that port.
+/// `first KIND PATH`: the items that the path has. `to KIND PATH`: those that lead to it. `reached KIND
+/// PATH`, `reaching KIND PATH`: the paths that are reached from there over these items, or that reach it.
 pub fn over_edges(
     alloc: Global,
     world: &mut World,

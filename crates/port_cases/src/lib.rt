@@ -8,7 +8,8 @@ use case_lines::{Answer, Trouble};
 use make_cases::Setup;
 use std::alloc::Global;
 
-/// What the call of a line gives, over what was set up.
+/// What the call of a line gives, over what was set up. The error is `NoCase` if the line is in no form of
+/// a case, and `Memory` if memory runs out.
 pub fn answer(
     alloc: Global,
     setup: &mut Setup,

@@ -22,6 +22,7 @@ fn port_told(alloc: Global, path: &PkgPath, evaluated: &Evaluated) -> Result<Ans
     match record(alloc, evaluated, &makefile(alloc)?) {
         Ok(recorded) => {
             let mut answer = Answer::new(alloc);
+            answer.word("path");
             answer.text(path.canonical(alloc)?.as_bytes());
             add_port(alloc, &mut answer, &recorded.port);
             add_cost(&mut answer, recorded.cost);
@@ -32,7 +33,7 @@ fn port_told(alloc: Global, path: &PkgPath, evaluated: &Evaluated) -> Result<Ans
     }
 }
 
-/// A port, what is empty of it left out.
+/// Adds a port. What is empty of it is left out.
 fn add_port(alloc: Global, answer: &mut Answer, port: &PortRecord) {
     add_flavors(answer, port.flavors());
     if !port.maintainer().is_empty() {
@@ -54,7 +55,7 @@ fn add_flavors(answer: &mut Answer, flavors: &PortFlavors) {
     add_named(answer, "pseudo", flavors.pseudo());
 }
 
-/// Adds texts behind a word; where there are none, not even the word.
+/// Adds texts after a word. If there are no texts, the word isn't added either.
 fn add_named(answer: &mut Answer, word: &str, texts: &[String]) {
     if !texts.is_empty() {
         answer.word(word);
@@ -65,12 +66,16 @@ fn add_named(answer: &mut Answer, word: &str, texts: &[String]) {
 fn add_package(alloc: Global, answer: &mut Answer, package: &Package) {
     answer.word("package");
     answer.text(package.subpackage().as_bytes());
+    answer.word("name");
     answer.printed(alloc, package.name());
+    answer.word("comment");
     answer.text(package.comment().as_bytes());
 }
 
 fn add_depend(answer: &mut Answer, depend: &Depend) {
     answer.word(depend.kind().as_str());
+    answer.word("of");
     answer.text(depend.subpackage().as_bytes());
+    answer.word("item");
     answer.text(depend.item().as_bytes());
 }

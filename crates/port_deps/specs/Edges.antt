@@ -6,7 +6,8 @@ use Rattle.port_deps.specs.Items.{WantedValue, ItemValue}
 use Rattle.port_deps.specs.Statuses.{FoundValue, status_of}
 use Rattle.port_deps.specs.declared.statuses.Status.{Status}
 
--- a dependency: what it is for, which package has it, how it is written, the path that it names, if it can be read, and its status
+-- a dependency: what it is for, which package depends, how it is written, the path that it names, if it can
+-- be read, and its status
 pub record EdgeValue : Type 0 where
   pub kind : DependKind
   pub subpackage : List ℕ
@@ -18,7 +19,7 @@ pub record EdgeValue : Type 0 where
 abbrev pub target_of : Option WantedValue → Option PathValue
 target_of wanted = option_map (λ (wanted : WantedValue). wanted.path) wanted
 
--- the dependency that an item is, by what is found where its path says
+-- the dependency that an item is, by what is found at its path
 abbrev pub edge_of : ItemValue → FoundValue → EdgeValue
 edge_of item found = record {
   kind = item.kind;

@@ -4,7 +4,8 @@ use Rattle.port_rules.specs.declared.depends.DependKind.{DependKind}
 use Rattle.port_rules.specs.Depends.{DependValue}
 pub use Rattle.port_deps.specs.Reading.{WantedValue, wanted_of}
 
--- an item: what it is for, which package has it, how it is written, and what it asks for, if it can be read
+-- an item: what it is for, which package needs it, how it is written, and what it asks for, if
+-- it can be read
 pub record ItemValue : Type 0 where
   pub kind : DependKind
   pub subpackage : List ℕ

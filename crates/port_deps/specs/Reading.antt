@@ -1,8 +1,10 @@
--- Items of dependencies, `[pkgspec:]pkgpath[:target]` (BUILD_DEPENDS of bsd.port.mk(5), pkgpath(7), packages-specs(7)). Which items can't be
--- read, and how a spec is told from a path, is this project's choice.
-use Rattle.std.specs.Prelude.{ℕ, ◌==◌, ◌||◌, not, if◌then◌else◌, Bool, List, [], ◌∷◌, ◌++◌, length, take, drop, Option, Some, None, option_and_then, is_ok, position, codes}
+-- Items of dependencies, `[pkgspec:]pkgpath[:target]` (BUILD_DEPENDS of bsd.port.mk(5), pkgpath(7),
+-- packages-specs(7)). Which items can't be read, and how a spec is distinguished from a path, is this
+-- project's choice.
+use Rattle.std.specs.Prelude.{ℕ, ◌==◌, ◌||◌, not, if◌then◌else◌, Bool, List, [], ◌∷◌, ◌++◌, length, take, drop}
+use Rattle.std.specs.Prelude.{Option, Some, None, option_and_then, is_ok, position, codes}
 use Rattle.std.specs.List.{slice_split, list_any, prefix_len}
-use Rattle.text_cuts.specs.Cuts.{Cut}
+use Rattle.text_parts.specs.Cuts.{Cut}
 use Rattle.pkg_path.specs.Paths.{PathValue, path_if_one}
 use Rattle.pkg_spec.specs.Alternatives.{spec_of}
 
@@ -11,7 +13,7 @@ pub record WantedValue : Type 0 where
   pub path : PathValue
   pub spec : List ℕ
 
--- the parts of an item that say so, not read yet: a spec, where there is one, and a path
+-- the parts of an item that say so, not read yet: a spec, if there is one, and a path
 pub record PartsValue : Type 0 where
   pub spec : Option (List ℕ)
   pub path : List ℕ
@@ -28,7 +30,7 @@ behind_empty parts = drop (prefix_len (λ part. length part == 0) parts) parts
 abbrev pub parts_of : List ℕ → List (List ℕ)
 parts_of text = behind_empty (slice_split (λ byte. byte == colon) text)
 
--- the first of two parts is a spec where it has no slash (47), or holds `*` (42) or `|` (124)
+-- the first of two parts is a spec if it has no slash (47), or has `*` (42) or `|` (124)
 abbrev pub is_spec : List ℕ → Bool
 is_spec part = not (list_any (λ byte. byte == 47) part) || list_any (λ byte. byte == 42) part || list_any (λ byte. byte == 124) part
 
@@ -36,7 +38,8 @@ is_spec part = not (list_any (λ byte. byte == 47) part) || list_any (λ byte. b
 abbrev pub of_two : List ℕ → List ℕ → PartsValue
 of_two first second = if is_spec first then record { spec = Some first; path = second } else record { spec = None; path = first }
 
--- which parts ask for what: a path; of two see above; a spec, a path and a target
+-- which parts ask for what: one part is a path; two parts are as above; three parts are a spec, a
+-- path and a target
 abbrev pub named_parts : List (List ℕ) → Option PartsValue
 named_parts [] = None
 named_parts (path ∷ []) = Some (record { spec = None; path = path })
@@ -48,17 +51,17 @@ named_parts (first ∷ second ∷ third ∷ fourth ∷ more) = None
 abbrev pub is_sign : ℕ → Bool
 is_sign byte = byte == 60 || byte == 62 || byte == 61
 
--- a text cut in two where this place is; without one nothing stands behind
+-- a text cut in two at this place; without a place nothing follows
 abbrev pub cut_before : List ℕ → Option ℕ → Cut
 cut_before text None = record { before = text; behind = [] }
 cut_before text (Some at) = record { before = take at text; behind = drop at text }
 
--- a path, and the versions behind it: these begin where the first sign of a comparison stands
+-- a path, and the versions after it: these begin at the first sign of a comparison
 abbrev pub at_sign : List ℕ → Cut
 at_sign text = cut_before text (position is_sign text)
 
--- the text of the spec that an item has in front of its path, or as versions of any stem behind it; without either any package will do, and
--- both are one too many
+-- The text of the spec that an item gives before its path, or after it as versions of any stem. Without
+-- either any package will do, and both are one too many.
 abbrev pub spec_text : Option (List ℕ) → List ℕ → Option (List ℕ)
 spec_text None [] = Some (codes "STEM-*")
 spec_text None (sign ∷ versions) = Some (codes "STEM-" ++ sign ∷ versions)
@@ -71,9 +74,11 @@ spec_if_one text = if is_ok (spec_of text) then Some text else None
 
 -- what a path and a spec ask for, if they can be read
 abbrev pub wanted_by : List ℕ → List ℕ → Option WantedValue
-wanted_by path spec = option_and_then (λ path. option_and_then (λ spec. Some (record { path = path; spec = spec })) (spec_if_one spec)) (path_if_one path)
+wanted_by path spec =
+    option_and_then (λ path. option_and_then (λ spec. Some (record { path = path; spec = spec })) (spec_if_one spec))
+    (path_if_one path)
 
--- what a path with versions behind it, or none, and a spec, or none, ask for
+-- what a path, with versions after it or none, and a spec, or none, ask for
 abbrev pub wanted_at : Cut → Option (List ℕ) → Option WantedValue
 wanted_at cut spec = option_and_then (wanted_by cut.before) (spec_text spec cut.behind)
 
@@ -81,6 +86,6 @@ wanted_at cut spec = option_and_then (wanted_by cut.before) (spec_text spec cut.
 abbrev pub wanted_in : PartsValue → Option WantedValue
 wanted_in parts = wanted_at (at_sign parts.path) parts.spec
 
--- what an item asks for; none where it can't be read
+-- what an item asks for; None if it can't be read
 abbrev pub wanted_of : List ℕ → Option WantedValue
 wanted_of text = option_and_then wanted_in (named_parts (parts_of text))

@@ -1,4 +1,4 @@
--- What the types of the code are seen as.
+-- How the definitions see the types of the code.
 use Rattle.std.specs.Option.{option_copied}
 use Rattle.port_deps.specs.Reading.{PartsValue}
 use Rattle.port_deps.specs.Statuses.{FoundValue}

@@ -1,4 +1,5 @@
--- Whether an item is met, by what is found where its path says. The statuses and their order are this project's choice.
+-- Whether an item is met, by what is found at its path. The statuses and their order are this
+-- project's choice.
 use Rattle.std.specs.Prelude.{ℕ, if◌then◌else◌, List, [], ◌∷◌, Option, Some, None, find, codes}
 use Rattle.std.specs.Str.{bytes_eq}
 use Rattle.mk_base.specs.declared.faults.FaultKind.{FaultKind}
@@ -10,7 +11,8 @@ use Rattle.port_deps.specs.Reading.{WantedValue}
 use Rattle.port_deps.specs.declared.statuses.Status.{Status}
 use Rattle.port_deps.specs.declared.statuses.Status.TheVariants as statuses
 
--- what the makefile that a path names is found to be: not there, at fault, no port's, or the makefile of a port
+-- what the makefile that a path names is found to be: not there, at fault, no port's, or the
+-- makefile of a port
 pub data FoundValue : Type 0 where
   NotThere : FoundValue
   Faulted : FaultKind → FoundValue
@@ -31,13 +33,14 @@ word_of statuses.Ok = codes "Ok"
 abbrev pub package_named : List PackageValue → List ℕ → Option PackageValue
 package_named packages name = find (λ (found : PackageValue). bytes_eq found.subpackage name) packages
 
--- this package, or where there is none the first
+-- this package, or the first if there is none
 abbrev pub or_first : Option PackageValue → List PackageValue → Option PackageValue
 or_first (Some found) packages = Some found
 or_first None [] = None
 or_first None (first ∷ packages) = Some first
 
--- the package of a port that a path means: the one that it names; where it names none, `-main`, or where there is no such the first
+-- the package of a port that a path means: the one that it names; if it names none, `-main`; and if there is
+-- no such package, the first
 abbrev pub package_meant : PortValue → Option (List ℕ) → Option PackageValue
 package_meant port (Some name) = package_named port.packages name
 package_meant port None = or_first (package_named port.packages (codes "-main")) port.packages
@@ -56,7 +59,7 @@ abbrev pub status_by_fault : FaultKind → Status
 status_by_fault kinds.Flavor = statuses.BadFlavor
 status_by_fault kind = statuses.Unevaluated
 
--- the status of an item by what is found where its path says, with the flavors of the path
+-- the status of an item by what is found at its path, with the flavors of the path
 abbrev pub status_of : Option WantedValue → FoundValue → Status
 status_of None found = statuses.BadItem
 status_of (Some wanted) NotThere = statuses.NoPort

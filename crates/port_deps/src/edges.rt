@@ -11,7 +11,7 @@ use port_rules::DependKind;
 use std::alloc::{AllocError, Global};
 use std::marker::Model;
 
-/// A dependency of a port: an item with the status that the port where its path says gives it.
+/// A dependency of a port: an item, with the status that it gets from the port at its path.
 #[derive(Debug, Drop)]
 pub struct Edge {
     kind: DependKind,
@@ -44,8 +44,8 @@ impl Edge {
         self.kind
     }
 
-    /// The package that needs it, with its dash; empty where it is the port as a whole, to be built or
-    /// tested.
+    /// The package that needs it, with its dash; empty if it is the port as a whole, to be
+    /// built or tested.
     pub fn subpackage(&self) -> &str
         ensures { result.now ≡ self.now.subpackage }
     {
@@ -59,8 +59,8 @@ impl Edge {
         self.item.as_str()
     }
 
-    /// The path that the item names, with its flavors and its subpackage; `None` where the item can't be
-    /// read.
+    /// The path that the item names, with its flavors and its subpackage; `None` if the item
+    /// can't be read.
     pub fn target(&self) -> Option<&PkgPath>
         ensures { option_copied result ≡ self.now.target }
     {
@@ -75,15 +75,16 @@ impl Edge {
     }
 }
 
-/// The dependency that an item is, by what is found where its path says, with the flavors of that path.
+/// The dependency that an item is, by what is found at its path, with the flavors of that path.
 ///
-/// Its status is the first that fits: `BadItem` where the item can't be read; `NoPort` where nothing is
-/// found; `BadFlavor` where the fault is that of a flavor that isn't the port's; `Unevaluated` at any
-/// other fault; `NoPort` where no port is found; `NoSubpackage` where the port hasn't the package that the
-/// path names; `SpecMismatch` where the spec doesn't admit the package's name; else `Ok`. A path that names
-/// no subpackage means `-main` where there is one, and else the first package.
+/// Its status is the first that fits. It is `BadItem` if the item can't be read. It is `NoPort` if
+/// nothing is found. It is `BadFlavor` if the fault is that of a flavor that isn't the port's, and
+/// `Unevaluated` at any other fault. It is `NoPort` if no port is found. It is `NoSubpackage` if the
+/// port doesn't have the package that the path names. It is `SpecMismatch` if the spec doesn't admit the
+/// package's name. Otherwise it is `Ok`. A path that names no subpackage means `-main` if there is one,
+/// and otherwise the first package.
 ///
-/// The error is want of memory.
+/// It fails only if memory runs out.
 pub fn resolve(alloc: Global, item: &Item, found: Found<'_>) -> Result<Edge, AllocError>
     ensures { IfOk result (λ edge. edge ≡ edges.edge_of item.now (found_seen found.entry)) }
 {

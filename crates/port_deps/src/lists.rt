@@ -23,7 +23,7 @@ impl Model for Root {
 }
 
 impl Root {
-    /// What is found where this canonical path says.
+    /// What is found at this canonical path.
     pub fn new(path: String, state: Result<PortRecord, Fault>) -> Root
         ensures { result ≡ record { path = string_bytes path; state = state } }
     {

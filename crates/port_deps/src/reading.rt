@@ -2,7 +2,7 @@
 ghost use Rattle.std.specs.Prelude.{◌≡◌, ◌==◌, IfOk, option_map, position, string_bytes};
 ghost use Rattle.std.specs.List.{list_any};
 ghost use Rattle.std.specs.Option.{option_copied};
-ghost use Rattle.text_cuts.specs.Cuts.{now_all};
+ghost use Rattle.text_parts.specs.Cuts.{now_all};
 ghost use Rattle.port_deps.specs.Reading as reading;
 ghost use Rattle.port_deps.specs.Seen.{parts_seen};
 
@@ -18,7 +18,7 @@ pub(crate) struct Parts<'a> {
     pub(crate) path: &'a str,
 }
 
-/// What an item asks for; `None` where its text can't be read.
+/// What an item asks for; `None` if its text can't be read.
 pub(crate) fn read_wanted(alloc: Global, text: &str) -> Result<Option<Wanted>, AllocError>
     ensures { IfOk result (λ wanted. wanted ≡ reading.wanted_of text.now) }
 {
@@ -29,7 +29,7 @@ pub(crate) fn read_wanted(alloc: Global, text: &str) -> Result<Option<Wanted>, A
     }
 }
 
-/// The parts of an item behind the empty ones that come first.
+/// The parts of an item after the empty ones that come first.
 fn parts_of(alloc: Global, text: &str) -> Result<Vec<&str>, AllocError>
     ensures { IfOk result (λ parts. now_all parts.items ≡ reading.parts_of text.now) }
 {
@@ -38,7 +38,7 @@ fn parts_of(alloc: Global, text: &str) -> Result<Vec<&str>, AllocError>
         .collect(alloc)
 }
 
-/// Which of an item's parts say what it asks for.
+/// Which of an item's parts say what it asks for; `None` if there are none or more than three.
 fn named_parts<'a>(parts: &[&'a str]) -> Option<Parts<'a>>
     ensures { option_map parts_seen result ≡ reading.named_parts (now_all parts.now) }
 {
@@ -53,7 +53,7 @@ fn named_parts<'a>(parts: &[&'a str]) -> Option<Parts<'a>>
     }
 }
 
-/// The same of two parts: the second is a target where the first is no spec.
+/// The same of two parts: the second is a target if the first is no spec.
 fn of_two<'a>(first: &'a str, second: &'a str) -> Parts<'a>
     ensures { parts_seen result ≡ reading.of_two first.now second.now }
 {
@@ -77,16 +77,17 @@ fn is_spec(part: &str) -> bool
     !holds(part, b'/') || holds(part, b'*') || holds(part, b'|')
 }
 
-/// Whether a byte stands in a text.
+/// Whether a byte is in a text.
 fn holds(text: &str, wanted: u8) -> bool
     ensures { result ≡ list_any (λ byte. byte == wanted) text.now }
 {
     text.bytes().any(|byte| byte == wanted)
 }
 
-/// What these parts ask for.
+/// What these parts ask for; `None` if they can't be read.
 fn wanted_in(alloc: Global, spec: Option<&str>, path: &str) -> Result<Option<Wanted>, AllocError>
-    ensures { IfOk result (λ wanted. wanted ≡ reading.wanted_in (record { spec = option_copied spec.entry; path = path.now })) }
+    ensures { IfOk result (λ wanted. wanted
+        ≡ reading.wanted_in (record { spec = option_copied spec.entry; path = path.now })) }
 {
     let (path, versions) = cut_at_sign(path);
     let Some(spec) = spec_text(alloc, spec, versions)? else {
@@ -101,7 +102,7 @@ fn wanted_in(alloc: Global, spec: Option<&str>, path: &str) -> Result<Option<Wan
     Ok(Some(Wanted::new(path, spec)))
 }
 
-/// A path, and the versions behind it.
+/// A path, and the versions after it.
 fn cut_at_sign(text: &str) -> (&str, &str)
     ensures path { result.0.now ≡ (reading.at_sign text.now).before }
     ensures versions { result.1.now ≡ (reading.at_sign text.now).behind }
@@ -112,7 +113,7 @@ fn cut_at_sign(text: &str) -> (&str, &str)
     }
 }
 
-/// Where the first sign of a comparison stands.
+/// The index of the first sign of a comparison.
 fn sign_in(text: &str) -> Option<usize>
     ensures { result ≡ position reading.is_sign text.now }
 {
@@ -126,13 +127,14 @@ fn is_sign(byte: u8) -> bool
     matches!(byte, b'<' | b'>' | b'=')
 }
 
-/// The text of the one spec; `None` where there are two.
+/// The text of the one spec; `None` if there are two.
 fn spec_text(
     alloc: Global,
     spec: Option<&str>,
     versions: &str,
 ) -> Result<Option<String>, AllocError>
-    ensures { IfOk result (λ text. option_map string_bytes text ≡ reading.spec_text (option_copied spec.entry) versions.now) }
+    ensures { IfOk result (λ text. option_map string_bytes text
+        ≡ reading.spec_text (option_copied spec.entry) versions.now) }
 {
     match spec {
         Some(spec) if versions.is_empty() => Ok(Some(String::from_str(alloc, spec)?)),

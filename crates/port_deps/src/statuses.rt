@@ -28,7 +28,7 @@ pub enum Found<'a> {
 pub enum Status {
     /// The item can't be read.
     BadItem,
-    /// No port is where its path says.
+    /// There is no port at its path.
     NoPort,
     /// The port has no such flavor.
     BadFlavor,
@@ -59,7 +59,7 @@ impl Status {
     }
 }
 
-/// The status of an item by what is found where its path says; `None` is one that can't be read.
+/// The status of an item by what is found at its path; `None` is an item that can't be read.
 pub(crate) fn status_of(wanted: Option<&Wanted>, found: Found<'_>) -> Status
     ensures { result ≡ statuses.status_of (option_copied wanted.entry) (found_seen found.entry) }
 {
@@ -87,7 +87,8 @@ fn status_at(wanted: &Wanted, port: &PortRecord) -> Status
 
 /// The package of a port that a path with this subpackage, or with none, means.
 fn package_meant<'a>(port: &'a PortRecord, subpackage: Option<&str>) -> Option<&'a Package>
-    ensures { option_copied result ≡ statuses.package_meant port.now (option_copied subpackage.entry) }
+    ensures { option_copied result
+        ≡ statuses.package_meant port.now (option_copied subpackage.entry) }
 {
     let packages = port.packages();
     if let Some(name) = subpackage {
@@ -101,7 +102,8 @@ fn package_meant<'a>(port: &'a PortRecord, subpackage: Option<&str>) -> Option<&
 
 /// The package of this name.
 fn package_named<'a>(packages: &'a [Package], name: &str) -> Option<&'a Package>
-    ensures { option_copied result ≡ find (λ (found : PackageValue). bytes_eq found.subpackage name.now) packages.now }
+    ensures { option_copied result
+        ≡ find (λ (found : PackageValue). bytes_eq found.subpackage name.now) packages.now }
 {
     packages.iter().find(|package| package.subpackage() == name)
 }

@@ -85,8 +85,8 @@ impl Item {
         self.kind
     }
 
-    /// The package that needs it, with its dash; empty where it is the port as a whole, to be built or
-    /// tested.
+    /// The package that needs it, with its dash; empty if it is the port as a whole, to be
+    /// built or tested.
     pub fn subpackage(&self) -> &str
         ensures { result.now ≡ self.now.subpackage }
     {
@@ -100,7 +100,7 @@ impl Item {
         self.text.as_str()
     }
 
-    /// What it asks for; `None` where it can't be read.
+    /// What it asks for; `None` if it can't be read.
     pub fn wanted(&self) -> Option<&Wanted>
         ensures { option_copied result ≡ self.now.wanted }
     {
@@ -110,13 +110,14 @@ impl Item {
 
 /// The items of a port, in the order of its dependencies.
 ///
-/// An item is `[pkgspec:]pkgpath[:target]`. Empty parts that come first are dropped. Of two parts the first
-/// is a spec where it has no slash, or holds `*` or `|`. A path ends before its first `<`, `>` or `=`, and
-/// what begins there are the versions that will do, of any stem. Without a spec any package will do.
+/// An item is `[pkgspec:]pkgpath[:target]`. Empty parts that come first are dropped. If there are two
+/// parts, the first is a spec if it has no slash, or has `*` or `|`. A path ends before its first `<`,
+/// `>` or `=`, and what begins there are the versions that will do, of any stem. Without a spec any
+/// package will do.
 ///
-/// An item can't be read, and then tells nothing that it asks for, where it has no part or more than
-/// three, a spec and versions behind its path, a path that is none, or a spec that is none. The error is
-/// want of memory.
+/// An item can't be read if it has no part or more than three, or if it has a spec and versions after
+/// its path. It can't be read either if its path is no path, or its spec no spec. Then it says nothing
+/// of what it asks for. The call fails only if memory runs out.
 pub fn items(alloc: Global, port: &PortRecord) -> Result<Vec<Item>, AllocError>
     ensures { IfOk result (λ found. found.items ≡ map items.item_of port.now.depends) }
 {

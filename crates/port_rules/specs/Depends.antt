@@ -1,5 +1,5 @@
--- What a port depends on (bsd.port.mk(5), BUILD_DEPENDS, LIB_DEPENDS, RUN_DEPENDS, TEST_DEPENDS): the port as a whole to be built and tested,
--- each of its packages to be linked and run.
+-- What a port depends on (bsd.port.mk(5), BUILD_DEPENDS, LIB_DEPENDS, RUN_DEPENDS, TEST_DEPENDS): the port
+-- as a whole to be built and tested, each of its packages to be linked and run.
 use Rattle.std.specs.Prelude.{ℕ, List, [], ◌++◌, map, codes}
 use Rattle.mk_base.specs.declared.faults.FaultKind.{FaultKind}
 use Rattle.mk_base.specs.Meter.{Meter}
@@ -9,7 +9,8 @@ use Rattle.port_rules.specs.declared.depends.DependKind.{DependKind}
 use Rattle.port_rules.specs.declared.depends.DependKind.TheVariants.{Build, Lib, Run, Test}
 use Rattle.port_rules.specs.Values.{asked_words, package_words}
 
--- a dependency as it is written, of which kind it is, and which package has it; those of the port as a whole have none
+-- a dependency as it is written, its kind, and the package that depends; if the port as a whole depends, the
+-- package is empty
 pub record DependValue : Type 0 where
   pub kind : DependKind
   pub subpackage : List ℕ
@@ -26,7 +27,7 @@ word_of Test = codes "test"
 abbrev pub depends : DependKind → List ℕ → List (List ℕ) → List DependValue
 depends kind subpackage items = map (λ item. record { kind = kind; subpackage = subpackage; item = item }) items
 
--- dependencies with those of a package behind them
+-- dependencies with those of a package after them
 unfoldable pub add_depends : Variables → List DependValue → List ℕ → Work Meter FaultKind (List DependValue)
 add_depends variables found subpackage m =
     (package_words variables (codes "LIB_DEPENDS") subpackage >>= λ lib. package_words variables (codes "RUN_DEPENDS") subpackage

@@ -1,5 +1,6 @@
--- The flavors of a port (bsd.port.mk(5), "FLAVORS AND MULTI_PACKAGES"): FLAVORS and PSEUDO_FLAVORS are those that it has, and FLAVOR those
--- that are chosen. That they are lowered, and the order in which they are asked, is this project's choice.
+-- The flavors of a port (bsd.port.mk(5), "FLAVORS AND MULTI_PACKAGES"): FLAVORS and PSEUDO_FLAVORS are those
+-- that it has, and FLAVOR those that are chosen. That they are lowered, and the order in which they are
+-- asked, is this project's choice.
 use Rattle.std.specs.Prelude.{ℕ, ◌||◌, if◌then◌else◌, Bool, List, filter, codes}
 use Rattle.std.specs.List.{list_all}
 use Rattle.mk_base.specs.declared.faults.FaultKind.{FaultKind}
@@ -10,7 +11,8 @@ use Rattle.mk_env.specs.Texts.{Variables}
 use Rattle.mk_env.specs.Expansion.{is_among}
 use Rattle.port_rules.specs.Values.{asked_lowered}
 
--- the flavors that are chosen, and those that a port has: the flavors proper, and those that leave no mark in a package's name
+-- the flavors that are chosen, and those that a port has: the flavors proper, and those that leave no mark
+-- in a package's name
 pub record FlavorsValue : Type 0 where
   pub chosen : List (List ℕ)
   pub proper : List (List ℕ)
@@ -20,15 +22,17 @@ pub record FlavorsValue : Type 0 where
 abbrev pub has_chosen : FlavorsValue → Bool
 has_chosen flavors = list_all (λ flavor. is_among flavor flavors.proper || is_among flavor flavors.pseudo) flavors.chosen
 
--- the same flavors where that is so, or a fault
+-- the same flavors if that is so; otherwise it is a fault
 abbrev pub known : FlavorsValue → Work Meter FaultKind FlavorsValue
 known flavors = if has_chosen flavors then give flavors else fail kinds.Flavor
 
 unfoldable pub flavors_of : Variables → Work Meter FaultKind FlavorsValue
 flavors_of variables m =
-    (asked_lowered variables (codes "FLAVOR") >>= λ chosen. asked_lowered variables (codes "FLAVORS") >>= λ proper. asked_lowered variables (codes "PSEUDO_FLAVORS")
+    (asked_lowered variables (codes "FLAVOR") >>= λ chosen. asked_lowered variables (codes "FLAVORS")
+    >>= λ proper. asked_lowered variables (codes "PSEUDO_FLAVORS")
     >>= λ pseudo. known (record { chosen = chosen; proper = proper; pseudo = pseudo })) m
 
--- the marks of flavors in a package's name: those of the port's proper flavors that are chosen, in the order of FLAVORS
+-- the marks of flavors in a package's name: those of the port's proper flavors that are chosen, in the
+-- order of FLAVORS
 abbrev pub marks_of : FlavorsValue → List (List ℕ)
 marks_of flavors = filter (λ flavor. is_among flavor flavors.chosen) flavors.proper

@@ -1,5 +1,6 @@
--- The packages of a port and their names (bsd.port.mk(5), "FLAVORS AND MULTI_PACKAGES", and DISTNAME, EPOCH, FULLPKGNAME, MULTI_PACKAGES,
--- PKGNAME, REVISION). The faults and their order, and what an ending is added to, are this project's choice.
+-- The packages of a port and their names (bsd.port.mk(5), "FLAVORS AND MULTI_PACKAGES", and DISTNAME, EPOCH,
+-- FULLPKGNAME, MULTI_PACKAGES, PKGNAME, REVISION). The faults and their order, and what an ending is added
+-- to, are this project's choice.
 use Rattle.std.specs.Prelude.{ℕ, ◌||◌, ◌&&◌, not, if◌then◌else◌, Bool, false, List, [], ◌∷◌, ◌++◌, Option, Some, None, option_map, codes}
 use Rattle.std.specs.List.{list_all}
 use Rattle.std.specs.Str.{bytes_eq}
@@ -19,7 +20,7 @@ pub record PackageValue : Type 0 where
   pub name : NameParts
   pub comment : List ℕ
 
--- some text stands twice among these
+-- some text is among these twice
 abbrev pub has_double : List (List ℕ) → Bool
 has_double [] = false
 has_double (text ∷ texts) = is_among text texts || has_double texts
@@ -28,7 +29,7 @@ has_double (text ∷ texts) = is_among text texts || has_double texts
 abbrev pub is_named : List ℕ → Bool
 is_named word = is_subpackage word && not (is_bare_dash word)
 
--- these can name the packages of a port: each is a dash and a name, and none stands there twice
+-- these can name the packages of a port: each is a dash and a name, and none is there twice
 abbrev pub are_subpackages : List (List ℕ) → Bool
 are_subpackages words = list_all is_named words && not (has_double words)
 
@@ -39,50 +40,57 @@ or_one (name ∷ names) = name ∷ names
 
 -- the packages of a port: the words of MULTI_PACKAGES
 unfoldable pub subpackages_of : Variables → Work Meter FaultKind (List (List ℕ))
-subpackages_of variables m = (asked_words variables (codes "MULTI_PACKAGES") >>= λ names. if are_subpackages names then give (or_one names) else fail kinds.BadName) m
+subpackages_of variables m =
+    (asked_words variables (codes "MULTI_PACKAGES")
+    >>= λ names. if are_subpackages names then give (or_one names) else fail kinds.BadName) m
 
--- a text that must be there
+-- a text that must be there and not be empty
 abbrev pub present : Option (List ℕ) → Work Meter FaultKind (List ℕ)
 present None = fail kinds.NoName
 present (Some []) = fail kinds.NoName
 present (Some (byte ∷ text)) = give (byte ∷ text)
 
--- a name that was read
+-- a name that was read; if it couldn't be read, that is a fault
 abbrev pub readable : Option NameParts → Work Meter FaultKind NameParts
 readable None = fail kinds.BadName
 readable (Some name) = give name
 
--- what the port's PKGNAME ends in for a package without one of its own: the package's name, but not for `-main`
+-- what is added to the port's PKGNAME for a package without a PKGNAME of its own: the package's name, but
+-- nothing for `-main`
 abbrev pub added_ending : List ℕ → List ℕ
 added_ending subpackage = if bytes_eq subpackage (codes "-main") then [] else ending subpackage
 
--- PKGNAME of a package: where it isn't defined, it is the port's PKGNAME, or where that isn't either its DISTNAME, with the package's ending
+-- PKGNAME of a package. If it isn't defined, it is the port's PKGNAME with the package's ending. If that
+-- isn't defined either, it is the port's DISTNAME with that ending.
 unfoldable pub package_base : Variables → List ℕ → Work Meter FaultKind (Option (List ℕ))
 package_base variables subpackage m =
     (value variables (codes "PKGNAME" ++ ending subpackage)
-    >>= λ own. or_else own (value_or variables (codes "PKGNAME") (codes "DISTNAME") >>= λ found. give (option_map (λ name. name ++ added_ending subpackage) found))) m
+    >>= λ own. or_else own
+    (value_or variables (codes "PKGNAME") (codes "DISTNAME")
+    >>= λ found. give (option_map (λ name. name ++ added_ending subpackage) found))) m
 
--- a value behind its letter, where it is defined
+-- a letter and a value after it, if the value is defined
 abbrev pub lettered : ℕ → Option (List ℕ) → List ℕ
 lettered letter None = []
 lettered letter (Some text) = letter ∷ text
 
--- the text of a name with `p` (112) and the revision and `v` (118) and the epoch right behind its version, and marks at its end
+-- the text of a name, with `p` (112) and the revision and `v` (118) and the epoch right after its version,
+-- and with marks at its end
 abbrev pub extended : NameParts → Option (List ℕ) → Option (List ℕ) → List (List ℕ) → List ℕ
 extended name revision epoch marks =
     name_text (record name { version = name.version ++ lettered 112 revision ++ lettered 118 epoch; flavors = name.flavors ++ marks })
 
--- the full name of a package whose PKGNAME is this, where these are the marks of flavors
+-- the full name of a package whose PKGNAME is this, with these marks of flavors
 unfoldable pub made_name : Variables → List (List ℕ) → List ℕ → List ℕ → Work Meter FaultKind NameParts
 made_name variables marks subpackage base m =
     (package_value variables (codes "REVISION") subpackage >>= λ revision. package_value variables (codes "EPOCH") subpackage
     >>= λ epoch. readable (split_name base) >>= λ name. readable (split_name (extended name revision epoch marks))) m
 
--- FULLPKGNAME is the full name as it stands
+-- FULLPKGNAME is the full name as it is
 abbrev pub whole_name : List ℕ → Work Meter FaultKind NameParts
 whole_name text = present (Some text) >>= λ name. readable (split_name name)
 
--- without it the full name is made from PKGNAME
+-- without FULLPKGNAME the full name is made from PKGNAME
 unfoldable pub default_name : Variables → List (List ℕ) → List ℕ → Work Meter FaultKind NameParts
 default_name variables marks subpackage m =
     (package_base variables subpackage >>= λ base. present base >>= λ name. made_name variables marks subpackage name) m
@@ -93,7 +101,8 @@ name_from variables marks subpackage None = default_name variables marks subpack
 name_from variables marks subpackage (Some text) = whole_name text
 
 unfoldable pub full_name : Variables → List (List ℕ) → List ℕ → Work Meter FaultKind NameParts
-full_name variables marks subpackage m = (value variables (codes "FULLPKGNAME" ++ ending subpackage) >>= name_from variables marks subpackage) m
+full_name variables marks subpackage m =
+    (value variables (codes "FULLPKGNAME" ++ ending subpackage) >>= name_from variables marks subpackage) m
 
 -- a package: its name comes before its comment
 unfoldable pub package_of : Variables → List (List ℕ) → List ℕ → Work Meter FaultKind PackageValue

@@ -23,8 +23,10 @@ pub record PortValue : Type 0 where
 abbrev pub has_package : PortValue → List ℕ → Bool
 has_package port subpackage = list_any (λ (found : PackageValue). bytes_eq found.subpackage subpackage) port.packages
 
--- The port that these variables make. They are asked in this order: FLAVOR, FLAVORS, PSEUDO_FLAVORS, MULTI_PACKAGES, MAINTAINER,
--- CATEGORIES; for each package those of its name, and COMMENT; BUILD_DEPENDS; for each package LIB_DEPENDS and RUN_DEPENDS; TEST_DEPENDS.
+-- The port that these variables make. The variables are asked in this order. First come FLAVOR, FLAVORS,
+-- PSEUDO_FLAVORS, MULTI_PACKAGES, MAINTAINER and CATEGORIES. Then come, for each package, those of its name,
+-- and COMMENT. Then comes BUILD_DEPENDS, then for each package LIB_DEPENDS and RUN_DEPENDS, and then
+-- TEST_DEPENDS.
 unfoldable pub port_of : Variables → Work Meter FaultKind PortValue
 port_of variables m =
     (flavors_of variables >>= λ flavors. subpackages_of variables >>= λ subpackages. asked_text variables (codes "MAINTAINER")

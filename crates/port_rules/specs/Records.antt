@@ -9,7 +9,7 @@ use Rattle.mk_eval.specs.declared.outcome.Failed.{Failed}
 use Rattle.port_rules.specs.Ports.{PortValue, port_of}
 use Rattle.port_rules.specs.declared.recording.Recorded.{Recorded}
 
--- the end of that work with its cost, in units; a fault is told at line 0 of the makefile
+-- the end of that work with its cost, in units; a fault is reported at line 0 of the makefile
 abbrev pub recorded : List ℕ → Result (PortValue × Meter) (FaultKind × Meter) → Result Recorded Failed
 recorded makefile (Ok end) = Ok (record { port = end.0; cost = end.1.spent })
 recorded makefile (Err end) = Err (record { fault = fault_at end.0 makefile 0; cost = end.1.spent })

@@ -11,26 +11,30 @@ use Rattle.mk_env.specs.Expansion.{variable}
 
 -- the value of a variable; one that isn't defined has none, and costs nothing
 unfoldable pub value : Variables → List ℕ → Work Meter FaultKind (Option (List ℕ))
-value variables name m = (if is_some (finite.get variables name) then (variable variables name >>= λ text. give (Some text)) else give None) m
+value variables name m =
+    (if is_some (finite.get variables name)
+    then (variable variables name >>= λ text. give (Some text)) else give None) m
 
--- a value, or where there is none what stands in for it
+-- a value, or, if there is none, what is taken instead
 abbrev pub or_else : Option (List ℕ) → Work Meter FaultKind (Option (List ℕ)) → Work Meter FaultKind (Option (List ℕ))
 or_else None other = other
 or_else (Some text) other = give (Some text)
 
--- the value of a variable, or where that isn't defined of another
+-- the value of a variable, or of another one if the first isn't defined
 unfoldable pub value_or : Variables → List ℕ → List ℕ → Work Meter FaultKind (Option (List ℕ))
 value_or variables name other m = (value variables name >>= λ found. or_else found (value variables other)) m
 
--- what a variable's name ends in for a package: the package's name; nothing for `-`, the one package of a port that names none
+-- what a variable's name ends in for a package: the package's name; nothing for `-`, the one package of a
+-- port that names none
 abbrev pub ending : List ℕ → List ℕ
 ending subpackage = if bytes_eq subpackage (codes "-") then [] else subpackage
 
--- the value of a variable for a package: of the variable with the package's ending, and where that isn't defined of the one without
+-- the value of a variable for a package: of the variable with the package's ending, or of the one without if
+-- that isn't defined
 abbrev pub package_value : Variables → List ℕ → List ℕ → Work Meter FaultKind (Option (List ℕ))
 package_value variables name subpackage = value_or variables (name ++ ending subpackage) name
 
--- the text of a value: nothing where there is none
+-- the text of a value: empty if there is none
 abbrev pub text_of : Option (List ℕ) → List ℕ
 text_of None = []
 text_of (Some text) = text

@@ -62,8 +62,8 @@ impl Depend {
         self.kind
     }
 
-    /// The package that has it, with its dash; empty where it is the port's as a whole, to be built or
-    /// tested.
+    /// The package that depends, with its dash; empty if it is the port as a whole, to be
+    /// built or tested.
     pub fn subpackage(&self) -> &str
         ensures { result.now ≡ self.now.subpackage }
     {
@@ -87,7 +87,8 @@ pub(crate) fn read_depends(
     budget: &mut Budget,
 ) -> Result<Vec<Depend>, Stop<FaultKind>>
     ensures store { NeverStore result }
-    ensures gives { Gives (λ found. found.items) result budget.new (depends.depends_of variables.now (map string_bytes subpackages.now) budget.old) }
+    ensures gives { Gives (λ found. found.items) result budget.new
+        (depends.depends_of variables.now (map string_bytes subpackages.now) budget.old) }
 {
     let build = asked_words(alloc, variables, "BUILD_DEPENDS", budget)?;
     let mut found = Vec::new(alloc);
@@ -107,7 +108,9 @@ fn add_each(
     budget: &mut Budget,
 ) -> Result<(), Stop<FaultKind>>
     ensures store { NeverStore result }
-    ensures gives { Gives (λ _. found.new.items) result budget.new (each (depends.add_depends variables.now) found.old.items (map string_bytes subpackages.now) budget.old) }
+    ensures gives { Gives (λ _. found.new.items) result budget.new
+        (each (depends.add_depends variables.now) found.old.items
+        (map string_bytes subpackages.now) budget.old) }
 {
     for subpackage in subpackages {
         add_depends(alloc, variables, found, subpackage, budget)?;
@@ -125,7 +128,8 @@ fn add_depends(
     budget: &mut Budget,
 ) -> Result<(), Stop<FaultKind>>
     ensures store { NeverStore result }
-    ensures gives { Gives (λ _. found.new.items) result budget.new (depends.add_depends variables.now found.old.items subpackage.now budget.old) }
+    ensures gives { Gives (λ _. found.new.items) result budget.new
+        (depends.add_depends variables.now found.old.items subpackage.now budget.old) }
 {
     let lib = package_words(alloc, variables, "LIB_DEPENDS", subpackage, budget)?;
     let run = package_words(alloc, variables, "RUN_DEPENDS", subpackage, budget)?;
@@ -142,7 +146,8 @@ fn put_depends(
     subpackage: &str,
     items: Vec<String>,
 ) -> Result<(), AllocError>
-    ensures { OnOk result (found.new.items ≡ found.old.items ++ depends.depends kind subpackage.now (map string_bytes items.items)) }
+    ensures { OnOk result (found.new.items ≡ found.old.items
+        ++ depends.depends kind subpackage.now (map string_bytes items.items)) }
 {
     for item in items {
         found.push(Depend {

@@ -2,7 +2,7 @@
 ghost use Rattle.std.specs.Prelude.{◌≡◌, ◌||◌, map, string_bytes, IfOk};
 ghost use Rattle.std.specs.List.{list_all};
 ghost use Rattle.mk_base.specs.Stopping.{Gives, NeverStore};
-ghost use Rattle.text_cuts.specs.Cuts.{now_all};
+ghost use Rattle.text_parts.specs.Cuts.{now_all};
 ghost use Rattle.port_rules.specs.TextSets.{holds};
 ghost use Rattle.port_rules.specs.Flavors as flavors;
 
@@ -13,8 +13,8 @@ use mk_env::Env;
 use std::alloc::{AllocError, Global};
 use std::marker::Model;
 
-/// The flavors of a port (bsd.port.mk(5), "FLAVORS AND MULTI_PACKAGES"), their letters lowered, in the
-/// order of their variables, doubles too.
+/// The flavors of a port (bsd.port.mk(5), "FLAVORS AND MULTI_PACKAGES"), with their letters lowered, in
+/// the order of their variables, with doubles.
 #[derive(Debug, Drop)]
 pub struct PortFlavors {
     chosen: Vec<String>,
@@ -83,7 +83,9 @@ impl PortFlavors {
 
 /// Whether each of these texts is in one of the sets.
 fn are_known<'a>(texts: &'a [String], one: &TextSet<'a>, other: &TextSet<'a>) -> bool
-    ensures { result ≡ list_all (λ text. holds one.now text || holds other.now text) (map string_bytes texts.now) }
+    ensures { result
+        ≡ list_all (λ text. holds one.now text || holds other.now text)
+        (map string_bytes texts.now) }
 {
     for text in texts {
         if !one.contains(text) && !other.contains(text) {
@@ -93,10 +95,10 @@ fn are_known<'a>(texts: &'a [String], one: &TextSet<'a>, other: &TextSet<'a>) ->
     true
 }
 
-/// The flavors that the variables of a port tell.
+/// The flavors that the variables of a port give.
 ///
-/// The faults: those of expanding FLAVOR, FLAVORS and PSEUDO_FLAVORS, and then `Flavor` where a chosen
-/// flavor is none of the port's.
+/// The faults of expanding FLAVOR, FLAVORS and PSEUDO_FLAVORS come first. Then it is `Flavor` if a
+/// chosen flavor isn't one of the port's.
 #[tactic(auto, unfolding(crate::specs::Flavors::flavors_of))]
 pub(crate) fn read_flavors(
     alloc: Global,

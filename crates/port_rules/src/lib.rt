@@ -1,5 +1,5 @@
 //! What a port is: its flavors, its packages with their names, and what it depends on, as its variables
-//! tell it (bsd.port.mk(5)).
+//! say (bsd.port.mk(5)).
 #![tactic(auto)]
 
 mod depends;

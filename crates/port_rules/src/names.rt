@@ -3,7 +3,7 @@ ghost use Rattle.std.specs.Prelude.{◌≡◌, ◌<◌, ◌++◌, ◌∷◌, opt
 ghost use Rattle.std.specs.List.{flat_map};
 ghost use Rattle.mk_base.specs.Meter.{Meter};
 ghost use Rattle.mk_base.specs.Stopping.{Gives, GivesOnly, NeverStore};
-ghost use Rattle.text_cuts.specs.Cuts.{now_all};
+ghost use Rattle.text_parts.specs.Cuts.{now_all};
 ghost use Rattle.pkg_name.specs.Name.{split_name, dash};
 ghost use Rattle.port_rules.specs.Packages as packages;
 
@@ -13,10 +13,11 @@ use mk_env::Env;
 use pkg_name::{NameFault, PkgName};
 use std::alloc::{AllocError, Global};
 
-/// The full name of a package (bsd.port.mk(5), FULLPKGNAME), `marks` being those of the chosen flavors.
+/// The full name of a package (bsd.port.mk(5), FULLPKGNAME). `marks` are those of the chosen flavors.
 ///
-/// The faults, beside those of expanding what is asked: `NoName` where FULLPKGNAME, or else PKGNAME, is
-/// empty or there is none; then `BadName` where FULLPKGNAME, or else, once REVISION and EPOCH are expanded,
+/// Besides the faults of expanding what is asked, there are these. If FULLPKGNAME is defined, it is
+/// `NoName` if that is empty, and `BadName` if that is no package's name. Otherwise it is `NoName` if
+/// PKGNAME is empty or there is none. Then, once REVISION and EPOCH are expanded, it is `BadName` if
 /// PKGNAME or the whole name is no package's name.
 #[tactic(auto, unfolding(crate::specs::Packages::full_name))]
 pub(crate) fn full_name(
@@ -27,7 +28,8 @@ pub(crate) fn full_name(
     budget: &mut Budget,
 ) -> Result<PkgName, Stop<FaultKind>>
     ensures store { NeverStore result }
-    ensures gives { Gives (λ x. x) result budget.new (packages.full_name variables.now (now_all marks.now) subpackage.now budget.old) }
+    ensures gives { Gives (λ x. x) result budget.new
+        (packages.full_name variables.now (now_all marks.now) subpackage.now budget.old) }
 {
     let own = with_ending(alloc, "FULLPKGNAME", subpackage)?;
     match value(alloc, variables, own.as_str(), budget)? {
@@ -39,7 +41,8 @@ pub(crate) fn full_name(
 /// The full name that FULLPKGNAME is.
 fn whole_name(alloc: Global, text: String) -> Result<PkgName, Stop<FaultKind>>
     ensures store { NeverStore result }
-    ensures gives { (m : Meter) → Gives (λ x. x) result m (packages.whole_name (string_bytes text) m) }
+    ensures gives { (m : Meter)
+        → Gives (λ x. x) result m (packages.whole_name (string_bytes text) m) }
 {
     let text = present(Some(text))?;
     read_name(alloc, text.as_str())
@@ -55,7 +58,8 @@ fn default_name(
     budget: &mut Budget,
 ) -> Result<PkgName, Stop<FaultKind>>
     ensures store { NeverStore result }
-    ensures gives { Gives (λ x. x) result budget.new (packages.default_name variables.now (now_all marks.now) subpackage.now budget.old) }
+    ensures gives { Gives (λ x. x) result budget.new
+        (packages.default_name variables.now (now_all marks.now) subpackage.now budget.old) }
 {
     let base = package_base(alloc, variables, subpackage, budget)?;
     let base = present(base)?;
@@ -71,7 +75,8 @@ fn package_base(
     budget: &mut Budget,
 ) -> Result<Option<String>, Stop<FaultKind>>
     ensures store { NeverStore result }
-    ensures gives { Gives (option_map string_bytes) result budget.new (packages.package_base variables.now subpackage.now budget.old) }
+    ensures gives { Gives (option_map string_bytes) result budget.new
+        (packages.package_base variables.now subpackage.now budget.old) }
 {
     let own = with_ending(alloc, "PKGNAME", subpackage)?;
     if let Some(text) = value(alloc, variables, own.as_str(), budget)? {
@@ -87,7 +92,7 @@ fn package_base(
     }
 }
 
-/// What the port's PKGNAME ends in for a package without one of its own.
+/// What is added to the port's PKGNAME for a package without a PKGNAME of its own.
 fn added_ending(subpackage: &str) -> &str
     ensures { result.now ≡ packages.added_ending subpackage.now }
 {
@@ -98,9 +103,10 @@ fn added_ending(subpackage: &str) -> &str
     }
 }
 
-/// A name that must be there.
+/// A name that must be there and not be empty.
 fn present(found: Option<String>) -> Result<String, FaultKind>
-    ensures { (m : Meter) → GivesOnly string_bytes result m (packages.present (option_map string_bytes found) m) }
+    ensures { (m : Meter)
+        → GivesOnly string_bytes result m (packages.present (option_map string_bytes found) m) }
 {
     match found {
         Some(text) if !text.is_empty() => Ok(text),
@@ -111,7 +117,8 @@ fn present(found: Option<String>) -> Result<String, FaultKind>
 /// The name that a text is.
 fn read_name(alloc: Global, text: &str) -> Result<PkgName, Stop<FaultKind>>
     ensures store { NeverStore result }
-    ensures gives { (m : Meter) → Gives (λ x. x) result m (packages.readable (split_name text.now) m) }
+    ensures gives { (m : Meter)
+        → Gives (λ x. x) result m (packages.readable (split_name text.now) m) }
 {
     match PkgName::split(alloc, text) {
         Ok(name) => Ok(name),
@@ -131,7 +138,8 @@ fn made_name(
     budget: &mut Budget,
 ) -> Result<PkgName, Stop<FaultKind>>
     ensures store { NeverStore result }
-    ensures gives { Gives (λ x. x) result budget.new (packages.made_name variables.now (now_all marks.now) subpackage.now base.now budget.old) }
+    ensures gives { Gives (λ x. x) result budget.new
+        (packages.made_name variables.now (now_all marks.now) subpackage.now base.now budget.old) }
 {
     let revision = package_value(alloc, variables, "REVISION", subpackage, budget)?;
     let epoch = package_value(alloc, variables, "EPOCH", subpackage, budget)?;
@@ -140,7 +148,7 @@ fn made_name(
     read_name(alloc, extended.as_str())
 }
 
-/// The text of a name with revision and epoch behind its version, and marks at its end.
+/// The text of a name with revision and epoch after its version, and marks at its end.
 fn extended(
     alloc: Global,
     name: &PkgName,
@@ -148,7 +156,9 @@ fn extended(
     epoch: &Option<String>,
     marks: &[&str],
 ) -> Result<String, AllocError>
-    ensures { IfOk result (λ text. string_bytes text ≡ packages.extended name.now (option_map string_bytes revision.now) (option_map string_bytes epoch.now) (now_all marks.now)) }
+    ensures { IfOk result (λ text. string_bytes text
+        ≡ packages.extended name.now (option_map string_bytes revision.now)
+        (option_map string_bytes epoch.now) (now_all marks.now)) }
 {
     let mut text = format!(in alloc; "{}-{}", name.stem(), name.version())?;
     put_lettered(&mut text, 'p', revision)?;
@@ -162,10 +172,11 @@ fn extended(
     Ok(text)
 }
 
-/// Adds a value behind its letter, where there is one.
+/// Adds a letter and a value after it, if there is a value.
 fn put_lettered(text: &mut String, letter: char, value: &Option<String>) -> Result<(), AllocError>
     requires { letter < 128 }
-    ensures { OnOk result (string_bytes text.new ≡ string_bytes text.old ++ packages.lettered letter (option_map string_bytes value.now)) }
+    ensures { OnOk result (string_bytes text.new ≡ string_bytes text.old
+        ++ packages.lettered letter (option_map string_bytes value.now)) }
 {
     if let Some(value) = value {
         text.push(letter)?;
@@ -174,7 +185,7 @@ fn put_lettered(text: &mut String, letter: char, value: &Option<String>) -> Resu
     Ok(())
 }
 
-/// Adds a word behind a dash.
+/// Adds a dash and a word after it.
 fn put_word(text: &mut String, word: &str) -> Result<(), AllocError>
     ensures { OnOk result (string_bytes text.new ≡ string_bytes text.old ++ dash ∷ word.now) }
 {

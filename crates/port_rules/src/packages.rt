@@ -2,7 +2,7 @@
 ghost use Rattle.std.specs.Prelude.{◌≡◌, map, string_bytes, IfOk};
 ghost use Rattle.std.specs.List.{list_all};
 ghost use Rattle.mk_base.specs.Stopping.{Gives, NeverStore};
-ghost use Rattle.text_cuts.specs.Cuts.{now_all};
+ghost use Rattle.text_parts.specs.Cuts.{now_all};
 ghost use Rattle.port_rules.specs.Flavors.{marks_of};
 ghost use Rattle.port_rules.specs.Packages as packages;
 
@@ -34,8 +34,8 @@ impl Model for Package {
 }
 
 impl Package {
-    /// Which package of the port it is, with its dash, as `-main`; `-` for the one package of a port
-    /// without MULTI_PACKAGES.
+    /// Which package of the port it is, with its dash, such as `-main`; `-` for the one package of a
+    /// port without MULTI_PACKAGES.
     pub fn subpackage(&self) -> &str
         ensures { result.now ≡ self.now.subpackage }
     {
@@ -49,7 +49,7 @@ impl Package {
         &self.name
     }
 
-    /// Its comment (COMMENT); empty where there is none.
+    /// Its comment (COMMENT); empty if there is none.
     pub fn comment(&self) -> &str
         ensures { result.now ≡ self.now.comment }
     {
@@ -57,10 +57,10 @@ impl Package {
     }
 }
 
-/// The packages that a port names (MULTI_PACKAGES), or `-` where it names none.
+/// The packages that a port names (MULTI_PACKAGES), or `-` if it names none.
 ///
-/// The faults: those of expanding it, and then `BadName` where a word isn't a dash and a name, or stands
-/// there twice.
+/// The faults of expanding MULTI_PACKAGES come first. Then it is `BadName` if a word isn't a dash and a
+/// name, or is there twice.
 #[tactic(auto, unfolding(crate::specs::Packages::subpackages_of))]
 pub(crate) fn read_subpackages(
     alloc: Global,
@@ -68,7 +68,8 @@ pub(crate) fn read_subpackages(
     budget: &mut Budget,
 ) -> Result<Vec<String>, Stop<FaultKind>>
     ensures store { NeverStore result }
-    ensures gives { Gives (λ found. map string_bytes found.items) result budget.new (packages.subpackages_of variables.now budget.old) }
+    ensures gives { Gives (λ found. map string_bytes found.items) result budget.new
+        (packages.subpackages_of variables.now budget.old) }
 {
     let mut names = asked_words(alloc, variables, "MULTI_PACKAGES", budget)?;
     if !are_subpackages(alloc, &names)? {
@@ -106,7 +107,7 @@ fn is_named(word: &str) -> bool
     word.starts_with('-') && word != "-"
 }
 
-/// The packages of a port, in order: of each first the name and then the comment.
+/// The packages of a port, in order: for each, first the name is read and then the comment.
 pub(crate) fn read_packages(
     alloc: Global,
     variables: &Env,
@@ -115,13 +116,15 @@ pub(crate) fn read_packages(
     budget: &mut Budget,
 ) -> Result<Vec<Package>, Stop<FaultKind>>
     ensures store { NeverStore result }
-    ensures gives { Gives (λ found. found.items) result budget.new (packages.packages_of variables.now (marks_of flavors.now) (map string_bytes subpackages.now) budget.old) }
+    ensures gives { Gives (λ found. found.items) result budget.new
+        (packages.packages_of variables.now (marks_of flavors.now)
+        (map string_bytes subpackages.now) budget.old) }
 {
     let marks = flavors.marks(alloc)?;
     read_each(alloc, variables, &marks, subpackages, budget)
 }
 
-/// The same, `marks` being those of the chosen flavors.
+/// The same; `marks` are those of the chosen flavors.
 fn read_each(
     alloc: Global,
     variables: &Env,
@@ -130,7 +133,9 @@ fn read_each(
     budget: &mut Budget,
 ) -> Result<Vec<Package>, Stop<FaultKind>>
     ensures store { NeverStore result }
-    ensures gives { Gives (λ found. found.items) result budget.new (packages.packages_of variables.now (now_all marks.now) (map string_bytes subpackages.now) budget.old) }
+    ensures gives { Gives (λ found. found.items) result budget.new
+        (packages.packages_of variables.now (now_all marks.now)
+        (map string_bytes subpackages.now) budget.old) }
 {
     let mut found = Vec::new(alloc);
     for subpackage in subpackages {
@@ -148,7 +153,8 @@ fn read_package(
     budget: &mut Budget,
 ) -> Result<Package, Stop<FaultKind>>
     ensures store { NeverStore result }
-    ensures gives { Gives (λ x. x) result budget.new (packages.package_of variables.now (now_all marks.now) subpackage.now budget.old) }
+    ensures gives { Gives (λ x. x) result budget.new
+        (packages.package_of variables.now (now_all marks.now) subpackage.now budget.old) }
 {
     let name = full_name(alloc, variables, marks, subpackage, budget)?;
     let comment = package_text(alloc, variables, "COMMENT", subpackage, budget)?;

@@ -12,7 +12,7 @@ use mk_env::Env;
 use std::alloc::Global;
 use std::marker::Model;
 
-/// What a port is, as its variables tell it (bsd.port.mk(5)).
+/// What a port is, as its variables say (bsd.port.mk(5)).
 #[derive(Debug, Drop)]
 pub struct PortRecord {
     flavors: PortFlavors,
@@ -45,7 +45,7 @@ impl PortRecord {
         &self.flavors
     }
 
-    /// Who maintains it (MAINTAINER); empty where that isn't told.
+    /// Who maintains it (MAINTAINER); empty if that isn't given.
     pub fn maintainer(&self) -> &str
         ensures { result.now ≡ self.now.maintainer }
     {
@@ -66,7 +66,7 @@ impl PortRecord {
         self.packages.as_slice()
     }
 
-    /// Whether it has a package of this name, which has its dash, as `-main`.
+    /// Whether it has a package of this name, which has its dash, such as `-main`.
     pub fn has_package(&self, subpackage: &str) -> bool
         ensures { result ≡ ports.has_package self.now subpackage.now }
     {
@@ -76,8 +76,8 @@ impl PortRecord {
             .any(|package| package.subpackage() == subpackage)
     }
 
-    /// What it depends on: to be built; then for each package what that is linked with and what it needs
-    /// to run; then to be tested.
+    /// What it depends on: to be built; then, for each package, what the package is linked with and what
+    /// it needs to run; then to be tested.
     pub fn depends(&self) -> &[Depend]
         ensures { result.now ≡ self.now.depends }
     {

@@ -20,18 +20,18 @@ pub struct Recorded {
 }
 
 /// What a port is, by the variables that the evaluation of its makefile, of this name, left
-/// (bsd.port.mk(5)); in a budget of 50,000 units of its own.
+/// (bsd.port.mk(5)), in a budget of 50,000 units of its own.
 ///
-/// The variables are asked in this order: FLAVOR, FLAVORS, PSEUDO_FLAVORS, MULTI_PACKAGES, MAINTAINER,
-/// CATEGORIES; for each package its name (FULLPKGNAME, or else PKGNAME, REVISION, EPOCH) and COMMENT;
-/// BUILD_DEPENDS; for each package LIB_DEPENDS and RUN_DEPENDS; TEST_DEPENDS. One that isn't defined
-/// costs nothing.
+/// The variables are asked in this order. First come FLAVOR, FLAVORS, PSEUDO_FLAVORS, MULTI_PACKAGES,
+/// MAINTAINER and CATEGORIES. Then come, for each package, its name (FULLPKGNAME, or else PKGNAME,
+/// REVISION, EPOCH) and COMMENT. Then comes BUILD_DEPENDS, then for each package LIB_DEPENDS and
+/// RUN_DEPENDS, and then TEST_DEPENDS. A variable that isn't defined costs nothing.
 ///
-/// The faults, at line 0 of the makefile, and with what was spent: those of `mk_env::expand_variable` for
-/// what is asked; `Flavor` behind PSEUDO_FLAVORS, where a chosen flavor is neither in it nor in FLAVORS;
-/// `BadName` behind MULTI_PACKAGES, where a word of it isn't a dash and a name, or stands there twice;
-/// `NoName` where a package has no name, or an empty one; `BadName` where its name can't be one. The
-/// other error is want of memory.
+/// Each fault is at line 0 of the makefile, with the units that were spent. There are those of
+/// `mk_env::expand_variable` for what is asked. After PSEUDO_FLAVORS it is `Flavor` if a chosen flavor
+/// is neither in it nor in FLAVORS. After MULTI_PACKAGES it is `BadName` if a word of it isn't a dash
+/// and a name, or is there twice. It is `NoName` if a package has no name, or an empty one, and
+/// `BadName` if its name can't be a package's name. The other error is that memory runs out.
 pub fn record(alloc: Global, evaluated: &Evaluated, name: &Name) -> Result<Recorded, Stop<Failed>>
     ensures record { telling.Tells (λ x. x) result (record_of evaluated.now.env name.now) }
     ensures store { NeverStore result }
@@ -49,7 +49,7 @@ pub fn record(alloc: Global, evaluated: &Evaluated, name: &Name) -> Result<Recor
     }
 }
 
-/// The stop, a fault being told with the units spent.
+/// The stop; a fault gets the units that were spent.
 fn with_cost(stop: Stop<Fault>, cost: u64) -> Stop<Failed>
     ensures { result ≡ telling.with_cost cost stop }
 {

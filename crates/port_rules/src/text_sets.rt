@@ -26,7 +26,8 @@ impl<'a> TextSet<'a> {
 
     /// These texts.
     pub(crate) fn of(alloc: Global, texts: &'a [String]) -> Result<TextSet<'a>, AllocError>
-        ensures { IfOk result (λ set. (text : List ℕ) → holds set text ≡ is_among text (map string_bytes texts.now)) }
+        ensures { IfOk result (λ set. (text : List ℕ)
+            → holds set text ≡ is_among text (map string_bytes texts.now)) }
     {
         let mut set = TextSet::new(alloc);
         for text in texts {
@@ -38,7 +39,8 @@ impl<'a> TextSet<'a> {
     /// Adds a text, and says whether it is new.
     pub(crate) fn insert(&mut self, text: &'a str) -> Result<bool, AllocError>
         ensures new { IfOk result (λ is_new. is_new ≡ not (holds self.old text.now)) }
-        ensures more { OnOk result ((other : List ℕ) → holds self.new other ≡ (bytes_eq other text.now || holds self.old other)) }
+        ensures more { OnOk result ((other : List ℕ)
+            → holds self.new other ≡ (bytes_eq other text.now || holds self.old other)) }
     {
         match self.texts.insert(text) {
             Ok(is_new) => Ok(is_new),
@@ -54,7 +56,7 @@ impl<'a> TextSet<'a> {
     }
 }
 
-/// Whether some text stands twice among these.
+/// Whether some text is among these twice.
 pub(crate) fn has_double(alloc: Global, texts: &[String]) -> Result<bool, AllocError>
     ensures { IfOk result (λ found. found ≡ packages.has_double (map string_bytes texts.now)) }
 {

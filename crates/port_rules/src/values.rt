@@ -10,7 +10,7 @@ use mk_env::{Env, expand_variable};
 use mk_text::words;
 use std::alloc::{AllocError, Global};
 
-/// The value of a variable; none, at no cost, where it isn't defined.
+/// The value of a variable; `None`, at no cost, if it isn't defined.
 #[tactic(auto, unfolding(crate::specs::Values::value))]
 pub(crate) fn value(
     alloc: Global,
@@ -19,7 +19,8 @@ pub(crate) fn value(
     budget: &mut Budget,
 ) -> Result<Option<String>, Stop<FaultKind>>
     ensures store { NeverStore result }
-    ensures gives { Gives (option_map string_bytes) result budget.new (values.value variables.now name.now budget.old) }
+    ensures gives { Gives (option_map string_bytes) result budget.new
+        (values.value variables.now name.now budget.old) }
 {
     if !variables.defined(name) {
         return Ok(None);
@@ -28,7 +29,7 @@ pub(crate) fn value(
     Ok(Some(text))
 }
 
-/// The value of a variable, or where that isn't defined of another.
+/// The value of a variable, or of another one if the first isn't defined.
 #[tactic(auto, unfolding(crate::specs::Values::value_or))]
 pub(crate) fn value_or(
     alloc: Global,
@@ -38,7 +39,8 @@ pub(crate) fn value_or(
     budget: &mut Budget,
 ) -> Result<Option<String>, Stop<FaultKind>>
     ensures store { NeverStore result }
-    ensures gives { Gives (option_map string_bytes) result budget.new (values.value_or variables.now name.now other.now budget.old) }
+    ensures gives { Gives (option_map string_bytes) result budget.new
+        (values.value_or variables.now name.now other.now budget.old) }
 {
     match value(alloc, variables, name, budget)? {
         Some(text) => Ok(Some(text)),
@@ -47,7 +49,7 @@ pub(crate) fn value_or(
 }
 
 /// The value of a variable for a package: of the variable with the package's ending, or of the one
-/// without.
+/// without if that isn't defined.
 pub(crate) fn package_value(
     alloc: Global,
     variables: &Env,
@@ -56,7 +58,8 @@ pub(crate) fn package_value(
     budget: &mut Budget,
 ) -> Result<Option<String>, Stop<FaultKind>>
     ensures store { NeverStore result }
-    ensures gives { Gives (option_map string_bytes) result budget.new (values.package_value variables.now name.now subpackage.now budget.old) }
+    ensures gives { Gives (option_map string_bytes) result budget.new
+        (values.package_value variables.now name.now subpackage.now budget.old) }
 {
     let own = with_ending(alloc, name, subpackage)?;
     value_or(alloc, variables, own.as_str(), name, budget)
@@ -77,7 +80,7 @@ pub(crate) fn ending(subpackage: &str) -> &str
     if subpackage == "-" { "" } else { subpackage }
 }
 
-/// The text of a variable; empty where it isn't defined.
+/// The text of a variable; empty if it isn't defined.
 #[tactic(auto, unfolding(crate::specs::Values::asked_text))]
 pub(crate) fn asked_text(
     alloc: Global,
@@ -86,7 +89,8 @@ pub(crate) fn asked_text(
     budget: &mut Budget,
 ) -> Result<String, Stop<FaultKind>>
     ensures store { NeverStore result }
-    ensures gives { Gives string_bytes result budget.new (values.asked_text variables.now name.now budget.old) }
+    ensures gives { Gives string_bytes result budget.new
+        (values.asked_text variables.now name.now budget.old) }
 {
     let found = value(alloc, variables, name, budget)?;
     Ok(text_of(alloc, found))
@@ -101,7 +105,8 @@ pub(crate) fn asked_words(
     budget: &mut Budget,
 ) -> Result<Vec<String>, Stop<FaultKind>>
     ensures store { NeverStore result }
-    ensures gives { Gives (λ found. map string_bytes found.items) result budget.new (values.asked_words variables.now name.now budget.old) }
+    ensures gives { Gives (λ found. map string_bytes found.items) result budget.new
+        (values.asked_words variables.now name.now budget.old) }
 {
     let found = value(alloc, variables, name, budget)?;
     let text = text_of(alloc, found);
@@ -117,7 +122,8 @@ pub(crate) fn asked_lowered(
     budget: &mut Budget,
 ) -> Result<Vec<String>, Stop<FaultKind>>
     ensures store { NeverStore result }
-    ensures gives { Gives (λ found. map string_bytes found.items) result budget.new (values.asked_lowered variables.now name.now budget.old) }
+    ensures gives { Gives (λ found. map string_bytes found.items) result budget.new
+        (values.asked_lowered variables.now name.now budget.old) }
 {
     let found = value(alloc, variables, name, budget)?;
     let text = text_of(alloc, found);
@@ -135,7 +141,8 @@ pub(crate) fn package_text(
     budget: &mut Budget,
 ) -> Result<String, Stop<FaultKind>>
     ensures store { NeverStore result }
-    ensures gives { Gives string_bytes result budget.new (values.package_text variables.now name.now subpackage.now budget.old) }
+    ensures gives { Gives string_bytes result budget.new
+        (values.package_text variables.now name.now subpackage.now budget.old) }
 {
     let found = package_value(alloc, variables, name, subpackage, budget)?;
     Ok(text_of(alloc, found))
@@ -151,14 +158,15 @@ pub(crate) fn package_words(
     budget: &mut Budget,
 ) -> Result<Vec<String>, Stop<FaultKind>>
     ensures store { NeverStore result }
-    ensures gives { Gives (λ found. map string_bytes found.items) result budget.new (values.package_words variables.now name.now subpackage.now budget.old) }
+    ensures gives { Gives (λ found. map string_bytes found.items) result budget.new
+        (values.package_words variables.now name.now subpackage.now budget.old) }
 {
     let found = package_value(alloc, variables, name, subpackage, budget)?;
     let text = text_of(alloc, found);
     Ok(words_in(alloc, text.as_str())?)
 }
 
-/// The text of a value; empty where there is none.
+/// The text of a value; empty if there is none.
 fn text_of(alloc: Global, found: Option<String>) -> String
     ensures { string_bytes result ≡ values.text_of (option_map string_bytes found) }
 {
@@ -168,7 +176,7 @@ fn text_of(alloc: Global, found: Option<String>) -> String
     }
 }
 
-/// The words of a text, each a text of its own. It fails where no memory is left.
+/// The words of a text, each a text of its own. It fails only if memory runs out.
 pub fn words_in(alloc: Global, text: &str) -> Result<Vec<String>, AllocError>
     ensures { IfOk result (λ found. map string_bytes found.items ≡ words_of text.now) }
 {

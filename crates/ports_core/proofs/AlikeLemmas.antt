@@ -2,9 +2,9 @@
 use Rattle.std.proofs.Common.{◌≡◌, ℕ, List, [], ◌∷◌, ◌++◌, length, refl, sym, ap, ◌∙◌, inl, inr, arith, append-nil}
 use Rattle.std.specs.Prelude.{map}
 use Rattle.ports_http.specs.Messages.{ReplyMessage}
-use Rattle.ports_plain.specs.Plain.{Asked, plain}
+use Rattle.ports_plain.specs.Plain.{PlainRequest, plain}
 use Rattle.ports_core.specs.declared.event.Event.{Event}
-use Rattle.ports_core.specs.declared.queue.Waiter.{Waiter}
+use Rattle.ports_core.specs.declared.queue.QueuedRequest.{QueuedRequest}
 use Rattle.ports_core.specs.Effects.{Effect}
 use Rattle.mk_paths.specs.World.{World, opening_world}
 use Rattle.ports_core.specs.Answering.{plain_answer}
@@ -13,14 +13,14 @@ use Rattle.ports_core.specs.Plainly.{told_to, answers_of, own_of, plain_run, IsT
 use Rattle.ports_core.specs.Alike.{requests_of, replies_to, AreAlike, own_requests, AreToldAlike}
 
 -- the replies of the plain service to some requests
-unfoldable pub replies_from : World → List Asked → List ReplyMessage
+unfoldable pub replies_from : World → List PlainRequest → List ReplyMessage
 replies_from world [] = []
 replies_from world (request ∷ requests) = (plain world request).0 ∷ replies_from (plain world request).1 requests
 
-pub replies-plain_run : (waiters : List Waiter) (world : World) → map (λ (answer : ℕ × ReplyMessage). answer.1) (plain_run world waiters) ≡ replies_from world (requests_of waiters)
+pub replies-plain_run : (queued_requests : List QueuedRequest) (world : World) → map (λ (answer : ℕ × ReplyMessage). answer.1) (plain_run world queued_requests) ≡ replies_from world (requests_of queued_requests)
 unfolding replies_from
 replies-plain_run [] world = refl
-replies-plain_run (waiter ∷ waiters) world = ap (λ rs. (plain_answer world waiter.request).0 ∷ rs) (replies-plain_run waiters (plain_answer world waiter.request).1)
+replies-plain_run (queued_request ∷ queued_requests) world = ap (λ rs. (plain_answer world queued_request.request).0 ∷ rs) (replies-plain_run queued_requests (plain_answer world queued_request.request).1)
 
 pub map-append : {X Y : Type 0} (f : X → Y) (xs ys : List X) → map f (xs ++ ys) ≡ map f xs ++ map f ys
 map-append f [] ys = refl

@@ -1,4 +1,4 @@
--- What each event does to the slices and to the lines: all that proofs about runs see of it.
+-- What each event does to the slices and to the connections: all that proofs about runs see of it.
 use Rattle.std.proofs.Common.{◌≡◌, ◌<◌, ◌≤◌, ℕ, Bool, true, false, List, ◌∷◌, ◌++◌, Option, Some, None, refl, sym, ap, subst, ◌∙◌, inl, inr, arith}
 use Rattle.std.specs.Prelude.{◌⊎◌, ◌&&◌, MatchBool, MatchOption, is_none, option_map}
 use Rattle.ports_core.specs.declared.event.Event.{Event}
@@ -6,27 +6,27 @@ use Rattle.ports_core.specs.declared.event.Event.TheVariants.{Open, Piece, End, 
 use Rattle.ports_core.specs.declared.event.Told.{Told}
 use Rattle.ports_core.specs.declared.event.Tell.{Tell}
 use Rattle.ports_core.specs.declared.event.Refused.{Refused}
-use Rattle.ports_core.specs.declared.line.Line.{Line}
-use Rattle.ports_core.specs.declared.queue.Waiter.{Waiter}
+use Rattle.ports_core.specs.declared.connection.Connection.{Connection}
+use Rattle.ports_core.specs.declared.queue.QueuedRequest.{QueuedRequest}
 use Rattle.ports_core.specs.Keys.{tenant_of}
 use Rattle.mk_paths.specs.World.{World}
 use Rattle.ports_core.specs.Slices.{Slice, Queue, joined, sliced}
-use Rattle.ports_core.specs.Lines.{new_line, hears, is_empty}
+use Rattle.ports_core.specs.Connections.{new_connection, hears, is_empty}
 use Rattle.ports_core.specs.Taking.{Taken, Nothing, Whole, Refusal, Lost, TakesOff, told_of_tenant, told_at_once, entering}
 use Rattle.ports_core.specs.Telling.{in_turn}
-use Rattle.ports_core.specs.Opened.{KeepsLines, KeepsOthers}
+use Rattle.ports_core.specs.Opened.{KeepsConnections, KeepsOthers}
 use Rattle.ports_core.specs.Books.{TellsOn, BookOpens, BookTurns, BookStep}
-use Rattle.ports_core.specs.State.{State, keys_of, next_of, world_at, queue_at, slice_of, book_of, line_of, IsAllowed}
+use Rattle.ports_core.specs.State.{State, keys_of, next_of, world_at, queue_at, slice_of, book_of, connection_of, IsAllowed}
 use Rattle.ports_core.specs.Steps.{Does, Hears, Turns, Opens}
-use Rattle.ports_core.specs.Changes.{Rests, Enters, FirstLeaves, ChangesSlices}
+use Rattle.ports_core.specs.Changes.{KeepsSlices, Enters, FirstLeaves, ChangesSlices}
 use Rattle.ports_core.proofs.Lists.{none_some, some_same}
 use Rattle.ports_core.proofs.TakingLemmas.{nothing_behind}
 
 -- a world and a queue behind which requests wait
-sliced-joined : (waiters : List Waiter) (world : Option World) (queue : Option Queue) → sliced world (option_map (λ (q : Queue). q ++ waiters) queue) ≡ option_map (joined waiters) (sliced world queue)
-sliced-joined waiters None queue = refl
-sliced-joined waiters (Some world) None = refl
-sliced-joined waiters (Some world) (Some queue) = refl
+sliced-joined : (queued_requests : List QueuedRequest) (world : Option World) (queue : Option Queue) → sliced world (option_map (λ (q : Queue). q ++ queued_requests) queue) ≡ option_map (joined queued_requests) (sliced world queue)
+sliced-joined queued_requests None queue = refl
+sliced-joined queued_requests (Some world) None = refl
+sliced-joined queued_requests (Some world) (Some queue) = refl
 
 -- what a slice is made of
 pub slice_parts : (world : Option World) (queue : Option Queue) (slice : Slice) → sliced world queue ≡ Some slice → (world ≡ Some slice.0) × (queue ≡ Some slice.1)
@@ -63,11 +63,11 @@ and-false true = refl
 and-false false = refl
 
 -- nothing is taken off a connection that is lost
-lost_rests : (c : ℕ) (told : Told) (old new : State) (h : Hears (Fault c) c told old new) → Rests told h.taken old new
+lost_rests : (c : ℕ) (told : Told) (old new : State) (h : Hears (Fault c) c told old new) → KeepsSlices told h.taken old new
 lost_rests c told old new h =
-    let line : Line = hears (Fault c) h.hears.line in
-    let P : Bool → Type 0 = λ b. MatchBool b (TakesOff line.stream h.taken h.hears.takes.stream) ((h.taken ≡ Nothing) × (h.hears.takes.stream ≡ line.stream)) in
-    let busy : P false = subst P (and-false (is_none line.waits && is_empty line.pending)) h.hears.takes.stands in
+    let connection : Connection = hears (Fault c) h.hears.connection in
+    let P : Bool → Type 0 = λ b. MatchBool b (TakesOff connection.stream h.taken h.hears.takes.stream) ((h.taken ≡ Nothing) × (h.hears.takes.stream ≡ connection.stream)) in
+    let busy : P false = subst P (and-false (is_none connection.waits && is_empty connection.pending)) h.hears.takes.stands in
     record {
       nothing = busy.0;
       silent = h.hears.takes.told_is ∙ ap (told_at_once (keys_of old) c) busy.0;
@@ -75,11 +75,11 @@ lost_rests c told old new h =
           (h.queues t ∙ ap (λ k. option_map (λ (q : Queue). q ++ entering (keys_of old) c k t) (queue_at t old)) busy.0 ∙ sym (nothing_behind (queue_at t old)));
     }
 
-opens_rests : (told : Told) (old new : State) → Opens told old new → Rests told Nothing old new
+opens_rests : (told : Told) (old new : State) → Opens told old new → KeepsSlices told Nothing old new
 opens_rests told old new (inl h) = record { nothing = refl; silent = h.reply; slices = λ t. same_slice t old new (h.worlds t) (h.queues t) }
 opens_rests told old new (inr h) = record { nothing = refl; silent = h.reply; slices = λ t. same_slice t old new (h.same.worlds t) (h.same.queues t) }
 
-turns_change : (t : ℕ) (told : Told) (old new : State) → Turns t told old new → Rests told Nothing old new ⊎ FirstLeaves t told Nothing old new
+turns_change : (t : ℕ) (told : Told) (old new : State) → Turns t told old new → KeepsSlices told Nothing old new ⊎ FirstLeaves t told Nothing old new
 turns_change t told old new (inl h) = inl (record { nothing = refl; silent = h.reply; slices = λ u. same_slice u old new (h.same.worlds u) (h.same.queues u) })
 turns_change t told old new (inr h) = inr (record {
   nothing = refl;
@@ -122,18 +122,18 @@ does_change event told old new does = (taken_by event told old new does, changes
 
 opens_book : (c : ℕ) (told : Told) (old new : State) → c ≡ next_of old → Opens told old new → BookOpens c told (book_of old) (book_of new)
 opens_book c told old new number (inl h) =
-    let P : Option Refused → Type 0 = λ refused. MatchOption refused ((line_of c new ≡ Some new_line) × KeepsOthers c (book_of old) (book_of new)) (λ why. KeepsLines (book_of old) (book_of new)) in
-    subst P (sym h.refused) (subst (λ n. (line_of n new ≡ Some new_line) × KeepsOthers n (book_of old) (book_of new)) (sym number) (h.line, h.lines))
+    let P : Option Refused → Type 0 = λ refused. MatchOption refused ((connection_of c new ≡ Some new_connection) × KeepsOthers c (book_of old) (book_of new)) (λ why. KeepsConnections (book_of old) (book_of new)) in
+    subst P (sym h.refused) (subst (λ n. (connection_of n new ≡ Some new_connection) × KeepsOthers n (book_of old) (book_of new)) (sym number) (h.connection, h.connections))
 opens_book c told old new number (inr h) =
-    let P : Option Refused → Type 0 = λ refused. MatchOption refused ((line_of c new ≡ Some new_line) × KeepsOthers c (book_of old) (book_of new)) (λ why. KeepsLines (book_of old) (book_of new)) in
-    subst P (sym h.refused) h.same.lines
+    let P : Option Refused → Type 0 = λ refused. MatchOption refused ((connection_of c new ≡ Some new_connection) × KeepsOthers c (book_of old) (book_of new)) (λ why. KeepsConnections (book_of old) (book_of new)) in
+    subst P (sym h.refused) h.same.connections
 
 turns_book : (t : ℕ) (told : Told) (old new : State) → Turns t told old new → BookTurns told (book_of old) (book_of new)
 turns_book t told old new (inl h) =
-    let P : Option Tell → Type 0 = λ reply. MatchOption reply (KeepsLines (book_of old) (book_of new)) (λ tell. TellsOn tell (book_of old) (book_of new)) in
-    subst P (sym h.reply) h.same.lines
+    let P : Option Tell → Type 0 = λ reply. MatchOption reply (KeepsConnections (book_of old) (book_of new)) (λ tell. TellsOn tell (book_of old) (book_of new)) in
+    subst P (sym h.reply) h.same.connections
 turns_book t told old new (inr h) =
-    let P : Option Tell → Type 0 = λ reply. MatchOption reply (KeepsLines (book_of old) (book_of new)) (λ tell. TellsOn tell (book_of old) (book_of new)) in
+    let P : Option Tell → Type 0 = λ reply. MatchOption reply (KeepsConnections (book_of old) (book_of new)) (λ tell. TellsOn tell (book_of old) (book_of new)) in
     subst P (sym h.reply) h.tells
 
 -- the book-keeping

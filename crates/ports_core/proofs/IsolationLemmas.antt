@@ -3,13 +3,13 @@ use Rattle.std.proofs.Common.{◌≡◌, ℕ, false, List, [], ◌∷◌, ◌++�
 use Rattle.std.specs.Prelude.{map, if◌then◌else◌, option_map, unwrap_or}
 use Rattle.std.proofs.lemmas.List.Elements.{All-head, All-tail}
 use Rattle.ports_http.specs.Messages.{ReplyMessage}
-use Rattle.ports_plain.specs.Plain.{Asked, plain}
+use Rattle.ports_plain.specs.Plain.{PlainRequest, plain}
 use Rattle.ports_core.specs.declared.event.Event.{Event}
 use Rattle.ports_core.specs.declared.event.Tell.{Tell}
-use Rattle.ports_core.specs.declared.queue.Waiter.{Waiter}
+use Rattle.ports_core.specs.declared.queue.QueuedRequest.{QueuedRequest}
 use Rattle.ports_core.specs.Effects.{Effect}
 use Rattle.mk_paths.specs.World.{World}
-use Rattle.ports_core.specs.Answering.{asked_of, plain_answer}
+use Rattle.ports_core.specs.Answering.{plain_request_of, plain_answer}
 use Rattle.ports_core.specs.Slices.{Slice, Queue}
 use Rattle.ports_core.specs.State.{State, world_at, queue_at, waiting_at}
 use Rattle.ports_core.specs.Telling.{is_failure}
@@ -20,25 +20,25 @@ use Rattle.ports_core.proofs.ChangeLemmas.{slice_parts}
 use Rattle.ports_core.proofs.AlikeLemmas.{replies_from, replies-plain_run, map-append, no_elements, fronts}
 
 -- the world behind a list of requests, whichever connections asked
-unfoldable pub world_from : World → List Asked → World
+unfoldable pub world_from : World → List PlainRequest → World
 world_from world [] = world
 world_from world (request ∷ requests) = world_from (plain world request).1 requests
 
-world-plain_world : (waiters : List Waiter) (world : World) → plain_world world waiters ≡ world_from world (requests_of waiters)
+world-plain_world : (queued_requests : List QueuedRequest) (world : World) → plain_world world queued_requests ≡ world_from world (requests_of queued_requests)
 unfolding world_from
 world-plain_world [] world = refl
-world-plain_world (waiter ∷ waiters) world = world-plain_world waiters (plain_answer world waiter.request).1
+world-plain_world (queued_request ∷ queued_requests) world = world-plain_world queued_requests (plain_answer world queued_request.request).1
 
 -- where nothing fails, the own list has all that was taken
-own-all : (waiters : List Waiter) (tells : List Tell) → All (λ (tell : Tell). is_failure tell.reply.status ≡ false) tells → own_of waiters tells ≡ waiters
+own-all : (queued_requests : List QueuedRequest) (tells : List Tell) → All (λ (tell : Tell). is_failure tell.reply.status ≡ false) tells → own_of queued_requests tells ≡ queued_requests
 own-all [] tells fine = refl
-own-all (waiter ∷ waiters) [] fine = refl
-own-all (waiter ∷ waiters) (tell ∷ tells) fine =
-    ap (λ b. if b then own_of waiters tells else waiter ∷ own_of waiters tells) (All-head (λ (t : Tell). is_failure t.reply.status ≡ false) tell tells fine)
-    ∙ ap (λ ws. waiter ∷ ws) (own-all waiters tells (All-tail (λ (t : Tell). is_failure t.reply.status ≡ false) tell tells fine))
+own-all (queued_request ∷ queued_requests) [] fine = refl
+own-all (queued_request ∷ queued_requests) (tell ∷ tells) fine =
+    ap (λ b. if b then own_of queued_requests tells else queued_request ∷ own_of queued_requests tells) (All-head (λ (t : Tell). is_failure t.reply.status ≡ false) tell tells fine)
+    ∙ ap (λ ws. queued_request ∷ ws) (own-all queued_requests tells (All-tail (λ (t : Tell). is_failure t.reply.status ≡ false) tell tells fine))
 
 -- replies to requests, one behind the other
-replies-append : (world : World) (first rest : List Asked)
+replies-append : (world : World) (first rest : List PlainRequest)
     → replies_from world (first ++ rest) ≡ replies_from world first ++ replies_from (world_from world first) rest
 unfolding replies_from world_from
 replies-append world [] rest = refl
@@ -54,9 +54,9 @@ module _ (t : ℕ) (slice : Slice) (events : List Event) (steps : List Effect) (
 
   pub requests_are : NoneFails t steps → requests_of slice.1 ++ requests_of served.taken ≡ requests_of served.answered ++ requests_of served.last.1
   requests_are fine =
-      sym (map-append (λ (w : Waiter). asked_of w.request) slice.1 served.taken)
+      sym (map-append (λ (w : QueuedRequest). plain_request_of w.request) slice.1 served.taken)
       ∙ ap requests_of (sym (own-all (slice.1 ++ served.taken) (told_to t steps) fine) ∙ served.own)
-      ∙ map-append (λ (w : Waiter). asked_of w.request) served.answered served.last.1
+      ∙ map-append (λ (w : QueuedRequest). plain_request_of w.request) served.answered served.last.1
 
   pub none_waits : waiting_at t new ≡ 0 → served.last.1 ≡ []
   none_waits none = no_elements served.last.1 (sym (ap (λ (o : Option Queue). unwrap_or (option_map length o) 0) (slice_parts (world_at t new) (queue_at t new) served.last served.last_is).1) ∙ none)
@@ -80,9 +80,9 @@ equal_slices_alike t u slice other_slice events other_events steps others old ne
     let done : waiting_at t new ≡ 0 → waiting_at u other_new ≡ 0 → requests_of served.answered ≡ requests_of there.answered =
     λ none none_there.
     sym (append-nil (requests_of served.answered))
-    ∙ ap (λ (ws : List Waiter). requests_of served.answered ++ requests_of ws) (sym (none_waits t slice events steps old new served none))
+    ∙ ap (λ (ws : List QueuedRequest). requests_of served.answered ++ requests_of ws) (sym (none_waits t slice events steps old new served none))
     ∙ requests
-    ∙ ap (λ (ws : List Waiter). requests_of there.answered ++ requests_of ws) (none_waits u other_slice other_events others other_old other_new there none_there)
+    ∙ ap (λ (ws : List QueuedRequest). requests_of there.answered ++ requests_of ws) (none_waits u other_slice other_events others other_old other_new there none_there)
     ∙ append-nil (requests_of there.answered) in
     record {
       alike = fronts (replies_to t steps) (replies_to u others) _ _ all;

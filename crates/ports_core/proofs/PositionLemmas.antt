@@ -4,7 +4,7 @@ use Rattle.std.specs.Prelude.{if◌then◌else◌}
 use Rattle.ports_http.specs.Messages.{ReplyMessage}
 use Rattle.ports_plain.specs.Plain.{Served}
 use Rattle.ports_core.specs.declared.event.Event.{Event}
-use Rattle.ports_core.specs.declared.queue.Waiter.{Waiter}
+use Rattle.ports_core.specs.declared.queue.QueuedRequest.{QueuedRequest}
 use Rattle.ports_core.specs.Effects.{Effect}
 use Rattle.mk_paths.specs.World.{opening_world}
 use Rattle.ports_core.specs.Answering.{plain_answer}
@@ -47,7 +47,7 @@ module _ (keys : List (List ℕ)) (before events : List Event) (before_steps ste
       let waits : first_part.last.1 ≡ h.first ∷ h.rest = ap (λ (s : Slice). s.1) slice_is ∙ h.waited in
       let told_is : told_if t step.told.reply ≡ h.tell ∷ [] =
       ap (told_if t) h.told_is ∙ ap (λ p. if is_of t p then h.tell ∷ [] else []) h.of_tenant ∙ ap (λ b. if b then h.tell ∷ [] else []) (eq-eqb t t refl) in
-      let later : List Waiter = own_of (h.rest ++ second_part.taken) (told_to t steps) in
+      let later : List QueuedRequest = own_of (h.rest ++ second_part.taken) (told_to t steps) in
       let own : own_of (first_part.taken ++ second_part.taken) (told_to t (before_steps ++ step ∷ steps))
       ≡ plainly.answered ++ (if is_failure h.tell.reply.status then later else h.first ∷ later) =
       ap (own_of (first_part.taken ++ second_part.taken)) (told_to-append t before_steps (step ∷ steps))
@@ -71,7 +71,7 @@ module _ (keys : List (List ℕ)) (before events : List Event) (before_steps ste
       ]
 
 -- each turn of a run tells so
-abbrev pub EachPlain : (ℕ → Waiter → ReplyMessage → Type 0) → (events : List Event) (steps : List Effect) (old new : State) → Run old events steps new → Type 0
+abbrev pub EachPlain : (ℕ → QueuedRequest → ReplyMessage → Type 0) → (events : List Event) (steps : List Effect) (old new : State) → Run old events steps new → Type 0
 EachPlain Plain [] [] old new run = Unit {0}
 EachPlain Plain [] (step ∷ steps) old new run = Unit {0}
 EachPlain Plain (event ∷ events) [] old new run = Unit {0}

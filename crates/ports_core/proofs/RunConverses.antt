@@ -6,19 +6,19 @@ use Rattle.std.proofs.lemmas.Bool.{cases_eq, false≢true, and_parts}
 use Rattle.ports_http.specs.Messages.{RequestMessage, ReplyMessage}
 use Rattle.ports_http.specs.Streams as streams
 use Rattle.ports_http.specs.Incoming.{opening}
-use Rattle.ports_core.specs.declared.line.Line.{Line}
+use Rattle.ports_core.specs.declared.connection.Connection.{Connection}
 use Rattle.ports_core.specs.declared.event.Event.{Event}
 use Rattle.ports_core.specs.declared.event.Event.TheVariants.{Open, Piece, End, Fault, Wrote, Turn}
 use Rattle.ports_core.specs.declared.event.Tell.{Tell}
-use Rattle.ports_core.specs.declared.queue.Waiter.{Waiter}
+use Rattle.ports_core.specs.declared.queue.QueuedRequest.{QueuedRequest}
 use Rattle.ports_core.specs.Effects.{Effect}
 use Rattle.ports_core.specs.Slices.{Queue, waiting_of}
-use Rattle.ports_core.specs.State.{State, new_state, keys_of, world_at, queue_at, line_of, pending_at}
+use Rattle.ports_core.specs.State.{State, new_state, keys_of, world_at, queue_at, connection_of, pending_at}
 use Rattle.ports_core.specs.Runs.{Run}
 use Rattle.ports_core.specs.Conversations.{came_in, came_on, sent_in, sent_on, told_in, told_on, loses, is_lost_in, written, refusal_written, IsLeft, IsServedOut, WaitsFor, IsPlainOr503, AreWritten, ConversesPlainly, EachConnectionConverses}
 use Rattle.ports_core.proofs.Numbers.{other_number}
 use Rattle.ports_core.proofs.Lists.{none_some, some_same}
-use Rattle.ports_core.proofs.QueueLemmas.{waiters_of}
+use Rattle.ports_core.proofs.QueueLemmas.{queued_requests_of}
 use Rattle.ports_core.proofs.ChangeLemmas.{IsSeen, seen, slice_parts}
 use Rattle.ports_core.proofs.TalkLemmas.{none_came}
 use Rattle.ports_core.proofs.StandingLemmas.{Stands}
@@ -27,11 +27,11 @@ use Rattle.ports_core.proofs.LostLemmas.{LostAt, StandsLost, LostMoves, lost_mov
 use Rattle.ports_core.proofs.PositionLemmas.{EachPlain, each_plain}
 
 -- where a connection stands, lost or not
-abbrev StandsSo : Bool → List (List ℕ) → (ℕ → Waiter → ReplyMessage → Type 0) → ℕ → List ℕ → List ℕ → List Tell → State → Type 0
+abbrev StandsSo : Bool → List (List ℕ) → (ℕ → QueuedRequest → ReplyMessage → Type 0) → ℕ → List ℕ → List ℕ → List Tell → State → Type 0
 StandsSo lost keys Plain c came sent tells state = MatchBool lost (StandsLost keys Plain c came sent tells state) (Stands keys Plain c came sent tells state)
 
 -- no event of this kind is another's
-only_fault : (keys : List (List ℕ)) (Plain : ℕ → Waiter → ReplyMessage → Type 0) (c : ℕ) (event : Event) (step : Effect) (old mid : State) (came sent : List ℕ) (tells : List Tell) → loses c event ≡ true → IsSeen event step.told old mid
+only_fault : (keys : List (List ℕ)) (Plain : ℕ → QueuedRequest → ReplyMessage → Type 0) (c : ℕ) (event : Event) (step : Effect) (old mid : State) (came sent : List ℕ) (tells : List Tell) → loses c event ≡ true → IsSeen event step.told old mid
     → Stands keys Plain c came sent tells old → StandsLost keys Plain c (came ++ came_in c event) (sent ++ sent_in c event step) (tells ++ told_in c step.told.reply) mid
 only_fault keys Plain c (Open d) step old mid came sent tells lost s stands = absurd (false≢true lost)
 only_fault keys Plain c (Piece d bytes) step old mid came sent tells lost s stands = absurd (false≢true lost)
@@ -49,7 +49,7 @@ or-same true b c = refl
 or-same false b c = refl
 
 -- one event
-moves_so : (was_lost : Bool) (keys : List (List ℕ)) (Plain : ℕ → Waiter → ReplyMessage → Type 0) (c : ℕ) (event : Event) (step : Effect) (old mid : State) (came sent : List ℕ) (tells : List Tell)
+moves_so : (was_lost : Bool) (keys : List (List ℕ)) (Plain : ℕ → QueuedRequest → ReplyMessage → Type 0) (c : ℕ) (event : Event) (step : Effect) (old mid : State) (came sent : List ℕ) (tells : List Tell)
     → (Stands keys Plain c came sent tells old → loses c event ≡ false → Stands keys Plain c (came ++ came_in c event) (sent ++ sent_in c event step) (tells ++ told_in c step.told.reply) mid)
     → LostMoves keys Plain c event step old mid → IsSeen event step.told old mid
     → StandsSo was_lost keys Plain c came sent tells old → StandsSo (was_lost || loses c event) keys Plain c (came ++ came_in c event) (sent ++ sent_in c event step) (tells ++ told_in c step.told.reply) mid
@@ -61,7 +61,7 @@ moves_so false keys Plain c event step old mid came sent tells alive lost s stan
     ] refl
 
 -- a whole run, from where the connection stood
-run_moves : (lost : Bool) (keys : List (List ℕ)) (Plain : ℕ → Waiter → ReplyMessage → Type 0) (c : ℕ) (came sent : List ℕ) (tells : List Tell) (events : List Event) (steps : List Effect) (old new : State) → keys_of old ≡ keys
+run_moves : (lost : Bool) (keys : List (List ℕ)) (Plain : ℕ → QueuedRequest → ReplyMessage → Type 0) (c : ℕ) (came sent : List ℕ) (tells : List Tell) (events : List Event) (steps : List Effect) (old new : State) → keys_of old ≡ keys
     → (run : Run old events steps new) → EachPlain Plain events steps old new run → StandsSo lost keys Plain c came sent tells old
     → StandsSo (lost || is_lost_in c events) keys Plain c (came ++ came_on c events) (sent ++ sent_on c events steps) (tells ++ told_on c steps) new
 run_moves lost keys Plain c came sent tells [] [] old new keys_are same plain stands =
@@ -97,13 +97,13 @@ new_queue (key ∷ keys) zero queue was = sym (some_same was)
 new_queue (key ∷ keys) (suc u) queue was = new_queue keys u queue was
 
 -- before the first event no connection stands open
-begins : (keys : List (List ℕ)) (Plain : ℕ → Waiter → ReplyMessage → Type 0) (c : ℕ) → Stands keys Plain c [] [] [] (new_state keys)
+begins : (keys : List (List ℕ)) (Plain : ℕ → QueuedRequest → ReplyMessage → Type 0) (c : ℕ) → Stands keys Plain c [] [] [] (new_state keys)
 begins keys Plain c = inr (record {
   at = refl;
   left = opening;
   talk = none_came keys Plain c [] [] [] opening refl refl refl refl;
   fresh = λ above. (refl, refl);
-  queued = λ u slice was. ap (waiters_of c) (new_queue keys u (waiting_of slice) (slice_parts (world_at u (new_state keys)) (queue_at u (new_state keys)) slice was).1);
+  queued = λ u slice was. ap (queued_requests_of c) (new_queue keys u (waiting_of slice) (slice_parts (world_at u (new_state keys)) (queue_at u (new_state keys)) slice was).1);
 })
 
 module _ (keys : List (List ℕ)) (c : ℕ) (events : List Event) (steps : List Effect) (service : State) where
@@ -114,41 +114,41 @@ module _ (keys : List (List ℕ)) (c : ℕ) (events : List Event) (steps : List 
   -- where the connection stands at the end, as the contract says it
   alive_converses : is_lost_in c events ≡ false → Stands keys (IsPlainOr503 keys events steps) c (came_on c events) (sent_on c events steps) (told_on c steps) service → ConversesPlainly keys c events steps service
   alive_converses alive (inl is) = record {
-    exchanges = is.is_line.talk.exchanges;
-    end = is.is_line.talk.end;
-    told = is.is_line.talk.told;
-    answers = is.is_line.talk.answers;
-    bytes = written_all alive _ _ _ (ap (λ (o : Option Line). sent_on c events steps ++ unwrap_or (option_map (λ (l : Line). l.pending) o) []) is.at ∙ is.is_line.talk.bytes);
-    waits = is.is_line.waiting;
-    cut = is.is_line.talk.cut;
+    exchanges = is.is_connection.talk.exchanges;
+    end = is.is_connection.talk.end;
+    told = is.is_connection.talk.told;
+    answers = is.is_connection.talk.answers;
+    bytes = written_all alive _ _ _ (ap (λ (o : Option Connection). sent_on c events steps ++ unwrap_or (option_map (λ (l : Connection). l.pending) o) []) is.at ∙ is.is_connection.talk.bytes);
+    waits = is.is_connection.waiting;
+    cut = is.is_connection.talk.cut;
     served = λ some. subst IsServedOut (sym is.at) (is.idle some);
-    stays = subst (λ (o : Option Line). IsLeft keys o is.is_line.waiting is.is_line.talk.end) (sym is.at) (λ here. is.is_line.talk.left_is, waits_for keys is.line.waits is.is_line.waiting is.line.pending is.line.stream.over is.is_line.holds);
+    stays = subst (λ (o : Option Connection). IsLeft keys o is.is_connection.waiting is.is_connection.talk.end) (sym is.at) (λ here. is.is_connection.talk.left_is, waits_for keys is.connection.waits is.is_connection.waiting is.connection.pending is.connection.stream.over is.is_connection.holds);
   }
   alive_converses alive (inr is) = record {
     exchanges = is.talk.exchanges;
     end = is.talk.end;
     told = is.talk.told;
     answers = is.talk.answers;
-    bytes = written_all alive _ _ _ (ap (λ (o : Option Line). sent_on c events steps ++ unwrap_or (option_map (λ (l : Line). l.pending) o) []) is.at ∙ is.talk.bytes);
+    bytes = written_all alive _ _ _ (ap (λ (o : Option Connection). sent_on c events steps ++ unwrap_or (option_map (λ (l : Connection). l.pending) o) []) is.at ∙ is.talk.bytes);
     waits = [];
     cut = is.talk.cut;
     served = λ some. subst IsServedOut (sym is.at) tt;
-    stays = subst (λ (o : Option Line). IsLeft keys o [] is.talk.end) (sym is.at) refl;
+    stays = subst (λ (o : Option Connection). IsLeft keys o [] is.talk.end) (sym is.at) refl;
   }
 
   -- nothing is pending on a lost connection
-  lost_pending : (o : Option Line) (waits : Option ℕ) → LostAt o waits → unwrap_or (option_map (λ (l : Line). l.pending) o) [] ≡ []
+  lost_pending : (o : Option Connection) (waits : Option ℕ) → LostAt o waits → unwrap_or (option_map (λ (l : Connection). l.pending) o) [] ≡ []
   lost_pending None waits at = refl
-  lost_pending (Some line) waits at = at.0.pending
+  lost_pending (Some connection) waits at = at.0.pending
 
   -- nor is it ready
-  lost_served : (o : Option Line) (waits : Option ℕ) → LostAt o waits → IsServedOut o
+  lost_served : (o : Option Connection) (waits : Option ℕ) → LostAt o waits → IsServedOut o
   lost_served None waits at = tt
-  lost_served (Some line) waits at = λ ready. absurd (false≢true (let lost = (and_parts _ _ ready).1 in sym (ap not at.0.lost) ∙ lost))
+  lost_served (Some connection) waits at = λ ready. absurd (false≢true (let lost = (and_parts _ _ ready).1 in sym (ap not at.0.lost) ∙ lost))
 
-  lost_left : (o : Option Line) (waits : Option ℕ) (waiting : List RequestMessage) (end : streams.End) → LostAt o waits → WaitsFor keys waits waiting → IsLeft keys o waiting end
+  lost_left : (o : Option Connection) (waits : Option ℕ) (waiting : List RequestMessage) (end : streams.End) → LostAt o waits → WaitsFor keys waits waiting → IsLeft keys o waiting end
   lost_left None waits waiting end at request = subst (λ w. WaitsFor keys w waiting) at request
-  lost_left (Some line) waits waiting end at request = (λ here. absurd (false≢true (sym here ∙ at.0.lost)), subst (λ w. WaitsFor keys w waiting) (sym at.1) request)
+  lost_left (Some connection) waits waiting end at request = (λ here. absurd (false≢true (sym here ∙ at.0.lost)), subst (λ w. WaitsFor keys w waiting) (sym at.1) request)
 
   lost_converses : is_lost_in c events ≡ true → StandsLost keys (IsPlainOr503 keys events steps) c (came_on c events) (sent_on c events steps) (told_on c steps) service → ConversesPlainly keys c events steps service
   lost_converses lost is = record {
@@ -156,11 +156,11 @@ module _ (keys : List (List ℕ)) (c : ℕ) (events : List Event) (steps : List 
     end = is.talk.end;
     told = is.talk.told;
     answers = is.talk.answers;
-    bytes = subst (λ b. AreWritten b (sent_on c events steps) (pending_at c service) (flat_map written is.talk.exchanges ++ refusal_written is.talk.end)) (sym lost) (is.talk.front, lost_pending (line_of c service) is.waits is.at);
+    bytes = subst (λ b. AreWritten b (sent_on c events steps) (pending_at c service) (flat_map written is.talk.exchanges ++ refusal_written is.talk.end)) (sym lost) (is.talk.front, lost_pending (connection_of c service) is.waits is.at);
     waits = is.waiting;
     cut = is.talk.cut;
-    served = λ some. lost_served (line_of c service) is.waits is.at;
-    stays = lost_left (line_of c service) is.waits is.waiting is.talk.end is.at is.request;
+    served = λ some. lost_served (connection_of c service) is.waits is.at;
+    stays = lost_left (connection_of c service) is.waits is.waiting is.talk.end is.at is.request;
   }
 
 -- in a run from the beginning, each connection converses plainly

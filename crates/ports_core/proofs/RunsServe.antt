@@ -2,7 +2,7 @@
 use Rattle.std.proofs.Common.{◌≡◌, ◌<◌, ℕ, zero, suc, List, [], ◌∷◌, ◌++◌, length, Option, Some, refl, sym, ap, subst, ◌∙◌, append_assoc, append-nil, arith}
 use Rattle.std.specs.Prelude.{slice_get, map, option_map, unwrap_or}
 use Rattle.ports_core.specs.declared.event.Event.{Event}
-use Rattle.ports_core.specs.declared.queue.Waiter.{Waiter}
+use Rattle.ports_core.specs.declared.queue.QueuedRequest.{QueuedRequest}
 use Rattle.ports_core.specs.Effects.{Effect}
 use Rattle.mk_paths.specs.World.{World, opening_world}
 use Rattle.ports_core.specs.Answering.{plain_answer}
@@ -19,12 +19,12 @@ use Rattle.ports_core.proofs.StepsServe.{changes_serve}
 
 -- what a run is to a tenant that had that slice
 pub record IsServedIn (t : ℕ) (events : List Event) (steps : List Effect) (old new : State) (slice : Slice) : Type 0 where
-  pub taken : List Waiter
+  pub taken : List QueuedRequest
   pub takes : TakesIn (keys_of old) t (book_of old) events steps taken
   pub last : Slice
   pub last_is : slice_of t new ≡ Some last
   pub serves : Serves slice.0 (slice.1 ++ taken) (told_to t steps) last.0 last.1
-  pub takes_on : (later : List Event) (later_steps : List Effect) (more : List Waiter) → TakesIn (keys_of old) t (book_of new) later later_steps more → TakesIn (keys_of old) t (book_of old) (events ++ later) (steps ++ later_steps) (taken ++ more)
+  pub takes_on : (later : List Event) (later_steps : List Effect) (more : List QueuedRequest) → TakesIn (keys_of old) t (book_of new) later later_steps more → TakesIn (keys_of old) t (book_of old) (events ++ later) (steps ++ later_steps) (taken ++ more)
 
 pub run_serves : (t : ℕ) (events : List Event) (steps : List Effect) (old new : State) (slice : Slice) → Run old events steps new → slice_of t old ≡ Some slice → IsServedIn t events steps old new slice
 run_serves t [] [] old new slice same was = record {
@@ -70,9 +70,9 @@ begins_new keys t lt =
     ap (λ w. sliced w (queue_at t (new_state keys))) (slice_get-all opening_world keys t lt) ∙ ap (sliced (Some opening_world)) (slice_get-all empty keys t lt)
 
 -- as many as wait are left
-length-plain_run : (waiters : List Waiter) (world : World) → length (plain_run world waiters) ≡ length waiters
+length-plain_run : (queued_requests : List QueuedRequest) (world : World) → length (plain_run world queued_requests) ≡ length queued_requests
 length-plain_run [] world = refl
-length-plain_run (waiter ∷ waiters) world = ap suc (length-plain_run waiters (plain_answer world waiter.request).1)
+length-plain_run (queued_request ∷ queued_requests) world = ap suc (length-plain_run queued_requests (plain_answer world queued_request.request).1)
 
 -- in each run from the beginning a tenant is told what the plain service would tell it
 pub run_plainly : (keys : List (List ℕ)) (events : List Event) (steps : List Effect) (service : State) (t : ℕ) → t < length keys → Run (new_state keys) events steps service → IsToldPlainly keys t events steps service

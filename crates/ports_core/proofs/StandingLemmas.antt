@@ -5,26 +5,26 @@ use Rattle.std.proofs.lemmas.Bool.{false≢true, cases_Bool, and_parts, MatchBoo
 use Rattle.std.proofs.lemmas.Bool.Decides.{nat_tests}
 use Rattle.ports_core.proofs.Numbers.{other_number}
 use Rattle.ports_core.proofs.Lists.{option_from}
-use Rattle.ports_core.proofs.QueueLemmas.{waiters_of, waiter, waiters_at, waiters_join}
+use Rattle.ports_core.proofs.QueueLemmas.{queued_requests_of, queued_request, queued_requests_at, queued_requests_join}
 use Rattle.ports_http.specs.Messages.{RequestMessage, ReplyMessage}
 use Rattle.ports_http.specs.Streams.{Waits}
 use Rattle.ports_http.specs.Incoming.{Incoming, opening, ended, Removes}
 use Rattle.ports_http.specs.Replies.{reply_text, fault_reply, unknown_key, store_failed}
-use Rattle.ports_core.specs.declared.line.Line.{Line}
+use Rattle.ports_core.specs.declared.connection.Connection.{Connection}
 use Rattle.ports_core.specs.declared.event.Tell.{Tell}
-use Rattle.ports_core.specs.declared.queue.Waiter.{Waiter}
+use Rattle.ports_core.specs.declared.queue.QueuedRequest.{QueuedRequest}
 use Rattle.ports_core.specs.Keys.{tenant_of}
 use Rattle.ports_core.specs.Slices.{Slice, waiting_of, joined}
-use Rattle.ports_core.specs.Lines.{kept, is_done, is_ready, is_empty, with_pending}
+use Rattle.ports_core.specs.Connections.{kept, is_done, is_ready, is_empty, with_pending}
 use Rattle.ports_core.specs.Telling.{at_once, in_turn}
-use Rattle.ports_core.specs.Taking.{Taken, Nothing, Whole, Refusal, Lost, TakesOff, IsTaken, told_of_tenant, told_at_once, line_with, line_behind, entering_of, entering}
-use Rattle.ports_core.specs.State.{State, slice_of, line_of, next_of}
+use Rattle.ports_core.specs.Taking.{Taken, Nothing, Whole, Refusal, Lost, TakesOff, IsTaken, told_of_tenant, told_at_once, connection_with, connection_after, entering_of, entering}
+use Rattle.ports_core.specs.State.{State, slice_of, connection_of, next_of}
 use Rattle.ports_core.specs.Conversations.{told_in}
 use Rattle.ports_core.proofs.TalkLemmas.{Talk, talk_waits, talk_told, talk_refused}
 
 -- no queue has other requests of the connection
 abbrev pub Queued : ℕ → State → Option ℕ → List RequestMessage → Type 0
-Queued c state waits waiting = (u : ℕ) (slice : Slice) → slice_of u state ≡ Some slice → waiters_of c (waiting_of slice) ≡ waiters_at c u waits waiting
+Queued c state waits waiting = (u : ℕ) (slice : Slice) → slice_of u state ≡ Some slice → queued_requests_of c (waiting_of slice) ≡ queued_requests_at c u waits waiting
 
 -- the request that waits, while nothing is pending
 abbrev pub Holds : List (List ℕ) → Option ℕ → List RequestMessage → List ℕ → Bool → Type 0
@@ -32,36 +32,36 @@ Holds keys None waiting pending over = waiting ≡ []
 Holds keys (Some t) waiting pending over =
     (request : RequestMessage) × (waiting ≡ request ∷ []) × (tenant_of keys request.key ≡ Some t) × (pending ≡ []) × (over ≡ request.close)
 
--- a line that isn't lost, and what was asked and told on it
-pub record IsLine (keys : List (List ℕ)) (Plain : ℕ → Waiter → ReplyMessage → Type 0) (c : ℕ) (came sent : List ℕ) (tells : List Tell) (line : Line) (state : State) : Type 0 where
-  pub alive : line.lost ≡ false
+-- a connection that isn't lost, and what was asked and told on it
+pub record IsConnection (keys : List (List ℕ)) (Plain : ℕ → QueuedRequest → ReplyMessage → Type 0) (c : ℕ) (came sent : List ℕ) (tells : List Tell) (connection : Connection) (state : State) : Type 0 where
+  pub alive : connection.lost ≡ false
   pub waiting : List RequestMessage
-  pub talk : Talk keys Plain c came sent tells line.pending waiting line.stream
-  pub holds : Holds keys line.waits waiting line.pending line.stream.over
-  pub queued : Queued c state line.waits waiting
+  pub talk : Talk keys Plain c came sent tells connection.pending waiting connection.stream
+  pub holds : Holds keys connection.waits waiting connection.pending connection.stream.over
+  pub queued : Queued c state connection.waits waiting
 
--- once bytes came, nothing more stands first on a line for which nothing waits and nothing is pending
-abbrev pub HasNoMore : List ℕ → Line → Type 0
-HasNoMore came line = came ≢ [] → is_ready line ≡ true → TakesOff line.stream Nothing line.stream
+-- once bytes came, nothing more stands first on a connection for which nothing waits and nothing is pending
+abbrev pub HasNoMore : List ℕ → Connection → Type 0
+HasNoMore came connection = came ≢ [] → is_ready connection ≡ true → TakesOff connection.stream Nothing connection.stream
 
 -- the connection is open
-pub record StandsOpen (keys : List (List ℕ)) (Plain : ℕ → Waiter → ReplyMessage → Type 0) (c : ℕ) (came sent : List ℕ) (tells : List Tell) (state : State) : Type 0 where
-  pub line : Line
-  pub at : line_of c state ≡ Some line
+pub record StandsOpen (keys : List (List ℕ)) (Plain : ℕ → QueuedRequest → ReplyMessage → Type 0) (c : ℕ) (came sent : List ℕ) (tells : List Tell) (state : State) : Type 0 where
+  pub connection : Connection
+  pub at : connection_of c state ≡ Some connection
   pub below : c < next_of state
-  pub idle : HasNoMore came line
-  pub is_line : IsLine keys Plain c came sent tells line state
+  pub idle : HasNoMore came connection
+  pub is_connection : IsConnection keys Plain c came sent tells connection state
 
 -- the connection isn't open yet, or no more
-pub record StandsShut (keys : List (List ℕ)) (Plain : ℕ → Waiter → ReplyMessage → Type 0) (c : ℕ) (came sent : List ℕ) (tells : List Tell) (state : State) : Type 0 where
-  pub at : line_of c state ≡ None
+pub record StandsShut (keys : List (List ℕ)) (Plain : ℕ → QueuedRequest → ReplyMessage → Type 0) (c : ℕ) (came sent : List ℕ) (tells : List Tell) (state : State) : Type 0 where
+  pub at : connection_of c state ≡ None
   pub left : Incoming
   pub talk : Talk keys Plain c came sent tells [] [] left
   pub fresh : next_of state ≤ c → (left ≡ opening) × (came ≡ [])
   pub queued : Queued c state None []
 
 -- a connection that isn't lost
-abbrev pub Stands : List (List ℕ) → (ℕ → Waiter → ReplyMessage → Type 0) → ℕ → List ℕ → List ℕ → List Tell → State → Type 0
+abbrev pub Stands : List (List ℕ) → (ℕ → QueuedRequest → ReplyMessage → Type 0) → ℕ → List ℕ → List ℕ → List Tell → State → Type 0
 Stands keys Plain c came sent tells state = StandsOpen keys Plain c came sent tells state ⊎ StandsShut keys Plain c came sent tells state
 
 no_bytes : (bytes : List ℕ) → is_empty bytes ≡ true → bytes ≡ []
@@ -72,11 +72,11 @@ none_waits : (waits : Option ℕ) → is_none waits ≡ true → waits ≡ None
 none_waits None e = refl
 none_waits (Some t) e = absurd (cc)
 
--- a line that is done closes, and any other stays open
-pub settles : (keys : List (List ℕ)) (Plain : ℕ → Waiter → ReplyMessage → Type 0) (c : ℕ) (came sent : List ℕ) (tells : List Tell) (after : Line) (state : State)
-    → line_of c state ≡ kept after → c < next_of state → HasNoMore came after → IsLine keys Plain c came sent tells after state → Stands keys Plain c came sent tells state
+-- a connection that is done closes, and any other stays open
+pub settles : (keys : List (List ℕ)) (Plain : ℕ → QueuedRequest → ReplyMessage → Type 0) (c : ℕ) (came sent : List ℕ) (tells : List Tell) (after : Connection) (state : State)
+    → connection_of c state ≡ kept after → c < next_of state → HasNoMore came after → IsConnection keys Plain c came sent tells after state → Stands keys Plain c came sent tells state
 settles keys Plain c came sent tells after state at below idle is =
-    let P : Bool → Type 0 = λ b. is_done after ≡ b → line_of c state ≡ (if b then None else Some after) → Stands keys Plain c came sent tells state in
+    let P : Bool → Type 0 = λ b. is_done after ≡ b → connection_of c state ≡ (if b then None else Some after) → Stands keys Plain c came sent tells state in
     elim (is_done after) as P [
       | true ↦ λ done none.
           let front = (and_parts _ _ done).0 in
@@ -88,9 +88,9 @@ settles keys Plain c came sent tells after state at below idle is =
             left = after.stream;
             talk = subst (λ ws. Talk keys Plain c came sent tells [] ws after.stream) waiting (subst (λ p. Talk keys Plain c came sent tells p is.waiting after.stream) pending is.talk);
             fresh = λ above. absurd (omega (arith, below, above));
-            queued = λ u slice was. is.queued u slice was ∙ ap (λ w. waiters_at c u w is.waiting) waits;
+            queued = λ u slice was. is.queued u slice was ∙ ap (λ w. queued_requests_at c u w is.waiting) waits;
           })
-      | false ↦ λ done some. inl (record { line = after; at = some; below = below; idle = idle; is_line = is })
+      | false ↦ λ done some. inl (record { connection = after; at = some; below = below; idle = idle; is_connection = is })
     ] refl at
 
 -- the first byte
@@ -107,30 +107,30 @@ some_reply : (reply : ReplyMessage) (close : Bool) → is_empty (reply_text repl
 some_reply reply close =
     ⊎_elim (λ none. absurd (reply_bytes reply close (no_bytes (reply_text reply close) none))) (λ some. some) (cases_Bool (is_empty (reply_text reply close)))
 
--- a line with something pending, or for which something waits, isn't ready
-pub pending_waits : (line : Line) → is_empty line.pending ≡ false → is_ready line ≡ true → ⊥
-pending_waits line some ready = let none : is_empty line.pending ≡ true = (and_parts _ _ (and_parts _ _ ready).0).1 in cc
+-- a connection with something pending, or for which something waits, isn't ready
+pub pending_waits : (connection : Connection) → is_empty connection.pending ≡ false → is_ready connection ≡ true → ⊥
+pending_waits connection some ready = let none : is_empty connection.pending ≡ true = (and_parts _ _ (and_parts _ _ ready).0).1 in cc
 
-pub reply_waits : (line : Line) (reply : ReplyMessage) (close : Bool) → line.pending ≡ reply_text reply close → is_ready line ≡ true → ⊥
-reply_waits line reply close is ready = pending_waits line (ap is_empty is ∙ some_reply reply close) ready
+pub reply_waits : (connection : Connection) (reply : ReplyMessage) (close : Bool) → connection.pending ≡ reply_text reply close → is_ready connection ≡ true → ⊥
+reply_waits connection reply close is ready = pending_waits connection (ap is_empty is ∙ some_reply reply close) ready
 
--- behind what was taken, nothing more stands first on a line that is ready
-idle_behind_whole : (place : Option ℕ) (close : Bool) (line : Line) → is_ready (line_with place close line) ≡ true → ⊥
-idle_behind_whole None close line ready = reply_waits (line_with None close line) unknown_key close refl ready
-idle_behind_whole (Some tenant) close line ready = absurd (false≢true ready)
+-- behind what was taken, nothing more stands first on a connection that is ready
+idle_behind_whole : (place : Option ℕ) (close : Bool) (connection : Connection) → is_ready (connection_with place close connection) ≡ true → ⊥
+idle_behind_whole None close connection ready = reply_waits (connection_with None close connection) unknown_key close refl ready
+idle_behind_whole (Some tenant) close connection ready = absurd (false≢true ready)
 
-pub idle_behind : (keys : List (List ℕ)) (line : Line) (taken : Taken) (stream : Incoming) → IsTaken line taken stream
-    → is_ready (line_behind keys taken (record line { stream = stream })) ≡ true → TakesOff (line_behind keys taken (record line { stream = stream })).stream Nothing (line_behind keys taken (record line { stream = stream })).stream
-idle_behind keys line Nothing stream stands ready =
-    let takes : TakesOff line.stream Nothing stream = MatchBool-at_true (TakesOff line.stream Nothing stream) _ ready stands in
+pub idle_behind : (keys : List (List ℕ)) (connection : Connection) (taken : Taken) (stream : Incoming) → IsTaken connection taken stream
+    → is_ready (connection_after keys taken (record connection { stream = stream })) ≡ true → TakesOff (connection_after keys taken (record connection { stream = stream })).stream Nothing (connection_after keys taken (record connection { stream = stream })).stream
+idle_behind keys connection Nothing stream stands ready =
+    let takes : TakesOff connection.stream Nothing stream = MatchBool-at_true (TakesOff connection.stream Nothing stream) _ ready stands in
     (refl, subst (λ (s : Incoming). MatchBool s.over (Unit {0}) (Waits s.unread)) (sym takes.0) takes.1)
-idle_behind keys line (Whole request) stream stands ready = absurd (idle_behind_whole (tenant_of keys request.key) request.close (record line { stream = stream }) ready)
-idle_behind keys line (Refusal fault) stream stands ready = absurd (reply_waits (with_pending (reply_text (fault_reply fault) true) (record line { stream = stream })) (fault_reply fault) true refl ready)
-idle_behind keys line (Lost close) stream stands ready = absurd (reply_waits (with_pending (reply_text store_failed close) (record line { stream = stream })) store_failed close refl ready)
+idle_behind keys connection (Whole request) stream stands ready = absurd (idle_behind_whole (tenant_of keys request.key) request.close (record connection { stream = stream }) ready)
+idle_behind keys connection (Refusal fault) stream stands ready = absurd (reply_waits (with_pending (reply_text (fault_reply fault) true) (record connection { stream = stream })) (fault_reply fault) true refl ready)
+idle_behind keys connection (Lost close) stream stands ready = absurd (reply_waits (with_pending (reply_text store_failed close) (record connection { stream = stream })) store_failed close refl ready)
 
 -- no queue has a request of the connection, whatever was to wait
-none_at : (c u : ℕ) (waits : Option ℕ) (waiting : List RequestMessage) → waits ≡ None → waiters_at c u waits waiting ≡ []
-none_at c u waits waiting none = ap (λ w. waiters_at c u w waiting) none
+none_at : (c u : ℕ) (waits : Option ℕ) (waiting : List RequestMessage) → waits ≡ None → queued_requests_at c u waits waiting ≡ []
+none_at c u waits waiting none = ap (λ w. queued_requests_at c u w waiting) none
 
 pub told_here : (c : ℕ) (tell : Tell) → tell.conn ≡ c → told_in c (Some tell) ≡ tell ∷ []
 told_here c tell here = ap (λ b. if b then tell ∷ [] else []) (eq-eqb tell.conn c here)
@@ -144,94 +144,94 @@ over_behind request old new takes =
     ap (λ (s : Incoming). s.over) takes.after
     ∙ elim (request.close) as (λ b. (if b then ended else record { unread = takes.rest; over = false }).over ≡ b) [ true ↦ refl | false ↦ refl ]
 
--- what is taken off a line that isn't lost
-module _ (keys : List (List ℕ)) (Plain : ℕ → Waiter → ReplyMessage → Type 0) (c : ℕ) (came sent : List ℕ) (tells : List Tell) (line : Line) (old mid : State) (is : IsLine keys Plain c came sent tells line old) (stream : Incoming) where
-  stay_queued : (slice before : Slice) → joined [] before ≡ slice → waiters_of c (waiting_of slice) ≡ waiters_of c (waiting_of before)
-  stay_queued slice before same = ap (λ (s : Slice). waiters_of c (waiting_of s)) (sym same) ∙ ap (waiters_of c) (append-nil (waiting_of before))
+-- what is taken off a connection that isn't lost
+module _ (keys : List (List ℕ)) (Plain : ℕ → QueuedRequest → ReplyMessage → Type 0) (c : ℕ) (came sent : List ℕ) (tells : List Tell) (connection : Connection) (old mid : State) (is : IsConnection keys Plain c came sent tells connection old) (stream : Incoming) where
+  stay_queued : (slice before : Slice) → joined [] before ≡ slice → queued_requests_of c (waiting_of slice) ≡ queued_requests_of c (waiting_of before)
+  stay_queued slice before same = ap (λ (s : Slice). queued_requests_of c (waiting_of s)) (sym same) ∙ ap (queued_requests_of c) (append-nil (waiting_of before))
 
   -- nothing is taken
-  takes_nothing : stream ≡ line.stream → ((u : ℕ) → slice_of u mid ≡ option_map (joined []) (slice_of u old))
-      → IsLine keys Plain c came sent (tells ++ []) (record line { stream = stream }) mid
+  takes_nothing : stream ≡ connection.stream → ((u : ℕ) → slice_of u mid ≡ option_map (joined []) (slice_of u old))
+      → IsConnection keys Plain c came sent (tells ++ []) (record connection { stream = stream }) mid
   takes_nothing same slices = record {
     alive = is.alive;
     waiting = is.waiting;
-    talk = subst (λ ts. Talk keys Plain c came sent ts line.pending is.waiting stream) (sym (append-nil tells)) (subst (λ s. Talk keys Plain c came sent tells line.pending is.waiting s) (sym same) is.talk);
-    holds = subst (λ (s : Incoming). Holds keys line.waits is.waiting line.pending s.over) (sym same) is.holds;
+    talk = subst (λ ts. Talk keys Plain c came sent ts connection.pending is.waiting stream) (sym (append-nil tells)) (subst (λ s. Talk keys Plain c came sent tells connection.pending is.waiting s) (sym same) is.talk);
+    holds = subst (λ (s : Incoming). Holds keys connection.waits is.waiting connection.pending s.over) (sym same) is.holds;
     queued = λ u slice was. let from = option_from (joined []) (slice_of u old) slice (sym (slices u) ∙ was) in
         stay_queued slice from.0 from.2 ∙ is.queued u from.0 from.1;
   }
 
-  module _ (ready : is_ready line ≡ true) where
-    ready_waits : line.waits ≡ None
-    ready_waits = none_waits line.waits (and_parts _ _ (and_parts _ _ ready).0).0
+  module _ (ready : is_ready connection ≡ true) where
+    ready_waits : connection.waits ≡ None
+    ready_waits = none_waits connection.waits (and_parts _ _ (and_parts _ _ ready).0).0
 
-    ready_pending : line.pending ≡ []
-    ready_pending = no_bytes line.pending (and_parts _ _ (and_parts _ _ ready).0).1
+    ready_pending : connection.pending ≡ []
+    ready_pending = no_bytes connection.pending (and_parts _ _ (and_parts _ _ ready).0).1
 
     ready_waiting : is.waiting ≡ []
-    ready_waiting = subst (λ w. Holds keys w is.waiting line.pending line.stream.over) ready_waits is.holds
+    ready_waiting = subst (λ w. Holds keys w is.waiting connection.pending connection.stream.over) ready_waits is.holds
 
-    ready_talk : Talk keys Plain c came sent tells [] [] line.stream
-    ready_talk = subst (λ ws. Talk keys Plain c came sent tells [] ws line.stream) ready_waiting (subst (λ p. Talk keys Plain c came sent tells p is.waiting line.stream) ready_pending is.talk)
+    ready_talk : Talk keys Plain c came sent tells [] [] connection.stream
+    ready_talk = subst (λ ws. Talk keys Plain c came sent tells [] ws connection.stream) ready_waiting (subst (λ p. Talk keys Plain c came sent tells p is.waiting connection.stream) ready_pending is.talk)
 
-    ready_queues : (u : ℕ) (slice : Slice) → slice_of u old ≡ Some slice → waiters_of c (waiting_of slice) ≡ []
-    ready_queues u slice was = is.queued u slice was ∙ none_at c u line.waits is.waiting ready_waits
+    ready_queues : (u : ℕ) (slice : Slice) → slice_of u old ≡ Some slice → queued_requests_of c (waiting_of slice) ≡ []
+    ready_queues u slice was = is.queued u slice was ∙ none_at c u connection.waits is.waiting ready_waits
 
     -- something was taken and is answered at once
-    told_line : (tell : Tell) (pending : List ℕ) → tell.conn ≡ c → Talk keys Plain c came sent (tells ++ tell ∷ []) pending [] stream
+    told_connection : (tell : Tell) (pending : List ℕ) → tell.conn ≡ c → Talk keys Plain c came sent (tells ++ tell ∷ []) pending [] stream
         → ((u : ℕ) → slice_of u mid ≡ option_map (joined []) (slice_of u old))
-        → IsLine keys Plain c came sent (tells ++ told_in c (Some tell)) (record line { stream = stream; pending = pending }) mid
-    told_line tell pending here talk slices = record {
+        → IsConnection keys Plain c came sent (tells ++ told_in c (Some tell)) (record connection { stream = stream; pending = pending }) mid
+    told_connection tell pending here talk slices = record {
       alive = is.alive;
       waiting = [];
       talk = subst (λ ts. Talk keys Plain c came sent (tells ++ ts) pending [] stream) (sym (told_here c tell here)) talk;
       holds = subst (λ w. Holds keys w [] pending stream.over) (sym ready_waits) refl;
       queued = λ u slice was. let from = option_from (joined []) (slice_of u old) slice (sym (slices u) ∙ was) in
-          stay_queued slice from.0 from.2 ∙ ready_queues u from.0 from.1 ∙ sym (none_at c u line.waits [] ready_waits);
+          stay_queued slice from.0 from.2 ∙ ready_queues u from.0 from.1 ∙ sym (none_at c u connection.waits [] ready_waits);
     }
 
     -- a request of that tenant, or of none, is taken
-    takes_whole : (place : Option ℕ) (request : RequestMessage) → tenant_of keys request.key ≡ place → Removes line.stream request stream
+    takes_whole : (place : Option ℕ) (request : RequestMessage) → tenant_of keys request.key ≡ place → Removes connection.stream request stream
         → ((u : ℕ) → slice_of u mid ≡ option_map (joined (entering_of place c u request)) (slice_of u old))
-        → IsLine keys Plain c came sent (tells ++ told_in c (told_of_tenant c place)) (line_with place request.close (record line { stream = stream })) mid
+        → IsConnection keys Plain c came sent (tells ++ told_in c (told_of_tenant c place)) (connection_with place request.close (record connection { stream = stream })) mid
     takes_whole None request key_is takes slices =
-        told_line (at_once c unknown_key) (reply_text unknown_key request.close) refl
-        (talk_told keys Plain c came sent tells line.stream stream request (at_once c unknown_key) takes
-        (inr (subst (λ (o : Option ℕ). MatchOption o (at_once c unknown_key ≡ at_once c unknown_key) (λ tenant. (at_once c unknown_key ≡ in_turn tenant c unknown_key) × Plain tenant (waiter c request) unknown_key)) (sym key_is) refl)) ready_talk)
+        told_connection (at_once c unknown_key) (reply_text unknown_key request.close) refl
+        (talk_told keys Plain c came sent tells connection.stream stream request (at_once c unknown_key) takes
+        (inr (subst (λ (o : Option ℕ). MatchOption o (at_once c unknown_key ≡ at_once c unknown_key) (λ tenant. (at_once c unknown_key ≡ in_turn tenant c unknown_key) × Plain tenant (queued_request c request) unknown_key)) (sym key_is) refl)) ready_talk)
         slices
     takes_whole (Some tenant) request key_is takes slices = record {
       alive = is.alive;
       waiting = request ∷ [];
       talk = subst (λ p. Talk keys Plain c came sent (tells ++ []) p (request ∷ []) stream) (sym ready_pending)
-          (subst (λ ts. Talk keys Plain c came sent ts [] (request ∷ []) stream) (sym (append-nil tells)) (talk_waits keys Plain c came sent tells line.stream stream request takes ready_talk));
-      holds = (request, refl, key_is, ready_pending, over_behind request line.stream stream takes);
+          (subst (λ ts. Talk keys Plain c came sent ts [] (request ∷ []) stream) (sym (append-nil tells)) (talk_waits keys Plain c came sent tells connection.stream stream request takes ready_talk));
+      holds = (request, refl, key_is, ready_pending, over_behind request connection.stream stream takes);
       queued = λ u slice was. let from = option_from (joined (entering_of (Some tenant) c u request)) (slice_of u old) slice (sym (slices u) ∙ was) in
-          ap (λ (s : Slice). waiters_of c (waiting_of s)) (sym from.2) ∙ waiters_join c tenant u request (waiting_of from.0) (ready_queues u from.0 from.1);
+          ap (λ (s : Slice). queued_requests_of c (waiting_of s)) (sym from.2) ∙ queued_requests_join c tenant u request (waiting_of from.0) (ready_queues u from.0 from.1);
     }
 
   -- whatever is taken
-  takes_ready : (taken : Taken) → is_ready line ≡ true → TakesOff line.stream taken stream
+  takes_ready : (taken : Taken) → is_ready connection ≡ true → TakesOff connection.stream taken stream
       → ((u : ℕ) → slice_of u mid ≡ option_map (joined (entering keys c taken u)) (slice_of u old))
-      → IsLine keys Plain c came sent (tells ++ told_in c (told_at_once keys c taken)) (line_behind keys taken (record line { stream = stream })) mid
+      → IsConnection keys Plain c came sent (tells ++ told_in c (told_at_once keys c taken)) (connection_after keys taken (record connection { stream = stream })) mid
   takes_ready Nothing ready takes slices = takes_nothing takes.0 slices
   takes_ready (Whole request) ready takes slices = takes_whole ready (tenant_of keys request.key) request refl takes slices
   takes_ready (Refusal fault) ready takes slices =
-      told_line ready (at_once c (fault_reply fault)) (reply_text (fault_reply fault) true) refl
-      (talk_refused keys Plain c came sent tells line.stream stream fault takes.0 takes.1 takes.2 (ready_talk ready))
+      told_connection ready (at_once c (fault_reply fault)) (reply_text (fault_reply fault) true) refl
+      (talk_refused keys Plain c came sent tells connection.stream stream fault takes.0 takes.1 takes.2 (ready_talk ready))
       slices
   takes_ready (Lost close) ready takes slices =
-      told_line ready (at_once c store_failed) (reply_text store_failed close) refl
+      told_connection ready (at_once c store_failed) (reply_text store_failed close) refl
       (subst (λ k. Talk keys Plain c came sent (tells ++ at_once c store_failed ∷ []) (reply_text store_failed k) [] stream) takes.2
-      (talk_told keys Plain c came sent tells line.stream stream takes.0 (at_once c store_failed) takes.1 (inl refl) (ready_talk ready)))
+      (talk_told keys Plain c came sent tells connection.stream stream takes.0 (at_once c store_failed) takes.1 (inl refl) (ready_talk ready)))
       slices
 
-  pub takes : (taken : Taken) → IsTaken line taken stream
+  pub takes : (taken : Taken) → IsTaken connection taken stream
       → ((u : ℕ) → slice_of u mid ≡ option_map (joined (entering keys c taken u)) (slice_of u old))
-      → IsLine keys Plain c came sent (tells ++ told_in c (told_at_once keys c taken)) (line_behind keys taken (record line { stream = stream })) mid
+      → IsConnection keys Plain c came sent (tells ++ told_in c (told_at_once keys c taken)) (connection_after keys taken (record connection { stream = stream })) mid
   takes taken stands slices =
-      let Q : Taken → Type 0 = λ k. IsLine keys Plain c came sent (tells ++ told_in c (told_at_once keys c k)) (line_behind keys k (record line { stream = stream })) mid in
-      let P : Bool → Type 0 = λ b. is_ready line ≡ b → MatchBool b (TakesOff line.stream taken stream) ((taken ≡ Nothing) × (stream ≡ line.stream)) → Q taken in
-      elim (is_ready line) as P [
+      let Q : Taken → Type 0 = λ k. IsConnection keys Plain c came sent (tells ++ told_in c (told_at_once keys c k)) (connection_after keys k (record connection { stream = stream })) mid in
+      let P : Bool → Type 0 = λ b. is_ready connection ≡ b → MatchBool b (TakesOff connection.stream taken stream) ((taken ≡ Nothing) × (stream ≡ connection.stream)) → Q taken in
+      elim (is_ready connection) as P [
         | true ↦ λ ready off. takes_ready taken ready off slices
         | false ↦ λ busy off. subst Q (sym off.0) (takes_nothing off.1 (λ u. slices u ∙ ap (λ k. option_map (joined (entering keys c k u)) (slice_of u old)) off.0))
       ] refl stands

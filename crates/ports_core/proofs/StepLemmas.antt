@@ -4,17 +4,17 @@ use Rattle.std.specs.Prelude.{Result, Ok, Err, OnOk, is_err, option_map, option_
 use Rattle.std.proofs.Math.ListN.{set}
 use Rattle.std.proofs.lemmas.Bool.Decides.{nat_tests}
 use Rattle.ports_http.specs.Messages.{ReplyMessage}
-use Rattle.ports_core.specs.declared.line.Line.{Line}
+use Rattle.ports_core.specs.declared.connection.Connection.{Connection}
 use Rattle.ports_core.specs.declared.event.Event.{Event}
 use Rattle.ports_core.specs.declared.event.Told.{Told}
-use Rattle.ports_core.specs.declared.queue.Waiter.{Waiter}
+use Rattle.ports_core.specs.declared.queue.QueuedRequest.{QueuedRequest}
 use Rattle.mk_paths.specs.World.{World, opening_world}
 use Rattle.ports_core.specs.Answering.{AnswersFor}
 use Rattle.ports_core.specs.Slices.{Queue}
-use Rattle.ports_core.specs.Lines.{new_line, answered, kept, closing}
+use Rattle.ports_core.specs.Connections.{new_connection, answered, kept, closing}
 use Rattle.ports_core.specs.Telling.{in_turn}
 use Rattle.ports_core.specs.Taking.{Taken, Joins}
-use Rattle.ports_core.specs.Opened.{line_in, book_in}
+use Rattle.ports_core.specs.Opened.{connection_in, book_in}
 use Rattle.ports_core.specs.Books.{HearsOn}
 use Rattle.ports_core.specs.State.{State, keys_of, new_state}
 use Rattle.ports_core.specs.Keys.{key_texts}
@@ -36,65 +36,65 @@ slice_get-set_kept (z ∷ xs) (suc i) x y at same zero = refl
 slice_get-set_kept (z ∷ xs) (suc i) x y at same (suc j) = slice_get-set_kept xs i x y at same j
 
 module _ (keys : List (List ℕ)) (next : ℕ) where
-  pub opened : (told : Told) (worlds : List World) (queues : List Queue) (lines lines_after : List (ℕ × Line)) (line : Line)
-      → length lines < 16 → next < 2 ^ 64 - 1 → told.reply ≡ None → told.refused ≡ None → told.closed ≡ None → line ≡ new_line
-      → line_in next lines_after ≡ Some line → ((d : ℕ) → d ≢ next → line_in d lines_after ≡ line_in d lines)
-      → IsOpened told (keys, worlds, queues, lines, next) (keys, worlds, queues, lines_after, next + 1)
-  opened told worlds queues lines lines_after line few low reply refused closed line_is at others = record {
-    fits = room lines few low;
+  pub opened : (told : Told) (worlds : List World) (queues : List Queue) (connections connections_after : List (ℕ × Connection)) (connection : Connection)
+      → length connections < 16 → next < 2 ^ 64 - 1 → told.reply ≡ None → told.refused ≡ None → told.closed ≡ None → connection ≡ new_connection
+      → connection_in next connections_after ≡ Some connection → ((d : ℕ) → d ≢ next → connection_in d connections_after ≡ connection_in d connections)
+      → IsOpened told (keys, worlds, queues, connections, next) (keys, worlds, queues, connections_after, next + 1)
+  opened told worlds queues connections connections_after connection few low reply refused closed connection_is at others = record {
+    fits = room connections few low;
     reply = reply;
     refused = refused;
     closed = closed;
     keys = refl;
     next = refl;
-    line = at ∙ ap Some line_is;
-    lines = others;
+    connection = at ∙ ap Some connection_is;
+    connections = others;
     worlds = λ t. refl;
     queues = λ t. refl;
   }
     where
-      room : (xs : List (ℕ × Line)) → length xs < 16 → next < 2 ^ 64 - 1 → (nat_le 16 (length xs) || nat_le (2 ^ 64 - 1) next) ≡ false
+      room : (xs : List (ℕ × Connection)) → length xs < 16 → next < 2 ^ 64 - 1 → (nat_le 16 (length xs) || nat_le (2 ^ 64 - 1) next) ≡ false
       room xs few low = grind (arith, nat_tests)
 
   -- the queues, and the keys' texts, are lent
-  pub heard : (event : Event) (c : ℕ) (told : Told) (worlds : List World) (queues lent queues_after after : List Queue) (lines lines_after : List (ℕ × Line)) (texts : List (List ℕ))
+  pub heard : (event : Event) (c : ℕ) (told : Told) (worlds : List World) (queues lent queues_after after : List Queue) (connections connections_after : List (ℕ × Connection)) (texts : List (List ℕ))
       → texts ≡ keys → lent ≡ queues → after ≡ queues_after
-      → ((taken : Taken) × HearsOn texts event c told taken (book_in lines) (book_in lines_after) × Joins texts c taken lent queues_after)
-      → Hears event c told (keys, worlds, queues, lines, next) (keys, worlds, after, lines_after, next)
-  heard event c told worlds queues lent queues_after after lines lines_after texts texts_are lent_are after_is h = record {
+      → ((taken : Taken) × HearsOn texts event c told taken (book_in connections) (book_in connections_after) × Joins texts c taken lent queues_after)
+      → Hears event c told (keys, worlds, queues, connections, next) (keys, worlds, after, connections_after, next)
+  heard event c told worlds queues lent queues_after after connections connections_after texts texts_are lent_are after_is h = record {
     taken = h.0;
-    hears = subst (λ ks. HearsOn ks event c told h.0 (book_in lines) (book_in lines_after)) texts_are h.1;
+    hears = subst (λ ks. HearsOn ks event c told h.0 (book_in connections) (book_in connections_after)) texts_are h.1;
     queues = subst (λ (qs : List Queue). Joins keys c h.0 queues qs) (sym after_is)
         (subst (λ (qs : List Queue). Joins keys c h.0 qs queues_after) lent_are (subst (λ ks. Joins ks c h.0 lent queues_after) texts_are h.2));
     worlds = λ t. refl;
     keeps = record { keys = refl; next = refl };
   }
 
-  pub idle : (t : ℕ) (told : Told) (worlds : List World) (queues : List Queue) (queue after : Queue) (lines : List (ℕ × Line))
+  pub idle : (t : ℕ) (told : Told) (worlds : List World) (queues : List Queue) (queue after : Queue) (connections : List (ℕ × Connection))
       → slice_get queues t ≡ Some queue → queue ≡ [] → after ≡ queue → told.reply ≡ None → told.refused ≡ None → told.closed ≡ None
-      → IsIdle t told (keys, worlds, queues, lines, next) (keys, worlds, set queues t after, lines, next)
-  idle t told worlds queues queue after lines was empty same reply refused closed = record {
+      → IsIdle t told (keys, worlds, queues, connections, next) (keys, worlds, set queues t after, connections, next)
+  idle t told worlds queues queue after connections was empty same reply refused closed = record {
     nothing_waits = was ∙ ap Some empty;
     reply = reply;
     refused = refused;
     closed = closed;
     same = record {
       keeps = record { keys = refl; next = refl };
-      lines = λ c. refl;
+      connections = λ c. refl;
       worlds = λ u. refl;
       queues = slice_get-set_kept queues t queue after was same;
     };
   }
 
-  pub answered_in_turn : (t : ℕ) (told : Told) (worlds worlds_after : List World) (queues : List Queue) (queue rest : Queue) (first : Waiter) (reply : ReplyMessage) (closed : Option ℕ) (lines mid lines_after : List (ℕ × Line))
+  pub answered_in_turn : (t : ℕ) (told : Told) (worlds worlds_after : List World) (queues : List Queue) (queue rest : Queue) (first : QueuedRequest) (reply : ReplyMessage) (closed : Option ℕ) (connections mid connections_after : List (ℕ × Connection))
       → t < length queues → slice_get queues t ≡ Some queue → queue ≡ first ∷ rest
       → AnswersFor t first.request reply worlds worlds_after
-      → line_in first.conn mid ≡ option_map (answered reply) (line_in first.conn lines) → ((d : ℕ) → d ≢ first.conn → line_in d mid ≡ line_in d lines)
-      → closed ≡ option_and_then (closing first.conn) (line_in first.conn mid) → line_in first.conn lines_after ≡ option_and_then kept (line_in first.conn mid)
-      → ((d : ℕ) → d ≢ first.conn → line_in d lines_after ≡ line_in d mid)
+      → connection_in first.conn mid ≡ option_map (answered reply) (connection_in first.conn connections) → ((d : ℕ) → d ≢ first.conn → connection_in d mid ≡ connection_in d connections)
+      → closed ≡ option_and_then (closing first.conn) (connection_in first.conn mid) → connection_in first.conn connections_after ≡ option_and_then kept (connection_in first.conn mid)
+      → ((d : ℕ) → d ≢ first.conn → connection_in d connections_after ≡ connection_in d mid)
       → told.reply ≡ Some (in_turn t first.conn reply) → told.refused ≡ None → told.closed ≡ closed
-      → IsAnswered t told (keys, worlds, queues, lines, next) (keys, worlds_after, set queues t rest, lines_after, next)
-  answered_in_turn t told worlds worlds_after queues queue rest first reply closed lines mid lines_after within was waited answers mid_is mid_others closed_is line_is others told_is refused closed_told = record {
+      → IsAnswered t told (keys, worlds, queues, connections, next) (keys, worlds_after, set queues t rest, connections_after, next)
+  answered_in_turn t told worlds worlds_after queues queue rest first reply closed connections mid connections_after within was waited answers mid_is mid_others closed_is connection_is others told_is refused closed_told = record {
     first = first;
     rest = rest;
     waited = was ∙ ap Some waited;
@@ -106,27 +106,27 @@ module _ (keys : List (List ℕ)) (next : ℕ) where
     refused = refused;
     closed = closed_told ∙ closed_is ∙ ap (option_and_then (closing first.conn)) mid_is;
     tells = record {
-      line_is = line_is ∙ ap (option_and_then kept) mid_is;
+      connection_is = connection_is ∙ ap (option_and_then kept) mid_is;
       others = λ d ne. others d ne ∙ mid_others d ne;
     };
     keeps = record { keys = refl; next = refl };
   }
 
 -- a tenant with a key has a world and a queue
-pub within_keys : {Z X : Type 0} (t : ℕ) (now : State) (keys : List (String Z)) (worlds : List World) (queues : List Queue) (lines : List (ℕ × Line)) (next : ℕ) (xs : List X)
-    → (key_texts keys, worlds, queues, lines, next) ≡ now → length xs ≡ length keys → t < length (keys_of now) → t < length xs
-within_keys t now keys worlds queues lines next xs is same lt =
+pub within_keys : {Z X : Type 0} (t : ℕ) (now : State) (keys : List (String Z)) (worlds : List World) (queues : List Queue) (connections : List (ℕ × Connection)) (next : ℕ) (xs : List X)
+    → (key_texts keys, worlds, queues, connections, next) ≡ now → length xs ≡ length keys → t < length (keys_of now) → t < length xs
+within_keys t now keys worlds queues connections next xs is same lt =
     let h : t < length (key_texts keys) = subst (λ (s : State). t < length (keys_of s)) (sym is) lt in
     omega (arith, length_texts keys, same, h)
 
 -- a service that has just begun
-pub new_state_is : {Z : Type 0} (keys : List (String Z)) (worlds : List World) (queues : List Queue) (n : ℕ) (lines : List (ℕ × Line)) → worlds ≡ replicate n opening_world → queues ≡ replicate n [] → n ≡ length keys → lines ≡ []
-    → ◌≡◌ {A = State} (key_texts keys, worlds, queues, lines, 0) (new_state (key_texts keys))
-new_state_is keys worlds queues n lines worlds_are queues_are n_is none =
+pub new_state_is : {Z : Type 0} (keys : List (String Z)) (worlds : List World) (queues : List Queue) (n : ℕ) (connections : List (ℕ × Connection)) → worlds ≡ replicate n opening_world → queues ≡ replicate n [] → n ≡ length keys → connections ≡ []
+    → ◌≡◌ {A = State} (key_texts keys, worlds, queues, connections, 0) (new_state (key_texts keys))
+new_state_is keys worlds queues n connections worlds_are queues_are n_is none =
     let count : n ≡ length (key_texts keys) = n_is ∙ sym (length_texts keys) in
     let same_worlds : worlds ≡ map (λ (key : List ℕ). opening_world) (key_texts keys) = worlds_are ∙ ap (λ k. replicate k opening_world) count ∙ sym (map-same opening_world (key_texts keys)) in
     let empty : Queue = [] in
     let same_queues : queues ≡ map (λ (key : List ℕ). empty) (key_texts keys) = queues_are ∙ ap (λ k. replicate k empty) count ∙ sym (map-same empty (key_texts keys)) in
-    ap (λ (ws : List World). let s : State = (key_texts keys, ws, queues, lines, 0) in s) same_worlds
-    ∙ ap (λ (qs : List Queue). let s : State = (key_texts keys, map (λ (key : List ℕ). opening_world) (key_texts keys), qs, lines, 0) in s) same_queues
-    ∙ ap (λ (ls : List (ℕ × Line)). let s : State = (key_texts keys, map (λ (key : List ℕ). opening_world) (key_texts keys), map (λ (key : List ℕ). empty) (key_texts keys), ls, 0) in s) none
+    ap (λ (ws : List World). let s : State = (key_texts keys, ws, queues, connections, 0) in s) same_worlds
+    ∙ ap (λ (qs : List Queue). let s : State = (key_texts keys, map (λ (key : List ℕ). opening_world) (key_texts keys), qs, connections, 0) in s) same_queues
+    ∙ ap (λ (ls : List (ℕ × Connection)). let s : State = (key_texts keys, map (λ (key : List ℕ). opening_world) (key_texts keys), map (λ (key : List ℕ). empty) (key_texts keys), ls, 0) in s) none

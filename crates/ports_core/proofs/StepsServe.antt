@@ -7,14 +7,14 @@ use Rattle.ports_core.specs.declared.event.Event.{Event}
 use Rattle.ports_core.specs.declared.event.Event.TheVariants.{Open, Piece, End, Fault, Wrote, Turn}
 use Rattle.ports_core.specs.declared.event.Told.{Told}
 use Rattle.ports_core.specs.declared.event.Tell.{Tell}
-use Rattle.ports_core.specs.declared.queue.Waiter.{Waiter}
+use Rattle.ports_core.specs.declared.queue.QueuedRequest.{QueuedRequest}
 use Rattle.mk_paths.specs.World.{World}
 use Rattle.ports_core.specs.Answering.{Answers}
 use Rattle.ports_core.specs.Slices.{Slice, joined}
 use Rattle.ports_core.specs.Taking.{Taken, Nothing, entering}
 use Rattle.ports_core.specs.State.{State, keys_of, slice_of}
 use Rattle.ports_core.specs.Books.{conn_of}
-use Rattle.ports_core.specs.Changes.{Rests, Enters, FirstLeaves, ChangesSlices}
+use Rattle.ports_core.specs.Changes.{KeepsSlices, Enters, FirstLeaves, ChangesSlices}
 use Rattle.ports_core.specs.Plainly.{is_of, told_if}
 use Rattle.ports_core.proofs.Lists.{some_same}
 use Rattle.ports_core.proofs.Serving.{Serves}
@@ -28,14 +28,14 @@ to_no_tenant t (Some tell) none = ap (λ p. if is_of t p then tell ∷ [] else [
 pub record IsServed (t : ℕ) (event : Event) (told : Told) (taken : Taken) (old new : State) (slice : Slice) : Type 0 where
   pub next : Slice
   pub next_is : slice_of t new ≡ Some next
-  pub serves : (more : List Waiter) (tells : List Tell) (last : World) (rest : List Waiter)
+  pub serves : (more : List QueuedRequest) (tells : List Tell) (last : World) (rest : List QueuedRequest)
       → Serves next.0 (next.1 ++ more) tells last rest
       → Serves slice.0 (slice.1 ++ (entering (keys_of old) (conn_of event) taken t ++ more)) (told_if t told.reply ++ tells) last rest
 
-module _ (t c : ℕ) (keys : List (List ℕ)) (told : Told) (taken : Taken) (slice : Slice) (more : List Waiter) (tells : List Tell) (last : World) (rest : List Waiter) where
+module _ (t c : ℕ) (keys : List (List ℕ)) (told : Told) (taken : Taken) (slice : Slice) (more : List QueuedRequest) (tells : List Tell) (last : World) (rest : List QueuedRequest) where
   -- nothing is told to the tenant
-  quietly : (waiters : List Waiter) → told_if t told.reply ≡ [] → Serves slice.0 waiters tells last rest → Serves slice.0 waiters (told_if t told.reply ++ tells) last rest
-  quietly waiters none serves = subst (λ rs. Serves slice.0 waiters (rs ++ tells) last rest) (sym none) serves
+  quietly : (queued_requests : List QueuedRequest) → told_if t told.reply ≡ [] → Serves slice.0 queued_requests tells last rest → Serves slice.0 queued_requests (told_if t told.reply ++ tells) last rest
+  quietly queued_requests none serves = subst (λ rs. Serves slice.0 queued_requests (rs ++ tells) last rest) (sym none) serves
 
   -- and nothing is taken
   at_rest : taken ≡ Nothing → told_if t told.reply ≡ [] → Serves slice.0 (slice.1 ++ more) tells last rest
@@ -44,7 +44,7 @@ module _ (t c : ℕ) (keys : List (List ℕ)) (told : Told) (taken : Taken) (sli
       quietly (slice.1 ++ (entering keys c taken t ++ more)) none
       (subst (λ k. Serves slice.0 (slice.1 ++ (entering keys c k t ++ more)) tells last rest) (sym nothing) serves)
 
-rests_serve : (t : ℕ) (event : Event) (told : Told) (taken : Taken) (old new : State) (slice : Slice) → Rests told taken old new → slice_of t old ≡ Some slice → IsServed t event told taken old new slice
+rests_serve : (t : ℕ) (event : Event) (told : Told) (taken : Taken) (old new : State) (slice : Slice) → KeepsSlices told taken old new → slice_of t old ≡ Some slice → IsServed t event told taken old new slice
 rests_serve t event told taken old new slice h was = record {
   next = slice;
   next_is = h.slices t ∙ was;
@@ -53,14 +53,14 @@ rests_serve t event told taken old new slice h was = record {
 
 enters_serve : (t c : ℕ) (event : Event) (told : Told) (taken : Taken) (old new : State) (slice : Slice) → conn_of event ≡ c → Enters c told taken old new → slice_of t old ≡ Some slice → IsServed t event told taken old new slice
 enters_serve t c event told taken old new slice of_conn h was =
-    let waiters : List Waiter = entering (keys_of old) c taken t in
+    let queued_requests : List QueuedRequest = entering (keys_of old) c taken t in
     record {
-      next = joined waiters slice;
-      next_is = h.slices t ∙ ap (option_map (joined waiters)) was;
+      next = joined queued_requests slice;
+      next_is = h.slices t ∙ ap (option_map (joined queued_requests)) was;
       serves = λ more tells last rest s.
           quietly t c (keys_of old) told taken slice more tells last rest (slice.1 ++ (entering (keys_of old) (conn_of event) taken t ++ more)) (to_no_tenant t told.reply h.to_none)
           (subst (λ n. Serves slice.0 (slice.1 ++ (entering (keys_of old) n taken t ++ more)) tells last rest) (sym of_conn)
-          (subst (λ ws. Serves slice.0 ws tells last rest) (append_assoc slice.1 waiters more) s));
+          (subst (λ ws. Serves slice.0 ws tells last rest) (append_assoc slice.1 queued_requests more) s));
     }
 
 -- a turn that tells a reply

@@ -8,13 +8,13 @@ use Rattle.ports_http.specs.Messages.{RequestMessage}
 use Rattle.ports_http.specs.declared.request.TakeError.{TakeError}
 use Rattle.ports_http.specs.declared.request.TakeError.TheVariants.{Memory}
 use Rattle.ports_http.specs.Incoming.{Incoming, TakesOrLoses}
-use Rattle.ports_core.specs.declared.line.Line.{Line}
+use Rattle.ports_core.specs.declared.connection.Connection.{Connection}
 use Rattle.ports_core.specs.declared.event.Tell.{Tell}
-use Rattle.ports_core.specs.declared.queue.Waiter.{Waiter}
+use Rattle.ports_core.specs.declared.queue.QueuedRequest.{QueuedRequest}
 use Rattle.ports_core.specs.Keys.{tenant_of}
 use Rattle.ports_core.specs.Slices.{Queue}
-use Rattle.ports_core.specs.Lines.{is_ready}
-use Rattle.ports_core.specs.Taking.{Taken, Nothing, Whole, taken_of, TakesOff, IsTaken, told_at_once, line_behind, entering_of, entering, Joins, TakesNext}
+use Rattle.ports_core.specs.Connections.{is_ready}
+use Rattle.ports_core.specs.Taking.{Taken, Nothing, Whole, taken_of, TakesOff, IsTaken, told_at_once, connection_after, entering_of, entering, Joins, TakesNext}
 use Rattle.ports_core.proofs.Numbers.{other_number}
 use Rattle.ports_core.proofs.Lists.{slice_get-set_same, slice_get-set_other}
 
@@ -24,15 +24,15 @@ nothing_behind None = refl
 nothing_behind (Some queue) = ap Some (sym (append-nil queue))
 
 -- what stands first on a connection that is ready is taken
-pub taken_of_ready : (line : Line) (taken : Taken) (stream : Incoming) → is_ready line ≡ true → TakesOff line.stream taken stream → IsTaken line taken stream
-taken_of_ready line taken stream ready takes =
-    let P : Bool → Type 0 = λ b. MatchBool b (TakesOff line.stream taken stream) ((taken ≡ Nothing) × (stream ≡ line.stream)) in
+pub taken_of_ready : (connection : Connection) (taken : Taken) (stream : Incoming) → is_ready connection ≡ true → TakesOff connection.stream taken stream → IsTaken connection taken stream
+taken_of_ready connection taken stream ready takes =
+    let P : Bool → Type 0 = λ b. MatchBool b (TakesOff connection.stream taken stream) ((taken ≡ Nothing) × (stream ≡ connection.stream)) in
     subst P (sym ready) takes
 
 -- nothing is taken off a connection that isn't
-pub taken_of_busy : (line : Line) → is_ready line ≡ false → IsTaken line Nothing line.stream
-taken_of_busy line busy =
-    let P : Bool → Type 0 = λ b. MatchBool b (TakesOff line.stream Nothing line.stream) ((Nothing ≡ Nothing) × (line.stream ≡ line.stream)) in
+pub taken_of_busy : (connection : Connection) → is_ready connection ≡ false → IsTaken connection Nothing connection.stream
+taken_of_busy connection busy =
+    let P : Bool → Type 0 = λ b. MatchBool b (TakesOff connection.stream Nothing connection.stream) ((Nothing ≡ Nothing) × (connection.stream ≡ connection.stream)) in
     subst P (sym busy) (refl, refl)
 
 -- what a stream answers
@@ -55,37 +55,37 @@ module _ (keys : List (List ℕ)) (c : ℕ) (queues : List Queue) where
   pub joins_at : (request : RequestMessage) (place : ℕ) (queue after : Queue) → tenant_of keys request.key ≡ Some place → place < length queues → slice_get queues place ≡ Some queue
       → after ≡ queue ++ record { conn = c; request = request } ∷ [] → Joins keys c (Whole request) queues (set queues place after)
   joins_at request place queue after key_is within was after_is = λ t.
-      let waiter : Waiter = record { conn = c; request = request } in
+      let queued_request : QueuedRequest = record { conn = c; request = request } in
       let behind : Queue → Option Queue = λ ws. option_map (λ (q : Queue). q ++ ws) (slice_get queues t) in
-      let enters : entering keys c (Whole request) t ≡ (if place == t then waiter ∷ [] else []) = ap (λ p. entering_of p c t request) key_is in
+      let enters : entering keys c (Whole request) t ≡ (if place == t then queued_request ∷ [] else []) = ap (λ p. entering_of p c t request) key_is in
       ⊎_elim
       (λ same.
       let here : slice_get (set queues place after) t ≡ Some after = ap (slice_get (set queues place after)) same ∙ slice_get-set_same queues place after within in
       let there : slice_get queues t ≡ Some queue = ap (slice_get queues) same ∙ was in
-      let one : entering keys c (Whole request) t ≡ waiter ∷ [] = enters ∙ ap (λ b. if b then waiter ∷ [] else []) (eq-eqb place t (sym same)) in
-      here ∙ ap Some after_is ∙ ap (λ (o : Option Queue). option_map (λ (q : Queue). q ++ waiter ∷ []) o) (sym there) ∙ ap behind (sym one))
+      let one : entering keys c (Whole request) t ≡ queued_request ∷ [] = enters ∙ ap (λ b. if b then queued_request ∷ [] else []) (eq-eqb place t (sym same)) in
+      here ∙ ap Some after_is ∙ ap (λ (o : Option Queue). option_map (λ (q : Queue). q ++ queued_request ∷ []) o) (sym there) ∙ ap behind (sym one))
       (λ apart.
-      let none : entering keys c (Whole request) t ≡ [] = enters ∙ ap (λ b. if b then waiter ∷ [] else []) (other_number place t (λ e. apart (sym e))) in
+      let none : entering keys c (Whole request) t ≡ [] = enters ∙ ap (λ b. if b then queued_request ∷ [] else []) (other_number place t (λ e. apart (sym e))) in
       slice_get-set_other queues place t after apart ∙ nothing_behind (slice_get queues t) ∙ ap behind (sym none))
       (cases_eq t place)
 
-  pub takes_nothing : (line : Line) → is_ready line ≡ false → (taken : Taken) × TakesNext keys c taken None line line × Joins keys c taken queues queues
-  takes_nothing line busy = (
+  pub takes_nothing : (connection : Connection) → is_ready connection ≡ false → (taken : Taken) × TakesNext keys c taken None connection connection × Joins keys c taken queues queues
+  takes_nothing connection busy = (
     Nothing,
-    record { stream = line.stream; stands = taken_of_busy line busy; told_is = refl; line_is = refl },
+    record { stream = connection.stream; stands = taken_of_busy connection busy; told_is = refl; connection_is = refl },
     joins_none Nothing (λ t. refl),
   )
 
-  pub takes_answer : (line : Line) (stream : Incoming) (answer : Taking) (told : Option Tell) (new : Line) (after : List Queue) → is_ready line ≡ true → TakesOrLoses line.stream answer stream
-      → told ≡ told_at_once keys c (taken_of answer) → new ≡ line_behind keys (taken_of answer) (record line { stream = stream }) → Joins keys c (taken_of answer) queues after
-      → (taken : Taken) × TakesNext keys c taken told line new × Joins keys c taken queues after
-  takes_answer line stream answer told new after ready takes told_is line_is joins = (
+  pub takes_answer : (connection : Connection) (stream : Incoming) (answer : Taking) (told : Option Tell) (new : Connection) (after : List Queue) → is_ready connection ≡ true → TakesOrLoses connection.stream answer stream
+      → told ≡ told_at_once keys c (taken_of answer) → new ≡ connection_after keys (taken_of answer) (record connection { stream = stream }) → Joins keys c (taken_of answer) queues after
+      → (taken : Taken) × TakesNext keys c taken told connection new × Joins keys c taken queues after
+  takes_answer connection stream answer told new after ready takes told_is connection_is joins = (
     taken_of answer,
     record {
       stream = stream;
-      stands = taken_of_ready line (taken_of answer) stream ready (takes_off line.stream stream answer takes);
+      stands = taken_of_ready connection (taken_of answer) stream ready (takes_off connection.stream stream answer takes);
       told_is = told_is;
-      line_is = line_is;
+      connection_is = connection_is;
     },
     joins,
   )

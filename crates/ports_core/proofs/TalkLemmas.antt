@@ -11,7 +11,7 @@ use Rattle.ports_http.specs.Incoming.{Incoming, opening, ended, fed, behind, Rem
 use Rattle.ports_http.specs.Replies.{reply_text, fault_reply}
 use Rattle.ports_http.proofs.StreamLaws.{requests_stay, next_request, cuts_on, closes_behind}
 use Rattle.ports_core.specs.declared.event.Tell.{Tell}
-use Rattle.ports_core.specs.declared.queue.Waiter.{Waiter}
+use Rattle.ports_core.specs.declared.queue.QueuedRequest.{QueuedRequest}
 use Rattle.ports_core.specs.Telling.{at_once}
 use Rattle.ports_core.specs.Plainly.{IsFrontOf}
 use Rattle.ports_core.specs.Conversations.{Exchange, written, refusal_told, refusal_written, left_of, IsCutTo, IsAnsweredOn, AreAnsweredOn}
@@ -32,7 +32,7 @@ tells-more : (exchanges : List Exchange) (exchange : Exchange) → tells_in (exc
 tells-more [] exchange = refl
 tells-more (e ∷ exchanges) exchange = ap (λ ts. e.tell ∷ ts) (tells-more exchanges exchange)
 
-answers-more : (keys : List (List ℕ)) (Plain : ℕ → Waiter → ReplyMessage → Type 0) (c : ℕ) (exchanges : List Exchange) (exchange : Exchange)
+answers-more : (keys : List (List ℕ)) (Plain : ℕ → QueuedRequest → ReplyMessage → Type 0) (c : ℕ) (exchanges : List Exchange) (exchange : Exchange)
     → AreAnsweredOn keys Plain c exchanges → IsAnsweredOn keys Plain c exchange → AreAnsweredOn keys Plain c (exchanges ++ exchange ∷ [])
 answers-more keys Plain c [] exchange all one = (one, tt)
 answers-more keys Plain c (e ∷ exchanges) exchange all one = (all.0, answers-more keys Plain c exchanges exchange all.1 one)
@@ -75,7 +75,7 @@ next_cut c came requests unread request rest begins stands =
 
 -- the bytes that came, the bytes that were sent, the replies that were told, the bytes that are pending, the
 -- request that waits, and what is left of the stream
-pub record Talk (keys : List (List ℕ)) (Plain : ℕ → Waiter → ReplyMessage → Type 0) (c : ℕ) (came sent : List ℕ) (tells : List Tell) (pending : List ℕ) (waits : List RequestMessage) (left : Incoming) : Type 0 where
+pub record Talk (keys : List (List ℕ)) (Plain : ℕ → QueuedRequest → ReplyMessage → Type 0) (c : ℕ) (came sent : List ℕ) (tells : List Tell) (pending : List ℕ) (waits : List RequestMessage) (left : Incoming) : Type 0 where
   pub exchanges : List Exchange
   pub end : End
   pub left_is : left ≡ left_of end
@@ -104,7 +104,7 @@ told-more c exchanges exchange end tells none told =
     ∙ sym (tells-more exchanges exchange)
     ∙ sym (ap (λ ts. tells_in (exchanges ++ exchange ∷ []) ++ ts) none ∙ append-nil (tells_in (exchanges ++ exchange ∷ [])))
 
-module _ (keys : List (List ℕ)) (Plain : ℕ → Waiter → ReplyMessage → Type 0) (c : ℕ) (came sent : List ℕ) (tells : List Tell) where
+module _ (keys : List (List ℕ)) (Plain : ℕ → QueuedRequest → ReplyMessage → Type 0) (c : ℕ) (came sent : List ℕ) (tells : List Tell) where
   pub none_came : (left : Incoming) → left ≡ opening → came ≡ [] → sent ≡ [] → tells ≡ [] → Talk keys Plain c came sent tells [] [] left
   none_came left is no_bytes none_sent none_told = record {
     exchanges = [];
@@ -233,7 +233,7 @@ module _ (keys : List (List ℕ)) (Plain : ℕ → Waiter → ReplyMessage → T
   }
 
 -- what was asked and told on a lost connection, of which a front was sent
-pub record LostTalk (keys : List (List ℕ)) (Plain : ℕ → Waiter → ReplyMessage → Type 0) (c : ℕ) (came sent : List ℕ) (tells : List Tell) (waits : List RequestMessage) : Type 0 where
+pub record LostTalk (keys : List (List ℕ)) (Plain : ℕ → QueuedRequest → ReplyMessage → Type 0) (c : ℕ) (came sent : List ℕ) (tells : List Tell) (waits : List RequestMessage) : Type 0 where
   pub exchanges : List Exchange
   pub end : End
   pub cut : IsCutTo came (requests_in exchanges ++ waits) end
@@ -242,7 +242,7 @@ pub record LostTalk (keys : List (List ℕ)) (Plain : ℕ → Waiter → ReplyMe
   pub front : IsFrontOf sent (flat_map written exchanges ++ refusal_written end)
   pub still : waits ≢ [] → IsUnrefused c end
 
-module _ (keys : List (List ℕ)) (Plain : ℕ → Waiter → ReplyMessage → Type 0) (c : ℕ) (came sent : List ℕ) (tells : List Tell) where
+module _ (keys : List (List ℕ)) (Plain : ℕ → QueuedRequest → ReplyMessage → Type 0) (c : ℕ) (came sent : List ℕ) (tells : List Tell) where
   -- the connection is lost
   pub talk_lost : (pending : List ℕ) (waits : List RequestMessage) (left : Incoming) → Talk keys Plain c came sent tells pending waits left → LostTalk keys Plain c came sent tells waits
   talk_lost pending waits left talk = record {

@@ -1,17 +1,17 @@
 -- Two runs with the same requests of a tenant.
 use Rattle.std.specs.Prelude.{◌≡◌, ◌⊎◌, ℕ, List, map}
 use Rattle.ports_http.specs.Messages.{ReplyMessage}
-use Rattle.ports_plain.specs.Plain.{Asked}
+use Rattle.ports_plain.specs.Plain.{PlainRequest}
 use Rattle.ports_core.specs.declared.event.Event.{Event}
-use Rattle.ports_core.specs.declared.queue.Waiter.{Waiter}
+use Rattle.ports_core.specs.declared.queue.QueuedRequest.{QueuedRequest}
 use Rattle.ports_core.specs.Effects.{Effect}
-use Rattle.ports_core.specs.Answering.{asked_of}
+use Rattle.ports_core.specs.Answering.{plain_request_of}
 use Rattle.ports_core.specs.State.{State, waiting_at}
 use Rattle.ports_core.specs.Plainly.{IsFrontOf, told_to, answers_of, own_of, IsToldPlainly}
 
--- what was asked of the plain service, by whichever connections and keys
-abbrev pub requests_of : List Waiter → List Asked
-requests_of waiters = map (λ waiter. asked_of waiter.request) waiters
+-- what was asked of the plain service, whatever the connections and keys were
+abbrev pub requests_of : List QueuedRequest → List PlainRequest
+requests_of queued_requests = map (λ queued_request. plain_request_of queued_request.request) queued_requests
 
 -- what was told to a tenant, other than 503, whichever connections it went to
 abbrev pub replies_to : ℕ → List Effect → List ReplyMessage
@@ -22,11 +22,12 @@ abbrev pub AreAlike : {X : Type 0} → List X → List X → Type 0
 AreAlike xs ys = IsFrontOf xs ys ⊎ IsFrontOf ys xs
 
 -- a tenant's own requests in a run
-abbrev pub own_requests : {keys : List (List ℕ)} {t : ℕ} {events : List Event} {steps : List Effect} {service : State} → IsToldPlainly keys t events steps service → List Asked
+abbrev pub own_requests : {keys : List (List ℕ)} {t : ℕ} {events : List Event} {steps : List Effect} {service : State}
+    → IsToldPlainly keys t events steps service → List PlainRequest
 own_requests {t = t} {steps = steps} told = requests_of (own_of told.taken (told_to t steps))
 
--- Two tenants, each in a run of its own, are told equal replies as far as both are told, and all of them once
--- none of their requests waits.
+-- The replies to two tenants, each in a run of its own, are equal as far as both lists of replies go. Once
+-- none of their requests waits, all their replies are equal.
 pub record AreToldAlike (t : ℕ) (steps : List Effect) (service : State) (u : ℕ) (others : List Effect) (other : State) : Type 0 where
   pub alike : AreAlike (replies_to t steps) (replies_to u others)
   pub whole : waiting_at t service ≡ 0 → waiting_at u other ≡ 0 → replies_to t steps ≡ replies_to u others

@@ -3,18 +3,18 @@ use Rattle.std.specs.Prelude.{◌≡◌, ◌≢◌, ◌⊎◌, ℕ, Bool, List, 
 use Rattle.mk_paths.specs.World.{World}
 use Rattle.ports_http.specs.Messages.{RequestMessage, ReplyMessage}
 use Rattle.ports_http.specs.Replies.{reply_text, store_failed, IsFixed}
-use Rattle.ports_plain.specs.Plain.{Asked, Served, plain, asked}
+use Rattle.ports_plain.specs.Plain.{PlainRequest, Served, plain, plain_request}
 
 -- what a request asks of the plain service: its method, its target and its body
-abbrev pub asked_of : RequestMessage → Asked
-asked_of request = asked request.method request.target request.body
+abbrev pub plain_request_of : RequestMessage → PlainRequest
+plain_request_of request = plain_request request.method request.target request.body
 
--- what the plain service answers to a request over a world, and the world then
+-- what the plain service answers to a request over a world, and the world after it
 abbrev pub plain_answer : World → RequestMessage → Served
-plain_answer world request = plain world (asked_of request)
+plain_answer world request = plain world (plain_request_of request)
 
--- the reply to a request over a world is the plain one, as is the world then; or it is 503, and the world stays as
--- it was
+-- The reply to a request over a world is the plain one, and so is the world after it; or the reply is 503,
+-- and the world stays as it was.
 abbrev pub Answers : World → RequestMessage → ReplyMessage → World → Type 0
 Answers old request reply new = (plain_answer old request ≡ (reply, new)) ⊎ ((reply ≡ store_failed) × (new ≡ old))
 
@@ -27,7 +27,7 @@ pub record AnswersFor (t : ℕ) (request : RequestMessage) (reply : ReplyMessage
   pub answers : Answers world request reply after
   pub others : (u : ℕ) → u ≢ t → slice_get new u ≡ slice_get old u
 
--- the bytes of a reply, or none for a reply that fits what is reserved
+-- the bytes of a reply; or none, if the reply fits what is reserved
 abbrev pub AreBytesOf : {Z : Type 0} → ReplyMessage → Bool → Option (Vec ℕ Z) → Type 0
 AreBytesOf reply close None = IsFixed reply close
 AreBytesOf reply close (Some bytes) = bytes.items ≡ reply_text reply close

@@ -4,7 +4,7 @@ use Rattle.mk_paths.specs.declared.asking.FilesFault.TheVariants as faults
 use Rattle.ports_core.specs.declared.service.NewFault.{NewFault}
 use Rattle.ports_core.specs.declared.service.NewFault.TheVariants as news
 
--- a fault of the store, as one of the service's beginning
+-- a fault of the files, as a reason why a service can't begin
 abbrev pub new_fault : FilesFault → NewFault
 new_fault faults.Store = news.Store
 new_fault faults.Memory = news.Memory

@@ -4,37 +4,37 @@ use Rattle.ports_core.specs.declared.event.Event.{Event}
 use Rattle.ports_core.specs.declared.event.Event.TheVariants.{Open, Piece, End, Fault, Wrote, Turn}
 use Rattle.ports_core.specs.declared.event.Told.{Told}
 use Rattle.ports_core.specs.declared.event.Tell.{Tell}
-use Rattle.ports_core.specs.declared.queue.Waiter.{Waiter}
+use Rattle.ports_core.specs.declared.queue.QueuedRequest.{QueuedRequest}
 use Rattle.mk_paths.specs.World.{World}
 use Rattle.ports_core.specs.Answering.{Answers}
 use Rattle.ports_core.specs.Slices.{Slice, joined, world_of, waiting_of}
 use Rattle.ports_core.specs.Taking.{Taken, Nothing, entering}
 use Rattle.ports_core.specs.State.{State, keys_of, slice_of}
 
--- no slice but that of one tenant changes
+-- no slice changes but that of this tenant
 abbrev pub KeepsOtherSlices : ℕ → State → State → Type 0
 KeepsOtherSlices t old new = (u : ℕ) → u ≢ t → slice_of u new ≡ slice_of u old
 
 -- nothing is taken or told, and no slice changes
-pub record Rests (told : Told) (taken : Taken) (old new : State) : Type 0 where
+pub record KeepsSlices (told : Told) (taken : Taken) (old new : State) : Type 0 where
   pub nothing : taken ≡ Nothing
   pub silent : told.reply ≡ None
   pub slices : (t : ℕ) → slice_of t new ≡ slice_of t old
 
--- At most one request is added at the end of one tenant's queue: the one that is taken off the connection, if it
--- has the tenant's key. What is told is told to no tenant.
+-- At most one request is added at the end of one tenant's queue: the one that is taken off the connection,
+-- if it has the tenant's key. A reply that is told goes to no tenant.
 pub record Enters (c : ℕ) (told : Told) (taken : Taken) (old new : State) : Type 0 where
   pub to_none : MatchOption told.reply (Unit {0}) (λ (tell : Tell). tell.tenant ≡ None)
   pub slices : (t : ℕ) → slice_of t new ≡ option_map (joined (entering (keys_of old) c taken t)) (slice_of t old)
 
--- A tenant's first request leaves its queue, and its reply is told: the world becomes that of the plain service,
--- or stays at a reply of 503.
+-- A tenant's first request leaves its queue, and its reply is told. The world becomes that of the plain
+-- service, or stays as it was at a reply of 503.
 pub record FirstLeaves (t : ℕ) (told : Told) (taken : Taken) (old new : State) : Type 0 where
   pub nothing : taken ≡ Nothing
   pub slice : Slice
   pub was : slice_of t old ≡ Some slice
-  pub first : Waiter
-  pub rest : List Waiter
+  pub first : QueuedRequest
+  pub rest : List QueuedRequest
   pub waited : waiting_of slice ≡ first ∷ rest
   pub tell : Tell
   pub told_is : told.reply ≡ Some tell
@@ -47,9 +47,9 @@ pub record FirstLeaves (t : ℕ) (told : Told) (taken : Taken) (old new : State)
 
 -- what an event does to the slices
 abbrev pub ChangesSlices : Event → Told → Taken → State → State → Type 0
-ChangesSlices (Open c) told taken old new = Rests told taken old new
+ChangesSlices (Open c) told taken old new = KeepsSlices told taken old new
 ChangesSlices (Piece c bytes) told taken old new = Enters c told taken old new
 ChangesSlices (End c) told taken old new = Enters c told taken old new
-ChangesSlices (Fault c) told taken old new = Rests told taken old new
+ChangesSlices (Fault c) told taken old new = KeepsSlices told taken old new
 ChangesSlices (Wrote c count) told taken old new = Enters c told taken old new
-ChangesSlices (Turn t) told taken old new = Rests told taken old new ⊎ FirstLeaves t told taken old new
+ChangesSlices (Turn t) told taken old new = KeepsSlices told taken old new ⊎ FirstLeaves t told taken old new

@@ -1,24 +1,25 @@
--- What one connection asked and was told over a whole run, in bytes.
-use Rattle.std.specs.Prelude.{◌≡◌, ◌≢◌, ◌⊎◌, ℕ, Bool, true, false, ◌==◌, MatchBool, MatchOption, List, [], ◌∷◌, ◌++◌, map, Option, Some, None, if◌then◌else◌}
+-- What one connection asked, and the replies that it got, over a whole run, in bytes.
+use Rattle.std.specs.Prelude.{◌≡◌, ◌≢◌, ◌⊎◌, ℕ, Bool, true, false, ◌==◌, MatchBool, MatchOption, List, [], ◌∷◌, ◌++◌}
+use Rattle.std.specs.Prelude.{map, Option, Some, None, if◌then◌else◌}
 use Rattle.std.specs.List.{flat_map, list_any}
 use Rattle.ports_http.specs.Messages.{RequestMessage, ReplyMessage}
 use Rattle.ports_http.specs.Streams.{End, waiting, refused, closed, Begins, Cuts}
 use Rattle.ports_http.specs.Incoming.{Incoming, ended}
 use Rattle.ports_http.specs.Replies.{reply_text, fault_reply, unknown_key, store_failed}
-use Rattle.ports_core.specs.declared.line.Line.{Line}
+use Rattle.ports_core.specs.declared.connection.Connection.{Connection}
 use Rattle.ports_core.specs.declared.event.Event.{Event}
 use Rattle.ports_core.specs.declared.event.Event.TheVariants.{Piece, Fault, Wrote}
 use Rattle.ports_core.specs.declared.event.Tell.{Tell}
 use Rattle.ports_core.specs.Effects.{Effect}
 use Rattle.ports_core.specs.Keys.{tenant_of}
-use Rattle.ports_core.specs.Lines.{is_ready}
+use Rattle.ports_core.specs.Connections.{is_ready}
 use Rattle.ports_core.specs.Telling.{at_once, in_turn}
 use Rattle.ports_core.specs.Taking.{Nothing, TakesOff}
-use Rattle.ports_core.specs.declared.queue.Waiter.{Waiter}
+use Rattle.ports_core.specs.declared.queue.QueuedRequest.{QueuedRequest}
 use Rattle.mk_paths.specs.World.{opening_world}
 use Rattle.ports_core.specs.Answering.{plain_answer}
-use Rattle.ports_core.specs.Opened.{no_lines}
-use Rattle.ports_core.specs.State.{State, new_state, line_of, pending_at}
+use Rattle.ports_core.specs.Opened.{no_connections}
+use Rattle.ports_core.specs.State.{State, new_state, connection_of, pending_at}
 use Rattle.ports_core.specs.Runs.{Run}
 use Rattle.ports_core.specs.Books.{TakesIn}
 use Rattle.ports_core.specs.Plainly.{told_to, own_of, plain_world, IsFrontOf}
@@ -70,85 +71,88 @@ pub record Exchange : Type 0 where
 abbrev pub written : Exchange → List ℕ
 written exchange = reply_text exchange.tell.reply exchange.request.close
 
--- the head refusal that ends a stream, told at once
+-- the reply to the head refusal that ends a stream, told at once
 abbrev pub refusal_told : ℕ → End → List Tell
 refusal_told c (waiting unread) = []
 refusal_told c (refused fault) = at_once c (fault_reply fault) ∷ []
 refusal_told c closed = []
 
--- and as it is written
+-- the same as it is written
 abbrev pub refusal_written : End → List ℕ
 refusal_written (waiting unread) = []
 refusal_written (refused fault) = reply_text (fault_reply fault) true
 refusal_written closed = []
 
--- what is left of a stream behind its requests
+-- what is left of a stream after its requests
 abbrev pub left_of : End → Incoming
 left_of (waiting unread) = record { unread = unread; over = false }
 left_of (refused fault) = ended
 left_of closed = ended
 
--- a stream is these requests, one behind the other, and then more bytes, whatever they are; or it ends so
+-- a stream is these requests, one after the other, and then more bytes, whatever
+-- they are; or it has this end
 abbrev pub IsCutTo : List ℕ → List RequestMessage → End → Type 0
 IsCutTo stream requests (waiting unread) = Begins stream requests unread
 IsCutTo stream requests (refused fault) = Cuts stream requests (refused fault)
 IsCutTo stream requests closed = Cuts stream requests closed
 
--- The plain service gives this reply to a request of a tenant in a run: it stands in the tenant's own list, and
--- is asked over the world that the plain service has behind those that stand before it.
-pub record IsPlainReply (keys : List (List ℕ)) (events : List Event) (steps : List Effect) (t : ℕ) (waiter : Waiter) (reply : ReplyMessage) : Type 0 where
-  pub taken : List Waiter
-  pub takes : TakesIn keys t no_lines events steps taken
-  pub before : List Waiter
-  pub behind : List Waiter
-  pub stands : own_of taken (told_to t steps) ≡ before ++ waiter ∷ behind
-  pub plainly : reply ≡ (plain_answer (plain_world opening_world before) waiter.request).0
+-- The plain service gives this reply to a request of a tenant in a run. The request is in the tenant's own
+-- list. It is asked over the world that the plain service has after the requests before it there.
+pub record IsPlainReply (keys : List (List ℕ)) (events : List Event) (steps : List Effect) (t : ℕ)
+    (queued_request : QueuedRequest) (reply : ReplyMessage) : Type 0 where
+  pub taken : List QueuedRequest
+  pub takes : TakesIn keys t no_connections events steps taken
+  pub before : List QueuedRequest
+  pub behind : List QueuedRequest
+  pub stands : own_of taken (told_to t steps) ≡ before ++ queued_request ∷ behind
+  pub plainly : reply ≡ (plain_answer (plain_world opening_world before) queued_request.request).0
 
 -- a reply to a request of a tenant is the plain one, or 503
-abbrev pub IsPlainOr503 : List (List ℕ) → List Event → List Effect → ℕ → Waiter → ReplyMessage → Type 0
-IsPlainOr503 keys events steps t waiter reply = IsPlainReply keys events steps t waiter reply ⊎ (reply ≡ store_failed)
+abbrev pub IsPlainOr503 : List (List ℕ) → List Event → List Effect → ℕ → QueuedRequest → ReplyMessage → Type 0
+IsPlainOr503 keys events steps t queued_request reply = IsPlainReply keys events steps t queued_request reply ⊎ (reply ≡ store_failed)
 
--- A request of a tenant's key is answered in a turn of that tenant, plainly; one without such a key, and one for
--- whose own bytes there was no memory, at once.
-abbrev pub IsAnsweredOn : List (List ℕ) → (ℕ → Waiter → ReplyMessage → Type 0) → ℕ → Exchange → Type 0
+-- A request of a tenant's key is answered plainly in a turn of that tenant. A request without such a key is
+-- answered at once. So is a request for whose own bytes there was no memory.
+abbrev pub IsAnsweredOn : List (List ℕ) → (ℕ → QueuedRequest → ReplyMessage → Type 0) → ℕ → Exchange → Type 0
 IsAnsweredOn keys Plain c exchange =
     (exchange.tell ≡ at_once c store_failed)
     ⊎ MatchOption (tenant_of keys exchange.request.key) (exchange.tell ≡ at_once c unknown_key)
-    (λ tenant. (exchange.tell ≡ in_turn tenant c exchange.tell.reply) × Plain tenant (record { conn = c; request = exchange.request }) exchange.tell.reply)
+    (λ tenant. (exchange.tell ≡ in_turn tenant c exchange.tell.reply)
+    × Plain tenant (record { conn = c; request = exchange.request }) exchange.tell.reply)
 
--- each request is answered so
-abbrev pub AreAnsweredOn : List (List ℕ) → (ℕ → Waiter → ReplyMessage → Type 0) → ℕ → List Exchange → Type 0
+-- each request is answered in this way
+abbrev pub AreAnsweredOn : List (List ℕ) → (ℕ → QueuedRequest → ReplyMessage → Type 0) → ℕ → List Exchange → Type 0
 AreAnsweredOn keys Plain c [] = Unit {0}
 AreAnsweredOn keys Plain c (exchange ∷ exchanges) = IsAnsweredOn keys Plain c exchange × AreAnsweredOn keys Plain c exchanges
 
--- What was sent, and what is pending, are these bytes. Of a lost connection a front of them was sent, and
--- nothing is pending.
+-- What was sent, and then what is pending, are these bytes. If the connection was lost, a front of them was
+-- sent, and nothing is pending.
 abbrev pub AreWritten : Bool → List ℕ → List ℕ → List ℕ → Type 0
 AreWritten lost sent pending bytes = MatchBool lost (IsFrontOf sent bytes × (pending ≡ [])) (sent ++ pending ≡ bytes)
 
--- the request of a connection that waits for a turn of that tenant, or none
+-- the request of a connection that waits for a turn of this tenant, or none
 abbrev pub WaitsFor : List (List ℕ) → Option ℕ → List RequestMessage → Type 0
 WaitsFor keys None waits = waits ≡ []
 WaitsFor keys (Some tenant) waits =
     (request : RequestMessage) × (waits ≡ request ∷ []) × (tenant_of keys request.key ≡ Some tenant)
 
--- what is left of an open connection: its unread bytes, if it isn't lost, and the request that waits. Nothing waits
--- of any other.
-abbrev pub IsLeft : List (List ℕ) → Option Line → List RequestMessage → End → Type 0
+-- What is left of an open connection: its unread bytes, if it isn't lost, and the request that waits. If
+-- the connection isn't open, nothing waits.
+abbrev pub IsLeft : List (List ℕ) → Option Connection → List RequestMessage → End → Type 0
 IsLeft keys None waits end = waits ≡ []
-IsLeft keys (Some line) waits end = (line.lost ≡ false → line.stream ≡ left_of end) × WaitsFor keys line.waits waits
+IsLeft keys (Some connection) waits end = (connection.lost ≡ false → connection.stream ≡ left_of end) × WaitsFor keys connection.waits waits
 
--- nothing more stands first on a connection for which nothing waits and nothing is pending
-abbrev pub IsServedOut : Option Line → Type 0
+-- if nothing waits and nothing is pending on a connection, there is nothing more to take off it
+abbrev pub IsServedOut : Option Connection → Type 0
 IsServedOut None = Unit {0}
-IsServedOut (Some line) = is_ready line ≡ true → TakesOff line.stream Nothing line.stream
+IsServedOut (Some connection) = is_ready connection ≡ true → TakesOff connection.stream Nothing connection.stream
 
--- A connection in a run, in bytes. Its whole stream, however it came in pieces, is cut into the requests that were
--- answered and the one that waits still, and then goes on or has ended. The replies told to it answer these
--- requests one for one, and then the head refusal if one ended the stream. What was sent, and what is pending, is
--- these replies as they are written, in order; of a connection that was lost, what was sent before is a front of
--- them, and nothing is pending. Once nothing of it waits or is pending, what is unread begins with no whole request
--- and no head refusal.
+-- A connection in a run, in bytes. Its whole stream, however it came in pieces, is cut into the requests
+-- that were answered and the one that still waits. Then it goes on or has ended. The replies told to it
+-- answer these requests one for one, and then the head refusal if one ended the stream. What was sent, and
+-- what is pending, is these replies as they are written, in order. If the connection was lost, what was
+-- sent before is a front of them, and nothing is pending. Once nothing of it waits or is pending, what is
+-- unread begins with no whole request and no head refusal.
 pub record ConversesPlainly (keys : List (List ℕ)) (c : ℕ) (events : List Event) (steps : List Effect) (service : State) : Type 0 where
   pub exchanges : List Exchange
   pub waits : List RequestMessage
@@ -156,9 +160,10 @@ pub record ConversesPlainly (keys : List (List ℕ)) (c : ℕ) (events : List Ev
   pub cut : IsCutTo (came_on c events) (map (λ exchange. exchange.request) exchanges ++ waits) end
   pub told : told_on c steps ≡ map (λ exchange. exchange.tell) exchanges ++ refusal_told c end
   pub answers : AreAnsweredOn keys (IsPlainOr503 keys events steps) c exchanges
-  pub bytes : AreWritten (is_lost_in c events) (sent_on c events steps) (pending_at c service) (flat_map written exchanges ++ refusal_written end)
-  pub stays : IsLeft keys (line_of c service) waits end
-  pub served : came_on c events ≢ [] → IsServedOut (line_of c service)
+  pub bytes : AreWritten (is_lost_in c events) (sent_on c events steps) (pending_at c service)
+      (flat_map written exchanges ++ refusal_written end)
+  pub stays : IsLeft keys (connection_of c service) waits end
+  pub served : came_on c events ≢ [] → IsServedOut (connection_of c service)
 
 -- in every run from the beginning, each connection converses plainly
 abbrev pub EachConnectionConverses : Type 0

@@ -8,7 +8,7 @@ use Rattle.ports_core.specs.declared.keys.Config.{Config}
 abbrev pub is_key_byte : ℕ → Bool
 is_key_byte byte = nat_le 33 byte && nat_le byte 126
 
--- the number of keys, and of the bytes of a key
+-- a number of keys, or of bytes of a key, that is allowed
 abbrev pub is_count : ℕ → Bool
 is_count n = nat_le 1 n && nat_le n 64
 
@@ -16,12 +16,12 @@ is_count n = nat_le 1 n && nat_le n 64
 abbrev pub is_key : List ℕ → Bool
 is_key key = is_count (length key) && list_all is_key_byte key
 
--- no key stands there twice
+-- no key is there twice
 unfoldable pub are_apart : List (List ℕ) → Bool
 are_apart [] = true
 are_apart (key ∷ keys) = not (list_any (λ other. bytes_eq other key) keys) && are_apart keys
 
--- the size of a cache
+-- a size that a cache may have
 abbrev pub is_size : ℕ → Bool
 is_size size = nat_le 1 size && nat_le size 65536
 

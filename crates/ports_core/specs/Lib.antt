@@ -2,7 +2,7 @@ pub mod Keys
 pub mod Slices
 pub mod Beginning
 pub mod Answering
-pub mod Lines
+pub mod Connections
 pub mod Telling
 pub mod Taking
 pub mod Opened

@@ -2,39 +2,39 @@
 use Rattle.std.specs.Prelude.{◌≡◌, ◌≢◌, ℕ, Bool, false, List, Option, Some, None}
 use Rattle.std.specs.Ordering.{nat_cmp, is_eq}
 use Rattle.std.specs.Map.{lookup}
-use Rattle.ports_core.specs.declared.line.Line.{Line}
-use Rattle.ports_core.specs.Lines.{is_done}
+use Rattle.ports_core.specs.declared.connection.Connection.{Connection}
+use Rattle.ports_core.specs.Connections.{is_done}
 
--- a connection of that number among those that are open
-abbrev pub line_in : ℕ → List (ℕ × Line) → Option Line
-line_in c lines = lookup (λ k. is_eq (nat_cmp c k)) lines
+-- the connection of this number among those that are open
+abbrev pub connection_in : ℕ → List (ℕ × Connection) → Option Connection
+connection_in c connections = lookup (λ k. is_eq (nat_cmp c k)) connections
 
 -- the open connections, by their numbers
 abbrev pub Book : Type 0
-Book = ℕ → Option Line
+Book = ℕ → Option Connection
 
 -- the book that a list is
-abbrev pub book_in : List (ℕ × Line) → Book
-book_in lines c = line_in c lines
+abbrev pub book_in : List (ℕ × Connection) → Book
+book_in connections c = connection_in c connections
 
 -- no connection is open
-abbrev pub no_lines : Book
-no_lines c = None
+abbrev pub no_connections : Book
+no_connections c = None
 
--- no line changes
-abbrev pub KeepsLines : Book → Book → Type 0
-KeepsLines old new = (d : ℕ) → new d ≡ old d
+-- no connection changes
+abbrev pub KeepsConnections : Book → Book → Type 0
+KeepsConnections old new = (d : ℕ) → new d ≡ old d
 
--- no line but that of one connection changes
+-- no connection changes but this one
 abbrev pub KeepsOthers : ℕ → Book → Book → Type 0
 KeepsOthers c old new = (d : ℕ) → d ≢ c → new d ≡ old d
 
--- it is open and done
-abbrev pub is_line_done : Option Line → Bool
-is_line_done None = false
-is_line_done (Some line) = is_done line
+-- the connection is open and done
+abbrev pub is_connection_done : Option Connection → Bool
+is_connection_done None = false
+is_connection_done (Some connection) = is_done connection
 
--- a fact of a connection that is open
-abbrev pub OpenAnd : Option Line → (Line → Type 0) → Type 0
+-- the connection is open, and this is true of it
+abbrev pub OpenAnd : Option Connection → (Connection → Type 0) → Type 0
 OpenAnd None P = ⊥
-OpenAnd (Some line) P = P line
+OpenAnd (Some connection) P = P connection

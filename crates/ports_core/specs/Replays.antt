@@ -16,12 +16,12 @@ use Rattle.ports_core.specs.Conversations.{ConversesPlainly}
 abbrev pub IsRun : Config → List Event → List Effect → State → Type 0
 IsRun config events steps service = Run (new_state (key_texts config.keys.items)) events steps service
 
--- each tenant is told what a plain service of its own would tell it
+-- each tenant gets the replies that a plain service of its own would give it
 abbrev pub TellsPlainly : Config → List Event → List Effect → State → Type 0
 TellsPlainly config events steps service =
     (t : ℕ) → t < length config.keys.items → IsToldPlainly (key_texts config.keys.items) t events steps service
 
--- each connection is told, in bytes, the replies to what its stream asks, in order, as far as it isn't lost
+-- each connection gets, in bytes, the replies to what its stream asks, in order, as long as it isn't lost
 abbrev pub ConversesOnEach : Config → List Event → List Effect → State → Type 0
 ConversesOnEach config events steps service =
     (c : ℕ) → ConversesPlainly (key_texts config.keys.items) c events steps service
@@ -32,9 +32,9 @@ StopsAt config events index steps service =
     IsRun config (take index events) steps service × TellsPlainly config (take index events) steps service
     × ConversesOnEach config (take index events) steps service × Stops events index service
 
--- Why a run ends early: an event may not happen, and the transcript is that of the events before it; or the
--- service can't begin, since its config isn't fit, its store failed, or for want of memory; or there is no memory
--- for the transcript.
+-- Why a run ends early. An event may not happen, and the transcript is that of the events before it. Or the
+-- service can't begin, since its config isn't fit, its store failed, or memory ran out. Or there is no
+-- memory for the transcript.
 abbrev pub EndsEarly : {W : Type 0} → Config → List Event → ReplayFault W → Type 0
 EndsEarly config events (NotAllowed index done) = StopsAt config events index done.steps.items done.service
 EndsEarly config events (New new.Config) = is_fit config ≡ false

@@ -3,7 +3,7 @@ use Rattle.std.specs.Prelude.{◌≡◌, ℕ, List, [], ◌∷◌, take, slice_g
 use Rattle.ports_core.specs.declared.event.Event.{Event}
 use Rattle.ports_core.specs.declared.event.Event.TheVariants.{Wrote}
 use Rattle.ports_core.specs.Effects.{Effect}
-use Rattle.ports_core.specs.Lines.{count_off}
+use Rattle.ports_core.specs.Connections.{count_off}
 use Rattle.ports_core.specs.Telling.{CountsNone, CountsTurns}
 use Rattle.ports_core.specs.State.{State, IsAllowed, pending_at}
 use Rattle.ports_core.specs.Steps.{Does}
@@ -28,6 +28,6 @@ Run old (event ∷ events) (step ∷ steps) new = (mid : State) × Happens event
 Run old [] (step ∷ steps) new = ⊥
 Run old (event ∷ events) [] new = ⊥
 
--- the event at that place may not happen
+-- the event at this place may not happen
 abbrev pub Stops : List Event → ℕ → State → Type 0
 Stops events index state = (event : Event) × (slice_get events index ≡ Some event) × ¬ (IsAllowed event state)

@@ -1,11 +1,11 @@
 -- What a service is to one tenant: its world, and the requests that wait for its turns.
 use Rattle.std.specs.Prelude.{List, [], ◌++◌, Option, Some, None}
-use Rattle.ports_core.specs.declared.queue.Waiter.{Waiter}
+use Rattle.ports_core.specs.declared.queue.QueuedRequest.{QueuedRequest}
 use Rattle.mk_paths.specs.World.{World, opening_world}
 
--- the requests that wait, the oldest first; a Waiter is a request and the connection that asked
+-- the requests that wait, the oldest first; a QueuedRequest is a request and the connection that asked
 abbrev pub Queue : Type 0
-Queue = List Waiter
+Queue = List QueuedRequest
 
 abbrev pub Slice : Type 0
 Slice = World × Queue
@@ -20,11 +20,11 @@ waiting_of slice = slice.1
 abbrev pub new_slice : Slice
 new_slice = (opening_world, [])
 
--- requests wait behind the others
-abbrev pub joined : List Waiter → Slice → Slice
-joined waiters slice = (slice.0, slice.1 ++ waiters)
+-- requests wait after the others
+abbrev pub joined : List QueuedRequest → Slice → Slice
+joined queued_requests slice = (slice.0, slice.1 ++ queued_requests)
 
--- a world and a queue, where both are there
+-- a world and a queue, if both are there
 abbrev pub sliced : Option World → Option Queue → Option Slice
 sliced None queue = None
 sliced (Some world) None = None

@@ -1,17 +1,17 @@
 -- A service as its callers see it.
 use Rattle.std.specs.Prelude.{◌≡◌, ℕ, ◌<◌, ◌-◌, ◌^◌, Bool, ◌||◌, nat_le, List, [], length, map, slice_get, Option, option_map, unwrap_or}
-use Rattle.ports_core.specs.declared.line.Line.{Line}
+use Rattle.ports_core.specs.declared.connection.Connection.{Connection}
 use Rattle.ports_core.specs.declared.event.Event.{Event}
 use Rattle.ports_core.specs.declared.event.Event.TheVariants.{Open, Piece, End, Fault, Wrote, Turn}
 use Rattle.mk_paths.specs.World.{World, opening_world}
 use Rattle.ports_core.specs.Slices.{Slice, Queue, sliced}
-use Rattle.ports_core.specs.Lines.{Fits, room_on}
-use Rattle.ports_core.specs.Opened.{Book, line_in, OpenAnd}
+use Rattle.ports_core.specs.Connections.{Fits, room_on}
+use Rattle.ports_core.specs.Opened.{Book, connection_in, OpenAnd}
 
 -- the tenants' keys, worlds and queues, in the order of the tenants' numbers; the open connections by their
 -- numbers; and the number of the next one
 abbrev pub State : Type 0
-State = List (List ℕ) × List World × List Queue × List (ℕ × Line) × ℕ
+State = List (List ℕ) × List World × List Queue × List (ℕ × Connection) × ℕ
 
 abbrev pub keys_of : State → List (List ℕ)
 keys_of state = state.0
@@ -22,7 +22,7 @@ worlds_of state = state.1
 abbrev pub queues_of : State → List Queue
 queues_of state = state.2
 
--- the world of a tenant, and the requests that wait for its turns, where there is a tenant of that number
+-- the world of a tenant, and the requests that wait for its turns, if there is a tenant of this number
 abbrev pub world_at : ℕ → State → Option World
 world_at t state = slice_get (worlds_of state) t
 
@@ -35,15 +35,15 @@ slice_of t state = sliced (world_at t state) (queue_at t state)
 
 -- the numbers of the open connections, in rising order
 abbrev pub connections_of : State → List ℕ
-connections_of state = map (λ (entry : ℕ × Line). entry.0) state.3
+connections_of state = map (λ (entry : ℕ × Connection). entry.0) state.3
 
--- a connection, where it is open
-abbrev pub line_of : ℕ → State → Option Line
-line_of c state = line_in c state.3
+-- a connection, if it is open
+abbrev pub connection_of : ℕ → State → Option Connection
+connection_of c state = connection_in c state.3
 
 -- the connections of a service
 abbrev pub book_of : State → Book
-book_of state c = line_of c state
+book_of state c = connection_of c state
 
 -- the number of the next connection
 abbrev pub next_of : State → ℕ
@@ -57,23 +57,23 @@ is_full state = nat_le 16 (length state.3) || nat_le (2 ^ 64 - 1) (next_of state
 abbrev pub new_state : List (List ℕ) → State
 new_state keys = (keys, map (λ key. opening_world) keys, map (λ key. []) keys, [], 0)
 
--- An event may happen: a connection that opens has the next number; a tenant that has a turn is there;
--- and any other event fits its connection, which is open.
+-- An event may happen. A connection that opens has the next number; a tenant that has a turn exists; and
+-- any other event fits its connection, which is open.
 abbrev pub IsAllowed : Event → State → Type 0
 IsAllowed (Open c) state = c ≡ next_of state
-IsAllowed (Piece c bytes) state = OpenAnd (line_of c state) (Fits (Piece c bytes))
-IsAllowed (End c) state = OpenAnd (line_of c state) (Fits (End c))
-IsAllowed (Fault c) state = OpenAnd (line_of c state) (Fits (Fault c))
-IsAllowed (Wrote c count) state = OpenAnd (line_of c state) (Fits (Wrote c count))
+IsAllowed (Piece c bytes) state = OpenAnd (connection_of c state) (Fits (Piece c bytes))
+IsAllowed (End c) state = OpenAnd (connection_of c state) (Fits (End c))
+IsAllowed (Fault c) state = OpenAnd (connection_of c state) (Fits (Fault c))
+IsAllowed (Wrote c count) state = OpenAnd (connection_of c state) (Fits (Wrote c count))
 IsAllowed (Turn t) state = t < length (keys_of state)
 
 -- how many bytes may come on a connection
 abbrev pub room_at : ℕ → State → ℕ
-room_at c state = unwrap_or (option_map room_on (line_of c state)) 0
+room_at c state = unwrap_or (option_map room_on (connection_of c state)) 0
 
--- the bytes that a connection has to write
+-- the bytes that a connection has still to write
 abbrev pub pending_at : ℕ → State → List ℕ
-pending_at c state = unwrap_or (option_map (λ line. line.pending) (line_of c state)) []
+pending_at c state = unwrap_or (option_map (λ connection. connection.pending) (connection_of c state)) []
 
 -- how many requests wait for a tenant's turns
 abbrev pub waiting_at : ℕ → State → ℕ

@@ -1,19 +1,19 @@
--- What each event does to a service, and what it tells: for every tenant its world and its queue, and for every
--- connection its line.
+-- What each event does to a service, and what it tells: for every tenant its world and its queue, and for
+-- every connection what it is after the event.
 use Rattle.std.specs.Prelude.{◌≡◌, ◌≢◌, ◌⊎◌, ℕ, ◌+◌, false, List, [], ◌∷◌, Some, None, option_map, option_and_then, if◌then◌else◌}
 use Rattle.ports_http.specs.Messages.{ReplyMessage}
 use Rattle.ports_core.specs.declared.event.Event.{Event}
 use Rattle.ports_core.specs.declared.event.Event.TheVariants.{Open, Piece, End, Fault, Wrote, Turn}
 use Rattle.ports_core.specs.declared.event.Told.{Told}
 use Rattle.ports_core.specs.declared.event.Refused.TheVariants.{Connections, Memory}
-use Rattle.ports_core.specs.declared.queue.Waiter.{Waiter}
+use Rattle.ports_core.specs.declared.queue.QueuedRequest.{QueuedRequest}
 use Rattle.ports_core.specs.Answering.{AnswersFor}
-use Rattle.ports_core.specs.Lines.{new_line, answered, closing}
+use Rattle.ports_core.specs.Connections.{new_connection, answered, closing}
 use Rattle.ports_core.specs.Telling.{in_turn}
 use Rattle.ports_core.specs.Taking.{Taken, Joins}
-use Rattle.ports_core.specs.Opened.{KeepsLines, KeepsOthers}
+use Rattle.ports_core.specs.Opened.{KeepsConnections, KeepsOthers}
 use Rattle.ports_core.specs.Books.{HearsOn, TellsOn}
-use Rattle.ports_core.specs.State.{State, keys_of, worlds_of, queues_of, world_at, queue_at, line_of, book_of, next_of, is_full}
+use Rattle.ports_core.specs.State.{State, keys_of, worlds_of, queues_of, world_at, queue_at, connection_of, book_of, next_of, is_full}
 
 -- all but the connections, the queues and the worlds stays as it was
 pub record Keeps (old new : State) : Type 0 where
@@ -35,7 +35,7 @@ KeepsOtherQueues t old new = (u : ℕ) → u ≢ t → queue_at u new ≡ queue_
 -- nothing changes
 pub record IsSame (old new : State) : Type 0 where
   pub keeps : Keeps old new
-  pub lines : KeepsLines (book_of old) (book_of new)
+  pub connections : KeepsConnections (book_of old) (book_of new)
   pub worlds : KeepsWorlds old new
   pub queues : KeepsQueues old new
 
@@ -47,8 +47,8 @@ pub record IsOpened (told : Told) (old new : State) : Type 0 where
   pub closed : told.closed ≡ None
   pub keys : keys_of new ≡ keys_of old
   pub next : next_of new ≡ next_of old + 1
-  pub line : line_of (next_of old) new ≡ Some new_line
-  pub lines : KeepsOthers (next_of old) (book_of old) (book_of new)
+  pub connection : connection_of (next_of old) new ≡ Some new_connection
+  pub connections : KeepsOthers (next_of old) (book_of old) (book_of new)
   pub worlds : KeepsWorlds old new
   pub queues : KeepsQueues old new
 
@@ -63,7 +63,7 @@ pub record IsRefused (told : Told) (old new : State) : Type 0 where
 abbrev pub Opens : Told → State → State → Type 0
 Opens told old new = IsOpened told old new ⊎ IsRefused told old new
 
--- An event of an open connection: what it does on the connection, and the queue that a request joins which is
+-- An event of an open connection: what it does to the connection, and which queue a request joins that is
 -- taken off it. No world changes.
 pub record Hears (event : Event) (c : ℕ) (told : Told) (old new : State) : Type 0 where
   pub taken : Taken
@@ -80,11 +80,11 @@ pub record IsIdle (t : ℕ) (told : Told) (old new : State) : Type 0 where
   pub closed : told.closed ≡ None
   pub same : IsSame old new
 
--- A turn that answers the request that waited longest: the reply is told to the connection that asked, which
--- closes if it is done, and the tenant's world changes as the reply says.
+-- A turn that answers the request that waited longest. The reply is told to the connection that asked,
+-- which closes if it is done. The tenant's world changes as the reply says.
 pub record IsAnswered (t : ℕ) (told : Told) (old new : State) : Type 0 where
-  pub first : Waiter
-  pub rest : List Waiter
+  pub first : QueuedRequest
+  pub rest : List QueuedRequest
   pub waited : queue_at t old ≡ Some (first ∷ rest)
   pub leaves : queue_at t new ≡ Some rest
   pub queues : KeepsOtherQueues t old new
@@ -92,7 +92,7 @@ pub record IsAnswered (t : ℕ) (told : Told) (old new : State) : Type 0 where
   pub answers : AnswersFor t first.request replied (worlds_of old) (worlds_of new)
   pub reply : told.reply ≡ Some (in_turn t first.conn replied)
   pub refused : told.refused ≡ None
-  pub closed : told.closed ≡ option_and_then (closing first.conn) (option_map (answered replied) (line_of first.conn old))
+  pub closed : told.closed ≡ option_and_then (closing first.conn) (option_map (answered replied) (connection_of first.conn old))
   pub tells : TellsOn (in_turn t first.conn replied) (book_of old) (book_of new)
   pub keeps : Keeps old new
 

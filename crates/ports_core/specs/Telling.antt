@@ -10,11 +10,11 @@ use Rattle.ports_core.specs.declared.event.Tell.{Tell}
 abbrev pub at_once : ℕ → ReplyMessage → Tell
 at_once conn reply = record { tenant = None; conn = conn; reply = reply }
 
--- a tenant's reply
+-- a reply to a tenant's request, in a turn of the tenant
 abbrev pub in_turn : ℕ → ℕ → ReplyMessage → Tell
 in_turn tenant conn reply = record { tenant = Some tenant; conn = conn; reply = reply }
 
--- 503, which is answered where the service failed: it changed nothing
+-- 503, which is answered if the service failed: it changed nothing
 abbrev pub is_failure : ℕ → Bool
 is_failure status = status == 503
 
@@ -22,7 +22,7 @@ is_failure status = status == 503
 abbrev pub CountsNone : Told → Type 0
 CountsNone told = (told.units ≡ 0) × (told.checks ≡ 0)
 
--- units and checks are counted in a turn alone, and in none that tells 503
+-- units and checks are counted in a turn alone, and in no turn that tells 503
 abbrev pub CountsTurns : Event → Told → Type 0
 CountsTurns (Turn t) told =
     MatchOption told.reply (Unit {0}) (λ (tell : Tell). is_failure tell.reply.status ≡ true → CountsNone told)

@@ -4,7 +4,7 @@ ghost use Rattle.ports_core.specs.Telling.{CountsNone};
 
 use ports_http::Reply;
 
-/// Something that happens to a service. Connections go by the number they had when they opened,
+/// Something that happens to a service. Connections go by the number that they had when they opened,
 /// tenants by the place of their key.
 #[derive(Drop)]
 pub enum Event {
@@ -16,15 +16,15 @@ pub enum Event {
     End(u64),
     /// A connection is lost: it reads and writes no more.
     Fault(u64),
-    /// That many of a connection's pending bytes were written; all of them where no number is given.
+    /// That many of a connection's pending bytes were written; all of them if no number is given.
     Wrote(u64, Option<usize>),
     /// A tenant's turn: its first waiting request is answered.
     Turn(usize),
 }
 
-/// A reply that is told: whose request it answers, and the connection that asked. There is no tenant
-/// where the request entered no queue: a head refusal, a request without a known key, or one for
-/// whose own bytes there was no memory.
+/// A reply that is told: whose request it answers, and the connection that asked. If the request entered no
+/// queue, there is no tenant. That is so for a head refusal, for a request without a known key, and for one
+/// for whose own bytes there was no memory.
 #[derive(Drop)]
 pub struct Tell {
     pub tenant: Option<usize>,
@@ -41,8 +41,8 @@ pub enum Refused {
     Memory,
 }
 
-/// What an event told: at most one reply, the refusal of a connection that was to open, the
-/// connection that closed, and the units of work and the answers checked, both 0 in every event but a
+/// What an event told: at most one reply, the refusal of a connection that was to open, the connection that
+/// closed, and the counts of units of work and of answers checked. Both counts are 0 in every event but a
 /// turn, and so far in turns too.
 #[derive(Drop)]
 pub struct Told {

@@ -8,7 +8,7 @@ ghost use Rattle.ports_core.specs.declared.history.ReplayFault.TheVariants as fa
 use crate::event::{Event, Told};
 use crate::keys::Config;
 use crate::service::{NewFault, Service};
-use crate::worlds::Worlds;
+use crate::tenants::Tenants;
 use std::alloc::{AllocError, AllocFailed, Global};
 use std::marker::Model;
 
@@ -32,14 +32,14 @@ impl Model for Step {
 
 /// A run: one step for each event, and the service as the last event left it.
 #[derive(Drop)]
-pub struct Transcript<K: Worlds> {
+pub struct Transcript<K: Tenants> {
     pub steps: Vec<Step>,
     pub service: Service<K>,
 }
 
 /// Why a run stopped.
 #[derive(Drop)]
-pub enum ReplayFault<K: Worlds> {
+pub enum ReplayFault<K: Tenants> {
     /// The event at this place isn't allowed; the transcript is that of the events before it.
     NotAllowed { index: usize, done: Transcript<K> },
     /// The service couldn't begin.
@@ -48,7 +48,7 @@ pub enum ReplayFault<K: Worlds> {
     Memory,
 }
 
-impl<K: Worlds> From<NewFault> for ReplayFault<K> {
+impl<K: Tenants> From<NewFault> for ReplayFault<K> {
     ghost from_gives = { λ why fault. fault ≡ faults.New why };
 
     fn from(fault: NewFault) -> ReplayFault<K> {
@@ -56,7 +56,7 @@ impl<K: Worlds> From<NewFault> for ReplayFault<K> {
     }
 }
 
-impl<K: Worlds> From<AllocError> for ReplayFault<K> {
+impl<K: Tenants> From<AllocError> for ReplayFault<K> {
     ghost from_gives = { λ _ fault. fault ≡ faults.Memory };
 
     fn from(_error: AllocError) -> ReplayFault<K> {
@@ -64,7 +64,7 @@ impl<K: Worlds> From<AllocError> for ReplayFault<K> {
     }
 }
 
-impl<K: Worlds, T: Drop> From<AllocFailed<T>> for ReplayFault<K> {
+impl<K: Tenants, T: Drop> From<AllocFailed<T>> for ReplayFault<K> {
     ghost from_gives = { λ _ fault. fault ≡ faults.Memory };
 
     fn from(_error: AllocFailed<T>) -> ReplayFault<K> {
@@ -72,16 +72,17 @@ impl<K: Worlds, T: Drop> From<AllocFailed<T>> for ReplayFault<K> {
     }
 }
 
-/// Runs the events over a service that begins with the config, whose tenants' worlds `K` keeps.
+/// Runs the events over a service that begins with the config. `K` keeps the worlds of its tenants.
 ///
-/// The replies told to a tenant, other than 503, are, in order, those of a plain service that has only
-/// this tenant's requests, less those that still wait at the end. What is written to a connection, and
-/// what is pending, is the replies to what its stream asks, in order, however the stream came in pieces;
-/// of a connection that was lost, what was written before is a front of them, and nothing more is.
+/// The replies told to a tenant, other than 503, are those of a plain service that has only this
+/// tenant's requests, in order. The requests that still wait at the end are left out. What is written to
+/// a connection, and what is pending, is the replies to what its stream asks, in order, however the
+/// stream came in pieces. If a connection was lost, what was written before is a front of these replies,
+/// and nothing more is written.
 ///
-/// Ok: the transcript. Err: `NotAllowed` at the first event that isn't allowed, `New` where the service
-/// can't begin, `Memory` where there is none for the transcript.
-pub fn replay<K: Worlds>(
+/// The result is the transcript. The error is `NotAllowed` at the first event that isn't allowed, `New` if
+/// the service can't begin, and `Memory` if there is none for the transcript.
+pub fn replay<K: Tenants>(
     alloc: Global,
     config: Config,
     events: &[Event],
@@ -106,7 +107,7 @@ pub fn replay<K: Worlds>(
 }
 
 /// The bytes that an event takes off its connection.
-fn bytes_sent<K: Worlds>(
+fn bytes_sent<K: Tenants>(
     alloc: Global,
     service: &Service<K>,
     event: &Event,

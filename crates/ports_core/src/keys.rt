@@ -13,8 +13,8 @@ const GREATEST_SIZE: u32 = 65_536;
 /// What a service begins with: the tenants' keys, in the order of the tenants' numbers, and how many
 /// parsed files and how many evaluations the caches may hold. The sizes have no effect yet.
 ///
-/// It is fit with 1 to 64 keys, none of them twice, each of 1 to 64 bytes of printable ASCII without
-/// blanks, and with sizes from 1 to 65,536.
+/// It is fit with 1 to 64 keys, none of them twice, and with sizes from 1 to 65,536. Each key has 1 to 64
+/// bytes of printable ASCII without blanks.
 #[derive(Debug, Drop)]
 pub struct Config {
     pub keys: Vec<String>,
@@ -25,7 +25,7 @@ pub struct Config {
 impl Config {
     ghost use Rattle.ports_core.specs.Keys.{is_fit};
 
-    /// Whether a service can begin with it.
+    /// Whether a service can begin with this config.
     pub fn is_fit(&self) -> bool
         ensures { result ≡ is_fit self.now }
     {
@@ -73,7 +73,7 @@ fn is_plain(text: &str) -> bool
     text.bytes().all(|byte| 33 <= byte && byte <= 126)
 }
 
-/// Whether no key stands there twice.
+/// Whether no key is there twice.
 fn are_apart(keys: &[String]) -> bool
     ensures { result ≡ are_apart (key_texts keys.now) }
 {

@@ -1,22 +1,22 @@
 //! The service: connections, the queues of their requests, and the turns that answer them.
 //!
 //! A `Service` holds up to 16 connections, and the worlds of up to 64 tenants, wherever these are kept
-//! (`Worlds`). It changes by one event at a time: bytes that came or were written, the end or the loss of
-//! a connection, or a turn of a tenant, which answers the request that stands first in that tenant's
-//! queue. `replay` runs a whole list of events.
+//! (`Tenants`). It changes by one event at a time: the opening, the end or the loss of a connection, bytes
+//! that came or were written, or a turn of a tenant. A turn answers the request that comes first in that
+//! tenant's queue. `replay` runs a whole list of events.
 #![tactic(auto)]
 
+mod connection;
+mod connections;
 mod event;
 mod history;
 mod intake;
 mod keys;
 mod laws;
-mod line;
-mod lines;
 mod outbox;
 mod queue;
 mod service;
-mod worlds;
+mod tenants;
 
 pub use event::{Event, Refused, Tell, Told};
 pub use history::{ReplayFault, Step, Transcript, replay};
@@ -27,4 +27,4 @@ pub use laws::{
     one_list_is_taken,
 };
 pub use service::{NewFault, Service};
-pub use worlds::Worlds;
+pub use tenants::Tenants;

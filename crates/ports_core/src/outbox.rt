@@ -9,8 +9,8 @@ use std::marker::Model;
 /// What is reserved for a fixed reply, in bytes.
 const RESERVED: usize = 256;
 
-/// The bytes of a reply that are still to be written. A fixed reply stands in a buffer that is
-/// reserved from the start, so it takes no memory. A contract sees the list of the bytes.
+/// The bytes of a reply that are still to be written. A fixed reply is in a buffer that is reserved from
+/// the start, so it takes no memory. A contract sees the list of the bytes.
 #[derive(Drop)]
 pub(crate) struct Outbox {
     fixed: Vec<u8>,
@@ -32,7 +32,7 @@ impl Model for Outbox {
 }
 
 impl Outbox {
-    /// No bytes, and the room for a fixed reply. The one error is want of memory.
+    /// No bytes, and the room for a fixed reply. It fails only if memory runs out.
     #[tactic(auto, unfolding(ports_http::specs::Limits::fixed_limit))]
     pub(crate) fn new(alloc: Global) -> Result<Outbox, AllocError>
         ensures { IfOk result (λ outbox. outbox ≡ []) }
@@ -71,7 +71,7 @@ impl Outbox {
         self.written = 0;
     }
 
-    /// The bytes are these from now on.
+    /// From now on the bytes are these.
     pub(crate) fn put(&mut self, bytes: Vec<u8>)
         ensures { self.new ≡ bytes.items }
     {
@@ -79,7 +79,7 @@ impl Outbox {
         self.written = 0;
     }
 
-    /// The bytes are those of a fixed reply from now on. It takes no memory.
+    /// From now on the bytes are those of a fixed reply. It takes no memory.
     pub(crate) fn put_fixed(&mut self, reply: &Reply, close: bool)
         requires { IsFixed reply.now close }
         ensures { self.new ≡ reply_text reply.now close }

@@ -1,7 +1,7 @@
 //! The requests that wait for a tenant's turns.
 ghost use Rattle.std.specs.Prelude.{◌≡◌, ◌∷◌, ◌++◌, [], length, IfOk, IfSome, IfNone};
 
-use crate::lines::MOST_CONNECTIONS;
+use crate::connections::MOST_CONNECTIONS;
 use ports_http::Request;
 use std::alloc::{AllocError, Global};
 use std::collections::VecDeque;
@@ -9,7 +9,7 @@ use std::marker::Model;
 
 /// A request that waits, and the connection that asked.
 #[derive(Drop)]
-pub(crate) struct Waiter {
+pub(crate) struct QueuedRequest {
     pub(crate) conn: u64,
     pub(crate) request: Request,
 }
@@ -18,7 +18,7 @@ pub(crate) struct Waiter {
 /// their list, the oldest first.
 #[derive(Drop)]
 pub(crate) struct Queue {
-    waiting: VecDeque<Waiter>,
+    waiting: VecDeque<QueuedRequest>,
 }
 
 impl Model for Queue {
@@ -36,7 +36,7 @@ impl Model for Queue {
 impl Queue {
     ghost use Rattle.ports_core.specs.Places.{HasPlace};
 
-    /// No request waits. The one error is want of memory for the places.
+    /// No request waits. It fails only if there is no memory for the places.
     pub(crate) fn new(alloc: Global) -> Result<Queue, AllocError>
         ensures { IfOk result (λ queue. queue ≡ []) }
     {
@@ -52,17 +52,18 @@ impl Queue {
         self.waiting.len()
     }
 
-    /// A request waits behind the others. It takes no memory.
+    /// Adds a request, which waits after the others. It takes no memory.
     pub(crate) fn join(&mut self, conn: u64, request: Request)
         requires { HasPlace self.old }
         ensures { self.new ≡ self.old ++ record { conn = conn; request = request } ∷ [] }
     {
-        self.waiting.push_back_reserved(Waiter { conn, request });
+        self.waiting
+            .push_back_reserved(QueuedRequest { conn, request });
     }
 
-    /// The request that waited longest, which waits no more.
-    pub(crate) fn next(&mut self) -> Option<Waiter>
-        ensures some { IfSome result (λ waiter. self.old ≡ waiter ∷ self.new) }
+    /// Takes the request that waited longest off the queue. `None` if no request waits.
+    pub(crate) fn next(&mut self) -> Option<QueuedRequest>
+        ensures some { IfSome result (λ queued_request. self.old ≡ queued_request ∷ self.new) }
         ensures none { IfNone result (self.old ≡ []) }
         ensures same { IfNone result (self.new ≡ self.old) }
     {

@@ -3,26 +3,32 @@ ghost use Rattle.std.specs.Prelude.{◌≡◌, ◌<◌, ◌↔◌, false, Bool, 
 ghost use Rattle.ports_core.specs.declared.service.NewFault.TheVariants.{Memory};
 ghost use Rattle.ports_core.specs.Beginning.{new_fault};
 
+use crate::connection::Connection;
+use crate::connections::{
+    Connections, MOST_CONNECTIONS, answer_connection, close_done, closes, hear_connection, may_hear,
+};
 use crate::event::{Event, Refused, Tell, Told};
 use crate::keys::Config;
-use crate::line::Line;
-use crate::lines::{Lines, MOST_CONNECTIONS, answer_line, close_done, closes, hear_line, may_hear};
-use crate::queue::{Queue, Waiter};
-use crate::worlds::Worlds;
+use crate::queue::{Queue, QueuedRequest};
+use crate::tenants::Tenants;
 use arrayvec::ArrayVec;
 use mk_paths::FilesFault;
 use std::alloc::{AllocError, Global};
 use std::collections::BTreeMap;
 use std::marker::Model;
+use thiserror::Error;
 
 /// Why a service can't begin.
-#[derive(Clone, Copy, Debug, PartialEq, Eq)]
+#[derive(Clone, Copy, Debug, PartialEq, Eq, Error)]
 pub enum NewFault {
-    /// A key or a size that is out of its limits, or a key given twice.
+    /// A key or a size is out of its limits, or a key is given twice.
+    #[error("a key or a size is out of its limits, or a key is given twice")]
     Config,
     /// The store of the worlds failed.
+    #[error("the store of the worlds failed")]
     Store,
     /// There was no memory.
+    #[error("out of memory")]
     Memory,
 }
 
@@ -48,16 +54,16 @@ impl From<FilesFault> for NewFault {
 /// The service, over the tenants' worlds, wherever they are kept. A contract sees the tenants' keys, their
 /// worlds, the requests that wait, the open connections by their numbers, and the next number.
 #[derive(Drop)]
-pub struct Service<K: Worlds> {
+pub struct Service<K: Tenants> {
     alloc: Global,
     keys: Vec<String>,
     worlds: K,
     queues: Vec<Queue>,
-    lines: Lines,
+    connections: Connections,
     next: u64,
 }
 
-impl<K: Worlds> Model for Service<K> {
+impl<K: Tenants> Model for Service<K> {
     ghost use Rattle.ports_core.specs.State.{State};
 
     ghost Value = { State };
@@ -70,25 +76,27 @@ impl<K: Worlds> Model for Service<K> {
     ghost use Rattle.std.specs.Prelude.{length};
     ghost use Rattle.ports_core.specs.Keys.{key_texts};
 
-    ghost view = { λ s. (key_texts s.keys.items, K.worlds s.worlds, s.queues.items, s.lines.entries, s.next) };
+    ghost view = { λ s. (key_texts s.keys.items, K.worlds s.worlds, s.queues.items, s.connections.entries, s.next) };
 
     ghost use Rattle.ports_core.specs.Standing.{IsStanding};
 
-    ghost invariant = { λ s. IsStanding (length s.keys.items) (K.worlds s.worlds) s.queues.items s.lines.entries s.next };
+    ghost invariant = { λ s. IsStanding (length s.keys.items) (K.worlds s.worlds) s.queues.items s.connections.entries s.next };
 }
 
-impl<K: Worlds> Service<K> {
+impl<K: Tenants> Service<K> {
     ghost use Rattle.ports_core.specs.Keys.{is_fit, key_texts};
     ghost use Rattle.ports_core.specs.Opened.{OpenAnd};
-    ghost use Rattle.ports_core.specs.State.{new_state, keys_of, next_of, connections_of, line_of, room_at, pending_at, waiting_at, IsAllowed};
-    ghost use Rattle.ports_core.specs.Lines.{Fits};
+    ghost use Rattle.ports_core.specs.State.{new_state, keys_of, next_of, connections_of, connection_of, room_at};
+    ghost use Rattle.ports_core.specs.State.{pending_at, waiting_at, IsAllowed};
+    ghost use Rattle.ports_core.specs.Connections.{Fits};
     ghost use Rattle.ports_core.specs.Telling.{CountsNone, CountsTurns};
     ghost use Rattle.ports_core.specs.Steps.{Does, Opens, Hears, Turns};
 
-    /// A service whose tenants' worlds are as each begins, without connections, with places for all requests
-    /// that can wait.
+    /// A service whose tenants' worlds are as each begins, without connections, with places for
+    /// all requests that can wait.
     ///
-    /// Err: `Config` exactly where the keys and sizes aren't fit; `Store`; `Memory`.
+    /// The error is `Config` exactly if the keys and sizes aren't fit. It is `Store` if the store of the
+    /// worlds fails, and `Memory` if memory runs out.
     pub fn new(alloc: Global, config: Config) -> Result<Service<K>, NewFault>
         ensures ok { IfOk result (λ service. service ≡ new_state (key_texts config.keys.items)) }
         ensures unfit { IsErrOf result NewFault.Config ↔ (is_fit config ≡ false) }
@@ -105,7 +113,7 @@ impl<K: Worlds> Service<K> {
             keys,
             worlds,
             queues,
-            lines: BTreeMap::new(alloc),
+            connections: BTreeMap::new(alloc),
             next: 0,
         })
     }
@@ -129,33 +137,33 @@ impl<K: Worlds> Service<K> {
         ensures { result.items ≡ connections_of self.now }
     {
         let mut numbers = ArrayVec::new();
-        for conn in self.lines.keys() {
+        for conn in self.connections.keys() {
             numbers.push(*conn);
         }
         numbers
     }
 
-    /// How many bytes a connection may send; 0 where it isn't open.
+    /// How many bytes a connection may send; 0 if it isn't open.
     pub fn room(&self, conn: u64) -> usize
         ensures { result ≡ room_at conn self.now }
     {
-        match self.lines.get(&conn) {
-            Some(line) => line.room(),
+        match self.connections.get(&conn) {
+            Some(connection) => connection.room(),
             None => 0,
         }
     }
 
-    /// The bytes that a connection has still to write; none where it isn't open.
+    /// The bytes that a connection has still to write; none if it isn't open.
     pub fn pending(&self, conn: u64) -> &[u8]
         ensures { result.now ≡ pending_at conn self.now }
     {
-        match self.lines.get(&conn) {
-            Some(line) => line.pending.bytes(),
+        match self.connections.get(&conn) {
+            Some(connection) => connection.pending.bytes(),
             None => &[],
         }
     }
 
-    /// Limits the steps of each later statement of what keeps the worlds, or limits them no more: a request
+    /// Limits the steps of each later statement of what keeps the worlds, or removes the limit. A request
     /// whose statement would take more is answered 503. It changes nothing that a contract sees.
     pub fn limit_steps(&mut self, limit: Option<u64>)
         ensures { self.new ≡ self.old }
@@ -163,7 +171,7 @@ impl<K: Worlds> Service<K> {
         self.worlds.limit_steps(limit);
     }
 
-    /// How many requests wait in a tenant's queue; 0 where there is no such tenant.
+    /// How many requests wait in a tenant's queue; 0 if there is no such tenant.
     pub fn waiting(&self, tenant: usize) -> usize
         ensures { result ≡ waiting_at tenant self.now }
     {
@@ -180,14 +188,14 @@ impl<K: Worlds> Service<K> {
         match event {
             Event::Open(conn) => *conn == self.next,
             Event::Turn(tenant) => *tenant < self.keys.len(),
-            Event::Piece(conn, _) => may_hear(&self.lines, *conn, event),
-            Event::End(conn) => may_hear(&self.lines, *conn, event),
-            Event::Fault(conn) => may_hear(&self.lines, *conn, event),
-            Event::Wrote(conn, _) => may_hear(&self.lines, *conn, event),
+            Event::Piece(conn, _) => may_hear(&self.connections, *conn, event),
+            Event::End(conn) => may_hear(&self.connections, *conn, event),
+            Event::Fault(conn) => may_hear(&self.connections, *conn, event),
+            Event::Wrote(conn, _) => may_hear(&self.connections, *conn, event),
         }
     }
 
-    /// What happens at an event, and what is told of it.
+    /// Carries out an event that is allowed now, and gives what it tells.
     pub fn step(&mut self, event: &Event) -> Told
         requires { IsAllowed event.now self.old }
         ensures does { Does event.now result self.old self.new }
@@ -208,13 +216,13 @@ impl<K: Worlds> Service<K> {
         ensures opens { Opens result self.old self.new }
         ensures counts { CountsNone result }
     {
-        if self.lines.len() >= MOST_CONNECTIONS || self.next == u64::MAX {
+        if self.connections.len() >= MOST_CONNECTIONS || self.next == u64::MAX {
             return Told::refusal(Refused::Connections);
         }
-        let Ok(line) = Line::new(self.alloc) else {
+        let Ok(connection) = Connection::new(self.alloc) else {
             return Told::refusal(Refused::Memory);
         };
-        if self.lines.insert(self.next, line).is_err() {
+        if self.connections.insert(self.next, connection).is_err() {
             return Told::refusal(Refused::Memory);
         }
         self.next += 1;
@@ -222,12 +230,19 @@ impl<K: Worlds> Service<K> {
     }
 
     fn hear(&mut self, conn: u64, event: &Event) -> Told
-        requires { OpenAnd (line_of conn self.old) (Fits event.now) }
+        requires { OpenAnd (connection_of conn self.old) (Fits event.now) }
         ensures hears { Hears event.now conn result self.old self.new }
         ensures counts { CountsNone result }
     {
         let queues = &mut self.queues;
-        hear_line(self.alloc, &self.keys, queues, &mut self.lines, conn, event)
+        hear_connection(
+            self.alloc,
+            &self.keys,
+            queues,
+            &mut self.connections,
+            conn,
+            event,
+        )
     }
 
     fn turn(&mut self, tenant: usize) -> Told
@@ -236,13 +251,13 @@ impl<K: Worlds> Service<K> {
         ensures counts { CountsNone result }
     {
         let queue = &mut self.queues[tenant];
-        let Some(Waiter { conn, request }) = queue.next() else {
+        let Some(QueuedRequest { conn, request }) = queue.next() else {
             return Told::nothing();
         };
-        let close = closes(&self.lines, conn);
+        let close = closes(&self.connections, conn);
         let (reply, bytes) = self.worlds.answer(self.alloc, tenant, request, close);
-        answer_line(&mut self.lines, conn, &reply, bytes);
-        let closed = close_done(&mut self.lines, conn);
+        answer_connection(&mut self.connections, conn, &reply, bytes);
+        let closed = close_done(&mut self.connections, conn);
         let tell = Tell {
             tenant: Some(tenant),
             conn,

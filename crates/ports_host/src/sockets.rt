@@ -4,8 +4,7 @@ ghost use Rattle.ports_serve.specs.Calls.{Call};
 
 use mio::net::{TcpListener, TcpStream};
 use mio::{Events, Interest, Poll, Token};
-use ports_program::{Listen, ListenFault};
-use ports_serve::{Outcome, Wire};
+use ports_serve::{Listen, ListenFault, Outcome, Wire};
 use std::alloc::Global;
 use std::io::{self, ErrorKind, Read, Write};
 use std::net::{IpAddr, Ipv4Addr, Net, SocketAddr};
@@ -27,7 +26,7 @@ pub struct Loopback<'a, R> {
 }
 
 impl<'a, R> Loopback<'a, R> {
-    /// Over what the host has of networks.
+    /// What listens over the networks of this host.
     pub fn new(net: &'a R) -> Loopback<'a, R> {
         Loopback { net }
     }
@@ -68,7 +67,7 @@ struct Client {
     stream: TcpStream,
 }
 
-/// Clients over TCP sockets, none of whose calls waits, but for an accept of an idle caller.
+/// Clients over TCP sockets. None of their calls waits, except an accept of an idle caller.
 #[derive(Drop)]
 pub struct Sockets {
     poll: Poll,
@@ -78,7 +77,7 @@ pub struct Sockets {
 }
 
 impl Sockets {
-    /// The address that is listened on. The error is what the host told where it can't be had.
+    /// The address that is listened on. If the host can't give it, the error is the host's.
     pub fn address(&self) -> io::Result<SocketAddr> {
         self.listener.local_addr()
     }
@@ -87,7 +86,7 @@ impl Sockets {
         self.clients.iter_mut().find(|client| client.conn == conn)
     }
 
-    /// Takes a client in; the error drops it.
+    /// Takes a client in. If it fails, the client is dropped.
     fn take(&mut self, conn: u64, mut stream: TcpStream) -> io::Result<()> {
         if self.clients.len() >= MOST_CLIENTS {
             return Err(io::Error::from(ErrorKind::OutOfMemory));

@@ -3,8 +3,8 @@ use std::alloc::AllocError;
 use std::env::FillError;
 use std::rt::Env;
 
-/// The words of the command line, the program's name first. What is no UTF-8 in a word is read as
-/// U+FFFD, which no key, no option and no number has. The error is want of memory.
+/// The words of the command line, the program's name first. What is no UTF-8 in a word is read as U+FFFD,
+/// which no key, no option and no number has. It fails only if memory runs out.
 pub fn words_given(rt: &(impl Env + AllocGlobal)) -> Result<Vec<String>, AllocError> {
     let mut words = Vec::new(rt.alloc());
     for index in 0..usize::MAX {
@@ -16,7 +16,7 @@ pub fn words_given(rt: &(impl Env + AllocGlobal)) -> Result<Vec<String>, AllocEr
     Ok(words)
 }
 
-/// The word at a place of the command line, where there is one.
+/// The word at a place of the command line, if there is one.
 fn word_given(rt: &(impl Env + AllocGlobal), index: usize) -> Result<Option<String>, AllocError> {
     let mut bytes = Vec::new(rt.alloc());
     let mut size = 256usize;

@@ -9,7 +9,7 @@ use Rattle.ports_http.specs.Limits.{unread_limit}
 abbrev pub conn_view : Inside → Incoming
 conn_view c = record { unread = drop c.start c.buffer.items; over = c.over }
 
--- the unread bytes are within their limit, and all that may come fits what is reserved
+-- the unread bytes are within their limit, and all that may come fits in what is reserved
 pub record IsConn (c : Inside) : Type 0 where
   pub start : c.start ≤ vec_len c.buffer
   pub held : vec_len c.buffer ≤ c.start + unread_limit

@@ -7,7 +7,7 @@ use Rattle.ports_http.specs.Messages.{RequestMessage}
 use Rattle.ports_http.specs.Streams.{End, waiting, refused, closed, Cuts, Begins, Waits}
 use Rattle.ports_http.specs.Incoming.{Incoming}
 
--- how a stream ends, where these bytes are left
+-- how a stream ends, if these bytes are left
 abbrev pub end_of : StreamEnd → List ℕ → End
 end_of ends.Waiting unread = waiting unread
 end_of (ends.Refused fault) unread = refused fault
@@ -31,7 +31,7 @@ end_behind (Err fault) = ends.Refused fault
 abbrev pub IsSettled : Incoming → Type 0
 IsSettled incoming = MatchBool incoming.over (Unit {0}) (Waits incoming.unread)
 
--- what was decoded so far: requests in front of what is unread, or the whole stream, which is over
+-- what was decoded so far: the requests before what is unread, or the whole stream, which is over
 abbrev pub DecodedSoFar : List ℕ → Incoming → List RequestMessage → StreamEnd → Type 0
 DecodedSoFar stream incoming requests end =
     MatchBool incoming.over ((end ≢ ends.Waiting) × Cuts stream requests (end_of end []))

@@ -14,19 +14,19 @@ NamedField = List ℕ × List ℕ
 abbrev pub is_named : List ℕ → NamedField → Bool
 is_named name field = str_eq_ignore_ascii_case field.0 name
 
--- the values of the fields of that name, in order
+-- the values of the fields of this name, in order
 unfoldable pub field_values : List ℕ → List NamedField → List (List ℕ)
 field_values name [] = []
 field_values name (field ∷ fields) =
     if is_named name field then field.1 ∷ field_values name fields else field_values name fields
 
--- the one value, where there is exactly one
+-- the one value, if there is exactly one
 abbrev pub only_value : List (List ℕ) → Option (List ℕ)
 only_value [] = None
 only_value (value ∷ []) = Some value
 only_value (value ∷ other ∷ values) = None
 
--- the key of a request: the value of X-Ports-Key, where there is exactly one
+-- the key of a request: the value of X-Ports-Key, if there is exactly one
 abbrev pub key_of : List NamedField → Option (List ℕ)
 key_of fields = only_value (field_values (codes "x-ports-key") fields)
 
@@ -38,11 +38,11 @@ is_length value = nat_le 1 (length value) && nat_le (length value) 18 && list_al
 abbrev pub is_close_option : List ℕ → Bool
 is_close_option word = str_eq_ignore_ascii_case (trim_ows word) (codes "close")
 
--- a Connection field, one of whose options, parted by commas, is close
+-- a Connection field that has close among its options, which commas separate
 abbrev pub is_closing : NamedField → Bool
 is_closing field =
     is_named (codes "connection") field && list_any is_close_option (slice_split (λ b. b == 44) field.1)
 
--- whether the connection ends behind a request: always with HTTP/1.0, else where a field says so
+-- whether the connection ends after a request: always with HTTP/1.0, else if a field says so
 abbrev pub closes : ℕ → List NamedField → Bool
 closes minor fields = minor == 0 || list_any is_closing fields

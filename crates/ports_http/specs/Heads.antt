@@ -14,7 +14,7 @@ use Rattle.ports_http.specs.Fields.{NamedField, field_values, is_length}
 abbrev pub fields_of : RequestHead → List NamedField
 fields_of head = map name_and_value head.fields
 
--- what a step gives, handed to the next; the first refusal stands
+-- what a step gives is handed to the next; the first refusal is the result
 infixl 10 ◌>>=◌
 abbrev pub ◌>>=◌ : {A B : Type 0} → Result A HeadFault → (A → Result B HeadFault) → Result B HeadFault
 (Ok x) >>= next = next x
@@ -26,14 +26,14 @@ method_text Get = codes "GET"
 method_text Put = codes "PUT"
 method_text Delete = codes "DELETE"
 
--- the method of that word, which is compared with regard to case (RFC 9110, section 9.1)
+-- the method of this word, which is compared with regard to case (RFC 9110, section 9.1)
 unfoldable pub method_named : List ℕ → Result Method HeadFault
 method_named word =
     if bytes_eq word (codes "GET") then Ok Get else (
     if bytes_eq word (codes "PUT") then Ok Put else (
     if bytes_eq word (codes "DELETE") then Ok Delete else Err fault.UnknownMethod))
 
--- no transfer coding is read (RFC 9112, section 6.1)
+-- a head with a transfer coding is refused (RFC 9112, section 6.1)
 abbrev pub no_coding : List (List ℕ) → Result (Unit {0}) HeadFault
 no_coding [] = Ok tt
 no_coding (value ∷ values) = Err fault.TransferEncoding
@@ -44,14 +44,14 @@ one_host minor [] = if minor == 0 then Ok tt else Err fault.HostCount
 one_host minor (value ∷ []) = Ok tt
 one_host minor (value ∷ other ∷ values) = Err fault.HostCount
 
--- the Content-Length, of which there is one at most (RFC 9112, section 6.2)
+-- the Content-Length, of which there may be at most one (RFC 9112, section 6.2)
 abbrev pub stated_length : List (List ℕ) → Result (Option ℕ) HeadFault
 stated_length [] = Ok None
 stated_length (value ∷ []) =
     if is_length value then Ok (Some (digits_value 10 value)) else Err fault.ContentLength
 stated_length (value ∷ other ∷ values) = Err fault.ContentLength
 
--- the bytes of the body: a PUT states them, and no body is over the limit
+-- how many bytes the body has: a PUT must state that, and no body may be over the limit
 abbrev pub body_length : Method → Option ℕ → Result ℕ HeadFault
 body_length Put None = Err fault.LengthRequired
 body_length method None = Ok 0

@@ -1,16 +1,16 @@
--- What holds of streams however they are cut: the laws that a service rests on.
+-- What holds of streams however they are cut: the laws that a service depends on.
 use Rattle.std.specs.Prelude.{◌≡◌, ◌⊎◌, ℕ, ◌<◌, false, List, [], ◌∷◌, ◌++◌, length}
 use Rattle.ports_http.specs.declared.fault.HeadFault.{HeadFault}
 use Rattle.ports_http.specs.Limits.{unread_limit}
 use Rattle.ports_http.specs.Messages.{RequestMessage}
 use Rattle.ports_http.specs.Streams.{RequestAt, Refuses, Waits, End, Cuts, Begins, LeftOpen}
 
--- a request that stands first in some bytes stands first with more behind
+-- if a request comes first in some bytes, it still does if more bytes follow
 abbrev pub RequestStays : Type 0
 RequestStays = (stream : List ℕ) (request : RequestMessage) (rest more : List ℕ) → RequestAt stream request rest
     → RequestAt (stream ++ more) request (rest ++ more)
 
--- a head refusal that stands first in some bytes stands first with more behind
+-- if a head refusal comes first in some bytes, it still does if more bytes follow
 abbrev pub RefusalStays : Type 0
 RefusalStays = (stream : List ℕ) (fault : HeadFault) (more : List ℕ) → Refuses stream fault
     → Refuses (stream ++ more) fault
@@ -19,25 +19,25 @@ RefusalStays = (stream : List ℕ) (fault : HeadFault) (more : List ℕ) → Ref
 abbrev pub WaitingHasRoom : Type 0
 WaitingHasRoom = (stream : List ℕ) → Waits stream → length stream < unread_limit
 
--- two cuttings of a stream have the same requests, and the same end but where it is left open
+-- two cuttings of a stream have the same requests, and the same end unless that is left open
 abbrev pub OneCutting : Type 0
 OneCutting = (stream : List ℕ) (requests others : List RequestMessage) (end other_end : End)
     → Cuts stream requests end → Cuts stream others other_end
     → (requests ≡ others)
     × ((end ≡ other_end) ⊎ ((rest : List ℕ) × Begins stream requests rest × LeftOpen rest))
 
--- requests that stand first in some bytes stand first with more behind
+-- if requests come first in some bytes, they still do if more bytes follow
 abbrev pub RequestsStay : Type 0
 RequestsStay = (stream : List ℕ) (requests : List RequestMessage) (rest more : List ℕ) → Begins stream requests rest
     → Begins (stream ++ more) requests (rest ++ more)
 
--- the next request stands behind those that were taken
+-- the next request comes after those that were taken
 abbrev pub NextRequest : Type 0
 NextRequest = (stream : List ℕ) (requests : List RequestMessage) (rest : List ℕ) (request : RequestMessage) (behind : List ℕ)
     → Begins stream requests rest → RequestAt rest request behind → request.close ≡ false
     → Begins stream (requests ++ request ∷ []) behind
 
--- the requests taken and a cutting of what is unread cut the whole stream
+-- the requests taken, and then a cutting of what is unread, cut the whole stream
 abbrev pub CutsOn : Type 0
 CutsOn = (stream : List ℕ) (requests : List RequestMessage) (rest : List ℕ) (later : List RequestMessage) (end : End)
     → Begins stream requests rest → Cuts rest later end → Cuts stream (requests ++ later) end

@@ -24,25 +24,25 @@ abbrev pub content_text : Content → List ℕ
 content_text Json = codes "application/json"
 content_text Octets = codes "application/octet-stream"
 
--- the Content-Type line, where there is a type
+-- the Content-Type line, if there is a type
 abbrev pub content_line : Option Content → List ℕ
 content_line None = []
 content_line (Some content) = line (codes "Content-Type: " ++ content_text content)
 
--- a method behind another one
+-- a method after another one
 abbrev pub next_method : Method → List ℕ
 next_method method = codes ", " ++ method_text method
 
--- the Allow line, where methods are allowed
+-- the Allow line, if methods are allowed
 abbrev pub allow_line : List Method → List ℕ
 allow_line [] = []
 allow_line (method ∷ methods) = line (codes "Allow: " ++ method_text method ++ flat_map next_method methods)
 
--- the Connection line, where the connection closes
+-- the Connection line, if the connection closes
 abbrev pub close_line : Bool → List ℕ
 close_line close = if close then line (codes "Connection: close") else []
 
--- the head of a reply whose body has that many bytes
+-- the head of a reply whose body has this many bytes
 abbrev pub reply_head : ReplyMessage → Bool → ℕ → List ℕ
 reply_head reply close size =
     line (codes "HTTP/1.1 " ++ status_text reply.status)
@@ -76,7 +76,7 @@ abbrev pub unknown_key : ReplyMessage
 unknown_key =
     record { status = 403; body = codes "{\"error\":\"Key\"}"; content = Some Json; allow = [] }
 
--- the reply where the store or the memory failed
+-- the reply if the store or the memory failed
 abbrev pub store_failed : ReplyMessage
 store_failed = record {
   status = 503;

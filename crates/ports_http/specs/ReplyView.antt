@@ -10,7 +10,7 @@ abbrev pub body_bytes : Body → List ℕ
 body_bytes (Fixed text) = text.now
 body_bytes (Owned bytes) = bytes.items
 
--- a reply without where it lies in memory
+-- a reply without its place in memory
 abbrev pub reply_view : Inside → ReplyMessage
 reply_view r =
     record { status = r.status; body = body_bytes r.body; content = r.content; allow = r.allow.now }

@@ -4,7 +4,7 @@ use Rattle.std.specs.String.{string_bytes}
 use Rattle.ports_http.specs.declared.request.Request.TheInside.{Inside}
 use Rattle.ports_http.specs.Messages.{RequestMessage}
 
--- a request without where it lies in memory
+-- a request without its place in memory
 abbrev pub request_view : Inside → RequestMessage
 request_view r = record {
   method = r.method;

@@ -25,13 +25,13 @@ OccursAs buf Never values = values ≡ []
 OccursAs buf (Once value) values = IsWithin (length buf) value × (values ≡ span_bytes buf value ∷ [])
 OccursAs buf Often values = 1 < length values
 
--- how often, with one more that has this value
+-- how often a field occurs, with one more that has this value
 abbrev pub with_one : Occurs → Span → Occurs
 with_one Never value = Once value
 with_one (Once other) value = Often
 with_one Often value = Often
 
--- the spans cover the parts of this head, which stands first
+-- the spans cover the parts of this head, which comes first
 pub record CoversHead
     (stream : List ℕ) (spans : RequestSpans) (fields : List HeaderSpan) (head : RequestHead) : Type 0 where
   pub stands : HeadAt stream head (drop spans.len stream)
@@ -54,17 +54,17 @@ message_at stream whole = record {
   close = whole.close;
 }
 
--- each part lies in the stream
+-- each part is within the stream
 pub record IsWholeWithin (stream : List ℕ) (whole : Whole) : Type 0 where
   pub target : IsWithin (length stream) whole.target
   pub body : IsWithin (length stream) whole.body
   pub key : IfSome whole.key (IsWithin (length stream))
 
--- a head stands first whose body lacks so many bytes; or that isn't known (0)
+-- a head comes first, and so many bytes of its body are missing; or that isn't known (0)
 abbrev pub IsMissing : List ℕ → ℕ → Type 0
 IsMissing stream missing = (missing ≡ 0) ⊎ ((lacks : LacksBody stream) × (missing + length lacks.rest ≡ lacks.size))
 
--- what stands first in the stream
+-- what comes first in the stream
 abbrev pub StandsFirst : List ℕ → First → Type 0
 StandsFirst stream (first.Waiting missing) = Waits stream × IsMissing stream missing
 StandsFirst stream (first.Refused fault) = Refuses stream fault

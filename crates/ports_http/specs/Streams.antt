@@ -10,13 +10,13 @@ use Rattle.ports_http.specs.Messages.{RequestMessage}
 use Rattle.ports_http.specs.Fields.{key_of, closes}
 use Rattle.ports_http.specs.Heads.{announces, fields_of}
 
--- a head within the limits stands first in the stream, and rest follows it
+-- a head within the limits comes first in the stream, and rest follows it
 pub record HeadAt (stream : List ℕ) (head : RequestHead) (rest : List ℕ) : Type 0 where
   pub reads : ReadsRequest stream head rest
   pub size : length (print_request head) ≤ head_limit
   pub lines : length head.fields ≤ field_limit
 
--- a whole request stands first in the stream, and rest follows it
+-- a whole request comes first in the stream, and rest follows it
 pub record RequestAt (stream : List ℕ) (request : RequestMessage) (rest : List ℕ) : Type 0 where
   pub head : RequestHead
   pub stands : HeadAt stream head (request.body ++ rest)
@@ -25,15 +25,15 @@ pub record RequestAt (stream : List ℕ) (request : RequestMessage) (rest : List
   pub key : request.key ≡ key_of (fields_of head)
   pub close : request.close ≡ closes head.minor (fields_of head)
 
--- no head is there, and bytes may follow that make one, or the target goes on
+-- there is no head, and bytes may follow that make one, or the target goes on
 abbrev pub IsUnfinished : List ℕ → Type 0
 IsUnfinished bytes = HasNoRequest bytes × MayBecomeRequest bytes
 
--- more field lines than the limit stand there, and no head within the limit begins so
+-- there are more field lines than the limit, and no head within the limit begins in this way
 abbrev pub HasTooManyLines : List ℕ → Type 0
 HasTooManyLines bytes = RequestOverflows field_limit bytes × RequestExceeds field_limit bytes
 
--- a head stands first, but its body isn't whole yet
+-- a head comes first, but its body isn't whole yet
 pub record LacksBody (stream : List ℕ) : Type 0 where
   pub head : RequestHead
   pub rest : List ℕ
@@ -43,11 +43,11 @@ pub record LacksBody (stream : List ℕ) : Type 0 where
   pub announced : announces head ≡ Ok (method, size)
   pub short : length rest < size
 
--- what stands first is no whole request yet, and isn't refused
+-- what comes first is no whole request yet, and isn't refused
 abbrev pub Waits : List ℕ → Type 0
 Waits stream = ((length stream < head_limit) × IsUnfinished stream) ⊎ LacksBody stream
 
--- the head that stands first is refused for what it announces
+-- the head that comes first is refused for what it announces
 pub record RefusesHead (stream : List ℕ) (fault : HeadFault) : Type 0 where
   pub head : RequestHead
   pub rest : List ℕ
@@ -60,29 +60,29 @@ IsTooLarge stream =
     ((head_limit ≤ length stream) × IsUnfinished (take head_limit stream))
     ⊎ HasTooManyLines (take head_limit stream)
 
--- The head refusal that stands first: the bytes of a greatest head begin no head; they hold none, or
--- too many field lines; or the head that stands there is refused.
+-- The head refusal that comes first. The bytes of a greatest head begin no head; or they hold none, or too
+-- many field lines; or the head that is there is refused.
 abbrev pub Refuses : List ℕ → HeadFault → Type 0
 Refuses stream fault =
     ((fault ≡ Malformed) × NeverHasRequest (take head_limit stream))
     ⊎ (((fault ≡ HeadTooLarge) × IsTooLarge stream)
     ⊎ RefusesHead stream fault)
 
--- how a stream ends behind its requests: bytes that are no whole request yet, a head refusal, or
--- nothing more, since the last request closes
+-- how a stream ends after its requests: bytes that are no whole request yet, a head refusal, or nothing
+-- more, since the last request closes
 pub data End : Type 0 where
   waiting : List ℕ → End
   refused : HeadFault → End
   closed : End
 
--- a stream that begins with no whole request ends so
+-- how a stream ends that begins with no whole request
 abbrev pub EndsAs : List ℕ → End → Type 0
 EndsAs stream (waiting unread) = (stream ≡ unread) × Waits stream
 EndsAs stream (refused fault) = Refuses stream fault
 EndsAs stream closed = ⊥
 
--- The stream is these requests, one behind the other, and then its end. What stands behind a request
--- that closes isn't read.
+-- The stream is these requests, one after the other, and then its end. What follows a
+-- request that closes isn't read.
 abbrev pub Cuts : List ℕ → List RequestMessage → End → Type 0
 Cuts stream [] end = EndsAs stream end
 Cuts stream (request ∷ requests) end =
@@ -95,7 +95,7 @@ Begins stream [] rest = stream ≡ rest
 Begins stream (request ∷ requests) rest =
     (behind : List ℕ) × RequestAt stream request behind × (request.close ≡ false) × Begins behind requests rest
 
--- where 400, 431 and waiting are all allowed: too many field lines begin, or the bytes end in a target
+-- 400, 431 and waiting are all allowed: too many field lines begin, or the bytes end in a target
 abbrev pub LeftOpen : List ℕ → Type 0
 LeftOpen stream =
     EndsInTarget (take head_limit stream) ⊎ RequestExceeds field_limit (take head_limit stream)

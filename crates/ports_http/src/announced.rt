@@ -34,7 +34,8 @@ pub(crate) fn announced(
 
 fn no_coding(buf: &[u8], fields: &[HeaderSpan]) -> Result<(), HeadFault>
     requires { All (IsHeaderWithin (length buf.now)) fields.now }
-    ensures { result ≡ no_coding (field_values (codes "transfer-encoding") (named buf.now fields.now)) }
+    ensures { result
+        ≡ no_coding (field_values (codes "transfer-encoding") (named buf.now fields.now)) }
 {
     match find(buf, fields, "transfer-encoding") {
         Occurs::Never => Ok(()),
@@ -55,7 +56,8 @@ fn one_host(minor: u8, buf: &[u8], fields: &[HeaderSpan]) -> Result<(), HeadFaul
 
 fn stated_length(buf: &[u8], fields: &[HeaderSpan]) -> Result<Option<u64>, HeadFault>
     requires { All (IsHeaderWithin (length buf.now)) fields.now }
-    ensures { result ≡ stated_length (field_values (codes "content-length") (named buf.now fields.now)) }
+    ensures { result
+        ≡ stated_length (field_values (codes "content-length") (named buf.now fields.now)) }
 {
     match find(buf, fields, "content-length") {
         Occurs::Never => Ok(None),

@@ -12,11 +12,11 @@ use std::alloc::{AllocError, Global};
 use std::marker::Model;
 use std::str;
 
-/// The most bytes that stand unread: a greatest head and a greatest body.
+/// The most bytes that a connection holds unread: a greatest head and a greatest body.
 const UNREAD_LIMIT: usize = 73_728;
 
-/// What is reserved. Bytes that were taken stay in front until the buffer is full; then the unread
-/// ones move to its front, which so costs no more than the bytes that were fed.
+/// The bytes that are reserved. Bytes that were taken stay in front until the buffer is full. Then the
+/// unread bytes move to its front. So the moves cost no more than the bytes that were fed.
 const RESERVED: usize = 147_456;
 
 /// The bytes of one connection that aren't taken yet. A contract sees them as an `Incoming`: the
@@ -26,7 +26,7 @@ pub struct Conn {
     buffer: Vec<u8>,
     // where the unread bytes begin
     start: usize,
-    // how many bytes are missing at least of the body that stands first
+    // at least so many bytes of the body that comes first are missing
     missing: usize,
     over: bool,
 }
@@ -44,7 +44,7 @@ impl Model for Conn {
 }
 
 impl Conn {
-    /// A connection that has just opened, with all its buffers reserved. Err: no memory.
+    /// A connection that has just opened, with all its buffers reserved. It fails only if memory runs out.
     pub fn new(alloc: Global) -> Result<Conn, AllocError>
         ensures { IfOk result (λ conn. conn ≡ opening) }
     {
@@ -56,7 +56,7 @@ impl Conn {
         })
     }
 
-    /// How many bytes may be fed: 73,728 less those that stand unread, and none once it is over.
+    /// How many bytes may be fed: 73,728 less those that are unread, and none once the stream is over.
     pub fn room(&self) -> usize
         ensures { result ≡ room_of self.now }
     {
@@ -66,15 +66,15 @@ impl Conn {
         UNREAD_LIMIT - (self.buffer.len() - self.start)
     }
 
-    /// Whether the stream is over: a request that closes or a head refusal was taken, or `close`
-    /// was called. Nothing more is taken then.
+    /// Whether the stream is over: a request that closes or a head refusal was taken, or `close` was
+    /// called. Then nothing more is taken.
     pub fn is_over(&self) -> bool
         ensures { result ≡ self.now.over }
     {
         self.over
     }
 
-    /// Puts the bytes behind those that stand unread. It takes no memory.
+    /// Adds the bytes after those that are unread. It takes no memory.
     pub fn feed(&mut self, bytes: &[u8])
         requires { length bytes.now ≤ room_of self.old }
         ensures { self.new ≡ fed self.old bytes.now }
@@ -84,7 +84,7 @@ impl Conn {
         self.missing = self.missing.saturating_sub(bytes.len());
     }
 
-    /// Ends the stream, and drops what stands unread.
+    /// Ends the stream, and drops what is unread.
     pub fn close(&mut self)
         ensures { self.new ≡ ended }
     {
@@ -94,7 +94,7 @@ impl Conn {
         self.over = true;
     }
 
-    /// Passes over a request of that many bytes.
+    /// Passes over a request of this many bytes.
     fn pass(&mut self, size: usize, close: bool)
         requires { size ≤ length self.old.unread }
         ensures { self.new ≡ passed self.old size close }
@@ -107,9 +107,9 @@ impl Conn {
         }
     }
 
-    /// Takes the request that stands first, or its head refusal, which ends the stream, as does a
-    /// request that closes. None: the stream is over, or no whole request stands there yet.
-    /// `TakeError::Memory`: there was no memory for the request, and its bytes are gone.
+    /// Takes the request that comes first, or its head refusal. A refusal ends the stream, and so does a
+    /// request that closes. `None` if the stream is over, or if no whole request is there yet. If there is
+    /// no memory for the request, the error is `TakeError::Memory`, and its bytes are lost.
     pub fn next_request(
         &mut self,
         alloc: Global,
@@ -144,8 +144,8 @@ impl Conn {
     }
 }
 
-/// Makes room for more bytes: where they don't fit behind, the bytes from `start` on move to the
-/// front. Where those begin then.
+/// Makes room for more bytes. If they don't fit at the end, the bytes from `start` on move to the front. It
+/// gives where these begin then.
 fn make_room(buffer: &mut Vec<u8>, start: usize, more: usize) -> usize
     requires start { start ≤ vec_len buffer.old }
     requires fits { vec_len buffer.old + more ≤ vec_capacity buffer.old + start }
@@ -163,7 +163,7 @@ fn make_room(buffer: &mut Vec<u8>, start: usize, more: usize) -> usize
     0
 }
 
-/// The request whose parts stand there. Err: no memory.
+/// The request whose parts are there. It fails only if memory runs out.
 fn request_at(alloc: Global, unread: &[u8], whole: &Whole) -> Result<Request, AllocError>
     requires within { IsWholeWithin unread.now whole.now }
     requires text { IsUtf8 (span_bytes unread.now whole.now.target) }
@@ -181,7 +181,8 @@ fn request_at(alloc: Global, unread: &[u8], whole: &Whole) -> Result<Request, Al
 
 fn key_at(alloc: Global, unread: &[u8], key: Option<Span>) -> Result<Option<Vec<u8>>, AllocError>
     requires { IfSome key (IsWithin (length unread.now)) }
-    ensures { IfOk result (λ bytes. option_map (λ k. k.items) bytes ≡ option_map (span_bytes unread.now) key) }
+    ensures { IfOk result (λ bytes. option_map (λ k. k.items) bytes
+        ≡ option_map (span_bytes unread.now) key) }
 {
     match key {
         Some(span) => Ok(Some(Vec::from_slice(alloc, span.of(unread))?)),

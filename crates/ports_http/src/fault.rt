@@ -4,25 +4,34 @@ ghost use Rattle.ports_http.specs.Replies.{fault_status, fault_reply, IsFixed};
 
 use crate::reply::{Body, Reply};
 use http::StatusCode;
+use thiserror::Error;
 
-/// Why a head is refused. Where several fit, the first that stands here is told.
-#[derive(Clone, Copy, Debug, PartialEq, Eq)]
+/// Why a head is refused. If several reasons fit, the first in this order is given.
+#[derive(Clone, Copy, Debug, PartialEq, Eq, Error)]
 pub enum HeadFault {
     /// The bytes begin no head, whatever follows: 400.
+    #[error("the head is malformed")]
     Malformed,
     /// 8,192 bytes hold no whole head, or it has more than 32 field lines: 431.
+    #[error("the head is too large")]
     HeadTooLarge,
     /// The method isn't GET, PUT or DELETE: 501.
+    #[error("the method is none of GET, PUT and DELETE")]
     UnknownMethod,
     /// There is a Transfer-Encoding: 501.
+    #[error("the head has a Transfer-Encoding")]
     TransferEncoding,
     /// There is more than one Host, or none with HTTP/1.1: 400.
+    #[error("the head has no Host, or more than one")]
     HostCount,
     /// There is more than one Content-Length, or one that isn't 1 to 18 digits: 400.
+    #[error("the Content-Length is bad")]
     ContentLength,
     /// A PUT has no Content-Length: 411.
+    #[error("the PUT has no Content-Length")]
     LengthRequired,
     /// The Content-Length is over 65,536: 413.
+    #[error("the body is too large")]
     BodyTooLarge,
 }
 

@@ -20,7 +20,7 @@ pub(crate) enum Occurs {
 }
 
 impl Occurs {
-    /// How often, with one more that has this value.
+    /// How often the field occurs with one more that has this value.
     fn with(self, value: Span) -> Occurs
         ensures { result ≡ with_one self value }
     {
@@ -31,7 +31,7 @@ impl Occurs {
     }
 }
 
-/// How often the field of that name occurs.
+/// How often the field of this name occurs.
 pub(crate) fn find(buf: &[u8], fields: &[HeaderSpan], name: &str) -> Occurs
     requires { All (IsHeaderWithin (length buf.now)) fields.now }
     ensures { OccursAs buf.now result (field_values name.now (named buf.now fields.now)) }
@@ -52,7 +52,7 @@ fn is_named(buf: &[u8], field: HeaderSpan, name: &str) -> bool
     field.name.of(buf).eq_ignore_ascii_case(name.as_bytes())
 }
 
-/// The value of `X-Ports-Key`, where there is exactly one.
+/// The value of `X-Ports-Key`, if there is exactly one.
 pub(crate) fn key_of(buf: &[u8], fields: &[HeaderSpan]) -> Option<Span>
     requires { All (IsHeaderWithin (length buf.now)) fields.now }
     ensures value { option_map (span_bytes buf.now) result ≡ key_of (named buf.now fields.now) }
@@ -64,7 +64,7 @@ pub(crate) fn key_of(buf: &[u8], fields: &[HeaderSpan]) -> Option<Span>
     }
 }
 
-/// Whether the connection ends behind a request with these fields.
+/// Whether the connection ends after a request of this minor version with these fields.
 pub(crate) fn closes(minor: u8, buf: &[u8], fields: &[HeaderSpan]) -> bool
     requires { All (IsHeaderWithin (length buf.now)) fields.now }
     ensures { result ≡ closes minor (named buf.now fields.now) }
@@ -122,7 +122,7 @@ fn is_ows(byte: u8) -> bool
     byte == b' ' || byte == b'\t'
 }
 
-/// The number that a Content-Length writes in 1 to 18 digits.
+/// The number that a Content-Length writes in 1 to 18 digits. `None` for any other value.
 pub(crate) fn length_of(value: &[u8]) -> Option<u64>
     ensures { result ≡ (if is_length value.now then Some (digits_value 10 value.now) else None) }
 {

@@ -1,4 +1,4 @@
-//! What stands first in the unread bytes.
+//! What comes first in the unread bytes.
 ghost use Rattle.std.specs.Prelude.{◌≡◌, ◌≤◌, ◌<◌, length, take, drop};
 ghost use Rattle.httparse.specs.Grammar.{RequestHead};
 ghost use Rattle.ports_http.specs.Limits.{head_limit};
@@ -17,7 +17,7 @@ const HEAD_LIMIT: usize = 8_192;
 /// The most field lines of a head.
 const FIELD_LIMIT: usize = 32;
 
-/// What stands first.
+/// What comes first.
 pub(crate) enum First {
     /// No whole request yet: so many bytes of a body are missing, or some of a head (0).
     Waiting(usize),
@@ -25,8 +25,7 @@ pub(crate) enum First {
     Ready(Whole),
 }
 
-/// A whole request: its method, where its parts are, and whether it closes. It ends where its body
-/// ends.
+/// A whole request: its method, where its parts are, and whether it closes. It ends where its body ends.
 #[derive(Clone, Copy)]
 pub(crate) struct Whole {
     pub(crate) method: Method,
@@ -36,7 +35,7 @@ pub(crate) struct Whole {
     pub(crate) close: bool,
 }
 
-/// What stands first in the unread bytes.
+/// What comes first in the unread bytes.
 pub(crate) fn read_first(unread: &[u8]) -> First
     ensures { StandsFirst unread.now result }
 {
@@ -57,7 +56,7 @@ pub(crate) fn read_first(unread: &[u8]) -> First
     }
 }
 
-/// The bytes that a head may take.
+/// The first bytes, as many as a head may take.
 fn front(unread: &[u8]) -> &[u8]
     ensures { result.now ≡ take head_limit unread.now }
 {
@@ -68,7 +67,7 @@ fn front(unread: &[u8]) -> &[u8]
     }
 }
 
-/// What stands first, where a whole head does.
+/// What comes first, if a whole head does.
 fn behind_head(unread: &[u8], spans: &RequestSpans, fields: &[HeaderSpan]) -> First
     requires { (head : RequestHead) × CoversHead unread.now spans.now fields.now head }
     ensures { StandsFirst unread.now result }

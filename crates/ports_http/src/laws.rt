@@ -1,13 +1,14 @@
 //! What holds of streams however they are cut into pieces. Each function does nothing: its clause
 //! is the law.
-ghost use Rattle.ports_http.specs.Laws.{RequestStays, RefusalStays, WaitingHasRoom, OneCutting, RequestsStay, NextRequest, CutsOn, CutsFrom};
+ghost use Rattle.ports_http.specs.Laws.{RequestStays, RefusalStays, WaitingHasRoom, OneCutting, RequestsStay};
+ghost use Rattle.ports_http.specs.Laws.{NextRequest, CutsOn, CutsFrom};
 
-/// A request that stands first in some bytes stands first with more behind.
+/// If a request comes first in some bytes, it still does if more bytes follow.
 pub fn request_stays()
     ensures { RequestStays }
 {}
 
-/// A head refusal that stands first in some bytes stands first with more behind.
+/// If a head refusal comes first in some bytes, it still does if more bytes follow.
 pub fn refusal_stays()
     ensures { RefusalStays }
 {}
@@ -17,29 +18,29 @@ pub fn waiting_has_room()
     ensures { WaitingHasRoom }
 {}
 
-/// Two cuttings of a stream have the same requests. They have the same end, too, but where 400, 431
-/// and waiting are all allowed: where more than 32 field lines begin, or the bytes end in a target.
+/// Two cuttings of a stream have the same requests. They also have the same end, unless 400,
+/// 431 and waiting are all allowed. These are allowed if more than 32 field lines begin, or if
+/// the bytes end in a target.
 pub fn one_cutting()
     ensures { OneCutting }
 {}
 
-/// Requests that stand first in some bytes stand first with more behind.
+/// If requests come first in some bytes, they still do if more bytes follow.
 pub fn requests_stay()
     ensures { RequestsStay }
 {}
 
-/// The next request stands behind those that were taken.
+/// The next request comes after those that were taken.
 pub fn next_request()
     ensures { NextRequest }
 {}
 
-/// The requests taken and a cutting of what is unread cut the whole stream.
+/// The requests taken, and then a cutting of what is unread, cut the whole stream.
 pub fn cuts_on()
     ensures { CutsOn }
 {}
 
-/// Each cutting of a stream begins with the requests taken, and goes on with a cutting of what is
-/// unread.
+/// Each cutting of a stream begins with the requests taken, and goes on with a cutting of what is unread.
 pub fn cuts_from()
     ensures { CutsFrom }
 {}

@@ -13,7 +13,7 @@ pub enum Method {
 }
 
 impl Method {
-    /// The method's word, as it stands in a head.
+    /// The method's word, as it is written in a head.
     pub fn as_str(self) -> &'static str
         ensures { result.now ≡ method_text self }
     {
@@ -25,7 +25,7 @@ impl Method {
     }
 }
 
-/// The method of that word, in capitals; any other is `HeadFault::UnknownMethod`.
+/// The method of this word, in capitals. Any other word is `HeadFault::UnknownMethod`.
 #[tactic(auto, unfolding(crate::specs::Heads::method_named))]
 pub(crate) fn method_of(word: &[u8]) -> Result<Method, HeadFault>
     ensures { result ≡ method_named word.now }

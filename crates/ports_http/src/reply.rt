@@ -35,8 +35,8 @@ pub enum Body {
     Owned(Vec<u8>),
 }
 
-/// A reply. A contract sees it as a `ReplyMessage`: the status, the bytes of the body, its media
-/// type, and the methods of its Allow field, none where there is no such field.
+/// A reply. A contract sees it as a `ReplyMessage`: the status, the bytes of the body, its media type, and
+/// the methods of its Allow field. If there is no such field, there are no methods.
 #[derive(Drop)]
 pub struct Reply {
     pub status: StatusCode,
@@ -58,7 +58,8 @@ impl Model for Reply {
 impl Reply {
     /// A reply whose body is a text of the program's own, which takes no memory.
     pub fn of_text(status: StatusCode, content: Option<Content>, text: &'static str) -> Reply
-        ensures { result ≡ record { status = status; body = text.now; content = content; allow = [] } }
+        ensures { result
+            ≡ record { status = status; body = text.now; content = content; allow = [] } }
     {
         Reply {
             status,
@@ -70,7 +71,8 @@ impl Reply {
 
     /// A reply with these bytes as its body.
     pub fn of_bytes(status: StatusCode, content: Option<Content>, body: Vec<u8>) -> Reply
-        ensures { result ≡ record { status = status; body = body.items; content = content; allow = [] } }
+        ensures { result
+            ≡ record { status = status; body = body.items; content = content; allow = [] } }
     {
         Reply {
             status,
@@ -110,7 +112,7 @@ impl Reply {
         )
     }
 
-    /// The reply where the store or the memory failed: 503 and `{"error":"Store"}`.
+    /// The reply if the store or the memory failed: 503 and `{"error":"Store"}`.
     pub fn store_failed() -> Reply
         ensures value { result ≡ store_failed }
         ensures fixed { (close : Bool) → IsFixed result close }

@@ -8,13 +8,13 @@ use std::marker::Model;
 #[derive(Drop)]
 pub struct Request {
     pub method: Method,
-    /// The request target as it stands in the head.
+    /// The request target as it is written in the head.
     pub target: String,
     /// The bytes that Content-Length announces; none without it.
     pub body: Vec<u8>,
-    /// The value of `X-Ports-Key`, where there is exactly one.
+    /// The value of `X-Ports-Key`, if there is exactly one.
     pub key: Option<Vec<u8>>,
-    /// Whether the connection ends behind the request: with HTTP/1.0, or by `Connection: close`.
+    /// Whether the connection ends after the request: with HTTP/1.0, or by `Connection: close`.
     pub close: bool,
 }
 
@@ -31,7 +31,7 @@ impl Model for Request {
 /// Why no request could be handed out.
 #[derive(Clone, Copy, Debug, PartialEq, Eq)]
 pub enum TakeError {
-    /// There was no memory for the request. Its bytes are gone; `close` is what it said.
+    /// There was no memory for the request. Its bytes are lost; `close` is what the request said.
     Memory { close: bool },
 }
 

@@ -8,14 +8,14 @@ use crate::fault::HeadFault;
 use crate::request::{Request, TakeError};
 use std::alloc::{AllocError, Global};
 
-/// How a stream ends behind its requests.
+/// How a stream ends after its requests.
 #[derive(Clone, Copy, Debug, PartialEq, Eq)]
 pub enum StreamEnd {
     /// With bytes that are no whole request yet, or with none.
     Waiting,
     /// With a head refusal.
     Refused(HeadFault),
-    /// With a request that closes; what stands behind it is dropped.
+    /// With a request that closes; what follows it is dropped.
     Closed,
 }
 
@@ -26,10 +26,11 @@ pub struct Decoded {
     pub end: StreamEnd,
 }
 
-/// The requests of the stream that comes in these pieces, and how it ends. It doesn't matter how the
-/// stream was cut into pieces: the clause speaks of the whole stream alone. Err: no memory.
+/// The requests of the stream that comes in these pieces, and how it ends. It doesn't matter how the stream
+/// was cut into pieces: the clause speaks of the whole stream alone. It fails only if memory runs out.
 pub fn decode(alloc: Global, pieces: &[Vec<u8>]) -> Result<Decoded, AllocError>
-    ensures { IfOk result (λ d. Decodes (flat_map (λ piece. piece.items) pieces.now) d.requests.items d.end) }
+    ensures { IfOk result (λ d. Decodes
+        (flat_map (λ piece. piece.items) pieces.now) d.requests.items d.end) }
 {
     let mut conn = Conn::new(alloc)?;
     let mut decoded = Decoded {
@@ -86,7 +87,8 @@ fn take_all(alloc: Global, conn: &mut Conn, decoded: &mut Decoded) -> Result<(),
 
 /// Notes a request, or the refusal that ends the stream.
 fn note(found: Result<Request, HeadFault>, decoded: &mut Decoded) -> Result<(), AllocError>
-    ensures requests { OnOk result (decoded.new.requests.items ≡ with_found decoded.old.requests.items found) }
+    ensures requests { OnOk result (decoded.new.requests.items
+        ≡ with_found decoded.old.requests.items found) }
     ensures end { OnOk result (decoded.new.end ≡ end_behind found) }
 {
     match found {

@@ -3,7 +3,8 @@ ghost use Rattle.std.specs.Prelude.{◌≡◌, ◌+◌, ◌≤◌, ◌<◌, [], 
 ghost use Rattle.std.specs.List.{flat_map};
 ghost use Rattle.ports_http.specs.Limits.{fixed_limit};
 ghost use Rattle.ports_http.specs.Puts.{Puts};
-ghost use Rattle.ports_http.specs.Replies.{reply_text, reply_head, line, content_line, next_method, allow_line, close_line, status_text, IsFixed};
+ghost use Rattle.ports_http.specs.Replies.{reply_text, reply_head, line, content_line, next_method, allow_line};
+ghost use Rattle.ports_http.specs.Replies.{close_line, status_text, IsFixed};
 
 use crate::method::Method;
 use crate::reply::{Content, Reply};
@@ -11,8 +12,8 @@ use http::StatusCode;
 use itoa::Buffer;
 use std::alloc::{AllocError, Global};
 
-/// The bytes of a reply, which says `Connection: close` where the connection closes behind it.
-/// Err: no memory.
+/// The bytes of a reply. If the connection closes after it, the reply says `Connection: close`. It
+/// fails only if memory runs out.
 pub fn write_reply(alloc: Global, reply: &Reply, close: bool) -> Result<Vec<u8>, AllocError>
     ensures { IfOk result (λ bytes. bytes.items ≡ reply_text reply.now close) }
 {
@@ -32,7 +33,7 @@ pub fn write_fixed(reply: &Reply, close: bool, out: &mut Vec<u8>)
     put_reply(reply, close, out).unwrap();
 }
 
-/// Adds the bytes of a reply. An error comes only where the room was too small.
+/// Adds the bytes of a reply. It fails only if the room was too small.
 #[tactic(auto, unfolding(crate::specs::Replies::reply_text))]
 fn put_reply(reply: &Reply, close: bool, out: &mut Vec<u8>) -> Result<(), AllocError>
     ensures { Puts out.old (reply_text reply.now close) result out.new }
@@ -43,7 +44,7 @@ fn put_reply(reply: &Reply, close: bool, out: &mut Vec<u8>) -> Result<(), AllocE
     Ok(())
 }
 
-/// Adds all but the body, which has that many bytes.
+/// Adds all but the body, which has this many bytes.
 fn put_head(reply: &Reply, close: bool, size: usize, out: &mut Vec<u8>) -> Result<(), AllocError>
     ensures { Puts out.old (reply_head reply.now close size) result out.new }
 {
@@ -66,7 +67,7 @@ fn put_status(status: StatusCode, out: &mut Vec<u8>) -> Result<(), AllocError>
     put_line(status.canonical_reason().unwrap_or(""), "", out)
 }
 
-/// Adds the Content-Type line, where there is a type.
+/// Adds the Content-Type line, if there is a type.
 fn put_content(content: Option<Content>, out: &mut Vec<u8>) -> Result<(), AllocError>
     ensures { Puts out.old (content_line content) result out.new }
 {
@@ -76,7 +77,7 @@ fn put_content(content: Option<Content>, out: &mut Vec<u8>) -> Result<(), AllocE
     }
 }
 
-/// Adds the Connection line, where the connection closes.
+/// Adds the Connection line, if the connection closes.
 fn put_close(close: bool, out: &mut Vec<u8>) -> Result<(), AllocError>
     ensures { Puts out.old (close_line close) result out.new }
 {
@@ -87,7 +88,7 @@ fn put_close(close: bool, out: &mut Vec<u8>) -> Result<(), AllocError>
     }
 }
 
-/// Adds the Allow line, where there are methods.
+/// Adds the Allow line, if there are methods.
 fn put_allow(allow: &[Method], out: &mut Vec<u8>) -> Result<(), AllocError>
     ensures { Puts out.old (allow_line allow.now) result out.new }
 {

@@ -1,21 +1,21 @@
 -- Rows that are filled in, path after path.
 use Rattle.std.proofs.Common.{◌≡◌, ◌∙◌, sym, ap, subst, refl, ℕ, Bool, true, false, ◌||◌, if◌then◌else◌, List, [], ◌∷◌, ◌++◌, Option, Some, None, is_some}
-use Rattle.std.proofs.lemmas.Bool.{false≢true}
+use Rattle.std.proofs.lemmas.Bool.{false≢true, or_right}
 use Rattle.std.proofs.lemmas.Slice.Eq.{bytes_eq-Decides}
 use Rattle.std.specs.List.{AllByRecursion}
 use Rattle.std.specs.Str.{bytes_eq}
-use Rattle.text_order.specs.Order.{in_order}
-use Rattle.text_order.specs.Ordered.{among-in_order}
+use Rattle.text_parts.specs.Order.{in_order}
+use Rattle.text_parts.specs.Ordered.{among-in_order}
 use Rattle.mk_paths.specs.World.{World}
-use Rattle.ports_index.specs.Standings.{Standing, standing_at}
+use Rattle.ports_index.specs.PathOutcomes.{PathOutcome, outcome_at}
 use Rattle.ports_index.specs.Filling.{AreRight, Stay, is_one_of, Fills}
 
 abbrev pub Held : Type 0
-Held = List ℕ → Option Standing
+Held = List ℕ → Option PathOutcome
 
 -- each of these paths has its row
 abbrev pub AreKnown : World → Held → List (List ℕ) → Type 0
-AreKnown world held paths = AllByRecursion (λ path. held path ≡ Some (standing_at world path)) paths
+AreKnown world held paths = AllByRecursion (λ path. held path ≡ Some (outcome_at world path)) paths
 
 pub Stay-nothing : (held : Held) → Stay held held
 Stay-nothing held = record { stay = λ path row is. is }
@@ -26,10 +26,6 @@ Stay-on first middle last one more = record { stay = λ path row is. more.stay p
 -- rows that no path lost or got
 pub Stay-same : (old new : Held) → ((path : List ℕ) → new path ≡ old path) → Stay old new
 Stay-same old new same = record { stay = λ path row is. same path ∙ is }
-
-or_more : (a b : Bool) → b ≡ true → (a || b) ≡ true
-or_more true b is = refl
-or_more false b is = is
 
 regroup : (a b c : Bool) → (a || (b || c)) ≡ ((a || b) || c)
 regroup true b c = refl
@@ -59,7 +55,7 @@ one_of-absorbed path named paths =
     ∙ absorbed (is_one_of path paths) (is_one_of path (in_order (named ++ paths))) (is_one_of path named) (one_of-in_order path named paths)
 
 -- two looks, one after the other
-in_turn : (a b : Bool) (row old middle new : Option Standing) → middle ≡ (if a then row else old) → new ≡ (if b then row else middle) → new ≡ (if a || b then row else old)
+in_turn : (a b : Bool) (row old middle new : Option PathOutcome) → middle ≡ (if a then row else old) → new ≡ (if b then row else middle) → new ≡ (if a || b then row else old)
 in_turn true true row old middle new first second = second
 in_turn true false row old middle new first second = second ∙ first
 in_turn false true row old middle new first second = second
@@ -72,23 +68,23 @@ module _ (world : World) where
   pub Fills-on : (paths more : List (List ℕ)) (old middle new : Held) → Fills world paths old middle → Fills world more middle new → Fills world (paths ++ more) old new
   Fills-on paths more old middle new first second = record {
     filled = λ path.
-        in_turn (is_one_of path paths) (is_one_of path more) (Some (standing_at world path)) (old path) (middle path) (new path) (first.filled path) (second.filled path)
-        ∙ ap (λ b. if b then Some (standing_at world path) else old path) (sym (one_of-append path paths more));
+        in_turn (is_one_of path paths) (is_one_of path more) (Some (outcome_at world path)) (old path) (middle path) (new path) (first.filled path) (second.filled path)
+        ∙ ap (λ b. if b then Some (outcome_at world path) else old path) (sym (one_of-append path paths more));
   }
 
   -- the same paths, in another list
   pub Fills-same : (paths others : List (List ℕ)) (old new : Held) → ((path : List ℕ) → is_one_of path paths ≡ is_one_of path others) → Fills world paths old new → Fills world others old new
-  Fills-same paths others old new same fills = record { filled = λ path. fills.filled path ∙ ap (λ b. if b then Some (standing_at world path) else old path) (same path) }
+  Fills-same paths others old new same fills = record { filled = λ path. fills.filled path ∙ ap (λ b. if b then Some (outcome_at world path) else old path) (same path) }
 
   -- a path that is one of these has its row
-  pub row-filled : (paths : List (List ℕ)) (old new : Held) → Fills world paths old new → (path : List ℕ) → is_one_of path paths ≡ true → new path ≡ Some (standing_at world path)
-  row-filled paths old new fills path is = fills.filled path ∙ ap (λ b. if b then Some (standing_at world path) else old path) is
+  pub row-filled : (paths : List (List ℕ)) (old new : Held) → Fills world paths old new → (path : List ℕ) → is_one_of path paths ≡ true → new path ≡ Some (outcome_at world path)
+  row-filled paths old new fills path is = fills.filled path ∙ ap (λ b. if b then Some (outcome_at world path) else old path) is
 
-  pub known-of : (paths : List (List ℕ)) (held : Held) → ((path : List ℕ) → is_one_of path paths ≡ true → held path ≡ Some (standing_at world path)) → AreKnown world held paths
+  pub known-of : (paths : List (List ℕ)) (held : Held) → ((path : List ℕ) → is_one_of path paths ≡ true → held path ≡ Some (outcome_at world path)) → AreKnown world held paths
   known-of [] held are = tt
   known-of (path ∷ paths) held are = (
     are path (ap (λ b. b || is_one_of path paths) ((bytes_eq-Decides path path).1 refl)),
-    known-of paths held (λ other is. are other (or_more (bytes_eq path other) (is_one_of other paths) is)),
+    known-of paths held (λ other is. are other (or_right (bytes_eq path other) (is_one_of other paths) is)),
   )
 
   -- two lists of paths that are filled together
@@ -98,19 +94,19 @@ module _ (world : World) where
 
   pub known-second : (paths more : List (List ℕ)) (old new : Held) → Fills world (in_order (paths ++ more)) old new → AreKnown world new more
   known-second paths more old new fills =
-      known-of more new (λ path is. row-filled (in_order (paths ++ more)) old new fills path (one_of-in_order path paths more ∙ or_more (is_one_of path paths) (is_one_of path more) is))
+      known-of more new (λ path is. row-filled (in_order (paths ++ more)) old new fills path (one_of-in_order path paths more ∙ or_right (is_one_of path paths) (is_one_of path more) is))
 
   pub known-filled : (paths : List (List ℕ)) (old new : Held) → Fills world paths old new → AreKnown world new paths
   known-filled paths old new fills = known-of paths new (row-filled paths old new fills)
 
 module _ (world : World) (held : Held) (right : AreRight world held) (path : List ℕ) where
-  there : (row : Option Standing) → held path ≡ row → is_some row ≡ true → held path ≡ Some (standing_at world path)
+  there : (row : Option PathOutcome) → held path ≡ row → is_some row ≡ true → held path ≡ Some (outcome_at world path)
   there None e is = absurd (false≢true is)
   there (Some row) e is = e ∙ ap Some (right path row e)
 
-  there-at : (other : List ℕ) (same : Bool) → bytes_eq path other ≡ same → held path ≡ Some (standing_at world path)
-      → held other ≡ (if same || false then Some (standing_at world other) else held other)
-  there-at other true same is = subst (λ at. held at ≡ Some (standing_at world at)) ((bytes_eq-Decides path other).0 same) is
+  there-at : (other : List ℕ) (same : Bool) → bytes_eq path other ≡ same → held path ≡ Some (outcome_at world path)
+      → held other ≡ (if same || false then Some (outcome_at world other) else held other)
+  there-at other true same is = subst (λ at. held at ≡ Some (outcome_at world at)) ((bytes_eq-Decides path other).0 same) is
   there-at other false same is = refl
 
   -- a path that has its row
@@ -118,22 +114,22 @@ module _ (world : World) (held : Held) (right : AreRight world held) (path : Lis
   Fills-there is = record { filled = λ other. there-at other (bytes_eq path other) refl (there (held path) refl is) }
 
   -- a path that is given its row
-  module _ (new : Held) (row : Standing) (is : row ≡ standing_at world path) (put : (other : List ℕ) → new other ≡ (if bytes_eq path other then Some row else held other)) where
-    right-at : (other : List ℕ) (same : Bool) → bytes_eq path other ≡ same → (found : Standing) → new other ≡ Some found → found ≡ standing_at world other
+  module _ (new : Held) (row : PathOutcome) (is : row ≡ outcome_at world path) (put : (other : List ℕ) → new other ≡ (if bytes_eq path other then Some row else held other)) where
+    right-at : (other : List ℕ) (same : Bool) → bytes_eq path other ≡ same → (found : PathOutcome) → new other ≡ Some found → found ≡ outcome_at world other
     right-at other true same found e =
         let here : new other ≡ Some row = put other ∙ ap (λ b. if b then Some row else held other) same in
         let the_row : found ≡ row = cc in
-        the_row ∙ is ∙ ap (standing_at world) ((bytes_eq-Decides path other).0 same)
+        the_row ∙ is ∙ ap (outcome_at world) ((bytes_eq-Decides path other).0 same)
     right-at other false same found e = right other found (sym (put other ∙ ap (λ b. if b then Some row else held other) same) ∙ e)
 
-    stay-at : (other : List ℕ) (same : Bool) → bytes_eq path other ≡ same → (found : Standing) → held other ≡ Some found → new other ≡ Some found
+    stay-at : (other : List ℕ) (same : Bool) → bytes_eq path other ≡ same → (found : PathOutcome) → held other ≡ Some found → new other ≡ Some found
     stay-at other true same found e =
         put other ∙ ap (λ b. if b then Some row else held other) same
-        ∙ ap Some (is ∙ ap (standing_at world) ((bytes_eq-Decides path other).0 same) ∙ sym (right other found e))
+        ∙ ap Some (is ∙ ap (outcome_at world) ((bytes_eq-Decides path other).0 same) ∙ sym (right other found e))
     stay-at other false same found e = put other ∙ ap (λ b. if b then Some row else held other) same ∙ e
 
-    put-at : (other : List ℕ) (same : Bool) → bytes_eq path other ≡ same → (if same then Some row else held other) ≡ (if same || false then Some (standing_at world other) else held other)
-    put-at other true same = ap Some (is ∙ ap (standing_at world) ((bytes_eq-Decides path other).0 same))
+    put-at : (other : List ℕ) (same : Bool) → bytes_eq path other ≡ same → (if same then Some row else held other) ≡ (if same || false then Some (outcome_at world other) else held other)
+    put-at other true same = ap Some (is ∙ ap (outcome_at world) ((bytes_eq-Decides path other).0 same))
     put-at other false same = refl
 
     pub AreRight-put : AreRight world new

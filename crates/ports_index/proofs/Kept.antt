@@ -1,19 +1,19 @@
 -- What work leaves of the files, one piece after another.
 use Rattle.std.proofs.Common.{◌≡◌, ◌∙◌, ◌+◌, ◌-◌, ◌^◌, min, ap, refl, inl, inr, Option, Some, None}
-use Rattle.mk_paths.specs.Shelf.{Shelf}
+use Rattle.mk_paths.specs.FilesView.{FilesView}
 use Rattle.mk_paths.specs.declared.asking.FilesFault.{FilesFault}
 use Rattle.mk_paths.specs.declared.asking.FilesFault.TheVariants as faults
 use Rattle.ports_index.specs.Keeping.{Counts, Keeps}
 
-counts : (fault : Option FilesFault) (first middle last : Shelf) → middle.failures ≡ first.failures → Counts fault middle last → Counts fault first last
+counts : (fault : Option FilesFault) (first middle last : FilesView) → middle.failures ≡ first.failures → Counts fault middle last → Counts fault first last
 counts None first middle last same more = more ∙ same
 counts (Some faults.Store) first middle last same more = more ∙ ap (λ n. min (n + 1) (2 ^ 64 - 1)) same
 counts (Some faults.Memory) first middle last same more =
     elim more [ inl e ↦ inl (e ∙ same) | inr e ↦ inr (e ∙ ap (λ n. min (n + 1) (2 ^ 64 - 1)) same) ]
 
 -- work that went well, and then more
-pub Keeps-on : (fault : Option FilesFault) (first middle last : Shelf) → Keeps None first middle → Keeps fault middle last → Keeps fault first last
+pub Keeps-on : (fault : Option FilesFault) (first middle last : FilesView) → Keeps None first middle → Keeps fault middle last → Keeps fault first last
 Keeps-on fault first middle last one more = record { files = more.files ∙ one.files; failures = counts fault first middle last one.failures more.failures }
 
-pub Keeps-nothing : (world : Shelf) → Keeps None world world
+pub Keeps-nothing : (world : FilesView) → Keeps None world world
 Keeps-nothing world = record { files = refl; failures = refl }

@@ -1,46 +1,46 @@
 -- Where paths have their rows, what rows say of them is what the world says.
 use Rattle.std.proofs.Common.{◌≡◌, ◌∙◌, ap, refl, ℕ, List, [], ◌∷◌, ◌++◌, map, Option, Some, None}
 use Rattle.std.specs.List.{filter_map, flat_map, cons_option}
-use Rattle.text_order.specs.Order.{in_order}
+use Rattle.text_parts.specs.Order.{in_order}
 use Rattle.mk_paths.specs.World.{World}
 use Rattle.port_deps.specs.Edges.{edge_of}
-use Rattle.ports_index.specs.Standings.{Standing, standing_at}
+use Rattle.ports_index.specs.PathOutcomes.{PathOutcome, outcome_at}
 use Rattle.ports_index.specs.Naming.{named_in, named_at, listed_from}
 use Rattle.ports_index.specs.Depending.{RootItemValue, state_of, root_with, root_at, roots_among, items_in, items_at, items_among, target_of, found_of, found_at, edge_at}
 use Rattle.ports_index.proofs.Filled.{AreKnown}
 use Rattle.ports_index.specs.Seen.{known_row, known_in}
 
-module _ (world : World) (held : List ℕ → Option Standing) where
-  named-known : (paths : List (List ℕ)) → AreKnown world held paths → flat_map (named_at (known_in held)) paths ≡ flat_map (named_at (standing_at world)) paths
+module _ (world : World) (held : List ℕ → Option PathOutcome) where
+  named-known : (paths : List (List ℕ)) → AreKnown world held paths → flat_map (named_at (known_in held)) paths ≡ flat_map (named_at (outcome_at world)) paths
   named-known [] known = refl
   named-known (path ∷ paths) known =
       ap (λ row. named_in path (known_row row) ++ flat_map (named_at (known_in held)) paths) known.0
-      ∙ ap (λ more. named_at (standing_at world) path ++ more) (named-known paths known.1)
+      ∙ ap (λ more. named_at (outcome_at world) path ++ more) (named-known paths known.1)
 
-  pub listed-known : (paths : List (List ℕ)) → AreKnown world held paths → listed_from (known_in held) paths ≡ listed_from (standing_at world) paths
+  pub listed-known : (paths : List (List ℕ)) → AreKnown world held paths → listed_from (known_in held) paths ≡ listed_from (outcome_at world) paths
   listed-known paths known = ap (λ named. in_order (named ++ paths)) (named-known paths known)
 
-  pub items-known : (paths : List (List ℕ)) → AreKnown world held paths → items_among (known_in held) paths ≡ items_among (standing_at world) paths
+  pub items-known : (paths : List (List ℕ)) → AreKnown world held paths → items_among (known_in held) paths ≡ items_among (outcome_at world) paths
   items-known [] known = refl
   items-known (path ∷ paths) known =
       ap (λ row. items_in path (known_row row) ++ items_among (known_in held) paths) known.0
-      ∙ ap (λ more. items_at (standing_at world) path ++ more) (items-known paths known.1)
+      ∙ ap (λ more. items_at (outcome_at world) path ++ more) (items-known paths known.1)
 
-  pub roots-known : (paths : List (List ℕ)) → AreKnown world held paths → roots_among (known_in held) paths ≡ roots_among (standing_at world) paths
+  pub roots-known : (paths : List (List ℕ)) → AreKnown world held paths → roots_among (known_in held) paths ≡ roots_among (outcome_at world) paths
   roots-known [] known = refl
   roots-known (path ∷ paths) known =
       ap (λ row. cons_option (root_with path (state_of (known_row row))) (roots_among (known_in held) paths)) known.0
-      ∙ ap (λ more. cons_option (root_at (standing_at world) path) more) (roots-known paths known.1)
+      ∙ ap (λ more. cons_option (root_at (outcome_at world) path) more) (roots-known paths known.1)
 
   found-known : (target : Option (List ℕ)) (more : List (List ℕ)) → AreKnown world held (cons_option target more)
-      → (found_at (known_in held) target ≡ found_at (standing_at world) target) × AreKnown world held more
+      → (found_at (known_in held) target ≡ found_at (outcome_at world) target) × AreKnown world held more
   found-known None more known = (refl, known)
   found-known (Some path) more known = (ap (λ row. found_of (known_row row)) known.0, known.1)
 
   pub edges-known : (items : List RootItemValue) → AreKnown world held (filter_map target_of items)
-      → map (edge_at (known_in held)) items ≡ map (edge_at (standing_at world)) items
+      → map (edge_at (known_in held)) items ≡ map (edge_at (outcome_at world)) items
   edges-known [] known = refl
   edges-known (rooted ∷ items) known =
       let found = found-known (target_of rooted) (filter_map target_of items) known in
       ap (λ found. record { root = rooted.root; edge = edge_of rooted.item found } ∷ map (edge_at (known_in held)) items) found.0
-      ∙ ap (λ more. edge_at (standing_at world) rooted ∷ more) (edges-known items found.1)
+      ∙ ap (λ more. edge_at (outcome_at world) rooted ∷ more) (edges-known items found.1)

@@ -10,7 +10,7 @@ use Rattle.std.specs.Ordering.{nat_cmp, is_eq}
 use Rattle.std.specs.Str.{bytes_eq}
 use Rattle.std.specs.declared.cmp.Ordering.TheVariants.{Less}
 use Rattle.port_deps.specs.Lists.{RootValue}
-use Rattle.ports_index.specs.Standings.{Standing}
+use Rattle.ports_index.specs.PathOutcomes.{PathOutcome}
 use Rattle.ports_index.specs.Depending.{state_of, root_with, root_at, roots_among}
 use Rattle.ports_index.specs.Filling.{IsListed}
 use Rattle.ports_index.specs.Seen.{known_row, known_in}
@@ -73,7 +73,7 @@ taken-step items i item path old new below is same left =
     ∙ ap (λ roots. option_to_list (root_with path (state_of (known_row (old path)))) ++ roots)
     (taken-agree (without path old) new rest (agree-all (without path old) new rest (λ other. sym (left other))))
 
-pub taken-next : (items : List (String Global)) (i : ℕ) (item : String Global) (one other : List ℕ) (old new : Held) (row : Option Standing) (found next all : List RootValue) → i < length items → item ≡ get_or items i item
+pub taken-next : (items : List (String Global)) (i : ℕ) (item : String Global) (one other : List ℕ) (old new : Held) (row : Option PathOutcome) (found next all : List RootValue) → i < length items → item ≡ get_or items i item
     → one ≡ string_bytes item → other ≡ string_bytes item → row ≡ old one → ((path : List ℕ) → new path ≡ without one old path)
     → next ≡ found ++ option_to_list (root_with other (state_of (known_row row))) → found ++ taken old (map string_bytes (drop i items)) ≡ all
     → next ++ taken new (map string_bytes (drop (i + 1) items)) ≡ all

@@ -1,4 +1,4 @@
--- The ports at listed paths, and their dependencies, by what stands at each path.
+-- The ports at listed paths, and their dependencies, by what each path leads to.
 use Rattle.std.specs.Prelude.{ℕ, List, [], Option, Some, None, option_map, map, Result, Ok, Err}
 use Rattle.std.specs.List.{filter_map, flat_map}
 use Rattle.mk_base.specs.FaultAt.{FaultAt}
@@ -9,10 +9,10 @@ use Rattle.port_deps.specs.Statuses.{FoundValue}
 use Rattle.port_deps.specs.Statuses as found
 use Rattle.port_deps.specs.Edges.{edge_of}
 use Rattle.port_deps.specs.Lists.{RootValue, RootEdgeValue}
-use Rattle.ports_index.specs.Standings.{Standing, Absent, Faulty, Port, Lists, BadList, Other}
+use Rattle.ports_index.specs.PathOutcomes.{PathOutcome, Absent, Faulty, Port, Lists, BadList, Other}
 
--- the root that stands at a path: a port, or a fault, that of SUBDIR too
-abbrev pub state_of : Standing → Option (Result PortValue FaultAt)
+-- the root at a path, by what the path leads to: a port, or a fault, that of SUBDIR too
+abbrev pub state_of : PathOutcome → Option (Result PortValue FaultAt)
 state_of Absent = None
 state_of (Faulty fault) = Some (Err fault)
 state_of (Port port) = Some (Ok port)
@@ -25,10 +25,10 @@ root_with path None = None
 root_with path (Some state) = Some (record { path = path; state = state })
 
 -- the root at a path, if there is one
-abbrev pub root_at : (List ℕ → Standing) → List ℕ → Option RootValue
+abbrev pub root_at : (List ℕ → PathOutcome) → List ℕ → Option RootValue
 root_at stands path = root_with path (state_of (stands path))
 
-abbrev pub roots_among : (List ℕ → Standing) → List (List ℕ) → List RootValue
+abbrev pub roots_among : (List ℕ → PathOutcome) → List (List ℕ) → List RootValue
 roots_among stands paths = filter_map (root_at stands) paths
 
 -- an item of the port at a path
@@ -39,26 +39,26 @@ pub record RootItemValue : Type 0 where
 abbrev pub item_at : List ℕ → ItemValue → RootItemValue
 item_at root item = record { root = root; item = item }
 
--- the items of what stands at a path: those of a port
-abbrev pub items_in : List ℕ → Standing → List RootItemValue
+-- the items at a path, by what the path leads to: those of a port
+abbrev pub items_in : List ℕ → PathOutcome → List RootItemValue
 items_in path (Port port) = map (item_at path) (map item_of port.depends)
-items_in path standing = []
+items_in path outcome = []
 
-abbrev pub items_at : (List ℕ → Standing) → List ℕ → List RootItemValue
+abbrev pub items_at : (List ℕ → PathOutcome) → List ℕ → List RootItemValue
 items_at stands path = items_in path (stands path)
 
-abbrev pub items_among : (List ℕ → Standing) → List (List ℕ) → List RootItemValue
+abbrev pub items_among : (List ℕ → PathOutcome) → List (List ℕ) → List RootItemValue
 items_among stands paths = flat_map (items_at stands) paths
 
--- the path that an item names, without its subpackage, if it can be read
+-- the path that an item names, without its subpackage, if the item can be read
 abbrev pub target_in : ItemValue → Option (List ℕ)
 target_in item = option_map (λ (wanted : WantedValue). port_path wanted.path) item.wanted
 
 abbrev pub target_of : RootItemValue → Option (List ℕ)
 target_of rooted = target_in rooted.item
 
--- what an item finds that names the path: a list is no port, whatever its SUBDIR does
-abbrev pub found_of : Standing → FoundValue
+-- what an item finds if its path leads to this: a list is no port, even if its SUBDIR has a fault
+abbrev pub found_of : PathOutcome → FoundValue
 found_of Absent = found.NotThere
 found_of (Faulty fault) = found.Faulted fault.kind
 found_of (Port port) = found.Port port
@@ -66,13 +66,13 @@ found_of (Lists words) = found.NotPort
 found_of (BadList fault) = found.NotPort
 found_of Other = found.NotPort
 
-abbrev pub found_at : (List ℕ → Standing) → Option (List ℕ) → FoundValue
+abbrev pub found_at : (List ℕ → PathOutcome) → Option (List ℕ) → FoundValue
 found_at stands None = found.NotThere
 found_at stands (Some path) = found_of (stands path)
 
--- the dependency that an item is: its status is by what stands where its path says
-abbrev pub edge_at : (List ℕ → Standing) → RootItemValue → RootEdgeValue
+-- the dependency that an item is: its status depends on what the item's path leads to
+abbrev pub edge_at : (List ℕ → PathOutcome) → RootItemValue → RootEdgeValue
 edge_at stands rooted = record { root = rooted.root; edge = edge_of rooted.item (found_at stands (target_of rooted)) }
 
-abbrev pub edges_among : (List ℕ → Standing) → List (List ℕ) → List RootEdgeValue
+abbrev pub edges_among : (List ℕ → PathOutcome) → List (List ℕ) → List RootEdgeValue
 edges_among stands paths = map (edge_at stands) (items_among stands paths)

@@ -1,5 +1,5 @@
 pub mod Keeping
-pub mod Standings
+pub mod PathOutcomes
 pub mod Naming
 pub mod Depending
 pub mod Index

@@ -1,8 +1,8 @@
 -- What the types of the code are seen as.
 use Rattle.std.specs.Prelude.{ℕ, List, map, Option, Some, None, option_map, string_bytes}
 use Rattle.std.specs.BTreeMap.{get_by_text}
-use Rattle.ports_index.specs.Standings.{Standing}
-use Rattle.ports_index.specs.Standings as seen
+use Rattle.ports_index.specs.PathOutcomes.{PathOutcome}
+use Rattle.ports_index.specs.PathOutcomes as seen
 use Rattle.ports_index.specs.Depending.{RootItemValue}
 use Rattle.ports_index.specs.declared.evaluating.Row.{Row}
 use Rattle.ports_index.specs.declared.evaluating.Row.TheVariants.{Absent, Faulty, Port, Lists, BadList, Other}
@@ -10,7 +10,7 @@ use Rattle.ports_index.specs.declared.keeping.MemoryRows.{MemoryRows}
 use Rattle.ports_index.specs.declared.depending.RootItem.{RootItem}
 
 -- a row
-abbrev pub row_seen : Row → Standing
+abbrev pub row_seen : Row → PathOutcome
 row_seen Absent = seen.Absent
 row_seen (Faulty fault) = seen.Faulty fault
 row_seen (Port port) = seen.Port port
@@ -19,16 +19,16 @@ row_seen (BadList fault) = seen.BadList fault
 row_seen Other = seen.Other
 
 -- what rows in memory hold
-abbrev pub held_in : MemoryRows → List ℕ → Option Standing
+abbrev pub held_in : MemoryRows → List ℕ → Option PathOutcome
 held_in rows path = option_map row_seen (get_by_text rows.rows path)
 
--- what stands at a path without a row isn't known, and counts as nothing
-abbrev pub known_row : Option Standing → Standing
+-- what a path without a row leads to isn't known, and counts as nothing
+abbrev pub known_row : Option PathOutcome → PathOutcome
 known_row None = seen.Absent
 known_row (Some row) = row
 
--- what stands at each path, as far as rows say it
-abbrev pub known_in : (List ℕ → Option Standing) → List ℕ → Standing
+-- what each path leads to, as far as rows say it
+abbrev pub known_in : (List ℕ → Option PathOutcome) → List ℕ → PathOutcome
 known_in held path = known_row (held path)
 
 -- an item of a port

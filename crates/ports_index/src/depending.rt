@@ -21,13 +21,14 @@ pub(crate) struct RootItem {
     item: Item,
 }
 
-/// The items of the ports at these paths.
+/// The items of the ports at these paths, in the order of the paths. It fails only if memory runs out.
 pub(crate) fn items_of_all<R: Rows>(
     alloc: Global,
     paths: &[String],
     rows: &R,
 ) -> Result<Vec<RootItem>, AllocError>
-    ensures { IfOk result (λ found. map item_seen found.items ≡ depending.items_among (known_in (R.held rows.now)) (map string_bytes paths.now)) }
+    ensures { IfOk result (λ found. map item_seen found.items
+        ≡ depending.items_among (known_in (R.held rows.now)) (map string_bytes paths.now)) }
 {
     let mut found = Vec::new(alloc);
     for path in paths {
@@ -36,14 +37,16 @@ pub(crate) fn items_of_all<R: Rows>(
     Ok(found)
 }
 
-// Adds the items of what stands at a path.
+// Adds the items of the port in this row of a path. Without a row, or if the row is no port, it adds none.
 fn add_items(
     alloc: Global,
     found: &mut Vec<RootItem>,
     path: &str,
     row: Option<&Row>,
 ) -> Result<(), AllocError>
-    ensures { OnOk result (map item_seen found.new.items ≡ map item_seen found.old.items ++ depending.items_in path.now (known_row (option_map (λ row. row_seen row.now) row.entry))) }
+    ensures { OnOk result (map item_seen found.new.items ≡ map item_seen found.old.items
+        ++ depending.items_in path.now
+        (known_row (option_map (λ row. row_seen row.now) row.entry))) }
 {
     match row {
         Some(Row::Port(port)) => put_items(alloc, found, path, items(alloc, port)?),
@@ -58,7 +61,8 @@ fn put_items(
     path: &str,
     items: Vec<Item>,
 ) -> Result<(), AllocError>
-    ensures { OnOk result (map item_seen found.new.items ≡ map item_seen found.old.items ++ map (depending.item_at path.now) items.items) }
+    ensures { OnOk result (map item_seen found.new.items ≡ map item_seen found.old.items
+        ++ map (depending.item_at path.now) items.items) }
 {
     for item in items {
         found.push(RootItem {
@@ -69,9 +73,12 @@ fn put_items(
     Ok(())
 }
 
-/// The paths that items name.
+/// The paths that items name, without subpackages, in the order of the items. An
+/// item that can't be read names
+/// none. It fails only if memory runs out.
 pub(crate) fn targets_of(alloc: Global, items: &[RootItem]) -> Result<Vec<String>, AllocError>
-    ensures { IfOk result (λ found. map string_bytes found.items ≡ filter_map depending.target_of (map item_seen items.now)) }
+    ensures { IfOk result (λ found. map string_bytes found.items
+        ≡ filter_map depending.target_of (map item_seen items.now)) }
 {
     let mut found = Vec::new(alloc);
     for rooted in items {
@@ -80,7 +87,7 @@ pub(crate) fn targets_of(alloc: Global, items: &[RootItem]) -> Result<Vec<String
     Ok(found)
 }
 
-// The path that an item names, without a subpackage, if it can be read.
+// The path that an item names, without a subpackage, if the item can be read.
 fn target_of(alloc: Global, item: &Item) -> Result<Option<String>, AllocError>
     ensures { IfOk result (λ path. option_map string_bytes path ≡ depending.target_in item.now) }
 {
@@ -90,13 +97,15 @@ fn target_of(alloc: Global, item: &Item) -> Result<Option<String>, AllocError>
     }
 }
 
-/// The dependencies that items are, by what stands where their paths say.
+/// The dependencies that items are, in their order. The status of each depends on the row of the path that
+/// the item names. It fails only if memory runs out.
 pub(crate) fn edges_of_all<R: Rows>(
     alloc: Global,
     items: Vec<RootItem>,
     rows: &R,
 ) -> Result<Vec<RootEdge>, AllocError>
-    ensures { IfOk result (λ found. found.items ≡ map (depending.edge_at (known_in (R.held rows.now))) (map item_seen items.items)) }
+    ensures { IfOk result (λ found. found.items
+        ≡ map (depending.edge_at (known_in (R.held rows.now))) (map item_seen items.items)) }
 {
     let mut found = Vec::new(alloc);
     for rooted in items {
@@ -107,7 +116,8 @@ pub(crate) fn edges_of_all<R: Rows>(
 
 // The dependency that an item is.
 fn edge_of<R: Rows>(alloc: Global, rooted: RootItem, rows: &R) -> Result<RootEdge, AllocError>
-    ensures { IfOk result (λ edge. edge ≡ depending.edge_at (known_in (R.held rows.now)) (item_seen rooted)) }
+    ensures { IfOk result (λ edge. edge
+        ≡ depending.edge_at (known_in (R.held rows.now)) (item_seen rooted)) }
 {
     let found = match target_of(alloc, &rooted.item)? {
         Some(path) => found_as(rows.get(path.as_str())),
@@ -117,9 +127,10 @@ fn edge_of<R: Rows>(alloc: Global, rooted: RootItem, rows: &R) -> Result<RootEdg
     Ok(RootEdge::new(rooted.root, edge))
 }
 
-// What a row is for an item whose path it is.
+// What an item finds if the path that it names has this row, or no row.
 fn found_as(row: Option<&Row>) -> Found<'_>
-    ensures { found_seen result ≡ depending.found_of (known_row (option_map (λ row. row_seen row.now) row.entry)) }
+    ensures { found_seen result
+        ≡ depending.found_of (known_row (option_map (λ row. row_seen row.now) row.entry)) }
 {
     match row {
         Some(Row::Port(port)) => Found::Port(port),
@@ -129,14 +140,16 @@ fn found_as(row: Option<&Row>) -> Found<'_>
     }
 }
 
-/// The ports at these paths, and the faults there. Their rows are taken out.
+/// The roots at these paths, in their order: the ports, and the faults there. The rows of the paths are
+/// taken out. It fails only if memory runs out.
 pub(crate) fn roots_of_all<R: Rows>(
     alloc: Global,
     paths: &[String],
     rows: &mut R,
 ) -> Result<Vec<Root>, AllocError>
     requires { IsListed (map string_bytes paths.now) }
-    ensures { IfOk result (λ found. found.items ≡ depending.roots_among (known_in (R.held rows.old)) (map string_bytes paths.now)) }
+    ensures { IfOk result (λ found. found.items
+        ≡ depending.roots_among (known_in (R.held rows.old)) (map string_bytes paths.now)) }
 {
     let mut found = Vec::new(alloc);
     for path in paths {
@@ -152,7 +165,9 @@ fn add_root(
     path: &str,
     row: Option<Row>,
 ) -> Result<(), AllocError>
-    ensures { OnOk result (found.new.items ≡ found.old.items ++ option_to_list (depending.root_with path.now (depending.state_of (known_row (option_map row_seen row))))) }
+    ensures { OnOk result (found.new.items ≡ found.old.items
+        ++ option_to_list (depending.root_with path.now
+        (depending.state_of (known_row (option_map row_seen row))))) }
 {
     if let Some(state) = state_of(row) {
         found.push(Root::new(String::from_str(alloc, path)?, state))?;
@@ -160,7 +175,7 @@ fn add_root(
     Ok(())
 }
 
-// What a row is as a root, if it is one.
+// The state of the root that a row is, if it is one: a port, or a fault.
 fn state_of(row: Option<Row>) -> Option<Result<PortRecord, Fault>>
     ensures { result ≡ depending.state_of (known_row (option_map row_seen row)) }
 {

@@ -1,4 +1,4 @@
-//! What stands at a path.
+//! What a path of a ports tree leads to.
 ghost use Rattle.std.specs.Prelude.{◌≡◌, IfOk, codes};
 ghost use Rattle.std.specs.Result.{result_err};
 ghost use Rattle.mk_eval.specs.Meaning.{means, value_of};
@@ -6,7 +6,7 @@ ghost use Rattle.port_rules.specs.Records.{record_of};
 ghost use Rattle.mk_eval.specs.Views.{flavors_in};
 ghost use Rattle.mk_paths.specs.Place.{place};
 ghost use Rattle.ports_index.specs.Keeping.{Keeps};
-ghost use Rattle.ports_index.specs.Standings as standings;
+ghost use Rattle.ports_index.specs.PathOutcomes as outcomes;
 ghost use Rattle.ports_index.specs.Seen.{row_seen};
 
 use mk_base::{Fault, Stop};
@@ -17,12 +17,12 @@ use pkg_path::PkgPath;
 use port_rules::{PortRecord, record, words_in};
 use std::alloc::{AllocError, Global};
 
-/// What a makefile describes that a path names.
+/// What a path leads to: what the makefile that it names describes.
 #[derive(Debug, Drop)]
 pub enum Row {
     /// There is no such makefile.
     Absent,
-    /// Its evaluation, or the record of its port, has this fault.
+    /// The makefile's evaluation, or the record of its port, has this fault.
     Faulty(Fault),
     /// This port.
     Port(PortRecord),
@@ -30,23 +30,25 @@ pub enum Row {
     Lists(Vec<String>),
     /// A list of ports' directories whose SUBDIR has this fault.
     BadList(Fault),
-    /// Neither; or a list of directories, evaluated with flavors.
+    /// Neither a port nor a list; or a list of directories, evaluated with flavors.
     Other,
 }
 
-/// What stands at a path in its canonical form, without a subpackage; `.` is the trees' own directory.
+/// What a path leads to in these files under these settings. The path is in its canonical form, without a
+/// subpackage; `.` is the trees' own directory.
 ///
-/// The makefile that the path names is evaluated with the flavors of the path. A text that is no path has
-/// none. The errors are those of the files, and want of memory.
-#[tactic(auto, unfolding(crate::specs::Standings::standing_at))]
+/// The makefile that the path names is evaluated with the flavors of the path. If the text is no path, it
+/// leads to nothing: `Row::Absent`. It fails if the files fail, or if memory runs out.
+#[tactic(auto, unfolding(crate::specs::PathOutcomes::outcome_at))]
 pub fn evaluate_path<F: Files>(
     alloc: Global,
     files: &mut F,
     settings: &Settings,
     path: &str,
 ) -> Result<Row, FilesFault>
-    ensures row { IfOk result (λ row. row_seen row ≡ standings.standing_at ((F.shelf files.old).files, settings.now) path.now) }
-    ensures keeps { Keeps (result_err result) (F.shelf files.old) (F.shelf files.new) }
+    ensures row { IfOk result (λ row. row_seen row
+        ≡ outcomes.outcome_at ((F.view files.old).files, settings.now) path.now) }
+    ensures keeps { Keeps (result_err result) (F.view files.old) (F.view files.new) }
 {
     if path == "." {
         return row_in(alloc, files, settings, path, None);
@@ -57,7 +59,7 @@ pub fn evaluate_path<F: Files>(
     }
 }
 
-// What stands in a directory, evaluated with these flavors or with none given.
+// What a directory leads to, evaluated with these flavors or with none given.
 fn row_in<F: Files>(
     alloc: Global,
     files: &mut F,
@@ -65,8 +67,10 @@ fn row_in<F: Files>(
     directory: &str,
     flavors: Option<&[String]>,
 ) -> Result<Row, FilesFault>
-    ensures row { IfOk result (λ row. row_seen row ≡ standings.standing_in ((F.shelf files.old).files, settings.now) directory.now (flavors_in flavors.entry)) }
-    ensures keeps { Keeps (result_err result) (F.shelf files.old) (F.shelf files.new) }
+    ensures row { IfOk result (λ row. row_seen row
+        ≡ outcomes.outcome_in ((F.view files.old).files, settings.now) directory.now
+        (flavors_in flavors.entry)) }
+    ensures keeps { Keeps (result_err result) (F.view files.old) (F.view files.new) }
 {
     match find(alloc, files, &settings.path, directory)? {
         Some(makefile) => row_of(alloc, files, settings, &makefile, flavors),
@@ -82,8 +86,10 @@ fn row_of<F: Files>(
     makefile: &Name,
     flavors: Option<&[String]>,
 ) -> Result<Row, FilesFault>
-    ensures row { IfOk result (λ row. row_seen row ≡ standings.described makefile.now (flavors_in flavors.entry) (means ((F.shelf files.old).files, settings.now) makefile.now (flavors_in flavors.entry))) }
-    ensures keeps { Keeps (result_err result) (F.shelf files.old) (F.shelf files.new) }
+    ensures row { IfOk result (λ row. row_seen row
+        ≡ outcomes.outcome_of_evaluation makefile.now (flavors_in flavors.entry)
+        (means ((F.view files.old).files, settings.now) makefile.now (flavors_in flavors.entry))) }
+    ensures keeps { Keeps (result_err result) (F.view files.old) (F.view files.new) }
 {
     match evaluate(alloc, files, settings, makefile, flavors) {
         Ok(evaluated) => Ok(row_after(alloc, &evaluated, makefile, flavors)?),
@@ -100,7 +106,8 @@ fn row_after(
     makefile: &Name,
     flavors: Option<&[String]>,
 ) -> Result<Row, AllocError>
-    ensures { IfOk result (λ row. row_seen row ≡ standings.standing_after makefile.now (flavors_in flavors.entry) evaluated.now) }
+    ensures { IfOk result (λ row. row_seen row
+        ≡ outcomes.outcome_after makefile.now (flavors_in flavors.entry) evaluated.now) }
 {
     match evaluated.kind {
         Kind::Port => port_row(alloc, evaluated, makefile),
@@ -114,7 +121,8 @@ fn row_after(
 
 // A port, or the fault of its record.
 fn port_row(alloc: Global, evaluated: &Evaluated, makefile: &Name) -> Result<Row, AllocError>
-    ensures { IfOk result (λ row. row_seen row ≡ standings.port_standing (record_of evaluated.now.env makefile.now)) }
+    ensures { IfOk result (λ row. row_seen row
+        ≡ outcomes.port_outcome (record_of evaluated.now.env makefile.now)) }
 {
     match record(alloc, evaluated, makefile) {
         Ok(recorded) => Ok(Row::Port(recorded.port)),
@@ -126,7 +134,8 @@ fn port_row(alloc: Global, evaluated: &Evaluated, makefile: &Name) -> Result<Row
 
 // A list of directories, or the fault of its SUBDIR.
 fn list_row(alloc: Global, evaluated: &Evaluated, makefile: &Name) -> Result<Row, AllocError>
-    ensures { IfOk result (λ row. row_seen row ≡ standings.list_standing (value_of evaluated.now.env makefile.now (codes "SUBDIR"))) }
+    ensures { IfOk result (λ row. row_seen row
+        ≡ outcomes.list_outcome (value_of evaluated.now.env makefile.now (codes "SUBDIR"))) }
 {
     match value(alloc, evaluated, makefile, "SUBDIR") {
         Ok(Some(found)) => Ok(Row::Lists(words_in(alloc, found.text())?)),

@@ -1,4 +1,4 @@
-//! Finding what stands at paths that have no row yet.
+//! Finding what paths lead to, if they have no row yet.
 ghost use Rattle.std.specs.Prelude.{◌∷◌, [], map, string_bytes, OnOk};
 ghost use Rattle.std.specs.Result.{result_err};
 ghost use Rattle.ports_index.specs.Filling.{AreRight, Stay, Fills};
@@ -10,10 +10,10 @@ use mk_files::Files;
 use mk_paths::{FilesFault, Settings};
 use std::alloc::Global;
 
-/// Gives each of these paths a row that has none yet: what stands there. Where all rows were right before,
-/// so they are then; those that were there stay, and no other path gets one.
+/// Gives a row to each of these paths that has none yet: what the path leads to. If all rows were right
+/// before, they are right after it. The rows that were there stay, and no other path gets one.
 ///
-/// The errors are those of the files, and want of memory; the rows that were made until then stay.
+/// It fails if the files fail, or if memory runs out. The rows that were made until then stay.
 pub fn fill<F: Files, R: Rows>(
     alloc: Global,
     files: &mut F,
@@ -21,11 +21,12 @@ pub fn fill<F: Files, R: Rows>(
     paths: &[String],
     rows: &mut R,
 ) -> Result<(), FilesFault>
-    requires { AreRight ((F.shelf files.old).files, settings.now) (R.held rows.old) }
-    ensures right { AreRight ((F.shelf files.old).files, settings.now) (R.held rows.new) }
+    requires { AreRight ((F.view files.old).files, settings.now) (R.held rows.old) }
+    ensures right { AreRight ((F.view files.old).files, settings.now) (R.held rows.new) }
     ensures stay { Stay (R.held rows.old) (R.held rows.new) }
-    ensures fills { OnOk result (Fills ((F.shelf files.old).files, settings.now) (map string_bytes paths.now) (R.held rows.old) (R.held rows.new)) }
-    ensures keeps { Keeps (result_err result) (F.shelf files.old) (F.shelf files.new) }
+    ensures fills { OnOk result (Fills ((F.view files.old).files, settings.now)
+        (map string_bytes paths.now) (R.held rows.old) (R.held rows.new)) }
+    ensures keeps { Keeps (result_err result) (F.view files.old) (F.view files.new) }
 {
     for path in paths {
         fill_one(alloc, files, settings, path, rows)?;
@@ -41,11 +42,12 @@ pub(crate) fn fill_one<F: Files, R: Rows>(
     path: &str,
     rows: &mut R,
 ) -> Result<(), FilesFault>
-    requires { AreRight ((F.shelf files.old).files, settings.now) (R.held rows.old) }
-    ensures right { AreRight ((F.shelf files.old).files, settings.now) (R.held rows.new) }
+    requires { AreRight ((F.view files.old).files, settings.now) (R.held rows.old) }
+    ensures right { AreRight ((F.view files.old).files, settings.now) (R.held rows.new) }
     ensures stay { Stay (R.held rows.old) (R.held rows.new) }
-    ensures fills { OnOk result (Fills ((F.shelf files.old).files, settings.now) (path.now ∷ []) (R.held rows.old) (R.held rows.new)) }
-    ensures keeps { Keeps (result_err result) (F.shelf files.old) (F.shelf files.new) }
+    ensures fills { OnOk result (Fills ((F.view files.old).files, settings.now) (path.now ∷ [])
+        (R.held rows.old) (R.held rows.new)) }
+    ensures keeps { Keeps (result_err result) (F.view files.old) (F.view files.new) }
 {
     if rows.get(path).is_some() {
         return Ok(());

@@ -3,7 +3,7 @@ ghost use Rattle.std.specs.Prelude.{◌≡◌, map, string_bytes, IfOk, OnOk};
 ghost use Rattle.std.specs.Result.{result_err};
 ghost use Rattle.ports_index.specs.Filling.{AreRight, Stay, Fills};
 ghost use Rattle.ports_index.specs.Depending.{items_among};
-ghost use Rattle.ports_index.specs.Standings.{standing_at};
+ghost use Rattle.ports_index.specs.PathOutcomes.{outcome_at};
 ghost use Rattle.ports_index.specs.Index as indexed;
 ghost use Rattle.ports_index.specs.Keeping.{Keeps};
 ghost use Rattle.ports_index.specs.Seen.{item_seen};
@@ -20,29 +20,35 @@ use std::alloc::Global;
 /// The ports of a ports tree, and their dependencies.
 #[derive(Debug, Drop)]
 pub struct Index {
-    /// The ports, and the faults met where they should be, in the order of their canonical paths, each once.
+    /// The ports, and the faults met where ports should be, in the order of their
+    /// canonical paths, each once.
     pub roots: Vec<Root>,
-    /// The dependencies of all ports, in that order and in the order of each port's items.
+    /// The dependencies of all ports, in the order of the ports, and those of each port
+    /// in the order of its items.
     pub edges: Vec<RootEdge>,
 }
 
 /// The index of these files under these settings.
 ///
-/// Each directory that a path without flavors and subpackage names, and the trees' own, shown as `.`, whose
-/// makefile the search path finds, is evaluated without flavors. A port is a root; of a list, each word of
-/// SUBDIR with a comma in it is one, where it is a path below the list's directory that leads to a port; a
-/// fault makes the directory, or that word, a root with the fault, and a fault of SUBDIR its directory.
+/// Each directory that a path without flavors and subpackage names is evaluated without flavors, if the
+/// search path finds its makefile. So is the trees' own directory, shown as `.`.
 ///
-/// Each makefile is evaluated once for each choice of flavors. The errors are those of the files, and want
-/// of memory.
+/// If the makefile describes a port, the directory is a root. If it is a list, each word of its SUBDIR that
+/// has a comma is a root, if it is a path below the list's directory that leads to a port. A fault makes
+/// the directory, or that word, a root with the fault. A fault of SUBDIR makes its directory one.
+///
+/// Each makefile is evaluated once for each choice of flavors. It fails if the files
+/// fail, or if memory runs out.
 pub fn index_files<F: Listing>(
     alloc: Global,
     files: &mut F,
     settings: &Settings,
 ) -> Result<Index, FilesFault>
-    ensures roots { IfOk result (λ index. index.roots.items ≡ indexed.roots ((F.shelf files.old).files, settings.now)) }
-    ensures edges { IfOk result (λ index. index.edges.items ≡ indexed.edges ((F.shelf files.old).files, settings.now)) }
-    ensures keeps { Keeps (result_err result) (F.shelf files.old) (F.shelf files.new) }
+    ensures roots { IfOk result (λ index. index.roots.items
+        ≡ indexed.roots ((F.view files.old).files, settings.now)) }
+    ensures edges { IfOk result (λ index. index.edges.items
+        ≡ indexed.edges ((F.view files.old).files, settings.now)) }
+    ensures keeps { Keeps (result_err result) (F.view files.old) (F.view files.new) }
 {
     let mut rows = MemoryRows::new(alloc);
     let walked = walk(alloc, files, settings, &mut rows)?;
@@ -51,15 +57,16 @@ pub fn index_files<F: Listing>(
     Ok(Index { roots, edges })
 }
 
-/// The ports of these files under these settings, and the faults met where they should be: the roots of
-/// `index_files`, without the work for their dependencies. The errors are the same.
+/// The ports of these files under these settings, and the faults met where ports should be. These are the
+/// roots of `index_files`, without the work for their dependencies. The errors are the same.
 pub fn index_roots<F: Listing>(
     alloc: Global,
     files: &mut F,
     settings: &Settings,
 ) -> Result<Vec<Root>, FilesFault>
-    ensures roots { IfOk result (λ roots. roots.items ≡ indexed.roots ((F.shelf files.old).files, settings.now)) }
-    ensures keeps { Keeps (result_err result) (F.shelf files.old) (F.shelf files.new) }
+    ensures roots { IfOk result (λ roots. roots.items
+        ≡ indexed.roots ((F.view files.old).files, settings.now)) }
+    ensures keeps { Keeps (result_err result) (F.view files.old) (F.view files.new) }
 {
     let mut rows = MemoryRows::new(alloc);
     let paths = list(alloc, files, settings, &mut rows)?;
@@ -76,21 +83,26 @@ pub(crate) struct Walked {
     items: Vec<RootItem>,
 }
 
-/// Gives each path on which the index rests a row that has none yet, and no other path. Where all rows were
-/// right before, so they are then, and those that were there stay.
+/// Gives a row to each path on which the index depends and which has none yet, and to no other path. If all
+/// rows were right before, they are right after it, and those that were there stay.
 fn walk<F: Listing, R: Rows>(
     alloc: Global,
     files: &mut F,
     settings: &Settings,
     rows: &mut R,
 ) -> Result<Walked, FilesFault>
-    requires { AreRight ((F.shelf files.old).files, settings.now) (R.held rows.old) }
-    ensures right { AreRight ((F.shelf files.old).files, settings.now) (R.held rows.new) }
+    requires { AreRight ((F.view files.old).files, settings.now) (R.held rows.old) }
+    ensures right { AreRight ((F.view files.old).files, settings.now) (R.held rows.new) }
     ensures stay { Stay (R.held rows.old) (R.held rows.new) }
-    ensures fills { OnOk result (Fills ((F.shelf files.old).files, settings.now) (indexed.rests ((F.shelf files.old).files, settings.now)) (R.held rows.old) (R.held rows.new)) }
-    ensures paths { IfOk result (λ walked. map string_bytes walked.paths.items ≡ indexed.listed ((F.shelf files.old).files, settings.now)) }
-    ensures items { IfOk result (λ walked. map item_seen walked.items.items ≡ items_among (standing_at ((F.shelf files.old).files, settings.now)) (indexed.listed ((F.shelf files.old).files, settings.now))) }
-    ensures keeps { Keeps (result_err result) (F.shelf files.old) (F.shelf files.new) }
+    ensures fills { OnOk result (Fills ((F.view files.old).files, settings.now)
+        (indexed.rests ((F.view files.old).files, settings.now)) (R.held rows.old)
+        (R.held rows.new)) }
+    ensures paths { IfOk result (λ walked. map string_bytes walked.paths.items
+        ≡ indexed.listed ((F.view files.old).files, settings.now)) }
+    ensures items { IfOk result (λ walked. map item_seen walked.items.items
+        ≡ items_among (outcome_at ((F.view files.old).files, settings.now))
+        (indexed.listed ((F.view files.old).files, settings.now))) }
+    ensures keeps { Keeps (result_err result) (F.view files.old) (F.view files.new) }
 {
     let paths = list(alloc, files, settings, rows)?;
     let items = items_of_all(alloc, &paths, rows)?;
@@ -99,19 +111,22 @@ fn walk<F: Listing, R: Rows>(
     Ok(Walked { paths, items })
 }
 
-/// The listed paths, with a row for each.
+/// The listed paths. Each of them that has no row yet gets one.
 fn list<F: Listing, R: Rows>(
     alloc: Global,
     files: &mut F,
     settings: &Settings,
     rows: &mut R,
 ) -> Result<Vec<String>, FilesFault>
-    requires { AreRight ((F.shelf files.old).files, settings.now) (R.held rows.old) }
-    ensures right { AreRight ((F.shelf files.old).files, settings.now) (R.held rows.new) }
+    requires { AreRight ((F.view files.old).files, settings.now) (R.held rows.old) }
+    ensures right { AreRight ((F.view files.old).files, settings.now) (R.held rows.new) }
     ensures stay { Stay (R.held rows.old) (R.held rows.new) }
-    ensures fills { OnOk result (Fills ((F.shelf files.old).files, settings.now) (indexed.listed ((F.shelf files.old).files, settings.now)) (R.held rows.old) (R.held rows.new)) }
-    ensures listed { IfOk result (λ paths. map string_bytes paths.items ≡ indexed.listed ((F.shelf files.old).files, settings.now)) }
-    ensures keeps { Keeps (result_err result) (F.shelf files.old) (F.shelf files.new) }
+    ensures fills { OnOk result (Fills ((F.view files.old).files, settings.now)
+        (indexed.listed ((F.view files.old).files, settings.now)) (R.held rows.old)
+        (R.held rows.new)) }
+    ensures listed { IfOk result (λ paths. map string_bytes paths.items
+        ≡ indexed.listed ((F.view files.old).files, settings.now)) }
+    ensures keeps { Keeps (result_err result) (F.view files.old) (F.view files.new) }
 {
     let directories = directories(alloc, files)?;
     fill(alloc, files, settings, &directories, rows)?;

@@ -2,33 +2,38 @@
 ghost use Rattle.std.specs.Prelude.{◌≡◌, ℕ, List, Option, Some, None, option_map, if◌then◌else◌, string_bytes, OnOk, OnErr};
 ghost use Rattle.std.specs.Str.{bytes_eq};
 ghost use Rattle.std.specs.BTreeMap.{get_by_text};
-ghost use Rattle.ports_index.specs.Standings.{Standing};
+ghost use Rattle.ports_index.specs.PathOutcomes.{PathOutcome};
 ghost use Rattle.ports_index.specs.Seen.{row_seen, held_in};
 
 use crate::evaluating::Row;
 use std::alloc::{AllocError, Global};
 use std::collections::BTreeMap;
 
-/// Rows: what stands at paths, as far as that is known.
+/// Rows: what paths lead to, as far as that is known.
 ///
 /// Its meaning is a map from canonical paths to rows.
 pub trait Rows {
-    ghost held: { Self → List ℕ → Option Standing };
+    ghost held: { Self → List ℕ → Option PathOutcome };
 
-    /// The row of this path, where there is one.
+    /// The row of this path, if it has one.
     fn get(&self, path: &str) -> Option<&Row>
         ensures { option_map (λ row. row_seen row.now) result ≡ held self.now path.now };
 
-    /// Gives this path this row, whether or not it had one. Without memory all rows stay as
-    /// they are.
+    /// Gives this path this row, whether or not it had one. If memory runs out, it fails, and
+    /// all rows stay as they are.
     fn put(&mut self, path: String, row: Row) -> Result<(), AllocError>
-        ensures ok { OnOk result ((other : List ℕ) → held self.new other ≡ (if bytes_eq (string_bytes path) other then Some (row_seen row) else held self.old other)) }
+        ensures ok { OnOk result ((other : List ℕ)
+            → held self.new other
+            ≡ (if bytes_eq (string_bytes path) other
+            then Some (row_seen row) else held self.old other)) }
         ensures err { OnErr result ((other : List ℕ) → held self.new other ≡ held self.old other) };
 
-    /// Takes the row of this path out, where there is one.
+    /// Takes the row of this path out and gives it, if there is one. The other rows stay.
     fn take(&mut self, path: &str) -> Option<Row>
         ensures taken { option_map row_seen result ≡ held self.old path.now }
-        ensures left { (other : List ℕ) → held self.new other ≡ (if bytes_eq path.now other then None else held self.old other) };
+        ensures left { (other : List ℕ)
+            → held self.new other
+            ≡ (if bytes_eq path.now other then None else held self.old other) };
 }
 
 /// Rows in memory.
@@ -38,7 +43,7 @@ pub struct MemoryRows {
 }
 
 impl MemoryRows {
-    /// No row. It takes no memory.
+    /// A map without rows. It takes no memory.
     pub fn new(alloc: Global) -> MemoryRows
         ensures { (path : List ℕ) → held_in result path ≡ None }
     {

@@ -1,5 +1,6 @@
 //! The paths of a ports tree: directories with a makefile, and what a list of directories names.
-ghost use Rattle.std.specs.Prelude.{◌≡◌, ◌==◌, ◌++◌, map, string_bytes, IfOk, OnOk, option_map, option_to_list, MatchOption, Some, None, true};
+ghost use Rattle.std.specs.Prelude.{◌≡◌, ◌==◌, ◌++◌, map, string_bytes, IfOk, OnOk, option_map, option_to_list};
+ghost use Rattle.std.specs.Prelude.{MatchOption, Some, None, true};
 ghost use Rattle.std.specs.List.{filter_map, flat_map, list_any};
 ghost use Rattle.std.specs.Option.{option_copied};
 ghost use Rattle.std.specs.Result.{result_err};
@@ -13,17 +14,17 @@ use mk_files::Listing;
 use mk_paths::FilesFault;
 use pkg_path::PkgPath;
 use std::alloc::{AllocError, Global};
-use text_cuts::cut_where;
-use text_order::put_in_order;
+use text_parts::{cut_where, put_in_order};
 
-/// The directories in which a makefile may be, by the names of the files: in the order of their bytes,
-/// each once.
+/// The directories in which a makefile may be, by the names of the files: in the order of their bytes, each
+/// once. It fails if the files fail, or if memory runs out.
 pub(crate) fn directories<F: Listing>(
     alloc: Global,
     files: &mut F,
 ) -> Result<Vec<String>, FilesFault>
-    ensures ok { IfOk result (λ found. map string_bytes found.items ≡ naming.directories (F.shelf files.old).files) }
-    ensures keeps { Keeps (result_err result) (F.shelf files.old) (F.shelf files.new) }
+    ensures ok { IfOk result (λ found. map string_bytes found.items
+        ≡ naming.directories (F.view files.old).files) }
+    ensures keeps { Keeps (result_err result) (F.view files.old) (F.view files.new) }
 {
     let names = files.names(alloc)?;
     let mut found = directories_of(alloc, &names)?;
@@ -33,7 +34,8 @@ pub(crate) fn directories<F: Listing>(
 
 // The directories of which these names are makefiles.
 fn directories_of(alloc: Global, names: &[String]) -> Result<Vec<String>, AllocError>
-    ensures { IfOk result (λ found. map string_bytes found.items ≡ filter_map naming.directory_of (map string_bytes names.now)) }
+    ensures { IfOk result (λ found. map string_bytes found.items
+        ≡ filter_map naming.directory_of (map string_bytes names.now)) }
 {
     let mut found = Vec::new(alloc);
     for name in names {
@@ -44,7 +46,8 @@ fn directories_of(alloc: Global, names: &[String]) -> Result<Vec<String>, AllocE
 
 /// Adds a path, if there is one.
 pub(crate) fn add_found(paths: &mut Vec<String>, path: Option<String>) -> Result<(), AllocError>
-    ensures { OnOk result (map string_bytes paths.new.items ≡ map string_bytes paths.old.items ++ option_to_list (option_map string_bytes path)) }
+    ensures { OnOk result (map string_bytes paths.new.items ≡ map string_bytes paths.old.items
+        ++ option_to_list (option_map string_bytes path)) }
 {
     if let Some(path) = path {
         paths.push(path)?;
@@ -76,7 +79,7 @@ fn makefile_directory(name: &str) -> Option<&str>
     }
 }
 
-// The same where the name has no first slash.
+// The same of a name without its first slash.
 fn directory_in(name: &str) -> Option<&str>
     ensures { option_copied result ≡ naming.directory_in name.now }
 {
@@ -87,7 +90,7 @@ fn directory_in(name: &str) -> Option<&str>
     }
 }
 
-// What stands behind the first slash of a text.
+// What follows the first slash of a text.
 fn behind_slash(text: &str) -> Option<&str>
     ensures { option_copied result ≡ naming.behind_slash text.now }
 {
@@ -97,21 +100,23 @@ fn behind_slash(text: &str) -> Option<&str>
     }
 }
 
-// What stands before and behind the first slash of a text.
+// What precedes and what follows the first slash of a text.
 fn at_slash(text: &str) -> Option<(&str, &str)>
-    ensures { MatchOption result (naming.at_slash text.now ≡ None) (λ cut. naming.at_slash text.now ≡ Some (record { before = cut.0.now; behind = cut.1.now })) }
+    ensures { MatchOption result (naming.at_slash text.now ≡ None)
+        (λ cut. naming.at_slash text.now
+        ≡ Some (record { before = cut.0.now; behind = cut.1.now })) }
 {
     cut_where(text, '/', is_anything)
 }
 
-// Any text is.
+// Accepts every text.
 fn is_anything(_text: &[u8]) -> bool
     ensures { result ≡ true }
 {
     true
 }
 
-// What stands before the makefile in a text.
+// What precedes the makefile and its slash in a text.
 fn before_makefile(text: &str) -> Option<&str>
     ensures { option_copied result ≡ naming.before_makefile text.now }
 {
@@ -121,9 +126,11 @@ fn before_makefile(text: &str) -> Option<&str>
     }
 }
 
-// What stands before and behind the slash in front of a makefile.
+// What precedes and what follows the slash in front of a makefile.
 fn at_makefile(text: &str) -> Option<(&str, &str)>
-    ensures { MatchOption result (naming.at_makefile text.now ≡ None) (λ cut. naming.at_makefile text.now ≡ Some (record { before = cut.0.now; behind = cut.1.now })) }
+    ensures { MatchOption result (naming.at_makefile text.now ≡ None)
+        (λ cut. naming.at_makefile text.now
+        ≡ Some (record { before = cut.0.now; behind = cut.1.now })) }
 {
     cut_where(text, '/', is_makefile)
 }
@@ -152,14 +159,15 @@ fn names_directory(path: &PkgPath) -> bool
     path.flavors().is_none() && path.subpackage().is_none()
 }
 
-/// These directories, and the paths that those of them name which are lists: in the order of their bytes,
-/// each once.
+/// These directories, and the paths that the lists among them name, by their rows: in the order of their
+/// bytes, each once. It fails only if memory runs out.
 pub(crate) fn listed<R: Rows>(
     alloc: Global,
     directories: Vec<String>,
     rows: &R,
 ) -> Result<Vec<String>, AllocError>
-    ensures { IfOk result (λ found. map string_bytes found.items ≡ naming.listed_from (known_in (R.held rows.now)) (map string_bytes directories.items)) }
+    ensures { IfOk result (λ found. map string_bytes found.items
+        ≡ naming.listed_from (known_in (R.held rows.now)) (map string_bytes directories.items)) }
 {
     let mut paths = named_by_all(alloc, &directories, rows)?;
     append(&mut paths, directories)?;
@@ -167,7 +175,7 @@ pub(crate) fn listed<R: Rows>(
     Ok(paths)
 }
 
-// Texts with more behind them.
+// Adds more texts after these.
 fn append(texts: &mut Vec<String>, more: Vec<String>) -> Result<(), AllocError>
     ensures { OnOk result (texts.new.items ≡ texts.old.items ++ more.items) }
 {
@@ -183,7 +191,9 @@ fn named_by_all<R: Rows>(
     directories: &[String],
     rows: &R,
 ) -> Result<Vec<String>, AllocError>
-    ensures { IfOk result (λ found. map string_bytes found.items ≡ flat_map (naming.named_at (known_in (R.held rows.now))) (map string_bytes directories.now)) }
+    ensures { IfOk result (λ found. map string_bytes found.items
+        ≡ flat_map (naming.named_at (known_in (R.held rows.now)))
+        (map string_bytes directories.now)) }
 {
     let mut found = Vec::new(alloc);
     for directory in directories {
@@ -192,14 +202,16 @@ fn named_by_all<R: Rows>(
     Ok(found)
 }
 
-// Adds the paths that a directory names, where this is its row.
+// Adds the paths that a directory with this row names.
 fn add_named(
     alloc: Global,
     found: &mut Vec<String>,
     directory: &str,
     row: Option<&Row>,
 ) -> Result<(), AllocError>
-    ensures { OnOk result (map string_bytes found.new.items ≡ map string_bytes found.old.items ++ naming.named_in directory.now (known_row (option_map (λ row. row_seen row.now) row.entry))) }
+    ensures { OnOk result (map string_bytes found.new.items ≡ map string_bytes found.old.items
+        ++ naming.named_in directory.now
+        (known_row (option_map (λ row. row_seen row.now) row.entry))) }
 {
     match row {
         Some(Row::Lists(words)) => add_words(alloc, found, directory, words),
@@ -214,7 +226,8 @@ fn add_words(
     directory: &str,
     words: &[String],
 ) -> Result<(), AllocError>
-    ensures { OnOk result (map string_bytes found.new.items ≡ map string_bytes found.old.items ++ filter_map (naming.path_of_word directory.now) (map string_bytes words.now)) }
+    ensures { OnOk result (map string_bytes found.new.items ≡ map string_bytes found.old.items
+        ++ filter_map (naming.path_of_word directory.now) (map string_bytes words.now)) }
 {
     for word in words {
         add_found(found, path_of_word(alloc, directory, word)?)?;
@@ -222,9 +235,10 @@ fn add_words(
     Ok(())
 }
 
-// The path that a word of a directory names, if it chooses flavors.
+// The path that a word of a directory names, if the word chooses flavors.
 fn path_of_word(alloc: Global, directory: &str, word: &str) -> Result<Option<String>, AllocError>
-    ensures { IfOk result (λ path. option_map string_bytes path ≡ naming.path_of_word directory.now word.now) }
+    ensures { IfOk result (λ path. option_map string_bytes path
+        ≡ naming.path_of_word directory.now word.now) }
 {
     if !has_comma(word) {
         return Ok(None);
@@ -236,14 +250,14 @@ fn path_of_word(alloc: Global, directory: &str, word: &str) -> Result<Option<Str
     }
 }
 
-// Whether a comma stands in a text.
+// Whether a text has a comma.
 fn has_comma(text: &str) -> bool
     ensures { result ≡ list_any (λ byte. byte == 44) text.now }
 {
     text.bytes().any(|byte| byte == b',')
 }
 
-// A word below a directory.
+// The text of a word below a directory. In the trees' own directory it is the word alone.
 fn joined(alloc: Global, directory: &str, word: &str) -> Result<String, AllocError>
     ensures { IfOk result (λ text. string_bytes text ≡ naming.joined directory.now word.now) }
 {

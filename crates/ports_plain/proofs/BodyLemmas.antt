@@ -4,12 +4,12 @@ use Rattle.std.specs.Str.{is_utf8, IsUtf8}
 use Rattle.std.proofs.lemmas.Str.{is_utf8-from_IsUtf8, IsUtf8-from_is_utf8}
 use Rattle.mk_paths.specs.SearchPath.{search_path}
 use Rattle.ports_plain.specs.Trimming.{trimmed}
-use Rattle.ports_plain.specs.Plain.{set_path, set_text, set_trees, told}
+use Rattle.ports_plain.specs.Plain.{set_path, set_text, set_trees, reply_alone}
 use Rattle.ports_plain.specs.Replies.{bad_path}
 
 by_test : (body text : List ℕ) (b : Bool) → text ≡ trimmed body → is_utf8 text ≡ b
-    → set_path body ≡ (if b then set_trees text (search_path text) else told bad_path)
-by_test body text b is test = ap set_text (sym is) ∙ ap (λ good. if good then set_trees text (search_path text) else told bad_path) test
+    → set_path body ≡ (if b then set_trees text (search_path text) else reply_alone bad_path)
+by_test body text b is test = ap set_text (sym is) ∙ ap (λ good. if good then set_trees text (search_path text) else reply_alone bad_path) test
 
 pub good_body : (body text : List ℕ) → text ≡ trimmed body → IsUtf8 text → set_path body ≡ set_trees text (search_path text)
 good_body body text is good = by_test body text true is (is_utf8-from_IsUtf8 text good)
@@ -18,5 +18,5 @@ refuted : (text : List ℕ) (b : Bool) → is_utf8 text ≡ b → ¬ (IsUtf8 tex
 refuted text true is bad = absurd (bad (IsUtf8-from_is_utf8 text is))
 refuted text false is bad = is
 
-pub bad_body : (body text : List ℕ) → text ≡ trimmed body → ¬ (IsUtf8 text) → set_path body ≡ told bad_path
+pub bad_body : (body text : List ℕ) → text ≡ trimmed body → ¬ (IsUtf8 text) → set_path body ≡ reply_alone bad_path
 bad_body body text is bad = by_test body text false is (refuted text (is_utf8 text) refl bad)

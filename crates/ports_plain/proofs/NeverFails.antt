@@ -37,10 +37,10 @@ use Rattle.std.specs.Result.{is_ok}
 use Rattle.ports_http.specs.Messages.{ReplyMessage}
 use Rattle.ports_plain.specs.Trimming.{trimmed}
 use Rattle.ports_plain.specs.Replies.{bad_path, full, json_reply, no_file, no_subpackage, removed, port_shown}
-use Rattle.ports_plain.specs.Plain.{Asked, told, content_shown, on_named_file, on_resolved, on_file, set_trees, set_path, value_after, valued, variable_at, variable_of, get_variable, record_after, described, port_at, port_of, get_port, question_in, got, on_query, on_path, answer_on, answer, plain}
+use Rattle.ports_plain.specs.Plain.{PlainRequest, reply_alone, content_shown, on_named_file, on_resolved, on_file, set_trees, set_path, value_after, valued, variable_at, variable_of, get_variable, record_after, port_reply, port_at, port_of, get_port, question_in, get_reply, on_query, on_path, answer_on, answer, plain}
 use Rattle.ports_plain.specs.declared.changing.Change.{Change}
 use Rattle.ports_plain.specs.declared.changing.Change.TheVariants.{RemoveFile}
-use Rattle.ports_plain.specs.Changing.{changed, overfills, settled}
+use Rattle.ports_plain.specs.Changing.{changed, overfills, settle_change}
 
 content-fine : (content : Option (List ℕ)) → ((content_shown content).status == 503) ≡ false
 content-fine (Some content) = refl
@@ -50,7 +50,7 @@ on_named_file-fine : (files : FileMap) (method : Method) (body name : List ℕ) 
 on_named_file-fine files Get body name = content-fine (get files name)
 on_named_file-fine files Put body name = refl
 on_named_file-fine files Delete body name =
-    elim (contains_key files name) as (λ b. ((if b then (removed, Some (RemoveFile name)) else told no_file).0.status == 503) ≡ false) [
+    elim (contains_key files name) as (λ b. ((if b then (removed, Some (RemoveFile name)) else reply_alone no_file).0.status == 503) ≡ false) [
       | true ↦ refl
       | false ↦ refl
     ]
@@ -69,7 +69,7 @@ set_trees-fine text None = refl
 
 set_path-fine : (body : List ℕ) → ((set_path body).0.status == 503) ≡ false
 set_path-fine body =
-    elim (is_utf8 (trimmed body)) as (λ b. ((if b then set_trees (trimmed body) (search_path (trimmed body)) else told bad_path).0.status == 503) ≡ false) [
+    elim (is_utf8 (trimmed body)) as (λ b. ((if b then set_trees (trimmed body) (search_path (trimmed body)) else reply_alone bad_path).0.status == 503) ≡ false) [
       | true ↦ set_trees-fine (trimmed body) (search_path (trimmed body))
       | false ↦ refl
     ]
@@ -92,17 +92,17 @@ get_variable-fine world (Some path) None = refl
 get_variable-fine world None (Some name) = refl
 get_variable-fine world None None = refl
 
-described-fine : (path : PathValue) (found : Result (Option Recorded) Failed) → ((described path found).status == 503) ≡ false
-described-fine path (Ok (Some recorded)) =
+port_reply-fine : (path : PathValue) (found : Result (Option Recorded) Failed) → ((port_reply path found).status == 503) ≡ false
+port_reply-fine path (Ok (Some recorded)) =
     elim (has_named path.subpackage recorded.port) as (λ b. ((if b then port_shown path recorded.port else no_subpackage).status == 503) ≡ false) [
       | true ↦ refl
       | false ↦ refl
     ]
-described-fine path (Ok None) = refl
-described-fine path (Err failed) = refl
+port_reply-fine path (Ok None) = refl
+port_reply-fine path (Err failed) = refl
 
 port_at-fine : (world : World) (path : PathValue) (makefile : Option (List ℕ)) → ((port_at world path makefile).status == 503) ≡ false
-port_at-fine world path (Some makefile) = described-fine path (record_after makefile (means world makefile path.flavors))
+port_at-fine world path (Some makefile) = port_reply-fine path (record_after makefile (means world makefile path.flavors))
 port_at-fine world path None = refl
 
 port_of-fine : (world : World) (path : Result PathValue PkgPathFault) → ((port_of world path).status == 503) ≡ false
@@ -168,29 +168,29 @@ question_of-fine (Some path) (Some kind) None = refl
 question_of-fine (Some path) None depth = refl
 question_of-fine None kind depth = refl
 
-answered-fine : (answer : Question → ReplyMessage) → ((question : Question) → ((answer question).status == 503) ≡ false) → (asked : Result Question ReplyMessage) → RefusesFinely asked
-    → ((answered answer asked).status == 503) ≡ false
+answered-fine : (answer : Question → ReplyMessage) → ((question : Question) → ((answer question).status == 503) ≡ false) → (plain_request : Result Question ReplyMessage) → RefusesFinely plain_request
+    → ((answered answer plain_request).status == 503) ≡ false
 unfolding RefusesFinely
 answered-fine answer fine (Ok question) refuses = fine question
 answered-fine answer fine (Err refused) refuses = refuses
 
-asked-fine : (answer : Question → ReplyMessage) → ((question : Question) → ((answer question).status == 503) ≡ false) → (query : List ℕ) → ((answered answer (question_in query)).status == 503) ≡ false
-asked-fine answer fine query =
+plain_request-fine : (answer : Question → ReplyMessage) → ((question : Question) → ((answer question).status == 503) ≡ false) → (query : List ℕ) → ((answered answer (question_in query)).status == 503) ≡ false
+plain_request-fine answer fine query =
     answered-fine answer fine (question_in query) (question_of-fine (parameter (codes "path") query) (optional (codes "kind") query) (optional (codes "depth") query))
 
-got-fine : (world : World) (query : List ℕ) (route : Route) → ((got world query route).status == 503) ≡ false
-got-fine world query Deps = asked-fine (dependencies_of world) (dependencies_of-fine world) query
-got-fine world query Faults = refl
-got-fine world query File = refl
-got-fine world query AllPackages = get_list-fine world (optional (codes "where") query)
-got-fine world query Match = get_match-fine world (parameter (codes "spec") query)
-got-fine world query Path = refl
-got-fine world query Port = get_port-fine world (parameter (codes "path") query)
-got-fine world query Rdeps = asked-fine (dependents_of world) (dependents_of-fine world) query
-got-fine world query Var = get_variable-fine world (parameter (codes "path") query) (parameter (codes "name") query)
+get_reply-fine : (world : World) (query : List ℕ) (route : Route) → ((get_reply world query route).status == 503) ≡ false
+get_reply-fine world query Deps = plain_request-fine (dependencies_of world) (dependencies_of-fine world) query
+get_reply-fine world query Faults = refl
+get_reply-fine world query File = refl
+get_reply-fine world query AllPackages = get_list-fine world (optional (codes "where") query)
+get_reply-fine world query Match = get_match-fine world (parameter (codes "spec") query)
+get_reply-fine world query Path = refl
+get_reply-fine world query Port = get_port-fine world (parameter (codes "path") query)
+get_reply-fine world query Rdeps = plain_request-fine (dependents_of world) (dependents_of-fine world) query
+get_reply-fine world query Var = get_variable-fine world (parameter (codes "path") query) (parameter (codes "name") query)
 
 on_query-fine : (world : World) (query : List ℕ) (route : Route) (method : Method) → ((on_query world query route method).0.status == 503) ≡ false
-on_query-fine world query route Get = got-fine world query route
+on_query-fine world query route Get = get_reply-fine world query route
 on_query-fine world query route Put = refl
 on_query-fine world query route Delete = refl
 
@@ -199,7 +199,7 @@ on_path-fine body Put = set_path-fine body
 on_path-fine body Get = refl
 on_path-fine body Delete = refl
 
-answer_on-fine : (world : World) (request : Asked) (route : Option Route) → ((answer_on world request route).0.status == 503) ≡ false
+answer_on-fine : (world : World) (request : PlainRequest) (route : Option Route) → ((answer_on world request route).0.status == 503) ≡ false
 answer_on-fine world request None = refl
 answer_on-fine world request (Some Deps) = on_query-fine world (query_of_target request.target) Deps request.method
 answer_on-fine world request (Some Faults) = on_query-fine world (query_of_target request.target) Faults request.method
@@ -211,17 +211,17 @@ answer_on-fine world request (Some Port) = on_query-fine world (query_of_target 
 answer_on-fine world request (Some Rdeps) = on_query-fine world (query_of_target request.target) Rdeps request.method
 answer_on-fine world request (Some Var) = on_query-fine world (query_of_target request.target) Var request.method
 
-settled-fine : (world : World) (reply : ReplyMessage) (change : Option Change) → (reply.status == 503) ≡ false → ((settled world reply change).0.status == 503) ≡ false
-settled-fine world reply None fine = fine
-settled-fine world reply (Some change) fine =
+settle_change-fine : (world : World) (reply : ReplyMessage) (change : Option Change) → (reply.status == 503) ≡ false → ((settle_change world reply change).0.status == 503) ≡ false
+settle_change-fine world reply None fine = fine
+settle_change-fine world reply (Some change) fine =
     elim (overfills world change) as (λ b. ((if◌then◌else◌ {A = ReplyMessage × World} b (full, world) (reply, changed world change)).0.status == 503) ≡ false) [
       | true ↦ refl
       | false ↦ fine
     ]
 
-answer-fine : (world : World) (request : Asked) → ((answer world request).0.status == 503) ≡ false
+answer-fine : (world : World) (request : PlainRequest) → ((answer world request).0.status == 503) ≡ false
 unfolding answer
 answer-fine world request = answer_on-fine world request (route_of (target_path request.target))
 
-pub never_503 : (world : World) (request : Asked) → ((plain world request).0.status == 503) ≡ false
-never_503 world request = settled-fine world (answer world request).0 (answer world request).1 (answer-fine world request)
+pub never_503 : (world : World) (request : PlainRequest) → ((plain world request).0.status == 503) ≡ false
+never_503 world request = settle_change-fine world (answer world request).0 (answer world request).1 (answer-fine world request)

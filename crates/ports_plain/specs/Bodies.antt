@@ -1,4 +1,5 @@
--- The bodies of replies: JSON values, the members of an object in the order of their names' bytes (RFC 8259).
+-- The bodies of replies: JSON values, the members of an object in the order of
+-- their names' bytes (RFC 8259).
 use Rattle.std.specs.Prelude.{ℕ, true, List, [], Option, is_some, unwrap_or, codes}
 use Rattle.serde_json.specs.Data.{Data, boolean, number, unsigned, string, object, no_members, member}
 
@@ -26,7 +27,7 @@ fault_body kind line name =
     (member (codes "line") (number (unsigned line))
     (member (codes "name") (string name) no_members))))
 
--- a variable: whether it is defined, and its value, the empty text where it isn't
+-- a variable: whether it is defined, and its value, which is the empty text if it isn't
 abbrev pub variable_body : Option (List ℕ) → Data
 variable_body value =
     object (member (codes "defined") (boolean (is_some value))

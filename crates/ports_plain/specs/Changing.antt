@@ -1,7 +1,7 @@
 -- What a request may change of a world, and what becomes of it.
 use Rattle.std.specs.Prelude.{Bool, false, if◌then◌else◌, Option, Some, None}
 use Rattle.mk_paths.specs.World.{World, files_in, with_file, without_file, with_search_path}
-use Rattle.tenant_limits.specs.Limits.{is_over}
+use Rattle.mk_files.specs.Limits.{is_over}
 use Rattle.ports_http.specs.Messages.{ReplyMessage}
 use Rattle.ports_plain.specs.declared.changing.Change.{Change}
 use Rattle.ports_plain.specs.declared.changing.Change.TheVariants.{PutFile, RemoveFile, SetPath}
@@ -13,13 +13,15 @@ changed world (PutFile name content) = with_file world name content
 changed world (RemoveFile name) = without_file world name
 changed world (SetPath trees) = with_search_path world trees
 
--- the change would leave more files or more bytes than a tenant may have; one that stores no file leaves no more than there were
+-- the change would leave more files or more bytes than a tenant may have; a change that stores no file
+-- leaves no more than there were
 abbrev pub overfills : World → Change → Bool
 overfills world (PutFile name content) = is_over (files_in (with_file world name content))
 overfills world (RemoveFile name) = false
 overfills world (SetPath trees) = false
 
--- what is answered where this reply is prepared and this is to be changed, if anything is, and the world then: where the limits would be passed, nothing changes
-abbrev pub settled : World → ReplyMessage → Option Change → ReplyMessage × World
-settled world reply None = (reply, world)
-settled world reply (Some change) = if overfills world change then (full, world) else (reply, changed world change)
+-- The reply to a request and the world after it, given the reply that is prepared and what is to be
+-- changed, if anything is. If the change would pass the limits, nothing changes, and the reply is `full`.
+abbrev pub settle_change : World → ReplyMessage → Option Change → ReplyMessage × World
+settle_change world reply None = (reply, world)
+settle_change world reply (Some change) = if overfills world change then (full, world) else (reply, changed world change)

@@ -1,4 +1,5 @@
--- Lists of ports, packages and dependencies, as JSON: the members of each object in the order of their names' bytes (RFC 8259).
+-- Lists of ports, packages and dependencies, as JSON: the members of each object in the order of
+-- their names' bytes (RFC 8259).
 use Rattle.std.specs.Prelude.{ℕ, List, [], Option, Some, None, Result, Ok, Err, map, codes}
 use Rattle.std.specs.List.{filter_map}
 use Rattle.mk_base.specs.Faults.{number_of}
@@ -28,7 +29,7 @@ listed_body listed =
 abbrev pub packages_body : List ListedValue → Data
 packages_body packages = list_body (codes "packages") (map listed_body packages)
 
--- the path that an item names, empty where it can't be read
+-- the path that an item names; it is empty if the item can't be read
 abbrev pub target_text : Option PathValue → List ℕ
 target_text None = []
 target_text (Some path) = canonical path
@@ -45,7 +46,7 @@ dependency_body edge =
 abbrev pub dependencies_body : List RootEdgeValue → Data
 dependencies_body edges = list_body (codes "deps") (map (λ (edge : RootEdgeValue). dependency_body edge.edge) edges)
 
--- a dependency on a port: the port that has it
+-- a dependency on a port, with the port that depends on it
 abbrev pub dependent_body : RootEdgeValue → Data
 dependent_body edge =
     object (member (codes "item") (string edge.edge.item)

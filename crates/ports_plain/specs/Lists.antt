@@ -25,7 +25,7 @@ use Rattle.ports_plain.specs.Subpackages.{has_named}
 use Rattle.ports_plain.specs.Replies.{json_reply, refusal, bad_parameter, bad_path, no_port, no_subpackage, faulty}
 use Rattle.ports_plain.specs.ListBodies.{packages_body, dependencies_body, dependents_body, reached_body, reaching_body, faults_body}
 
--- refusals: a text that is no query, no spec, or names neither kinds of dependencies nor a depth
+-- refusals: the text is no query; it is no spec; it names no kinds of dependencies, or no depth
 abbrev pub bad_query : ReplyMessage
 bad_query = refusal 400 (codes "Query")
 
@@ -36,12 +36,12 @@ abbrev pub bad_kind : ReplyMessage
 bad_kind = refusal 400 (codes "Kind")
 
 -- the packages that meet conditions
-abbrev pub listed_by : World → List ConditionValue → ReplyMessage
-listed_by world conditions = json_reply 200 (packages_body (answer_of conditions (roots world)))
+abbrev pub list_reply : World → List ConditionValue → ReplyMessage
+list_reply world conditions = json_reply 200 (packages_body (answer_of conditions (roots world)))
 
--- the same of a text's conditions, if it has such
+-- the same, given the conditions that a text is, if it is a query
 abbrev pub list_by : World → Option (List ConditionValue) → ReplyMessage
-list_by world (Some conditions) = listed_by world conditions
+list_by world (Some conditions) = list_reply world conditions
 list_by world None = bad_query
 
 -- GET /v1/list?where=
@@ -64,7 +64,9 @@ get_faults world = json_reply 200 (faults_body (roots world))
 
 -- how far dependencies are followed: an empty text is `1`
 abbrev pub depth_of : List ℕ → Option Depth
-depth_of text = if bytes_eq text [] || bytes_eq text (codes "1") then Some Direct else if bytes_eq text (codes "all") then Some All else None
+depth_of text =
+    if bytes_eq text []
+    || bytes_eq text (codes "1") then Some Direct else if bytes_eq text (codes "all") then Some All else None
 
 -- what is asked about the dependencies of a path, or the refusal: the path is looked at first
 abbrev pub question_on : Result PathValue PkgPathFault → Option Kinds → Option Depth → Result Question ReplyMessage
@@ -93,9 +95,11 @@ dependencies_at edges path kinds All = reached_body (reached_of kinds (first_edg
 abbrev pub dependencies_body_of : List RootEdgeValue → Question → Data
 dependencies_body_of edges question = dependencies_at edges question.path question.kinds question.depth
 
--- the same of what stands at its path, which is a port that has the subpackage, if one is named
+-- the reply by the state of the root at the path: a port must have the subpackage, if one is named
 abbrev pub dependencies_with : List RootEdgeValue → Question → Result PortValue FaultAt → ReplyMessage
-dependencies_with edges question (Ok port) = if has_named question.path.subpackage port then json_reply 200 (dependencies_body_of edges question) else no_subpackage
+dependencies_with edges question (Ok port) =
+    if has_named question.path.subpackage port
+    then json_reply 200 (dependencies_body_of edges question) else no_subpackage
 dependencies_with edges question (Err fault) = faulty fault
 
 abbrev pub dependencies_of_root : List RootEdgeValue → Question → Option RootValue → ReplyMessage
@@ -106,7 +110,7 @@ dependencies_of_root edges question None = no_port
 abbrev pub root_named : List RootValue → List ℕ → Option RootValue
 root_named roots path = find (λ (root : RootValue). bytes_eq root.path path) roots
 
--- what a port of these depends on
+-- what the port that the question names depends on, if it is among these roots
 abbrev pub dependencies_in : List RootValue → List RootEdgeValue → Question → ReplyMessage
 dependencies_in roots edges question = dependencies_of_root edges question (root_named roots (port_path question.path))
 
@@ -114,7 +118,8 @@ dependencies_in roots edges question = dependencies_of_root edges question (root
 abbrev pub dependencies_of : World → Question → ReplyMessage
 dependencies_of world question = dependencies_in (roots world) (edges world) question
 
--- what depends on a port: the dependencies that lead to it, of whatever status, or all ports that reach it over those that are met
+-- what depends on a port: the dependencies that lead to it, of whatever status, or all ports that reach
+-- it over those that are met
 abbrev pub dependents_at : List RootEdgeValue → PathValue → Kinds → Depth → Data
 dependents_at edges path kinds Direct = dependents_body (edges_to_of kinds path edges)
 dependents_at edges path kinds All = reaching_body (reaching_of kinds path edges)

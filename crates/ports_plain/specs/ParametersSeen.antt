@@ -1,4 +1,4 @@
--- How often a parameter was found, as the definitions say it.
+-- How often a parameter was found, in the terms of the definitions.
 use Rattle.std.specs.Cow.{cow_str_bytes}
 use Rattle.ports_plain.specs.Parameters.{Times}
 use Rattle.ports_plain.specs.Parameters as times

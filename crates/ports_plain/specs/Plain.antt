@@ -1,5 +1,5 @@
--- The plain service: what one request is answered over one tenant's world, and what the world is then. It knows nothing of
--- connections, of other tenants, of work that waits or is shared.
+-- The plain service: the reply to one request over one tenant's world, and the world after it. It knows
+-- nothing of connections, of other tenants, of work that waits or is shared.
 use Rattle.std.specs.Prelude.{ℕ, if◌then◌else◌, List, Option, Some, None, Result, Ok, Err, option_map, codes}
 use Rattle.std.specs.Str.{is_utf8}
 use Rattle.std.specs.FinMap.{get, contains_key}
@@ -32,25 +32,27 @@ use Rattle.ports_plain.specs.Parameters.{parameter, optional}
 use Rattle.ports_plain.specs.Trimming.{trimmed}
 use Rattle.ports_plain.specs.Routes.{route_of}
 use Rattle.ports_plain.specs.Subpackages.{has_named}
-use Rattle.ports_plain.specs.Replies.{no_route, not_allowed, bad_parameter, bad_name, bad_path, no_file, no_port, no_subpackage, faulty, file_shown, stored, removed, path_set, variable, port_shown}
-use Rattle.ports_plain.specs.Changing.{settled}
+use Rattle.ports_plain.specs.Replies.{no_route, not_allowed, bad_parameter, bad_name, bad_path, no_file, no_port}
+use Rattle.ports_plain.specs.Replies.{no_subpackage, faulty, file_shown, stored, removed, path_set, variable}
+use Rattle.ports_plain.specs.Replies.{port_shown}
+use Rattle.ports_plain.specs.Changing.{settle_change}
 
--- what is asked
-pub record Asked : Type 0 where
+-- a request: its method, its target and its body
+pub record PlainRequest : Type 0 where
   pub method : Method
   pub target : List ℕ
   pub body : List ℕ
 
-abbrev pub asked : Method → List ℕ → List ℕ → Asked
-asked method target body = record { method = method; target = target; body = body }
+abbrev pub plain_request : Method → List ℕ → List ℕ → PlainRequest
+plain_request method target body = record { method = method; target = target; body = body }
 
 -- a reply, and what is to be changed, if anything is
 abbrev pub Answer : Type 0
 Answer = ReplyMessage × Option Change
 
 -- a reply that changes nothing
-abbrev pub told : ReplyMessage → Answer
-told reply = (reply, None)
+abbrev pub reply_alone : ReplyMessage → Answer
+reply_alone reply = (reply, None)
 
 -- the content of a file, if it is there
 abbrev pub content_shown : Option (List ℕ) → ReplyMessage
@@ -59,39 +61,40 @@ content_shown None = no_file
 
 -- GET, PUT and DELETE of the file of a name
 abbrev pub on_named_file : FileMap → Method → List ℕ → List ℕ → Answer
-on_named_file files Get body name = told (content_shown (get files name))
+on_named_file files Get body name = reply_alone (content_shown (get files name))
 on_named_file files Put body name = (stored, Some (PutFile name body))
-on_named_file files Delete body name = if contains_key files name then (removed, Some (RemoveFile name)) else told no_file
+on_named_file files Delete body name = if contains_key files name then (removed, Some (RemoveFile name)) else reply_alone no_file
 
--- the same where a text stands for the name
+-- the same, given the name that a text is resolved to, or its fault
 abbrev pub on_resolved : FileMap → Method → List ℕ → Result (List ℕ) NameFault → Answer
 on_resolved files method body (Ok name) = on_named_file files method body name
-on_resolved files method body (Err fault) = told bad_name
+on_resolved files method body (Err fault) = reply_alone bad_name
 
 -- /v1/file?name=
 abbrev pub on_file : FileMap → Method → List ℕ → Option (List ℕ) → Answer
 on_file files method body (Some name) = on_resolved files method body (resolved name)
-on_file files method body None = told bad_parameter
+on_file files method body None = reply_alone bad_parameter
 
--- a search path that a text names, if it names one, is set
+-- the search path that a text names is set, if it names one
 abbrev pub set_trees : List ℕ → Option (List (List ℕ)) → Answer
 set_trees text (Some trees) = (path_set text, Some (SetPath trees))
-set_trees text None = told bad_path
+set_trees text None = reply_alone bad_path
 
--- the same of bytes, which are no text where they aren't UTF-8
+-- the same of bytes; if they aren't UTF-8, they name no search path
 abbrev pub set_text : List ℕ → Answer
-set_text bytes = if is_utf8 bytes then set_trees bytes (search_path bytes) else told bad_path
+set_text bytes = if is_utf8 bytes then set_trees bytes (search_path bytes) else reply_alone bad_path
 
 -- PUT /v1/path, whose body has a search path
 abbrev pub set_path : List ℕ → Answer
 set_path body = set_text (trimmed body)
 
--- the value of a variable after a makefile's evaluation, or the fault that the evaluation or the value's expansion met
+-- the value of a variable after a makefile's evaluation, or the fault that the evaluation or
+-- the value's expansion met
 abbrev pub value_after : List ℕ → List ℕ → Result Evaluated Failed → Result (Option Expanded) Failed
 value_after makefile name (Ok evaluated) = value_of evaluated.env makefile name
 value_after makefile name (Err failed) = Err failed
 
--- what a value, or a fault met on the way to it, is answered with
+-- the reply to a value, or to a fault met on the way to it
 abbrev pub valued : Result (Option Expanded) Failed → ReplyMessage
 valued (Ok value) = variable (option_map (λ (known : Expanded). known.text) value)
 valued (Err failed) = faulty failed.fault
@@ -101,7 +104,7 @@ abbrev pub variable_at : World → List ℕ → Option (List (List ℕ)) → Opt
 variable_at world name flavors (Some makefile) = valued (value_after makefile name (means world makefile flavors))
 variable_at world name flavors None = no_port
 
--- the variable of the port that a package path names; its subpackage doesn't count
+-- the variable of the port that a package path names; the path's subpackage doesn't count
 abbrev pub variable_of : World → List ℕ → Result PathValue PkgPathFault → ReplyMessage
 variable_of world name (Ok path) = variable_at world name path.flavors (place world path.directory)
 variable_of world name (Err refusal) = bad_path
@@ -111,27 +114,28 @@ abbrev pub get_variable : World → Option (List ℕ) → Option (List ℕ) → 
 get_variable world (Some path) (Some name) = variable_of world name (path_of path)
 get_variable world _ _ = bad_parameter
 
--- of a makefile that describes a port, its record
+-- the record of a makefile of this kind, if it describes a port
 abbrev pub record_by : Kind → Result Recorded Failed → Result (Option Recorded) Failed
 record_by kinds.Port (Ok recorded) = Ok (Some recorded)
 record_by kinds.Port (Err failed) = Err failed
 record_by kinds.List recorded = Ok None
 record_by kinds.Other recorded = Ok None
 
--- the record of the port that a makefile describes, if it does, after its evaluation; or the fault that the evaluation or the record met
+-- the record of the port that a makefile describes, if it describes one, after its evaluation; or the fault
+-- that the evaluation or the record met
 abbrev pub record_after : List ℕ → Result Evaluated Failed → Result (Option Recorded) Failed
 record_after makefile (Ok evaluated) = record_by evaluated.kind (record_of evaluated.env makefile)
 record_after makefile (Err failed) = Err failed
 
--- what a record, or a fault met on the way to it, is answered with
-abbrev pub described : PathValue → Result (Option Recorded) Failed → ReplyMessage
-described path (Ok (Some recorded)) = if has_named path.subpackage recorded.port then port_shown path recorded.port else no_subpackage
-described path (Ok None) = no_port
-described path (Err failed) = faulty failed.fault
+-- the reply to a record, or to a fault met on the way to it
+abbrev pub port_reply : PathValue → Result (Option Recorded) Failed → ReplyMessage
+port_reply path (Ok (Some recorded)) = if has_named path.subpackage recorded.port then port_shown path recorded.port else no_subpackage
+port_reply path (Ok None) = no_port
+port_reply path (Err failed) = faulty failed.fault
 
 -- the port of a makefile
 abbrev pub port_at : World → PathValue → Option (List ℕ) → ReplyMessage
-port_at world path (Some makefile) = described path (record_after makefile (means world makefile path.flavors))
+port_at world path (Some makefile) = port_reply path (record_after makefile (means world makefile path.flavors))
 port_at world path None = no_port
 
 -- the port that a package path names
@@ -148,45 +152,47 @@ get_port world None = bad_parameter
 abbrev pub question_in : List ℕ → Result Question ReplyMessage
 question_in query = question_of (parameter (codes "path") query) (optional (codes "kind") query) (optional (codes "depth") query)
 
--- the reply to a GET on a route, by the query; the files and the search path aren't asked for so
-abbrev pub got : World → List ℕ → Route → ReplyMessage
-got world query Deps = answered (dependencies_of world) (question_in query)
-got world query Faults = get_faults world
-got world query File = not_allowed File
-got world query AllPackages = get_list world (optional (codes "where") query)
-got world query Match = get_match world (parameter (codes "spec") query)
-got world query Path = not_allowed Path
-got world query Port = get_port world (parameter (codes "path") query)
-got world query Rdeps = answered (dependents_of world) (question_in query)
-got world query Var = get_variable world (parameter (codes "path") query) (parameter (codes "name") query)
+-- the reply to a GET on a route, by the query; a file and the search path aren't asked for in this way
+abbrev pub get_reply : World → List ℕ → Route → ReplyMessage
+get_reply world query Deps = answered (dependencies_of world) (question_in query)
+get_reply world query Faults = get_faults world
+get_reply world query File = not_allowed File
+get_reply world query AllPackages = get_list world (optional (codes "where") query)
+get_reply world query Match = get_match world (parameter (codes "spec") query)
+get_reply world query Path = not_allowed Path
+get_reply world query Port = get_port world (parameter (codes "path") query)
+get_reply world query Rdeps = answered (dependents_of world) (question_in query)
+get_reply world query Var = get_variable world (parameter (codes "path") query) (parameter (codes "name") query)
 
--- the answer on the route of a query, by a method
+-- the answer on a route that is asked by a query, by the method
 abbrev pub on_query : World → List ℕ → Route → Method → Answer
-on_query world query route Get = told (got world query route)
-on_query world query route Put = told (not_allowed route)
-on_query world query route Delete = told (not_allowed route)
+on_query world query route Get = reply_alone (get_reply world query route)
+on_query world query route Put = reply_alone (not_allowed route)
+on_query world query route Delete = reply_alone (not_allowed route)
 
--- the answer on the route of the search path, by a method
+-- the answer on the route of the search path, by the method
 abbrev pub on_path : List ℕ → Method → Answer
 on_path body Put = set_path body
-on_path body Get = told (not_allowed Path)
-on_path body Delete = told (not_allowed Path)
+on_path body Get = reply_alone (not_allowed Path)
+on_path body Delete = reply_alone (not_allowed Path)
 
 -- the answer on a route
-abbrev pub answer_on : World → Asked → Option Route → Answer
-answer_on world request None = told no_route
-answer_on world request (Some File) = on_file (files_in world) request.method request.body (parameter (codes "name") (query_of request.target))
+abbrev pub answer_on : World → PlainRequest → Option Route → Answer
+answer_on world request None = reply_alone no_route
+answer_on world request (Some File) =
+    on_file (files_in world) request.method request.body (parameter (codes "name") (query_of request.target))
 answer_on world request (Some Path) = on_path request.body request.method
 answer_on world request (Some route) = on_query world (query_of request.target) route request.method
 
--- The reply to a request, and what is to be changed. The path is looked at first, then the method, then the parameters.
-unfoldable pub answer : World → Asked → Answer
+-- The reply to a request, and what is to be changed. The path is looked at first, then the
+-- method, then the parameters.
+unfoldable pub answer : World → PlainRequest → Answer
 answer world request = answer_on world request (route_of (target_path request.target))
 
--- a reply, and the world behind it
+-- a reply, and the world after it
 abbrev pub Served : Type 0
 Served = ReplyMessage × World
 
--- The plain service: the reply to a request, and the world behind it.
-abbrev pub plain : World → Asked → Served
-plain world request = settled world (answer world request).0 (answer world request).1
+-- The plain service: the reply to a request, and the world after it.
+abbrev pub plain : World → PlainRequest → Served
+plain world request = settle_change world (answer world request).0 (answer world request).1

@@ -19,14 +19,14 @@ package_body found =
     (member (codes "name") (string (name_text found.name))
     (member (codes "subpackage") (string found.subpackage) no_members)))
 
--- a dependency: its item, its kind, and the package that has it
+-- a dependency: its item, its kind, and its package
 abbrev pub depend_body : DependValue → Data
 depend_body depend =
     object (member (codes "item") (string depend.item)
     (member (codes "kind") (string (word_of depend.kind))
     (member (codes "subpackage") (string depend.subpackage) no_members)))
 
--- the port that a path names, whose subpackage doesn't count
+-- the port that a path names; the path's subpackage doesn't count
 abbrev pub port_body : PathValue → PortValue → Data
 port_body path port =
     object (member (codes "categories") (texts_body port.categories)

@@ -39,7 +39,7 @@ methods_of Port = Get ∷ []
 methods_of Rdeps = Get ∷ []
 methods_of Var = Get ∷ []
 
--- a method that the route doesn't have
+-- the refusal of a method that the route doesn't have
 abbrev pub not_allowed : Route → ReplyMessage
 not_allowed route = record (refusal 405 (codes "Method")) { allow = methods_of route }
 

@@ -4,7 +4,7 @@ use Rattle.std.specs.Str.{bytes_eq}
 use Rattle.ports_plain.specs.declared.routing.Route.{Route}
 use Rattle.ports_plain.specs.declared.routing.Route.TheVariants.{Deps, Faults, File, List as AllPackages, Match, Path, Port, Rdeps, Var}
 
--- what stands under a path in a table
+-- what a table has under a path
 abbrev pub under : {A : Type 0} → List (List ℕ × A) → List ℕ → Option A
 under [] path = None
 under ((written, here) ∷ others) path = if bytes_eq written path then Some here else under others path
@@ -12,7 +12,8 @@ under ((written, here) ∷ others) path = if bytes_eq written path then Some her
 -- the paths of the routes, in the order of their bytes
 abbrev pub table : List (List ℕ × Route)
 table =
-    (codes "/v1/deps", Deps) ∷ (codes "/v1/faults", Faults) ∷ (codes "/v1/file", File) ∷ (codes "/v1/list", AllPackages) ∷ (codes "/v1/match", Match)
+    (codes "/v1/deps", Deps) ∷ (codes "/v1/faults", Faults) ∷ (codes "/v1/file", File)
+    ∷ (codes "/v1/list", AllPackages) ∷ (codes "/v1/match", Match)
     ∷ (codes "/v1/path", Path) ∷ (codes "/v1/port", Port) ∷ (codes "/v1/rdeps", Rdeps) ∷ (codes "/v1/var", Var) ∷ []
 
 -- the route of a path, which is compared as it is written

@@ -12,14 +12,14 @@ is_mark byte = byte == 63
 abbrev pub scheme : List ℕ
 scheme = codes "http://"
 
--- the target without scheme and host: a slash, and what follows the first slash behind the scheme
+-- the target without scheme and host: a slash, and what follows the first slash after the scheme
 abbrev pub local_part : List ℕ → List ℕ
 local_part target = if starts_with nat_eq target scheme then 47 ∷ after_first is_slash (drop (length scheme) target) else target
 
--- the path ends at the first question mark, and stands as it is written
+-- the path is what precedes the first question mark, as it is written
 abbrev pub path_of : List ℕ → List ℕ
 path_of target = before_first is_mark (local_part target)
 
--- the query is what follows that mark, and empty where there is none
+-- the query is what follows that mark, and is empty if there is none
 abbrev pub query_of : List ℕ → List ℕ
 query_of target = after_first is_mark (local_part target)

@@ -5,11 +5,11 @@ use Rattle.std.specs.Prelude.{ℕ, ◌==◌, ◌||◌, if◌then◌else◌, Bool
 abbrev pub is_space : ℕ → Bool
 is_space byte = byte == 32 || byte == 9 || byte == 10
 
--- a text without those that it begins with
+-- a text without the blanks and line feeds that it begins with
 unfoldable pub skip_spaces : List ℕ → List ℕ
 skip_spaces [] = []
 skip_spaces (byte ∷ rest) = if is_space byte then skip_spaces rest else byte ∷ rest
 
--- a text without those at both its ends
+-- a text without the blanks and line feeds at both its ends
 abbrev pub trimmed : List ℕ → List ℕ
 trimmed text = reverse (skip_spaces (reverse (skip_spaces text)))

@@ -1,7 +1,7 @@
 // Requests and their answers.
 ghost use Rattle.std.specs.Prelude.{◌≡◌, IfOk};
 ghost use Rattle.std.specs.Result.{result_err};
-ghost use Rattle.ports_plain.specs.Plain.{answer, asked, got, on_query as on_query_of};
+ghost use Rattle.ports_plain.specs.Plain.{answer, plain_request, get_reply, on_query as on_query_of};
 ghost use Rattle.ports_index.specs.Keeping.{Keeps};
 
 use crate::changing::Prepared;
@@ -26,41 +26,48 @@ pub struct Plain {
 }
 
 impl Plain {
-    /// The service. Its one error is want of memory.
+    /// The service. It fails only if memory runs out.
     pub fn new(alloc: Global) -> Result<Plain, AllocError> {
         Ok(Plain {
             routes: Routes::new(alloc)?,
         })
     }
 
-    /// The answer to one request over one tenant's world, of which nothing is changed yet: its reply, and
-    /// what is to be changed.
+    /// The answer to one request over one tenant's world: its reply, and what is to be changed. Nothing of
+    /// the world is changed yet.
     ///
-    /// `GET /v1/file?name=N` shows the bytes of the file that N names, 404 `{"error":"NoFile"}` where it
-    /// isn't there; `PUT` stores the body, in bytes, as that file: 200 `{"stored":true}`; `DELETE` removes
-    /// it: 200 `{"removed":true}`, 404 `{"error":"NoFile"}` where it isn't there. Each is 400
-    /// `{"error":"Name"}` where N names no file; whoever carries out a `PUT` answers `full` in its place where
-    /// the tenant would have more than it may. `PUT /v1/path` makes the trees that the body names, without
-    /// the blanks and line feeds at its ends, those that are searched for ports: 200 `{"path":P}`; 400
-    /// `{"error":"Path"}` where it names no search path. `GET /v1/var?path=P&name=V` shows the variable V
-    /// of the port with the package path P, in the first tree that has its directory, evaluated with P's
-    /// flavors; a subpackage in P doesn't count: 200 `{"defined":B,"value":T}`, T being empty where V isn't
-    /// defined; 400 `{"error":"Path"}` where P is no package path; 404 `{"error":"NoPort"}` where no tree has
-    /// its makefile; 422 `{"error":"Fault","kind":K,"line":L,"name":N}` where the makefile or the value is at
-    /// fault. `GET /v1/port?path=P` shows what the port is: 200 with its record (`docs/PACKAGES.md`); refused
-    /// in the same way, and 404 `{"error":"NoPort"}` where the makefile describes no port, 422 where its
-    /// record is at fault, then 404 `{"error":"NoSubpackage"}` where it hasn't P's subpackage. `GET` of
-    /// `/v1/list`, `/v1/match`, `/v1/deps`, `/v1/rdeps` and `/v1/faults` asks all ports at once
-    /// (`docs/HTTP.md`).
+    /// `/v1/file?name=N` is about the file that N names. `GET` gives its bytes. `PUT` stores the body, in
+    /// bytes, as that file: 200 `{"stored":true}`. `DELETE` removes it: 200 `{"removed":true}`. If the
+    /// file isn't there, `GET` and `DELETE` give 404 `{"error":"NoFile"}`. If N names no file, each gives
+    /// 400 `{"error":"Name"}`. If the tenant would have more than it may, whoever carries out a `PUT`
+    /// answers `full` in its place.
     ///
-    /// Before that any other path is 404 `{"error":"Route"}`, then any other method 405
-    /// `{"error":"Method"}` with the route's methods, then a parameter of the route that is missing, empty
-    /// or there twice 400 `{"error":"Parameter"}`, but that `where`, `kind` and `depth` may be missing or
-    /// empty. Parameters are read as forms are (URL Standard), statuses
-    /// are those of RFC 9110. All these are answers.
+    /// `PUT /v1/path` sets the trees that are searched for ports: those that the body names, without the
+    /// blanks and line feeds at its ends. It gives 200 `{"path":P}`. If the body names no search path, it
+    /// gives 400 `{"error":"Path"}`.
     ///
-    /// `Store` comes where reading the files failed, which then count one more failure; `Memory` where no
-    /// memory was left.
+    /// `GET /v1/var?path=P&name=V` gives the variable V of the port with the package path P, in the first
+    /// tree that has its directory, evaluated with P's flavors. A subpackage in P doesn't count. The reply
+    /// is 200 `{"defined":B,"value":T}`, and T is empty if V isn't defined. If P is no package path, it is
+    /// 400 `{"error":"Path"}`. If no tree has the port's makefile, it is 404 `{"error":"NoPort"}`. If the
+    /// makefile or the value is at fault, it is 422 `{"error":"Fault","kind":K,"line":L,"name":N}`.
+    ///
+    /// `GET /v1/port?path=P` gives what the port is: 200 with its record (`docs/PACKAGES.md`). It is
+    /// refused in the same way as `/v1/var`. It also gives 404 `{"error":"NoPort"}` if the makefile
+    /// describes no port, and 422 if the record is at fault. After these it gives 404
+    /// `{"error":"NoSubpackage"}` if the port doesn't have P's subpackage.
+    ///
+    /// `GET` of `/v1/list`, `/v1/match`, `/v1/deps`, `/v1/rdeps` and `/v1/faults` asks all ports
+    /// at once (`docs/HTTP.md`).
+    ///
+    /// Three refusals come before these, in this order. Any other path gives 404 `{"error":"Route"}`. Any
+    /// other method gives 405 `{"error":"Method"}` with the route's methods. A parameter of the route
+    /// that is missing, empty or there twice gives 400 `{"error":"Parameter"}`; but `where`, `kind` and
+    /// `depth` may be missing or empty.
+    ///
+    /// Parameters are read as forms are (URL Standard), and statuses are those of RFC 9110. All these are
+    /// answers. If reading the files fails, the error is `Store`, and the files count one more failure. If
+    /// memory runs out, the error is `Memory`.
     #[tactic(auto, unfolding(crate::specs::Plain::answer))]
     pub fn prepare<F: Listing>(
         &self,
@@ -71,13 +78,15 @@ impl Plain {
         target: &str,
         body: Vec<u8>,
     ) -> Result<Prepared, FilesFault>
-        ensures ok { IfOk result (λ prepared. (prepared.reply, prepared.change) ≡ answer ((F.shelf files.old).files, settings.now) (asked method target.now body.items)) }
-        ensures keeps { Keeps (result_err result) (F.shelf files.old) (F.shelf files.new) }
+        ensures ok { IfOk result (λ prepared. (prepared.reply, prepared.change)
+            ≡ answer ((F.view files.old).files, settings.now)
+            (plain_request method target.now body.items)) }
+        ensures keeps { Keeps (result_err result) (F.view files.old) (F.view files.new) }
     {
         let (path, query) = path_and_query(target);
         let Some(route) = self.routes.find(path) else {
             let reply = refusal(alloc, StatusCode::NOT_FOUND, "Route")?;
-            return Ok(Prepared::told(reply));
+            return Ok(Prepared::reply_alone(reply));
         };
         match route {
             Route::File => on_file(alloc, files, method, query, body),
@@ -93,7 +102,7 @@ impl Plain {
     }
 }
 
-// The answer on the route of a query, which changes nothing.
+// The answer on a route that is asked by a query. It changes nothing.
 fn on_query<F: Listing>(
     alloc: Global,
     files: &mut F,
@@ -102,16 +111,17 @@ fn on_query<F: Listing>(
     method: Method,
     query: &str,
 ) -> Result<Prepared, FilesFault>
-    ensures ok { IfOk result (λ prepared. (prepared.reply, prepared.change) ≡ on_query_of ((F.shelf files.old).files, settings.now) query.now route method) }
-    ensures keeps { Keeps (result_err result) (F.shelf files.old) (F.shelf files.new) }
+    ensures ok { IfOk result (λ prepared. (prepared.reply, prepared.change)
+        ≡ on_query_of ((F.view files.old).files, settings.now) query.now route method) }
+    ensures keeps { Keeps (result_err result) (F.view files.old) (F.view files.new) }
 {
     match method {
-        Method::Get => Ok(Prepared::told(get(alloc, files, settings, route, query)?)),
-        Method::Put | Method::Delete => Ok(Prepared::told(not_allowed(alloc, route)?)),
+        Method::Get => Ok(Prepared::reply_alone(get(alloc, files, settings, route, query)?)),
+        Method::Put | Method::Delete => Ok(Prepared::reply_alone(not_allowed(alloc, route)?)),
     }
 }
 
-// The reply to a GET on a route, which changes nothing.
+// The reply to a GET on a route. It changes nothing.
 fn get<F: Listing>(
     alloc: Global,
     files: &mut F,
@@ -119,8 +129,9 @@ fn get<F: Listing>(
     route: Route,
     query: &str,
 ) -> Result<Reply, FilesFault>
-    ensures ok { IfOk result (λ reply. reply ≡ got ((F.shelf files.old).files, settings.now) query.now route) }
-    ensures keeps { Keeps (result_err result) (F.shelf files.old) (F.shelf files.new) }
+    ensures ok { IfOk result (λ reply. reply
+        ≡ get_reply ((F.view files.old).files, settings.now) query.now route) }
+    ensures keeps { Keeps (result_err result) (F.view files.old) (F.view files.new) }
 {
     match route {
         Route::Deps => get_dependencies(alloc, files, settings, query),

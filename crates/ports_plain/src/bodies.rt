@@ -7,43 +7,43 @@ ghost use Rattle.ports_plain.specs.Bodies.{stored_body, removed_body, path_body,
 use serde_json::{Value, json};
 use std::alloc::{AllocError, Global};
 
-// What a stored file is answered with.
+// The body of the reply to a file that was stored.
 pub fn stored(alloc: Global) -> Result<Value, AllocError>
     ensures { IfOk result (λ value. view value ≡ stored_body) }
 {
     json!(in alloc; {"stored": true})
 }
 
-// What a removed file is answered with.
+// The body of the reply to a file that was removed.
 pub fn removed(alloc: Global) -> Result<Value, AllocError>
     ensures { IfOk result (λ value. view value ≡ removed_body) }
 {
     json!(in alloc; {"removed": true})
 }
 
-// What a search path that was set is answered with.
+// The body of the reply to a search path that was set.
 pub fn path(alloc: Global, path: &str) -> Result<Value, AllocError>
     ensures { IfOk result (λ value. view value ≡ path_body path.now) }
 {
     json!(in alloc; {"path": path})
 }
 
-// What a refusal is answered with: the word that names it.
+// The body of a refusal: the word that names it.
 pub fn error(alloc: Global, word: &str) -> Result<Value, AllocError>
     ensures { IfOk result (λ value. view value ≡ error_body word.now) }
 {
     json!(in alloc; {"error": word})
 }
 
-// What a fault of a makefile is answered with: the number of its kind, and the line and the file where it
-// arose.
+// The body of the reply to a fault of a makefile: the number of its kind, and the line
+// and the file where it arose.
 pub fn fault(alloc: Global, kind: u8, line: u64, name: &str) -> Result<Value, AllocError>
     ensures { IfOk result (λ value. view value ≡ fault_body kind line name.now) }
 {
     json!(in alloc; {"error": "Fault", "kind": kind, "line": line, "name": name})
 }
 
-// What a variable is answered with: whether it is defined, and its value.
+// The body of the reply about a variable: whether it is defined, and its value.
 pub fn variable(alloc: Global, value: Option<&str>) -> Result<Value, AllocError>
     ensures { IfOk result (λ body. view body ≡ variable_body (option_copied value.entry)) }
 {

@@ -3,27 +3,27 @@ use mk_files::Content;
 use mk_paths::{Name, SearchPath};
 use ports_http::Reply;
 
-/// What a request changes of the world over which it was answered. Whoever owns that world carries it out;
-/// all its memory is taken but for a file's place among the others.
+/// What a request changes of the world over which it was answered. Whoever owns that world carries the
+/// change out. All memory for it is already taken, except for a file's place among the others.
 #[derive(Debug, Drop)]
 pub enum Change {
-    /// The file of this name has this content from now on, whether or not it was there. Where the tenant would
-    /// then have more than it may, nothing is changed, and `full` is answered.
+    /// From now on the file of this name has this content, whether or not it was there. If the tenant would
+    /// then have more than it may, nothing is changed, and the reply is `full`.
     PutFile(Name, Content),
-    /// The file of this name is there no more.
+    /// The file of this name is no longer there.
     RemoveFile(Name),
-    /// These trees are searched for ports from now on.
+    /// From now on these trees are searched for ports.
     SetPath(SearchPath),
 }
 
-/// The answer to a request before anything is changed: its reply, and what is to be changed, if anything is.
-/// A caller that takes all the memory of the reply's bytes before it carries out the change has changed
-/// nothing where there is none.
+/// The answer to a request before anything is changed: its reply, and what is to be changed, if anything
+/// is. If a caller takes all memory for the reply's bytes before it carries out the change, and memory runs
+/// out, it has changed nothing.
 #[derive(Drop)]
 pub struct Prepared {
     /// The reply.
     pub reply: Reply,
-    /// What is to be changed.
+    /// What is to be changed, if anything is.
     pub change: Option<Change>,
 }
 
@@ -31,7 +31,7 @@ impl Prepared {
     ghost use Rattle.std.specs.Prelude.{◌≡◌, None};
 
     // A reply, and no change.
-    pub(crate) fn told(reply: Reply) -> Prepared
+    pub(crate) fn reply_alone(reply: Reply) -> Prepared
         ensures { result ≡ record { reply = reply; change = None } }
     {
         Prepared {

@@ -31,9 +31,11 @@ pub struct Question {
     pub depth: Depth,
 }
 
-// What a query asks about a path's dependencies; or the refusal.
+// What a query asks about a path's dependencies, or the refusal.
 fn read_question(alloc: Global, query: &str) -> Result<Result<Question, Reply>, AllocError>
-    ensures { IfOk result (λ asked. asked ≡ lists.question_of (parameter_of (codes "path") query.now) (optional_of (codes "kind") query.now) (optional_of (codes "depth") query.now)) }
+    ensures { IfOk result (λ question. question
+        ≡ lists.question_of (parameter_of (codes "path") query.now)
+        (optional_of (codes "kind") query.now) (optional_of (codes "depth") query.now)) }
 {
     let path = parameter(alloc, query, "path")?;
     let kind = optional(alloc, query, "kind")?;
@@ -44,14 +46,15 @@ fn read_question(alloc: Global, query: &str) -> Result<Result<Question, Reply>, 
     }
 }
 
-// The question that these texts ask; or the refusal.
+// The question that these texts ask, or the refusal.
 fn question_of(
     alloc: Global,
     path: &str,
     kind: &str,
     depth: &str,
 ) -> Result<Result<Question, Reply>, AllocError>
-    ensures { IfOk result (λ asked. asked ≡ lists.question_of (Some path.now) (Some kind.now) (Some depth.now)) }
+    ensures { IfOk result (λ question. question
+        ≡ lists.question_of (Some path.now) (Some kind.now) (Some depth.now)) }
 {
     match PkgPath::read(alloc, path) {
         Ok(path) => question_on(alloc, path, kind, depth),
@@ -60,14 +63,15 @@ fn question_of(
     }
 }
 
-// The question about a path that kinds and a depth make; or the refusal.
+// The question about a path that kinds and a depth make, or the refusal.
 fn question_on(
     alloc: Global,
     path: PkgPath,
     kind: &str,
     depth: &str,
 ) -> Result<Result<Question, Reply>, AllocError>
-    ensures { IfOk result (λ asked. asked ≡ lists.question_on (Ok path) (kinds_of kind.now) (lists.depth_of depth.now)) }
+    ensures { IfOk result (λ question. question
+        ≡ lists.question_on (Ok path) (kinds_of kind.now) (lists.depth_of depth.now)) }
 {
     match (Kinds::read(kind), Depth::read(depth)) {
         (Some(kinds), Some(depth)) => Ok(Ok(Question { path, kinds, depth })),
@@ -82,8 +86,11 @@ pub fn get_dependencies<F: Listing>(
     settings: &Settings,
     query: &str,
 ) -> Result<Reply, FilesFault>
-    ensures ok { IfOk result (λ reply. reply ≡ lists.answered (lists.dependencies_of ((F.shelf files.old).files, settings.now)) (lists.question_of (parameter_of (codes "path") query.now) (optional_of (codes "kind") query.now) (optional_of (codes "depth") query.now))) }
-    ensures keeps { Keeps (result_err result) (F.shelf files.old) (F.shelf files.new) }
+    ensures ok { IfOk result (λ reply. reply
+        ≡ lists.answered (lists.dependencies_of ((F.view files.old).files, settings.now))
+        (lists.question_of (parameter_of (codes "path") query.now)
+        (optional_of (codes "kind") query.now) (optional_of (codes "depth") query.now))) }
+    ensures keeps { Keeps (result_err result) (F.view files.old) (F.view files.new) }
 {
     match read_question(alloc, query)? {
         Ok(question) => dependencies_of(alloc, files, settings, &question),
@@ -98,8 +105,11 @@ pub fn get_dependents<F: Listing>(
     settings: &Settings,
     query: &str,
 ) -> Result<Reply, FilesFault>
-    ensures ok { IfOk result (λ reply. reply ≡ lists.answered (lists.dependents_of ((F.shelf files.old).files, settings.now)) (lists.question_of (parameter_of (codes "path") query.now) (optional_of (codes "kind") query.now) (optional_of (codes "depth") query.now))) }
-    ensures keeps { Keeps (result_err result) (F.shelf files.old) (F.shelf files.new) }
+    ensures ok { IfOk result (λ reply. reply
+        ≡ lists.answered (lists.dependents_of ((F.view files.old).files, settings.now))
+        (lists.question_of (parameter_of (codes "path") query.now)
+        (optional_of (codes "kind") query.now) (optional_of (codes "depth") query.now))) }
+    ensures keeps { Keeps (result_err result) (F.view files.old) (F.view files.new) }
 {
     match read_question(alloc, query)? {
         Ok(question) => dependents_of(alloc, files, settings, &question),
@@ -113,8 +123,9 @@ fn dependencies_of<F: Listing>(
     settings: &Settings,
     question: &Question,
 ) -> Result<Reply, FilesFault>
-    ensures ok { IfOk result (λ reply. reply ≡ lists.dependencies_of ((F.shelf files.old).files, settings.now) question.now) }
-    ensures keeps { Keeps (result_err result) (F.shelf files.old) (F.shelf files.new) }
+    ensures ok { IfOk result (λ reply. reply
+        ≡ lists.dependencies_of ((F.view files.old).files, settings.now) question.now) }
+    ensures keeps { Keeps (result_err result) (F.view files.old) (F.view files.new) }
 {
     let index = index_files(alloc, files, settings)?;
     Ok(dependencies_in(alloc, &index, question)?)
@@ -126,8 +137,9 @@ fn dependents_of<F: Listing>(
     settings: &Settings,
     question: &Question,
 ) -> Result<Reply, FilesFault>
-    ensures ok { IfOk result (λ reply. reply ≡ lists.dependents_of ((F.shelf files.old).files, settings.now) question.now) }
-    ensures keeps { Keeps (result_err result) (F.shelf files.old) (F.shelf files.new) }
+    ensures ok { IfOk result (λ reply. reply
+        ≡ lists.dependents_of ((F.view files.old).files, settings.now) question.now) }
+    ensures keeps { Keeps (result_err result) (F.view files.old) (F.view files.new) }
 {
     let index = index_files(alloc, files, settings)?;
     let body = dependents_body(alloc, index.edges.as_slice(), question)?;
@@ -136,7 +148,8 @@ fn dependents_of<F: Listing>(
 
 // What a port of an index depends on.
 fn dependencies_in(alloc: Global, index: &Index, question: &Question) -> Result<Reply, AllocError>
-    ensures { IfOk result (λ reply. reply ≡ lists.dependencies_in index.now.roots.items index.now.edges.items question.now) }
+    ensures { IfOk result (λ reply. reply
+        ≡ lists.dependencies_in index.now.roots.items index.now.edges.items question.now) }
 {
     let path = question.path.port_path(alloc)?;
     let Some(root) = root_named(index.roots.as_slice(), path.as_str()) else {
@@ -154,7 +167,7 @@ fn dependencies_in(alloc: Global, index: &Index, question: &Question) -> Result<
     }
 }
 
-// The root at a canonical path.
+// The root at a canonical path, if there is one.
 fn root_named<'a>(roots: &'a [Root], path: &str) -> Option<&'a Root>
     ensures { option_copied result ≡ lists.root_named roots.now path.now }
 {
@@ -166,7 +179,8 @@ fn dependencies_body(
     edges: &[RootEdge],
     question: &Question,
 ) -> Result<Value, AllocError>
-    ensures { IfOk result (λ value. view value ≡ lists.dependencies_body_of edges.now question.now) }
+    ensures { IfOk result (λ value. view value
+        ≡ lists.dependencies_body_of edges.now question.now) }
 {
     let first = first_edges(alloc, question.kinds, &question.path, edges)?;
     match question.depth {

@@ -12,7 +12,7 @@ pub enum Depth {
 }
 
 impl Depth {
-    // The depth that a text names; `1` where it is empty.
+    // The depth that a text names: `1` or `all`. An empty text is `1`. `None` for any other text.
     pub fn read(text: &str) -> Option<Depth>
         ensures { result ≡ depth_of text.now }
     {

@@ -2,9 +2,10 @@
 ghost use Rattle.std.specs.Prelude.{◌≡◌, if◌then◌else◌, IfOk, Some, codes};
 ghost use Rattle.std.specs.FinMap.{get, contains_key};
 ghost use Rattle.std.specs.Result.{result_err};
-ghost use Rattle.ports_plain.specs.Plain.{Answer, on_file as on_file_of, on_named_file as on_named_file_of, content_shown, told};
+ghost use Rattle.ports_plain.specs.Plain.{Answer, on_file as on_file_of, on_named_file as on_named_file_of, content_shown, reply_alone};
 ghost use Rattle.ports_plain.specs.Parameters.{parameter as parameter_of};
-ghost use Rattle.ports_plain.specs.Replies.{refusal as refusal_of, no_file as no_file_reply, removed as removed_reply, stored as stored_reply};
+ghost use Rattle.ports_plain.specs.Replies.{refusal as refusal_of, no_file as no_file_reply};
+ghost use Rattle.ports_plain.specs.Replies.{removed as removed_reply, stored as stored_reply};
 ghost use Rattle.ports_plain.specs.declared.changing.Change.TheVariants.{PutFile, RemoveFile};
 ghost use Rattle.ports_index.specs.Keeping.{Keeps};
 
@@ -24,8 +25,10 @@ pub fn on_file<F: Files>(
     query: &str,
     body: Vec<u8>,
 ) -> Result<Prepared, FilesFault>
-    ensures ok { IfOk result (λ prepared. (prepared.reply, prepared.change) ≡ on_file_of (F.shelf files.old).files method body.items (parameter_of (codes "name") query.now)) }
-    ensures keeps { Keeps (result_err result) (F.shelf files.old) (F.shelf files.new) }
+    ensures ok { IfOk result (λ prepared. (prepared.reply, prepared.change)
+        ≡ on_file_of (F.view files.old).files method body.items
+        (parameter_of (codes "name") query.now)) }
+    ensures keeps { Keeps (result_err result) (F.view files.old) (F.view files.new) }
 {
     let Some(text) = parameter(alloc, query, "name")? else {
         return Ok(refused(alloc, StatusCode::BAD_REQUEST, "Parameter")?);
@@ -46,8 +49,9 @@ fn on_named_file<F: Files>(
     name: Name,
     body: Vec<u8>,
 ) -> Result<Prepared, FilesFault>
-    ensures ok { IfOk result (λ prepared. (prepared.reply, prepared.change) ≡ on_named_file_of (F.shelf files.old).files method body.items name) }
-    ensures keeps { Keeps (result_err result) (F.shelf files.old) (F.shelf files.new) }
+    ensures ok { IfOk result (λ prepared. (prepared.reply, prepared.change)
+        ≡ on_named_file_of (F.view files.old).files method body.items name) }
+    ensures keeps { Keeps (result_err result) (F.view files.old) (F.view files.new) }
 {
     match method {
         Method::Get => show(alloc, files, &name),
@@ -58,18 +62,20 @@ fn on_named_file<F: Files>(
 
 // The file's bytes, if it is there.
 fn show<F: Files>(alloc: Global, files: &mut F, name: &Name) -> Result<Prepared, FilesFault>
-    ensures ok { IfOk result (λ prepared. (prepared.reply, prepared.change) ≡ told (content_shown (get (F.shelf files.old).files name.now))) }
-    ensures keeps { Keeps (result_err result) (F.shelf files.old) (F.shelf files.new) }
+    ensures ok { IfOk result (λ prepared. (prepared.reply, prepared.change)
+        ≡ reply_alone (content_shown (get (F.view files.old).files name.now))) }
+    ensures keeps { Keeps (result_err result) (F.view files.old) (F.view files.new) }
 {
     match files.read(name)? {
-        Some(content) => Ok(Prepared::told(file_shown(alloc, content.as_slice())?)),
+        Some(content) => Ok(Prepared::reply_alone(file_shown(alloc, content.as_slice())?)),
         None => Ok(no_file(alloc)?),
     }
 }
 
-// A file is stored, whether it was there or not.
+// The change that stores a file, whether or not it was there, with its reply.
 fn put(alloc: Global, name: Name, body: Vec<u8>) -> Result<Prepared, AllocError>
-    ensures { IfOk result (λ prepared. ◌≡◌ {A = Answer} (prepared.reply, prepared.change) (stored_reply, Some (PutFile name body.items))) }
+    ensures { IfOk result (λ prepared. ◌≡◌ {A = Answer} (prepared.reply, prepared.change)
+        (stored_reply, Some (PutFile name body.items))) }
 {
     let reply = stored(alloc)?;
     let content = Content::new(alloc, body)?;
@@ -77,10 +83,12 @@ fn put(alloc: Global, name: Name, body: Vec<u8>) -> Result<Prepared, AllocError>
     Ok(Prepared { reply, change })
 }
 
-// A file is removed, if it is there.
+// The change that removes a file, with its reply, if the file is there.
 fn remove<F: Files>(alloc: Global, files: &mut F, name: Name) -> Result<Prepared, FilesFault>
-    ensures ok { IfOk result (λ prepared. (prepared.reply, prepared.change) ≡ if contains_key (F.shelf files.old).files name then (removed_reply, Some (RemoveFile name)) else told no_file_reply) }
-    ensures keeps { Keeps (result_err result) (F.shelf files.old) (F.shelf files.new) }
+    ensures ok { IfOk result (λ prepared. (prepared.reply, prepared.change)
+        ≡ if contains_key (F.view files.old).files name
+        then (removed_reply, Some (RemoveFile name)) else reply_alone no_file_reply) }
+    ensures keeps { Keeps (result_err result) (F.view files.old) (F.view files.new) }
 {
     if !files.has(&name)? {
         return Ok(no_file(alloc)?);
@@ -91,14 +99,16 @@ fn remove<F: Files>(alloc: Global, files: &mut F, name: Name) -> Result<Prepared
 }
 
 fn no_file(alloc: Global) -> Result<Prepared, AllocError>
-    ensures { IfOk result (λ prepared. (prepared.reply, prepared.change) ≡ told no_file_reply) }
+    ensures { IfOk result (λ prepared. (prepared.reply, prepared.change)
+        ≡ reply_alone no_file_reply) }
 {
     refused(alloc, StatusCode::NOT_FOUND, "NoFile")
 }
 
 // A refusal, by its word.
 fn refused(alloc: Global, status: StatusCode, word: &str) -> Result<Prepared, AllocError>
-    ensures { IfOk result (λ prepared. (prepared.reply, prepared.change) ≡ told (refusal_of status word.now)) }
+    ensures { IfOk result (λ prepared. (prepared.reply, prepared.change)
+        ≡ reply_alone (refusal_of status word.now)) }
 {
-    Ok(Prepared::told(refusal(alloc, status, word)?))
+    Ok(Prepared::reply_alone(refusal(alloc, status, word)?))
 }

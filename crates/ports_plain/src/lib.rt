@@ -1,5 +1,5 @@
-//! One request answered over one tenant's world: the plain service, with nothing of connections, queues,
-//! sharing or suspension.
+//! The plain service: it answers one request over one tenant's world. It knows nothing of connections,
+//! queues, sharing or suspension.
 #![tactic(auto)]
 
 mod answering;

@@ -14,7 +14,8 @@ use std::alloc::{AllocError, Global};
 
 // An object with one member, a list.
 fn list(alloc: Global, name: &str, values: Vec<Value>) -> Result<Value, AllocError>
-    ensures { IfOk result (λ value. view value ≡ bodies.list_body name.now (map view values.items)) }
+    ensures { IfOk result (λ value. view value
+        ≡ bodies.list_body name.now (map view values.items)) }
 {
     let values = Value::Array(values);
     json!(in alloc; {name: values})
@@ -39,7 +40,8 @@ fn listed(alloc: Global, one: &Listed) -> Result<Value, AllocError>
 
 // What a port depends on.
 pub fn dependencies(alloc: Global, edges: &[&RootEdge]) -> Result<Value, AllocError>
-    ensures { IfOk result (λ value. view value ≡ bodies.dependencies_body (map (λ edge. edge.now) edges.now)) }
+    ensures { IfOk result (λ value. view value
+        ≡ bodies.dependencies_body (map (λ edge. edge.now) edges.now)) }
 {
     let mut values = Vec::new(alloc);
     for edge in edges {
@@ -63,9 +65,10 @@ fn dependency(alloc: Global, edge: &Edge) -> Result<Value, AllocError>
     })
 }
 
-// The path that an item names, empty where it can't be read.
+// The path that an item names. It is empty if the item can't be read.
 fn target_text(alloc: Global, target: Option<&PkgPath>) -> Result<String, AllocError>
-    ensures { IfOk result (λ text. string_bytes text ≡ bodies.target_text (option_copied target.entry)) }
+    ensures { IfOk result (λ text. string_bytes text
+        ≡ bodies.target_text (option_copied target.entry)) }
 {
     match target {
         Some(path) => path.canonical(alloc),
@@ -75,7 +78,8 @@ fn target_text(alloc: Global, target: Option<&PkgPath>) -> Result<String, AllocE
 
 // What depends on a port.
 pub fn dependents(alloc: Global, edges: &[&RootEdge]) -> Result<Value, AllocError>
-    ensures { IfOk result (λ value. view value ≡ bodies.dependents_body (map (λ edge. edge.now) edges.now)) }
+    ensures { IfOk result (λ value. view value
+        ≡ bodies.dependents_body (map (λ edge. edge.now) edges.now)) }
 {
     let mut values = Vec::new(alloc);
     for edge in edges {
@@ -109,7 +113,8 @@ pub fn reached(alloc: Global, paths: &[String]) -> Result<Value, AllocError>
 
 // The paths of ports that reach one.
 pub fn reaching(alloc: Global, paths: &[String]) -> Result<Value, AllocError>
-    ensures { IfOk result (λ value. view value ≡ bodies.reaching_body (map string_bytes paths.now)) }
+    ensures { IfOk result (λ value. view value
+        ≡ bodies.reaching_body (map string_bytes paths.now)) }
 {
     let paths = texts(alloc, paths)?;
     json!(in alloc; {"rdeps": paths})
@@ -128,7 +133,8 @@ pub fn faults(alloc: Global, roots: &[Root]) -> Result<Value, AllocError>
 
 // Adds the fault of a root, if it has one.
 fn add_fault(alloc: Global, values: &mut Vec<Value>, root: &Root) -> Result<(), AllocError>
-    ensures { OnOk result (map view values.new.items ≡ map view values.old.items ++ option_to_list (bodies.fault_at root.now)) }
+    ensures { OnOk result (map view values.new.items ≡ map view values.old.items
+        ++ option_to_list (bodies.fault_at root.now)) }
 {
     if let Err(fault) = root.state() {
         values.push(fault_at(alloc, root.path(), fault)?)?;

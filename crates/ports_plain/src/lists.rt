@@ -25,8 +25,10 @@ pub fn get_list<F: Listing>(
     settings: &Settings,
     query: &str,
 ) -> Result<Reply, FilesFault>
-    ensures ok { IfOk result (λ reply. reply ≡ lists.get_list ((F.shelf files.old).files, settings.now) (optional_of (codes "where") query.now)) }
-    ensures keeps { Keeps (result_err result) (F.shelf files.old) (F.shelf files.new) }
+    ensures ok { IfOk result (λ reply. reply
+        ≡ lists.get_list ((F.view files.old).files, settings.now)
+        (optional_of (codes "where") query.now)) }
+    ensures keeps { Keeps (result_err result) (F.view files.old) (F.view files.new) }
 {
     let Some(text) = optional(alloc, query, "where")? else {
         return Ok(refusal(alloc, StatusCode::BAD_REQUEST, "Parameter")?);
@@ -45,8 +47,9 @@ fn list_by<F: Listing>(
     settings: &Settings,
     conditions: &Query,
 ) -> Result<Reply, FilesFault>
-    ensures ok { IfOk result (λ reply. reply ≡ lists.listed_by ((F.shelf files.old).files, settings.now) conditions.now) }
-    ensures keeps { Keeps (result_err result) (F.shelf files.old) (F.shelf files.new) }
+    ensures ok { IfOk result (λ reply. reply
+        ≡ lists.list_reply ((F.view files.old).files, settings.now) conditions.now) }
+    ensures keeps { Keeps (result_err result) (F.view files.old) (F.view files.new) }
 {
     let roots = index_roots(alloc, files, settings)?;
     let packages = answer(alloc, conditions, roots.as_slice())?;
@@ -54,15 +57,17 @@ fn list_by<F: Listing>(
     Ok(json_reply(alloc, StatusCode::OK, &body)?)
 }
 
-// The packages that the spec that the query gives admits.
+// The packages that are admitted by the spec that the query gives.
 pub fn get_match<F: Listing>(
     alloc: Global,
     files: &mut F,
     settings: &Settings,
     query: &str,
 ) -> Result<Reply, FilesFault>
-    ensures ok { IfOk result (λ reply. reply ≡ lists.get_match ((F.shelf files.old).files, settings.now) (parameter_of (codes "spec") query.now)) }
-    ensures keeps { Keeps (result_err result) (F.shelf files.old) (F.shelf files.new) }
+    ensures ok { IfOk result (λ reply. reply
+        ≡ lists.get_match ((F.view files.old).files, settings.now)
+        (parameter_of (codes "spec") query.now)) }
+    ensures keeps { Keeps (result_err result) (F.view files.old) (F.view files.new) }
 {
     let Some(text) = parameter(alloc, query, "spec")? else {
         return Ok(refusal(alloc, StatusCode::BAD_REQUEST, "Parameter")?);
@@ -81,8 +86,9 @@ fn match_by<F: Listing>(
     settings: &Settings,
     spec: &Spec,
 ) -> Result<Reply, FilesFault>
-    ensures ok { IfOk result (λ reply. reply ≡ lists.matched_by ((F.shelf files.old).files, settings.now) spec.now) }
-    ensures keeps { Keeps (result_err result) (F.shelf files.old) (F.shelf files.new) }
+    ensures ok { IfOk result (λ reply. reply
+        ≡ lists.matched_by ((F.view files.old).files, settings.now) spec.now) }
+    ensures keeps { Keeps (result_err result) (F.view files.old) (F.view files.new) }
 {
     let roots = index_roots(alloc, files, settings)?;
     let packages = admitted(alloc, spec, roots.as_slice())?;
@@ -96,8 +102,9 @@ pub fn get_faults<F: Listing>(
     files: &mut F,
     settings: &Settings,
 ) -> Result<Reply, FilesFault>
-    ensures ok { IfOk result (λ reply. reply ≡ lists.get_faults ((F.shelf files.old).files, settings.now)) }
-    ensures keeps { Keeps (result_err result) (F.shelf files.old) (F.shelf files.new) }
+    ensures ok { IfOk result (λ reply. reply
+        ≡ lists.get_faults ((F.view files.old).files, settings.now)) }
+    ensures keeps { Keeps (result_err result) (F.view files.old) (F.view files.new) }
 {
     let roots = index_roots(alloc, files, settings)?;
     let body = list_bodies::faults(alloc, roots.as_slice())?;

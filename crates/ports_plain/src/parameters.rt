@@ -8,7 +8,7 @@ use form_urlencoded::parse;
 use std::alloc::{AllocError, Global};
 use std::borrow::CowStr;
 
-// How often a parameter stands in a query.
+// How often a query has a parameter.
 #[derive(Drop)]
 enum Found<'a> {
     Never,
@@ -16,14 +16,15 @@ enum Found<'a> {
     Often,
 }
 
-// The value of the one parameter of this name, decoded; none where it is missing, empty or there twice.
-// What other names stand in the query doesn't matter.
+// The value of the one parameter of this name, decoded. `None` if it is missing, empty or there more than
+// once. It doesn't matter which other names the query has.
 pub fn parameter<'a>(
     alloc: Global,
     query: &'a str,
     name: &str,
 ) -> Result<Option<CowStr<'a>>, AllocError>
-    ensures { IfOk result (λ value. option_map cow_str_bytes value ≡ parameters.parameter name.now query.now) }
+    ensures { IfOk result (λ value. option_map cow_str_bytes value
+        ≡ parameters.parameter name.now query.now) }
 {
     match find(alloc, query, name)? {
         Found::Once(value) if !value.as_str().is_empty() => Ok(Some(value)),
@@ -31,13 +32,14 @@ pub fn parameter<'a>(
     }
 }
 
-// The same of a parameter that may be left out, which is then empty; none where it is there twice.
+// The same of a parameter that may be left out and is then empty. `None` if it is there more than once.
 pub fn optional<'a>(
     alloc: Global,
     query: &'a str,
     name: &str,
 ) -> Result<Option<CowStr<'a>>, AllocError>
-    ensures { IfOk result (λ value. option_map cow_str_bytes value ≡ parameters.optional name.now query.now) }
+    ensures { IfOk result (λ value. option_map cow_str_bytes value
+        ≡ parameters.optional name.now query.now) }
 {
     match find(alloc, query, name)? {
         Found::Never => Ok(Some(CowStr::Borrowed(""))),
@@ -46,9 +48,10 @@ pub fn optional<'a>(
     }
 }
 
-// How often a parameter stands in a query, decoded.
+// How often a query has a parameter, and its value, decoded.
 fn find<'a>(alloc: Global, query: &'a str, name: &str) -> Result<Found<'a>, AllocError>
-    ensures { IfOk result (λ found. found_seen found ≡ parameters.times (parameters.values_under name.now query.now)) }
+    ensures { IfOk result (λ found. found_seen found
+        ≡ parameters.times (parameters.values_under name.now query.now)) }
 {
     let mut found: Option<CowStr<'a>> = None;
     for pair in parse(alloc, query.as_bytes()) {

@@ -1,6 +1,6 @@
 // The route of the search path.
 ghost use Rattle.std.specs.Prelude.{◌≡◌, IfOk};
-ghost use Rattle.ports_plain.specs.Plain.{on_path as on_path_of, set_path as set_path_of, set_trees as set_trees_of, told};
+ghost use Rattle.ports_plain.specs.Plain.{on_path as on_path_of, set_path as set_path_of, set_trees as set_trees_of, reply_alone};
 ghost use Rattle.ports_plain.specs.Replies.{bad_path as bad_path_reply};
 ghost use Rattle.mk_paths.specs.SearchPath.{search_path};
 
@@ -14,15 +14,16 @@ use std::alloc::{AllocError, Global};
 
 // The search path, which a PUT sets and nothing shows.
 pub fn on_path(alloc: Global, method: Method, body: &[u8]) -> Result<Prepared, AllocError>
-    ensures { IfOk result (λ prepared. (prepared.reply, prepared.change) ≡ on_path_of body.now method) }
+    ensures { IfOk result (λ prepared. (prepared.reply, prepared.change)
+        ≡ on_path_of body.now method) }
 {
     match method {
         Method::Put => set_path(alloc, body),
-        Method::Get | Method::Delete => Ok(Prepared::told(not_allowed(alloc, Route::Path)?)),
+        Method::Get | Method::Delete => Ok(Prepared::reply_alone(not_allowed(alloc, Route::Path)?)),
     }
 }
 
-// The search path that a body has, without the blanks and line feeds at its ends, is to be set.
+// The change that sets the search path in a body, without the blanks and line feeds at its ends.
 fn set_path(alloc: Global, body: &[u8]) -> Result<Prepared, AllocError>
     ensures { IfOk result (λ prepared. (prepared.reply, prepared.change) ≡ set_path_of body.now) }
 {
@@ -33,7 +34,8 @@ fn set_path(alloc: Global, body: &[u8]) -> Result<Prepared, AllocError>
 }
 
 fn set_trees(alloc: Global, text: &str) -> Result<Prepared, AllocError>
-    ensures { IfOk result (λ prepared. (prepared.reply, prepared.change) ≡ set_trees_of text.now (search_path text.now)) }
+    ensures { IfOk result (λ prepared. (prepared.reply, prepared.change)
+        ≡ set_trees_of text.now (search_path text.now)) }
 {
     match SearchPath::read(alloc, text) {
         Ok(trees) => Ok(Prepared {
@@ -46,8 +48,9 @@ fn set_trees(alloc: Global, text: &str) -> Result<Prepared, AllocError>
 }
 
 fn bad_path(alloc: Global) -> Result<Prepared, AllocError>
-    ensures { IfOk result (λ prepared. (prepared.reply, prepared.change) ≡ told bad_path_reply) }
+    ensures { IfOk result (λ prepared. (prepared.reply, prepared.change)
+        ≡ reply_alone bad_path_reply) }
 {
     let reply = refusal(alloc, StatusCode::BAD_REQUEST, "Path")?;
-    Ok(Prepared::told(reply))
+    Ok(Prepared::reply_alone(reply))
 }

@@ -10,7 +10,7 @@ use port_rules::{Depend, Package, PortRecord};
 use serde_json::{Value, json};
 use std::alloc::{AllocError, Global};
 
-// The port that a path names, whose subpackage doesn't count.
+// The port that a path names. The path's subpackage doesn't count.
 pub fn port(alloc: Global, path: &PkgPath, port: &PortRecord) -> Result<Value, AllocError>
     ensures { IfOk result (λ value. view value ≡ port_body path.now port.now) }
 {

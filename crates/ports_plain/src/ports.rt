@@ -4,7 +4,7 @@ ghost use Rattle.std.specs.Result.{result_err};
 ghost use Rattle.mk_eval.specs.Meaning.{means};
 ghost use Rattle.mk_eval.specs.Telling.{Tells};
 ghost use Rattle.mk_paths.specs.Place.{place};
-ghost use Rattle.ports_plain.specs.Plain.{get_port as get_port_of, port_at as port_at_place, record_after, described};
+ghost use Rattle.ports_plain.specs.Plain.{get_port as get_port_of, port_at as port_at_place, record_after, port_reply};
 ghost use Rattle.ports_plain.specs.Subpackages.{has_named as has_named_in};
 ghost use Rattle.ports_plain.specs.Parameters.{parameter as parameter_of};
 ghost use Rattle.ports_index.specs.Keeping.{Keeps};
@@ -28,8 +28,10 @@ pub fn get_port<F: Files>(
     settings: &Settings,
     query: &str,
 ) -> Result<Reply, FilesFault>
-    ensures ok { IfOk result (λ reply. reply ≡ get_port_of ((F.shelf files.old).files, settings.now) (parameter_of (codes "path") query.now)) }
-    ensures keeps { Keeps (result_err result) (F.shelf files.old) (F.shelf files.new) }
+    ensures ok { IfOk result (λ reply. reply
+        ≡ get_port_of ((F.view files.old).files, settings.now)
+        (parameter_of (codes "path") query.now)) }
+    ensures keeps { Keeps (result_err result) (F.view files.old) (F.view files.new) }
 {
     let Some(path) = parameter(alloc, query, "path")? else {
         return Ok(refusal(alloc, StatusCode::BAD_REQUEST, "Parameter")?);
@@ -48,8 +50,10 @@ fn port_at<F: Files>(
     settings: &Settings,
     path: &PkgPath,
 ) -> Result<Reply, FilesFault>
-    ensures ok { IfOk result (λ reply. reply ≡ port_at_place ((F.shelf files.old).files, settings.now) path.now (place ((F.shelf files.old).files, settings.now) path.now.directory)) }
-    ensures keeps { Keeps (result_err result) (F.shelf files.old) (F.shelf files.new) }
+    ensures ok { IfOk result (λ reply. reply
+        ≡ port_at_place ((F.view files.old).files, settings.now) path.now
+        (place ((F.view files.old).files, settings.now) path.now.directory)) }
+    ensures keeps { Keeps (result_err result) (F.view files.old) (F.view files.new) }
 {
     match find(alloc, files, &settings.path, path.directory())? {
         Some(makefile) => port_of_makefile(alloc, files, settings, path, &makefile),
@@ -65,8 +69,11 @@ fn port_of_makefile<F: Files>(
     path: &PkgPath,
     makefile: &Name,
 ) -> Result<Reply, FilesFault>
-    ensures ok { IfOk result (λ reply. reply ≡ described path.now (record_after makefile.now (means ((F.shelf files.old).files, settings.now) makefile.now path.now.flavors))) }
-    ensures keeps { Keeps (result_err result) (F.shelf files.old) (F.shelf files.new) }
+    ensures ok { IfOk result (λ reply. reply
+        ≡ port_reply path.now
+        (record_after makefile.now
+        (means ((F.view files.old).files, settings.now) makefile.now path.now.flavors))) }
+    ensures keeps { Keeps (result_err result) (F.view files.old) (F.view files.new) }
 {
     match record_in(alloc, files, settings, path, makefile) {
         Ok(Some(found)) if !has_named(path, &found.port) => {
@@ -80,7 +87,7 @@ fn port_of_makefile<F: Files>(
     }
 }
 
-// The record of the port that a makefile describes; none where it describes no port.
+// The record of the port that a makefile describes. `None` if it describes no port.
 fn record_in<F: Files>(
     alloc: Global,
     files: &mut F,
@@ -88,8 +95,10 @@ fn record_in<F: Files>(
     path: &PkgPath,
     makefile: &Name,
 ) -> Result<Option<Recorded>, Stop<Failed>>
-    ensures record { Tells (λ found. found) result (record_after makefile.now (means ((F.shelf files.old).files, settings.now) makefile.now path.now.flavors)) }
-    ensures keeps { Keeps (refusal_in result) (F.shelf files.old) (F.shelf files.new) }
+    ensures record { Tells (λ found. found) result
+        (record_after makefile.now
+        (means ((F.view files.old).files, settings.now) makefile.now path.now.flavors)) }
+    ensures keeps { Keeps (refusal_in result) (F.view files.old) (F.view files.new) }
 {
     let evaluated = evaluate(alloc, files, settings, makefile, path.flavors())?;
     match evaluated.kind {

@@ -3,7 +3,11 @@ ghost use Rattle.std.specs.Prelude.{◌≡◌, IfOk, false};
 ghost use Rattle.std.specs.Option.{option_copied};
 ghost use Rattle.serde_json.specs.View.{view};
 ghost use Rattle.serde_json.specs.Written.{has_float};
-ghost use Rattle.ports_plain.specs.Replies.{json_reply as json_reply_of, refusal as refusal_of, not_allowed as not_allowed_on, methods_of, full as full_reply, faulty as faulty_at, file_shown as file_shown_as, stored as stored_reply, removed as removed_reply, path_set as path_set_to, variable as variable_reply, port_shown};
+ghost use Rattle.ports_plain.specs.Replies.{json_reply as json_reply_of, refusal as refusal_of};
+ghost use Rattle.ports_plain.specs.Replies.{not_allowed as not_allowed_on, methods_of, full as full_reply};
+ghost use Rattle.ports_plain.specs.Replies.{faulty as faulty_at, file_shown as file_shown_as, stored as stored_reply};
+ghost use Rattle.ports_plain.specs.Replies.{removed as removed_reply, path_set as path_set_to};
+ghost use Rattle.ports_plain.specs.Replies.{variable as variable_reply, port_shown};
 
 use crate::routing::Route;
 use crate::{bodies, port_bodies};
@@ -42,7 +46,7 @@ fn methods_of_route(route: Route) -> &'static [Method]
     }
 }
 
-// A method that the route doesn't have.
+// The refusal of a method that the route doesn't have.
 pub fn not_allowed(alloc: Global, route: Route) -> Result<Reply, AllocError>
     ensures { IfOk result (λ reply. reply ≡ not_allowed_on route) }
 {
@@ -52,14 +56,14 @@ pub fn not_allowed(alloc: Global, route: Route) -> Result<Reply, AllocError>
 
 /// The reply to a PUT of a file that would leave its tenant with more than 2,000 files, or with more than
 /// 8,388,608 bytes of contents: 409 `{"error":"Full"}`. Whoever carries out the change finds that out, and
-/// changes nothing then. Its one error is want of memory.
+/// then changes nothing. It fails only if memory runs out.
 pub fn full(alloc: Global) -> Result<Reply, AllocError>
     ensures { IfOk result (λ reply. reply ≡ full_reply) }
 {
     refusal(alloc, StatusCode::CONFLICT, "Full")
 }
 
-// A makefile at fault.
+// The reply about a makefile at fault.
 pub fn faulty(alloc: Global, fault: &Fault) -> Result<Reply, AllocError>
     ensures { IfOk result (λ reply. reply ≡ faulty_at fault.now) }
 {
@@ -67,7 +71,7 @@ pub fn faulty(alloc: Global, fault: &Fault) -> Result<Reply, AllocError>
     json_reply(alloc, StatusCode::UNPROCESSABLE_ENTITY, &body)
 }
 
-// The content of a file.
+// The reply with the content of a file.
 pub fn file_shown(alloc: Global, content: &[u8]) -> Result<Reply, AllocError>
     ensures { IfOk result (λ reply. reply ≡ file_shown_as content.now) }
 {
@@ -75,7 +79,7 @@ pub fn file_shown(alloc: Global, content: &[u8]) -> Result<Reply, AllocError>
     Ok(Reply::of_bytes(StatusCode::OK, Some(Content::Octets), body))
 }
 
-// A file was stored.
+// The reply that a file was stored.
 pub fn stored(alloc: Global) -> Result<Reply, AllocError>
     ensures { IfOk result (λ reply. reply ≡ stored_reply) }
 {
@@ -83,7 +87,7 @@ pub fn stored(alloc: Global) -> Result<Reply, AllocError>
     json_reply(alloc, StatusCode::OK, &body)
 }
 
-// A file was removed.
+// The reply that a file was removed.
 pub fn removed(alloc: Global) -> Result<Reply, AllocError>
     ensures { IfOk result (λ reply. reply ≡ removed_reply) }
 {
@@ -91,7 +95,7 @@ pub fn removed(alloc: Global) -> Result<Reply, AllocError>
     json_reply(alloc, StatusCode::OK, &body)
 }
 
-// The search path was set.
+// The reply that the search path was set.
 pub fn path_set(alloc: Global, path: &str) -> Result<Reply, AllocError>
     ensures { IfOk result (λ reply. reply ≡ path_set_to path.now) }
 {
@@ -99,7 +103,7 @@ pub fn path_set(alloc: Global, path: &str) -> Result<Reply, AllocError>
     json_reply(alloc, StatusCode::OK, &body)
 }
 
-// The value of a variable, or that it isn't defined.
+// The reply with the value of a variable, or that it isn't defined.
 pub fn variable(alloc: Global, value: Option<&str>) -> Result<Reply, AllocError>
     ensures { IfOk result (λ reply. reply ≡ variable_reply (option_copied value.entry)) }
 {
@@ -107,7 +111,7 @@ pub fn variable(alloc: Global, value: Option<&str>) -> Result<Reply, AllocError>
     json_reply(alloc, StatusCode::OK, &body)
 }
 
-// What the port is that a path names.
+// The reply with what the port is that a path names.
 pub fn port(alloc: Global, path: &PkgPath, port: &PortRecord) -> Result<Reply, AllocError>
     ensures { IfOk result (λ reply. reply ≡ port_shown path.now port.now) }
 {

@@ -8,7 +8,7 @@ ghost use Rattle.ports_plain.specs.RouteRows.{rows};
 use matchit::Router;
 use std::alloc::{AllocError, Global};
 
-/// What a path of the service stands for.
+/// What a path of the service is about.
 #[derive(Clone, Copy, Debug, PartialEq, Eq)]
 pub enum Route {
     /// `/v1/deps`: what a port depends on.
@@ -39,7 +39,7 @@ pub struct Routes {
 }
 
 impl Routes {
-    /// The routes, in the order of their paths' bytes. Its one error is want of memory.
+    /// The routes, in the order of their paths' bytes. It fails only if memory runs out.
     pub fn new(alloc: Global) -> Result<Routes, AllocError> {
         let mut router = Router::new(alloc);
         add(&mut router, "/v1/deps", Route::Deps)?;
@@ -54,7 +54,7 @@ impl Routes {
         Ok(Routes { router })
     }
 
-    /// The route of a path, which is compared as it is written; none where there is no such route.
+    /// The route of a path, which is compared as it is written. `None` if there is no such route.
     pub fn find(&self, path: &str) -> Option<Route>
         ensures { result ≡ route_of path.now }
     {
@@ -65,7 +65,7 @@ impl Routes {
     }
 }
 
-// Adds a route that no earlier one hinders.
+// Adds a route. No earlier one conflicts with it.
 fn add(router: &mut Router<Route>, path: &str, route: Route) -> Result<(), AllocError>
     ensures { OnOk result (InsertsRead (parse_route path.now) route router.old router.new (Ok tt)) }
 {

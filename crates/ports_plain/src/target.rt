@@ -15,7 +15,8 @@ pub fn without_host(target: &str) -> &str
     }
 }
 
-// The path, which ends at the first question mark, and the query behind that mark.
+// The path, which ends at the first question mark, and the query after that mark. Without
+// a mark the query is empty.
 pub fn path_and_query(target: &str) -> (&str, &str)
     ensures path { result.0.now ≡ path_of target.now }
     ensures query { result.1.now ≡ query_of target.now }

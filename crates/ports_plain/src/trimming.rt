@@ -2,7 +2,7 @@
 ghost use Rattle.std.specs.Prelude.{◌≡◌, reverse};
 ghost use Rattle.ports_plain.specs.Trimming.{is_space as is_space_byte, skip_spaces, trimmed as trimmed_text};
 
-// The bytes without the blanks and line feeds at both their ends.
+// The bytes without the blanks and line feeds at both ends.
 pub fn trimmed(bytes: &[u8]) -> &[u8]
     ensures { result.now ≡ trimmed_text bytes.now }
 {

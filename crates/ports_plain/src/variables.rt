@@ -27,8 +27,10 @@ pub fn get_variable<F: Files>(
     settings: &Settings,
     query: &str,
 ) -> Result<Reply, FilesFault>
-    ensures ok { IfOk result (λ reply. reply ≡ get_variable_of ((F.shelf files.old).files, settings.now) (parameter_of (codes "path") query.now) (parameter_of (codes "name") query.now)) }
-    ensures keeps { Keeps (result_err result) (F.shelf files.old) (F.shelf files.new) }
+    ensures ok { IfOk result (λ reply. reply
+        ≡ get_variable_of ((F.view files.old).files, settings.now)
+        (parameter_of (codes "path") query.now) (parameter_of (codes "name") query.now)) }
+    ensures keeps { Keeps (result_err result) (F.view files.old) (F.view files.new) }
 {
     let path = parameter(alloc, query, "path")?;
     let name = parameter(alloc, query, "name")?;
@@ -38,7 +40,7 @@ pub fn get_variable<F: Files>(
     }
 }
 
-// The variable of this name, of the port whose path a text is.
+// The variable of this name, of the port whose path this text is.
 fn variable_named<F: Files>(
     alloc: Global,
     files: &mut F,
@@ -46,8 +48,10 @@ fn variable_named<F: Files>(
     path: &str,
     name: &str,
 ) -> Result<Reply, FilesFault>
-    ensures ok { IfOk result (λ reply. reply ≡ get_variable_of ((F.shelf files.old).files, settings.now) (Some path.now) (Some name.now)) }
-    ensures keeps { Keeps (result_err result) (F.shelf files.old) (F.shelf files.new) }
+    ensures ok { IfOk result (λ reply. reply
+        ≡ get_variable_of ((F.view files.old).files, settings.now) (Some path.now)
+        (Some name.now)) }
+    ensures keeps { Keeps (result_err result) (F.view files.old) (F.view files.new) }
 {
     match PkgPath::read(alloc, path) {
         Ok(path) => variable_of(alloc, files, settings, &path, name),
@@ -64,8 +68,10 @@ fn variable_of<F: Files>(
     path: &PkgPath,
     name: &str,
 ) -> Result<Reply, FilesFault>
-    ensures ok { IfOk result (λ reply. reply ≡ variable_at ((F.shelf files.old).files, settings.now) name.now path.now.flavors (place ((F.shelf files.old).files, settings.now) path.now.directory)) }
-    ensures keeps { Keeps (result_err result) (F.shelf files.old) (F.shelf files.new) }
+    ensures ok { IfOk result (λ reply. reply
+        ≡ variable_at ((F.view files.old).files, settings.now) name.now path.now.flavors
+        (place ((F.view files.old).files, settings.now) path.now.directory)) }
+    ensures keeps { Keeps (result_err result) (F.view files.old) (F.view files.new) }
 {
     match find(alloc, files, &settings.path, path.directory())? {
         Some(makefile) => {
@@ -84,8 +90,10 @@ fn variable_after_makefile<F: Files>(
     flavors: Option<&[String]>,
     name: &str,
 ) -> Result<Reply, FilesFault>
-    ensures ok { IfOk result (λ reply. reply ≡ valued (value_after makefile.now name.now (means ((F.shelf files.old).files, settings.now) makefile.now (flavors_in flavors.entry)))) }
-    ensures keeps { Keeps (result_err result) (F.shelf files.old) (F.shelf files.new) }
+    ensures ok { IfOk result (λ reply. reply
+        ≡ valued (value_after makefile.now name.now
+        (means ((F.view files.old).files, settings.now) makefile.now (flavors_in flavors.entry)))) }
+    ensures keeps { Keeps (result_err result) (F.view files.old) (F.view files.new) }
 {
     match value_in(alloc, files, settings, makefile, flavors, name) {
         Ok(Some(known)) => Ok(variable(alloc, Some(known.text()))?),
@@ -105,8 +113,10 @@ fn value_in<F: Files>(
     flavors: Option<&[String]>,
     name: &str,
 ) -> Result<Option<Valued>, Stop<Failed>>
-    ensures value { Tells (λ value. value) result (value_after makefile.now name.now (means ((F.shelf files.old).files, settings.now) makefile.now (flavors_in flavors.entry))) }
-    ensures keeps { Keeps (refusal_in result) (F.shelf files.old) (F.shelf files.new) }
+    ensures value { Tells (λ value. value) result
+        (value_after makefile.now name.now
+        (means ((F.view files.old).files, settings.now) makefile.now (flavors_in flavors.entry))) }
+    ensures keeps { Keeps (refusal_in result) (F.view files.old) (F.view files.new) }
 {
     let evaluated = evaluate(alloc, files, settings, makefile, flavors)?;
     value(alloc, &evaluated, makefile, name)

@@ -4,7 +4,8 @@ use Rattle.std.specs.Str.Parse.{digits_value, without_leading_plus}
 use Rattle.std.specs.Io.KnownBytes.{Keeps}
 use Rattle.clap.specs.Lexer.{usize_max}
 use Rattle.clap.specs.ValueTests.{is_unsigned_in}
-use Rattle.clap.specs.Words.{App, Row, Rule, Text, IsAmong, all_of, fault_of, new_app, new_rule, one_of, subcommand_of, with_rule, with_subcommand}
+use Rattle.clap.specs.Words.{App, Row, Rule, Text, IsAmong, all_of, fault_of, new_app, new_rule, one_of}
+use Rattle.clap.specs.Words.{subcommand_of, with_rule, with_subcommand}
 use Rattle.clap.specs.declared.builder.action.ArgAction.TheVariants.{Append, Set}
 use Rattle.clap.specs.declared.builder.value_parser.ValueParser.TheVariants as parser
 use Rattle.clap.specs.declared.error.kind.ErrorKind.{ErrorKind}
@@ -12,8 +13,8 @@ use Rattle.clap.specs.declared.error.kind.ErrorKind.TheVariants as errors
 use Rattle.ports_serve.specs.Calls.{Call}
 use Rattle.ports_core.specs.declared.keys.Config.{Config}
 use Rattle.ports_core.specs.Keys.{key_texts}
-use Rattle.ports_program.specs.declared.command_line.Asked.{Asked}
-use Rattle.ports_program.specs.declared.command_line.Asked.TheVariants.{Replay, Serve}
+use Rattle.ports_program.specs.declared.command_line.Invocation.{Invocation}
+use Rattle.ports_program.specs.declared.command_line.Invocation.TheVariants.{Replay, Serve}
 use Rattle.ports_program.specs.declared.command_line.Serving.{Serving}
 use Rattle.ports_script.specs.declared.failure.Failure.TheVariants.{CannotWrite, OutOfMemory}
 use Rattle.ports_program.specs.Running.{Streams, Finishes}
@@ -42,7 +43,8 @@ keys_argument = record (new_rule (codes "keys")) {
 -- `replay [--parses N] [--evals N] KEY...`
 abbrev pub replay : App
 replay =
-    with_rule (with_rule (with_rule (new_app (codes "replay")) (size_argument (codes "parses"))) (size_argument (codes "evals"))) keys_argument
+    with_rule (with_rule (with_rule (new_app (codes "replay")) (size_argument (codes "parses")))
+    (size_argument (codes "evals"))) keys_argument
 
 -- `--port P`
 abbrev pub port_argument : Rule
@@ -67,7 +69,9 @@ turns_argument = record (new_rule (codes "turns")) {
 -- `serve --port P --turns N [--parses N] [--evals N] KEY...`
 abbrev pub serve : App
 serve =
-    with_rule (with_rule (with_rule (with_rule (with_rule (new_app (codes "serve")) port_argument) turns_argument) (size_argument (codes "parses"))) (size_argument (codes "evals"))) keys_argument
+    with_rule (with_rule
+    (with_rule (with_rule (with_rule (new_app (codes "serve")) port_argument) turns_argument)
+    (size_argument (codes "parses"))) (size_argument (codes "evals"))) keys_argument
 
 -- `portsd serve ..` and `portsd replay ..`
 abbrev pub portsd : App
@@ -75,12 +79,12 @@ portsd =
     let app = with_subcommand (with_subcommand (new_app (codes "portsd")) serve.top) replay.top in
     record app { top = record app.top { subcommand_required = true } }
 
--- the number, up to a greatest, that a text writes; a plus may stand before its digits
+-- the number, up to a greatest one, that a text writes; a plus may precede its digits
 abbrev pub number_up_to : ℕ → Text → Option ℕ
 number_up_to greatest text =
     if is_unsigned_in 0 greatest text then Some (digits_value 10 (without_leading_plus text)) else None
 
--- the number of an option, and another one where the option isn't given
+-- the number of an option, or another one if the option isn't given
 abbrev pub number_or : ℕ → ℕ → Text → List Row → ℕ
 number_or default greatest name given =
     unwrap_or (option_and_then (number_up_to greatest) (one_of name given)) default
@@ -92,8 +96,8 @@ Gives given config =
     × (config.parses ≡ number_or 256 4294967295 (codes "parses") given)
     × (config.evals ≡ number_or 1024 4294967295 (codes "evals") given)
 
--- what is given to `serve` asks for this port, so many rounds, these keys and these sizes; it is a fault of usage to
--- give no port, or no number of rounds
+-- what is given to `serve` asks for this port, so many rounds, these keys and these sizes; it is a fault of
+-- usage to give no port, or no number of rounds
 abbrev pub GivesServing : List Row → Serving → Type 0
 GivesServing given serving =
     (serving.port ≡ number_or 1 65535 (codes "port") given)
@@ -101,33 +105,33 @@ GivesServing given serving =
     × Gives given serving.config
 
 -- what is given to `serve` asks for a service for clients, and for no replay
-abbrev pub AsksToServe : List Row → Asked → Type 0
+abbrev pub AsksToServe : List Row → Invocation → Type 0
 AsksToServe given (Serve serving) = GivesServing given serving
 AsksToServe given (Replay config) = ⊥
 
 -- what is given to `replay` asks for a replay
-abbrev pub AsksToReplay : List Row → Asked → Type 0
+abbrev pub AsksToReplay : List Row → Invocation → Type 0
 AsksToReplay given (Serve serving) = ⊥
 AsksToReplay given (Replay config) = Gives given config
 
--- what a subcommand with what is given to it asks for; it is a fault of usage to name none, or another one than `serve`
--- and `replay`
-abbrev pub SubcommandAsks : Option (Text × List Row) → Asked → Type 0
-SubcommandAsks (Some (name, given)) asked =
-    (name ≡ codes "serve" → AsksToServe given asked) × ((name ≡ codes "serve" → ⊥) → AsksToReplay given asked)
-SubcommandAsks None asked = AsksToReplay [] asked
+-- what a subcommand and what is given to it ask for; it is a fault of usage to name none, or another one
+-- than `serve` and `replay`
+abbrev pub SubcommandAsks : Option (Text × List Row) → Invocation → Type 0
+SubcommandAsks (Some (name, given)) invocation =
+    (name ≡ codes "serve" → AsksToServe given invocation) × ((name ≡ codes "serve" → ⊥) → AsksToReplay given invocation)
+SubcommandAsks None invocation = AsksToReplay [] invocation
 
 -- what the words ask for
-abbrev pub AsksFor : List Text → Asked → Type 0
-AsksFor words asked = SubcommandAsks (subcommand_of portsd words) asked
+abbrev pub AsksFor : List Text → Invocation → Type 0
+AsksFor words invocation = SubcommandAsks (subcommand_of portsd words) invocation
 
--- help is printed, and nothing is said, unless it can't be printed
+-- help is printed, and nothing is said; or help can't be printed, and that is said
 abbrev pub ShowsHelp : Option (List ℕ) → Option (List ℕ) → ℕ → Type 0
 ShowsHelp unsaid said status =
     ((status ≡ 0) × Keeps unsaid said) ⊎ ((status ≡ 1) × AppendsUpTo unsaid said (failure_text CannotWrite))
 
--- how a run ends whose words ask for nothing that can be run: a want of memory is said, help is printed, and at a fault of usage nothing
--- is printed on standard output
+-- How a run ends whose words ask for nothing that can be run. If memory ran out, that is said. If help was
+-- asked for, it is printed. At a fault of usage nothing is printed on standard output.
 abbrev pub EndsUnasked : ErrorKind → Option (List ℕ) → Option (List ℕ) → Option (List ℕ) → Option (List ℕ) → ℕ → Type 0
 EndsUnasked errors.OutOfMemory held holds unsaid said status =
     (status ≡ 1) × Keeps held holds × AppendsUpTo unsaid said (failure_text OutOfMemory)
@@ -135,19 +139,21 @@ EndsUnasked errors.DisplayHelp held holds unsaid said status = ShowsHelp unsaid 
 EndsUnasked errors.DisplayVersion held holds unsaid said status = ShowsHelp unsaid said status
 EndsUnasked _ held holds unsaid said status = (status ≡ 2) × Keeps held holds
 
--- how a run ends that was asked for: a replay as its config finishes; a service for clients, which reads no script, as
--- it finishes over wires that listen
-abbrev pub FinishesAsked : {W : Type 0} → (W → Call → W → Type 0) → (ℕ → W → Type 0) → Asked → Streams → Option (List ℕ) → Option (List ℕ) → ℕ
+-- How a run ends that was asked for. A replay ends as its config finishes. A service for clients reads no
+-- script, and ends as it finishes over wires that listen.
+abbrev pub FinishesAsked : {W : Type 0} → (W → Call → W → Type 0) → (ℕ → W → Type 0) → Invocation → Streams
+    → Option (List ℕ) → Option (List ℕ) → ℕ
     → Type 0
 FinishesAsked After ListensOn (Replay config) streams unsaid said status = Finishes config streams unsaid said status
 FinishesAsked After ListensOn (Serve serving) streams unsaid said status =
     Keeps streams.unread streams.left × FinishesServing After ListensOn serving streams.held streams.holds unsaid said status
 
--- How a run of these words ends: as what they ask for finishes; or they have a fault or ask for help, or memory is
--- wanting, and no script is read.
+-- How a run of these words ends. It ends as what they ask for finishes. Or the words have a fault or ask
+-- for help, or memory runs out, and no script is read.
 abbrev pub Runs : {W : Type 0} → (W → Call → W → Type 0) → (ℕ → W → Type 0) → List Text → Streams → Option (List ℕ) → Option (List ℕ) → ℕ
     → Type 0
 Runs After ListensOn words streams unsaid said status =
-    ((asked : Asked) × (fault_of portsd words ≡ []) × AsksFor words asked × FinishesAsked After ListensOn asked streams unsaid said status)
+    ((invocation : Invocation) × (fault_of portsd words ≡ []) × AsksFor words invocation
+    × FinishesAsked After ListensOn invocation streams unsaid said status)
     ⊎ ((kind : ErrorKind) × ((kind ≡ errors.OutOfMemory) ⊎ IsAmong kind (fault_of portsd words))
     × Keeps streams.unread streams.left × EndsUnasked kind streams.held streams.holds unsaid said status)

@@ -9,21 +9,22 @@ use Rattle.ports_core.specs.State.{State}
 use Rattle.ports_script.specs.declared.script.Script.{Script}
 use Rattle.ports_script.specs.declared.script.ScriptFault.{ScriptFault}
 use Rattle.ports_script.specs.declared.failure.Failure.{Failure}
-use Rattle.ports_script.specs.declared.failure.Failure.TheVariants.{BadKey, BadEvent, NotAllowed, CannotListen, CannotWrite, StoreFailed, OutOfMemory}
+use Rattle.ports_script.specs.declared.failure.Failure.TheVariants.{BadKey, BadEvent, NotAllowed, CannotListen}
+use Rattle.ports_script.specs.declared.failure.Failure.TheVariants.{CannotWrite, StoreFailed, OutOfMemory}
 use Rattle.ports_script.specs.Scripts.{numbered, ReadsScript, FailsToRead}
 use Rattle.ports_script.specs.Printing.{transcript}
 use Rattle.ports_script.specs.Writing.{AppendsFront, AppendsUpTo}
 use Rattle.ports_script.specs.Failures.{failure_status, failure_text, script_failure}
 
--- the bytes that an input has left and an output holds, where they are known, before a run and behind it
+-- the bytes that an input has left and an output holds, if they are known, before a run and after it
 pub record Streams : Type 0 where
   pub unread : Option (List ℕ)
   pub left : Option (List ℕ)
   pub held : Option (List ℕ)
   pub holds : Option (List ℕ)
 
--- the events of a script happen one after another, each tenant is told what a plain service of its own would
--- tell it, and each connection is written the replies to what it asks
+-- The events of a script happen one after another. Each tenant gets the replies that a plain service of its
+-- own would give. On each connection the replies to what it asks are written.
 abbrev pub HappensWhole : Config → Script → List Effect → State → Type 0
 HappensWhole config script steps service =
     IsRun config script.events.items steps service × TellsPlainly config script.events.items steps service
@@ -33,28 +34,29 @@ HappensWhole config script steps service =
 abbrev pub HappensUpTo : Config → Script → ℕ → List Effect → State → Type 0
 HappensUpTo config script index steps service = StopsAt config script.events.items index steps service
 
--- the events of a script happen, and what they told and sent is printed
+-- the events of a script happen, and their effects are printed
 abbrev pub PrintsWhole : Config → Script → Option (List ℕ) → Option (List ℕ) → Type 0
 PrintsWhole config script held holds =
     (steps : List Effect) × (service : State) × HappensWhole config script steps service
     × Appends held holds (transcript (numbered script) steps)
 
--- the event of a line isn't allowed; those before it happen, and what they told and sent is printed
+-- the event of a line isn't allowed; those before it happen, and their effects are printed
 abbrev pub PrintsUpTo : Config → Script → ℕ → Option (List ℕ) → Option (List ℕ) → Type 0
 PrintsUpTo config script line held holds =
     (index : ℕ) × (steps : List Effect) × (service : State) × HappensUpTo config script index steps service
     × (slice_get script.lines.items index ≡ Some line)
     × Appends held holds (transcript (numbered script) steps)
 
--- the events of a script happen, all or those before one that isn't allowed, and of what they told and sent a
--- front is printed
+-- the events of a script happen, all or those before one that isn't allowed, and a front
+-- of their effects is printed
 abbrev pub PrintsFront : Config → Script → Option (List ℕ) → Option (List ℕ) → Type 0
 PrintsFront config script held holds =
     (steps : List Effect) × (service : State)
     × (HappensWhole config script steps service ⊎ ((index : ℕ) × HappensUpTo config script index steps service))
     × AppendsFront held holds (transcript (numbered script) steps)
 
--- why the events of a script end early: but for one that isn't allowed, and an output that fails, nothing is printed
+-- why the events of a script end early: nothing is printed, unless an event isn't
+-- allowed or the output fails
 abbrev pub EventsEnd : Config → Script → Option (List ℕ) → Option (List ℕ) → Failure → Type 0
 EventsEnd config script held holds BadKey = ⊥
 EventsEnd config script held holds (BadEvent line) = ⊥
@@ -64,7 +66,7 @@ EventsEnd config script held holds CannotWrite = PrintsFront config script held 
 EventsEnd config script held holds StoreFailed = Keeps held holds
 EventsEnd config script held holds OutOfMemory = Keeps held holds
 
--- the keys are fit, a script is read, its events happen, and what they told and sent is printed
+-- the keys are fit, a script is read, its events happen, and their effects are printed
 abbrev pub Completes : Config → Streams → Type 0
 Completes config streams =
     (is_fit config ≡ true) × (script : Script) × ReadsScript streams.unread streams.left (numbered script)
@@ -88,21 +90,22 @@ EndsUndone config streams failure =
     (is_fit config ≡ true) × (script : Script) × ReadsScript streams.unread streams.left (numbered script)
     × EventsEnd config script streams.held streams.holds failure
 
--- why a run ends early: its keys are looked at before the script is read, and that before an event happens
+-- why a run ends early: its keys are looked at before the script is read, and the script is
+-- read before an event happens
 abbrev pub Ends : Config → Streams → Failure → Type 0
 Ends config streams failure =
     EndsUnfit config streams failure ⊎ (EndsUnread config streams failure ⊎ EndsUndone config streams failure)
 
--- How a run ends: with status 0, whole, and nothing is said; or a failure ended it, whose status it is, and whose
--- text is said, as far as standard error takes it.
+-- How a run ends. It ends whole, with status 0, and nothing is said. Or a failure ended it: the status is
+-- the failure's, and its text is said as far as standard error takes it.
 abbrev pub Finishes : Config → Streams → Option (List ℕ) → Option (List ℕ) → ℕ → Type 0
 Finishes config streams unsaid said status =
     ((status ≡ 0) × Completes config streams × Keeps unsaid said)
     ⊎ ((failure : Failure) × (status ≡ failure_status failure) × Ends config streams failure
     × AppendsUpTo unsaid said (failure_text failure))
 
--- what is to be printed isn't, or a front of it alone: the output fails, or there is no memory for the text and
--- nothing is printed
+-- what is to be printed isn't, or only a front of it is: the output fails, or there is no memory for the
+-- text and nothing is printed
 abbrev pub FailsToPrint : Option (List ℕ) → Option (List ℕ) → List ℕ → Failure → Type 0
 FailsToPrint held holds bytes BadKey = ⊥
 FailsToPrint held holds bytes (BadEvent line) = ⊥

@@ -6,24 +6,22 @@ use Rattle.ports_core.specs.State.{State, new_state}
 use Rattle.ports_serve.specs.Calls.{Call}
 use Rattle.ports_serve.specs.Rounds.{IsServed}
 use Rattle.ports_program.specs.declared.command_line.Serving.{Serving}
-use Rattle.ports_program.specs.declared.serving.ListenFault.{ListenFault}
-use Rattle.ports_program.specs.declared.serving.ListenFault.TheVariants as fault
 use Rattle.ports_script.specs.declared.failure.Failure.{Failure}
-use Rattle.ports_script.specs.declared.failure.Failure.TheVariants.{BadKey, BadEvent, NotAllowed, CannotListen, CannotWrite, StoreFailed, OutOfMemory}
+use Rattle.ports_script.specs.declared.failure.Failure.TheVariants.{BadKey, BadEvent, NotAllowed, CannotListen}
+use Rattle.ports_script.specs.declared.failure.Failure.TheVariants.{CannotWrite, StoreFailed, OutOfMemory}
 use Rattle.ports_script.specs.Writing.{AppendsFront, AppendsUpTo}
 use Rattle.ports_script.specs.Failures.{failure_status, failure_text}
 
--- what is printed once it listens
+-- what is printed once the service listens
 abbrev pub ready_text : List ℕ
 ready_text = codes "portsd: ready\n"
 
--- the failure where nothing listens
-abbrev pub listen_failure : ListenFault → Failure
-listen_failure fault.Port = CannotListen
-listen_failure fault.Memory = OutOfMemory
+-- the failures if nothing listens: the port can't be had, or memory ran out
+abbrev pub FailsToListen : Failure → Type 0
+FailsToListen failure = (failure ≡ CannotListen) ⊎ (failure ≡ OutOfMemory)
 
--- A service that begins with the config serves all rounds, over a wire that listens on the port, and it is said to be
--- ready.
+-- A service that begins with the config serves all rounds over a wire that listens on the port, and it
+-- has said that it is ready.
 pub record Serves {W : Type 0} (After : W → Call → W → Type 0) (ListensOn : ℕ → W → Type 0) (serving : Serving)
     (held holds : Option (List ℕ)) : Type 0 where
   pub fit : is_fit serving.config ≡ true
@@ -34,8 +32,8 @@ pub record Serves {W : Type 0} (After : W → Call → W → Type 0) (ListensOn 
   pub left : State
   pub served : IsServed After serving.rounds wire (new_state (key_texts serving.config.keys.items)) wire_left left
 
--- why it ends early. Keys are looked at first; nothing is printed before something listens, and only that it is ready
--- before memory is wanting for the rounds.
+-- Why it ends early. Keys are looked at first, and nothing is printed before something listens. If memory
+-- runs out for the rounds, only that it is ready is printed before.
 abbrev pub EndsServing : Serving → Option (List ℕ) → Option (List ℕ) → Failure → Type 0
 EndsServing serving held holds BadKey = (is_fit serving.config ≡ false) × Keeps held holds
 EndsServing serving held holds (BadEvent line) = ⊥
@@ -46,8 +44,8 @@ EndsServing serving held holds StoreFailed = (is_fit serving.config ≡ true) ×
 EndsServing serving held holds OutOfMemory =
     (is_fit serving.config ≡ true) × (Keeps held holds ⊎ Appends held holds ready_text)
 
--- How it ends: with status 0 after the last round, and nothing is said; or a failure ended it, whose status it is, and
--- whose text is said, as far as standard error takes it.
+-- How it ends. It ends with status 0 after the last round, and nothing is said. Or a failure ended it: the
+-- status is the failure's, and its text is said as far as standard error takes it.
 abbrev pub FinishesServing : {W : Type 0} → (W → Call → W → Type 0) → (ℕ → W → Type 0) → Serving → Option (List ℕ)
     → Option (List ℕ) → Option (List ℕ) → Option (List ℕ) → ℕ → Type 0
 FinishesServing After ListensOn serving held holds unsaid said status =

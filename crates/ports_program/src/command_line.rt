@@ -2,7 +2,8 @@
 ghost use Rattle.std.specs.Prelude.{◌≡◌, IfOk, map, false, string_bytes};
 ghost use Rattle.clap.specs.Words.{FailsBy, app_of, fault_of, found_of, rows_of, rule_of};
 ghost use Rattle.ports_core.specs.Keys.{key_texts};
-ghost use Rattle.ports_program.specs.CommandLine.{AsksFor, Gives, GivesServing, keys_argument, port_argument, portsd, replay, serve, size_argument, turns_argument};
+ghost use Rattle.ports_program.specs.CommandLine.{AsksFor, Gives, GivesServing, keys_argument, port_argument, portsd};
+ghost use Rattle.ports_program.specs.CommandLine.{replay, serve, size_argument, turns_argument};
 
 use clap::{Arg, ArgAction, ArgMatches, Command, Error};
 use ports_core::Config;
@@ -17,14 +18,14 @@ const LAST_PORT: u16 = 65_535;
 /// The most rounds.
 const MOST_ROUNDS: u32 = 4_294_967_295;
 
-/// How many parses, and how many evaluations, are kept where the command line doesn't say.
+/// How many parses, and how many evaluations, are kept if the command line doesn't say.
 const PARSES: u32 = 256;
 
 const EVALS: u32 = 1_024;
 
 /// What a command line asks for.
 #[derive(Debug, Drop)]
-pub enum Asked {
+pub enum Invocation {
     /// A run of the script on standard input, over a service that begins with this config.
     Replay(Config),
     /// A service for clients.
@@ -42,17 +43,19 @@ pub struct Serving {
     pub config: Config,
 }
 
-/// What a command line asks for, the program's name being its first word. The error has the text for the
-/// terminal: a fault of usage, help, or want of memory.
-pub fn read_command(alloc: Global, words: &[String]) -> Result<Asked, Error>
+/// What a command line asks for. Its first word is the program's name. The error has the text for the
+/// terminal: a fault of usage, help, or that memory ran out.
+pub fn read_command(alloc: Global, words: &[String]) -> Result<Invocation, Error>
     ensures read { IfOk result (AsksFor (map string_bytes words.now)) }
     ensures fails { FailsBy (fault_of portsd (map string_bytes words.now)) result }
 {
     let matches = portsd_command(alloc)?.try_get_matches_from(words)?;
     match matches.subcommand() {
-        Some((name, given)) if name == "serve" => Ok(Asked::Serve(serving_given(alloc, given)?)),
-        Some((_, given)) => Ok(Asked::Replay(config_given(alloc, given)?)),
-        None => Ok(Asked::Replay(Config {
+        Some((name, given)) if name == "serve" => Ok(Invocation::Serve(serving_given(
+            alloc, given,
+        )?)),
+        Some((_, given)) => Ok(Invocation::Replay(config_given(alloc, given)?)),
+        None => Ok(Invocation::Replay(Config {
             keys: Vec::new(alloc),
             parses: PARSES,
             evals: EVALS,

@@ -1,5 +1,5 @@
-//! The program: what its command line asks for is a run of a script of events, whose telling and sending is
-//! printed, or a service for clients.
+//! The program. Its command line asks for a run of a script of events, whose effects are printed, or
+//! for a service for clients.
 #![tactic(auto)]
 
 mod command_line;
@@ -10,4 +10,4 @@ mod serving;
 pub use command_line::Serving;
 pub use program::run_command;
 pub use running::run_config;
-pub use serving::{Listen, ListenFault, run_serving};
+pub use serving::run_serving;

@@ -3,24 +3,27 @@ ghost use Rattle.std.specs.Prelude.{◌≡◌, map, string_bytes};
 ghost use Rattle.clap.specs.Words.{kind_of};
 ghost use Rattle.ports_program.specs.CommandLine.{EndsUnasked, Runs};
 
-use crate::command_line::{Asked, read_command};
+use crate::command_line::{Invocation, read_command};
 use crate::running::run_config;
-use crate::serving::{Listen, run_serving};
+use crate::serving::run_serving;
 use clap::Error;
 use clap::error::ErrorKind;
-use ports_core::Worlds;
+use ports_core::Tenants;
 use ports_script::{DONE, Failure, REFUSED, report};
+use ports_serve::Listen;
 use std::alloc::Global;
 use std::io::{Read, Write};
 
-/// Runs the program over worlds that `K` keeps: the words of its command line, the first being its name, a reader
-/// for a script, and what listens for clients. What the run prints goes to `out`, and the texts of faults to `err`.
-/// Gives the exit status: 0; 1 where memory, the store, the listening or the output failed; 2 for a fault of usage, of
-/// a key, or of the script.
+/// Runs the program over worlds that `K` keeps. It takes the words of its command line, the first being its
+/// name, a reader for a script, and what listens for clients. What the run prints goes to `out`, and the
+/// texts of faults go to `err`.
 ///
-/// Faults are found in this order: usage, keys, the script, the start of the service, listening, the run. In a script an
-/// event that isn't allowed stops the run, after what the earlier ones printed.
-pub fn run_command<K: Worlds, R: Read, O: Write, E: Write, L: Listen>(
+/// The result is the exit status: 0; 1 if memory, the store, the listening or the output failed; 2 for a
+/// fault of usage, of a key, or of the script.
+///
+/// Faults are found in this order: usage, keys, the script, the start of the service, listening, the run.
+/// In a script, an event that isn't allowed stops the run, after what the earlier ones printed.
+pub fn run_command<K: Tenants, R: Read, O: Write, E: Write, L: Listen>(
     alloc: Global,
     words: &[String],
     reader: &mut R,
@@ -28,18 +31,26 @@ pub fn run_command<K: Worlds, R: Read, O: Write, E: Write, L: Listen>(
     err: &mut E,
     net: &L,
 ) -> u8
-    ensures { Runs L.Wire.after L.listens_on (map string_bytes words.now) (record { unread = R.remaining reader.old; left = R.remaining reader.new; held = O.contents out.old; holds = O.contents out.new }) (E.contents err.old) (E.contents err.new) result }
+    ensures { Runs L.Wire.after L.listens_on (map string_bytes words.now)
+        (record {
+          unread = R.remaining reader.old;
+          left = R.remaining reader.new;
+          held = O.contents out.old;
+          holds = O.contents out.new;
+        }) (E.contents err.old)
+        (E.contents err.new) result }
 {
     match read_command(alloc, words) {
-        Ok(Asked::Replay(config)) => run_config::<K, R, O, E>(alloc, config, reader, out, err),
-        Ok(Asked::Serve(serving)) => run_serving::<K, L, O, E>(alloc, serving, net, out, err),
+        Ok(Invocation::Replay(config)) => run_config::<K, R, O, E>(alloc, config, reader, out, err),
+        Ok(Invocation::Serve(serving)) => run_serving::<K, L, O, E>(alloc, serving, net, out, err),
         Err(error) => answer(&error, out, err),
     }
 }
 
 /// Prints help, or says why the words ask for no run, and gives the status.
 fn answer<O: Write, E: Write>(error: &Error, out: &mut O, err: &mut E) -> u8
-    ensures { EndsUnasked (kind_of error.now) (O.contents out.old) (O.contents out.new) (E.contents err.old) (E.contents err.new) result }
+    ensures { EndsUnasked (kind_of error.now) (O.contents out.old) (O.contents out.new)
+        (E.contents err.old) (E.contents err.new) result }
 {
     match error.kind() {
         ErrorKind::OutOfMemory => report(Failure::OutOfMemory, err),

@@ -6,26 +6,33 @@ ghost use Rattle.ports_script.specs.Scripts.{numbered};
 ghost use Rattle.ports_script.specs.Printing.{transcript};
 ghost use Rattle.ports_program.specs.Running.{Completes, Ends, PrintsWhole, EventsEnd, Finishes, FailsToPrint};
 
-use ports_core::{Config, ReplayFault, Step, Worlds, replay};
+use ports_core::{Config, ReplayFault, Step, Tenants, replay};
 use ports_script::{DONE, Failure, Script, read_script, report, transcript_text, write_whole};
 use std::alloc::Global;
 use std::io::{Read, Write};
 
-/// Runs a script that it reads to its end over a service that begins with the config, whose tenants'
-/// worlds `K` keeps. What was told and sent goes to `out`, the text of a failure to `err`. Gives the exit
-/// status: 0; 1 where memory or the output failed; 2 for a fault of a key or of the script.
+/// Reads a script to its end, and runs it over a service that begins with the config. `K` keeps the worlds
+/// of the tenants. The effects of the events go to `out`: the bytes sent, the replies, and the connections
+/// that are refused or close. The text of a failure goes to `err`. The result is the exit status: 0; 1 if
+/// memory, the store or the output failed; 2 for a fault of a key or of the script.
 ///
-/// Failures are found in this order: keys, the script, the start of the service, the run, the output.
-/// An event that isn't allowed stops the run, after what the earlier ones printed. Each byte is written
-/// once, from the first on, up to where the output failed.
-pub fn run_config<K: Worlds, R: Read, O: Write, E: Write>(
+/// Failures are found in this order: keys, the script, the start of the service, the run, the output. An
+/// event that isn't allowed stops the run, after what the earlier ones printed. Each byte is written once,
+/// from the first on, up to where the output failed.
+pub fn run_config<K: Tenants, R: Read, O: Write, E: Write>(
     alloc: Global,
     config: Config,
     reader: &mut R,
     out: &mut O,
     err: &mut E,
 ) -> u8
-    ensures { Finishes config (record { unread = R.remaining reader.old; left = R.remaining reader.new; held = O.contents out.old; holds = O.contents out.new }) (E.contents err.old) (E.contents err.new) result }
+    ensures { Finishes config (record {
+      unread = R.remaining reader.old;
+      left = R.remaining reader.new;
+      held = O.contents out.old;
+      holds = O.contents out.new;
+    })
+        (E.contents err.old) (E.contents err.new) result }
 {
     match run::<K, R, O>(alloc, config, reader, out) {
         Ok(()) => DONE,
@@ -33,16 +40,28 @@ pub fn run_config<K: Worlds, R: Read, O: Write, E: Write>(
     }
 }
 
-/// Reads a script, runs it over a service that begins with the config, and prints what was told and
-/// sent; the failure that ends it early.
-fn run<K: Worlds, R: Read, O: Write>(
+/// Reads a script, runs it over a service that begins with the config, and prints the effects of its
+/// events. The error is the failure that ends it early.
+fn run<K: Tenants, R: Read, O: Write>(
     alloc: Global,
     config: Config,
     reader: &mut R,
     out: &mut O,
 ) -> Result<(), Failure>
-    ensures done { OnOk result (Completes config (record { unread = R.remaining reader.old; left = R.remaining reader.new; held = O.contents out.old; holds = O.contents out.new })) }
-    ensures failed { IfErr result (Ends config (record { unread = R.remaining reader.old; left = R.remaining reader.new; held = O.contents out.old; holds = O.contents out.new })) }
+    ensures done { OnOk result (Completes config
+        (record {
+          unread = R.remaining reader.old;
+          left = R.remaining reader.new;
+          held = O.contents out.old;
+          holds = O.contents out.new;
+        })) }
+    ensures failed { IfErr result (Ends config
+        (record {
+          unread = R.remaining reader.old;
+          left = R.remaining reader.new;
+          held = O.contents out.old;
+          holds = O.contents out.new;
+        })) }
 {
     if !config.is_fit() {
         return Err(Failure::BadKey);
@@ -51,9 +70,9 @@ fn run<K: Worlds, R: Read, O: Write>(
     run_script::<K, O>(alloc, config, &script, out)
 }
 
-/// Runs a script over a service that begins with a config that is fit, and prints what was told and
-/// sent; the failure that ends it early.
-fn run_script<K: Worlds, O: Write>(
+/// Runs a script over a service that begins with a config that is fit, and prints the effects of its
+/// events. The error is the failure that ends it early.
+fn run_script<K: Tenants, O: Write>(
     alloc: Global,
     config: Config,
     script: &Script,
@@ -61,8 +80,10 @@ fn run_script<K: Worlds, O: Write>(
 ) -> Result<(), Failure>
     requires fit { is_fit config ≡ true }
     requires paired { vec_len script.now.lines ≡ vec_len script.now.events }
-    ensures done { OnOk result (PrintsWhole config script.now (O.contents out.old) (O.contents out.new)) }
-    ensures failed { IfErr result (EventsEnd config script.now (O.contents out.old) (O.contents out.new)) }
+    ensures done { OnOk result (PrintsWhole config script.now (O.contents out.old)
+        (O.contents out.new)) }
+    ensures failed { IfErr result (EventsEnd config script.now (O.contents out.old)
+        (O.contents out.new)) }
 {
     match replay::<K>(alloc, config, script.events.as_slice()) {
         Ok(done) => print(alloc, script, done.steps.as_slice(), out),
@@ -76,15 +97,17 @@ fn run_script<K: Worlds, O: Write>(
     }
 }
 
-/// Prints what the steps told and sent.
+/// Prints the effects of the events whose steps these are.
 fn print<O: Write>(
     alloc: Global,
     script: &Script,
     steps: &[Step],
     out: &mut O,
 ) -> Result<(), Failure>
-    ensures done { OnOk result (Appends (O.contents out.old) (O.contents out.new) (transcript (numbered script.now) steps.now)) }
-    ensures failed { IfErr result (FailsToPrint (O.contents out.old) (O.contents out.new) (transcript (numbered script.now) steps.now)) }
+    ensures done { OnOk result (Appends (O.contents out.old) (O.contents out.new)
+        (transcript (numbered script.now) steps.now)) }
+    ensures failed { IfErr result (FailsToPrint (O.contents out.old) (O.contents out.new)
+        (transcript (numbered script.now) steps.now)) }
 {
     let text = transcript_text(alloc, script, steps)?;
     match write_whole(out, text.as_bytes()) {

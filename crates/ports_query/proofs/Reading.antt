@@ -2,7 +2,7 @@
 use Rattle.std.proofs.Common.{◌≡◌, ◌∙◌, sym, ap, refl, ℕ, ◌+◌, ◌<◌, ◌≤◌, List, [], ◌∷◌, ◌++◌, map, length, drop, get_or, Option, Some, None, Bor, append-nil, arith}
 use Rattle.std.proofs.lemmas.List.{append_assoc, drop_more, drop_all, get_or-map, map-append, length-map}
 use Rattle.std.specs.Option.{option_map, option_and_then}
-use Rattle.text_cuts.specs.Cuts.{now_all}
+use Rattle.text_parts.specs.Cuts.{now_all}
 use Rattle.ports_query.specs.Conditions.{ConditionValue, condition_of, conditions_of, condition_seen}
 use Rattle.ports_query.specs.declared.conditions.Condition.{Condition}
 

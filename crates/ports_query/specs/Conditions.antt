@@ -1,6 +1,7 @@
--- Queries of packages as they are written, as `category=editors;version>=2.0`: conditions with semicolons between. Their form is this project's
--- choice. A text is its bytes.
-use Rattle.std.specs.Prelude.{ℕ, ◌==◌, ◌&&◌, ◌+◌, nat_le, nat_eq, if◌then◌else◌, List, [], ◌∷◌, length, take, drop, map, is_some, Option, Some, None, option_map, option_and_then, string_bytes, codes, Vec}
+-- Queries of packages as they are written, for example `category=editors;version>=2.0`: conditions with
+-- semicolons between them. Their form is this project's choice. A text is its bytes.
+use Rattle.std.specs.Prelude.{ℕ, ◌==◌, ◌&&◌, ◌+◌, nat_le, nat_eq, if◌then◌else◌, List, [], ◌∷◌, length, take, drop}
+use Rattle.std.specs.Prelude.{map, is_some, Option, Some, None, option_map, option_and_then, string_bytes, codes, Vec}
 use Rattle.std.specs.Global.{Global}
 use Rattle.std.specs.List.{slice_split, starts_with}
 use Rattle.std.specs.Str.{bytes_eq}
@@ -13,14 +14,14 @@ use Rattle.ports_query.specs.declared.conditions.Field.{Field}
 use Rattle.ports_query.specs.declared.conditions.Field.TheVariants as fields
 use Rattle.ports_query.specs.declared.conditions.Condition.{Condition}
 use Rattle.ports_query.specs.declared.conditions.Condition.TheVariants as conditions
-use Rattle.ports_query.specs.declared.operators.Sign.{Sign}
-use Rattle.ports_query.specs.declared.operators.Sign.TheVariants.{Is, IsNot, Has}
+use Rattle.ports_query.specs.declared.operators.OperatorSign.{OperatorSign}
+use Rattle.ports_query.specs.declared.operators.OperatorSign.TheVariants.{Is, IsNot, Has}
 use Rattle.ports_query.specs.declared.operators.Bound.{Bound}
 use Rattle.ports_query.specs.declared.operators.Bound.TheVariants.{Below, AtLeast}
 use Rattle.ports_query.specs.declared.operators.Operator.{Operator}
 use Rattle.ports_query.specs.declared.operators.Operator.TheVariants.{Plain, Ordered}
 
--- an operator, and what stands behind it
+-- an operator, and what follows it
 pub record OperatorAt : Type 0 where
   pub operator : Operator
   pub behind : List ℕ
@@ -35,15 +36,16 @@ operator_at text =
     else if starts_with nat_eq text (codes "<") then Some (record { operator = Ordered Below; behind = drop 1 text })
     else None
 
--- how many bytes of a text stand before the first place where an operator begins
+-- how many bytes of a text precede the first place where an operator begins
 unfoldable pub plain_length : List ℕ → ℕ
 plain_length [] = 0
 plain_length (byte ∷ rest) = if is_some (operator_at (byte ∷ rest)) then 0 else plain_length rest + 1
 
--- a condition: on a text of a package or its port, on a list of texts of the port, or on the package's version by the order of versions
+-- a condition: on a text of a package or its port, on a list of texts of the port, or on the package's
+-- version by the order of versions
 pub data ConditionValue : Type 0 where
-  OfText : TextField → Sign → List ℕ → ConditionValue
-  OfList : ListField → Sign → List ℕ → ConditionValue
+  OfText : TextField → OperatorSign → List ℕ → ConditionValue
+  OfList : ListField → OperatorSign → List ℕ → ConditionValue
   OfVersion : Bound → List ℕ → ConditionValue
 
 -- the field of this name
@@ -60,14 +62,16 @@ field_named name =
     else None
 
 -- a condition on a field
-abbrev pub condition_on : Sign → List ℕ → Field → ConditionValue
+abbrev pub condition_on : OperatorSign → List ℕ → Field → ConditionValue
 condition_on sign value (fields.Text field) = OfText field sign value
 condition_on sign value (fields.Texts field) = OfList field sign value
 
--- the condition of a field's name, an operator and a value; only versions are ordered, and only by a value that is one
+-- the condition of a field's name, an operator and a value; only versions are ordered, and only by
+-- a value that is a version
 abbrev pub condition_with : List ℕ → Operator → List ℕ → Option ConditionValue
 condition_with name (Plain sign) value = option_map (condition_on sign value) (field_named name)
-condition_with name (Ordered bound) value = if bytes_eq name (codes "version") && is_version value then Some (OfVersion bound value) else None
+condition_with name (Ordered bound) value =
+    if bytes_eq name (codes "version") && is_version value then Some (OfVersion bound value) else None
 
 -- the condition that a text is: it is cut at the operator that begins first
 unfoldable pub condition_of : List ℕ → Option ConditionValue
@@ -78,13 +82,15 @@ condition_of text =
 -- the conditions that texts are, if each of them is one
 unfoldable pub conditions_of : List (List ℕ) → Option (List ConditionValue)
 conditions_of [] = Some []
-conditions_of (text ∷ texts) = option_and_then (λ condition. option_map (λ conditions. condition ∷ conditions) (conditions_of texts)) (condition_of text)
+conditions_of (text ∷ texts) =
+    option_and_then (λ condition. option_map (λ conditions. condition ∷ conditions) (conditions_of texts))
+    (condition_of text)
 
 -- the byte `;`
 abbrev pub semicolon : ℕ
 semicolon = 59
 
--- the conditions that are at most eight of these texts
+-- the conditions that these texts are, if they are at most eight
 abbrev pub few_conditions : List (List ℕ) → Option (List ConditionValue)
 few_conditions texts = if nat_le (length texts) 8 then conditions_of texts else None
 

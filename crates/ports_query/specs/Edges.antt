@@ -1,4 +1,4 @@
--- Which dependencies are told of a port, and which lead to one.
+-- Which dependencies a port has, and which lead to one.
 use Rattle.std.specs.Prelude.{ℕ, ◌&&◌, ◌||◌, Bool, true, false, List, filter, Option, Some, None}
 use Rattle.std.specs.Str.{bytes_eq}
 use Rattle.pkg_path.specs.Paths.{PathValue, port_path}
@@ -9,19 +9,19 @@ use Rattle.port_deps.specs.Lists.{RootEdgeValue}
 use Rattle.ports_query.specs.Kinds.{are_asked}
 use Rattle.ports_query.specs.declared.kinds.Kinds.{Kinds}
 
--- what is for the port as a whole: to be built and tested
+-- dependencies of these kinds are for the port as a whole: to be built and tested
 abbrev pub is_of_port : DependKind → Bool
 is_of_port Build = true
 is_of_port Lib = false
 is_of_port Run = false
 is_of_port Test = true
 
--- a subpackage keeps its own dependencies and those of the port as a whole; without one all are kept
+-- a subpackage keeps its own dependencies and those of the port as a whole; if none is named, all are kept
 abbrev pub keeps : Option (List ℕ) → EdgeValue → Bool
 keeps None edge = true
 keeps (Some subpackage) edge = is_of_port edge.kind || bytes_eq edge.subpackage subpackage
 
--- a dependency of the port that a path names, and of its subpackage where it names one
+-- a dependency of the port that a path names, and of its subpackage if the path names one
 abbrev pub is_of : PathValue → RootEdgeValue → Bool
 is_of path edge = bytes_eq edge.root (port_path path) && keeps path.subpackage edge.edge
 
@@ -29,18 +29,18 @@ is_of path edge = bytes_eq edge.root (port_path path) && keeps path.subpackage e
 abbrev pub first_edges_of : Kinds → PathValue → List RootEdgeValue → List RootEdgeValue
 first_edges_of kinds path edges = filter (λ (edge : RootEdgeValue). are_asked kinds edge.edge.kind && is_of path edge) edges
 
--- where a path names a subpackage, a target names the same one
+-- if a path names a subpackage, the target names the same one
 abbrev pub names_it : Option (List ℕ) → Option (List ℕ) → Bool
 names_it None named = true
 names_it (Some subpackage) None = false
 names_it (Some subpackage) (Some named) = bytes_eq named subpackage
 
--- a target is the port of this canonical text, and the subpackage where one is named
+-- a target is the port of this canonical path, and the subpackage if one is named
 abbrev pub is_at : List ℕ → Option (List ℕ) → Option PathValue → Bool
 is_at root subpackage None = false
 is_at root subpackage (Some target) = bytes_eq (port_path target) root && names_it subpackage target.subpackage
 
--- a target is the port that a path names, and the subpackage where the path names one
+-- a target is the port that a path names, and the subpackage if the path names one
 abbrev pub is_target : PathValue → Option PathValue → Bool
 is_target path target = is_at (port_path path) path.subpackage target
 

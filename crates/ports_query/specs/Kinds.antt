@@ -6,7 +6,7 @@ use Rattle.port_rules.specs.declared.depends.DependKind.TheVariants.{Build, Lib,
 use Rattle.ports_query.specs.declared.kinds.Kinds.{Kinds}
 use Rattle.ports_query.specs.declared.kinds.Kinds.TheVariants.{All, One}
 
--- the kinds that a word names: `all`, and an empty word, name each; other words none
+-- the kinds that a word names: `all`, and an empty word, name each; other words name none
 abbrev pub kinds_of : List ℕ → Option Kinds
 kinds_of word =
     if bytes_eq word [] || bytes_eq word (codes "all") then Some All

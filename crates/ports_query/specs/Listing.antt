@@ -25,27 +25,27 @@ listed_at path found = record { name = name_text found.name; path = path; subpac
 abbrev pub PackageTest : Type 0
 PackageTest = List ℕ → PortValue → PackageValue → Bool
 
--- the packages of what is found at a path that pass a test; a fault has none
+-- the packages at a path that pass a test, by the state of the root there; a fault has none
 abbrev pub listed_of : PackageTest → List ℕ → Result PortValue FaultAt → List ListedValue
 listed_of test path (Ok port) = map (listed_at path) (filter (test path port) port.packages)
 listed_of test path (Err fault) = []
 
 -- the packages of all roots that pass a test, root by root
-abbrev pub listed_by : PackageTest → List RootValue → List ListedValue
-listed_by test roots = flat_map (λ (root : RootValue). listed_of test root.path root.state) roots
+abbrev pub listed_packages : PackageTest → List RootValue → List ListedValue
+listed_packages test roots = flat_map (λ (root : RootValue). listed_of test root.path root.state) roots
 
 -- the packages that meet all conditions of a query
 abbrev pub answer_of : List ConditionValue → List RootValue → List ListedValue
-answer_of conditions roots = listed_by (meets_all conditions) roots
+answer_of conditions roots = listed_packages (meets_all conditions) roots
 
--- the packages that a spec, of this text, admits
+-- the test that a package passes if the spec of this text admits it
 abbrev pub admits : List ℕ → PackageTest
 admits spec path port found = admitted_by spec found.name
 
 abbrev pub admitted_of : List ℕ → List RootValue → List ListedValue
-admitted_of spec roots = listed_by (admits spec) roots
+admitted_of spec roots = listed_packages (admits spec) roots
 
--- the test that packages are put to in the code
+-- the test of packages that a test of the code is
 abbrev pub test_seen : Test → PackageTest
 test_seen (Meets query) = meets_all query.now
 test_seen (Admitted spec) = admits spec.now

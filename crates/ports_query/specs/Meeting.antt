@@ -13,29 +13,29 @@ use Rattle.ports_query.specs.declared.conditions.TextField.{TextField}
 use Rattle.ports_query.specs.declared.conditions.TextField.TheVariants.{Path, Name, Stem, Version, Maintainer, Comment}
 use Rattle.ports_query.specs.declared.conditions.ListField.{ListField}
 use Rattle.ports_query.specs.declared.conditions.ListField.TheVariants.{Category, Flavor}
-use Rattle.ports_query.specs.declared.operators.Sign.{Sign}
-use Rattle.ports_query.specs.declared.operators.Sign.TheVariants.{Is, IsNot, Has}
+use Rattle.ports_query.specs.declared.operators.OperatorSign.{OperatorSign}
+use Rattle.ports_query.specs.declared.operators.OperatorSign.TheVariants.{Is, IsNot, Has}
 use Rattle.ports_query.specs.declared.operators.Bound.{Bound}
 use Rattle.ports_query.specs.declared.operators.Bound.TheVariants.{Below, AtLeast}
 
--- a part stands somewhere in a text
+-- a part is somewhere in a text
 unfoldable pub has_part : List ℕ → List ℕ → Bool
 has_part part [] = starts_with nat_eq [] part
 has_part part (byte ∷ rest) = starts_with nat_eq (byte ∷ rest) part || has_part part rest
 
 -- a text meets a sign and a value
-abbrev pub text_meets : Sign → List ℕ → List ℕ → Bool
+abbrev pub text_meets : OperatorSign → List ℕ → List ℕ → Bool
 text_meets Is value text = bytes_eq text value
 text_meets IsNot value text = not (bytes_eq text value)
 text_meets Has value text = has_part value text
 
--- some of these texts is the value, none is, or the value stands in some
-abbrev pub texts_meet : Sign → List ℕ → List (List ℕ) → Bool
+-- some of these texts is the value, none is, or the value is a part of some
+abbrev pub texts_meet : OperatorSign → List ℕ → List (List ℕ) → Bool
 texts_meet Is value texts = list_any (λ text. bytes_eq text value) texts
 texts_meet IsNot value texts = not (list_any (λ text. bytes_eq text value) texts)
 texts_meet Has value texts = list_any (λ text. has_part value text) texts
 
--- how a version that compares so stands to a bound
+-- a version meets a bound, by how it compares with the bound's version
 abbrev pub bound_meets : Bound → Ordering → Bool
 bound_meets Below = is_lt
 bound_meets AtLeast = is_ge
@@ -60,6 +60,6 @@ meets path port found (OfText field sign value) = text_meets sign value (text_of
 meets path port found (OfList field sign value) = texts_meet sign value (texts_of field port)
 meets path port found (OfVersion bound version) = bound_meets bound (version_cmp found.name.version version)
 
--- it meets all of them
+-- a package meets all of these conditions
 abbrev pub meets_all : List ConditionValue → List ℕ → PortValue → PackageValue → Bool
 meets_all conditions path port found = list_all (meets path port found) conditions

@@ -1,5 +1,6 @@
--- Which ports are reached over dependencies that are met. A way is a list of one or more of them, each of which begins where the one before it
--- ended (`reached_list` and `reaching_list` of the arrows between texts).
+-- Which ports are reached over dependencies that are met. A way is a list of one or more of
+-- these, each of which begins where the one before it ended (`reached_list` and `reaching_list`
+-- of the arrows between texts).
 use Rattle.std.specs.Prelude.{ℕ, ◌&&◌, if◌then◌else◌, Bool, true, false, List, Option, None, option_map, string_bytes}
 use Rattle.std.specs.List.{filter_map}
 use Rattle.pkg_path.specs.Paths.{PathValue, port_path}
@@ -25,17 +26,20 @@ is_met statuses.Ok = true
 -- a dependency of these kinds that is met leads from its port to the port that it names
 abbrev pub arrow_of : Kinds → RootEdgeValue → Option ArrowValue
 arrow_of kinds edge =
-    if are_asked kinds edge.edge.kind && is_met edge.edge.status then option_map (λ (target : PathValue). record { from = edge.root; to = port_path target }) edge.edge.target else None
+    if are_asked kinds edge.edge.kind
+    && is_met edge.edge.status
+    then option_map (λ (target : PathValue). record { from = edge.root; to = port_path target }) edge.edge.target
+    else None
 
 abbrev pub arrows_of : Kinds → List RootEdgeValue → List ArrowValue
 arrows_of kinds edges = filter_map (arrow_of kinds) edges
 
--- the ports, in the order of their paths, that are reached over one or more dependencies of these kinds that are met, the first of them one of
--- the first ones
+-- the ports that are reached over one or more dependencies of these kinds that are met, the first of them
+-- one of `first`; in the order of their paths
 abbrev pub reached_of : Kinds → List RootEdgeValue → List RootEdgeValue → List (List ℕ)
 reached_of kinds first edges = reached_list (arrows_of kinds first) (arrows_of kinds edges)
 
--- the ports, in the order of their paths, that reach the port that a path names so
+-- the ports that reach the port that a path names in this way; in the order of their paths
 abbrev pub reaching_of : Kinds → PathValue → List RootEdgeValue → List (List ℕ)
 reaching_of kinds path edges = reaching_list (arrows_of kinds edges) (port_path path)
 

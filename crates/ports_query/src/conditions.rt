@@ -1,11 +1,11 @@
 //! The conditions of a query.
 ghost use Rattle.std.specs.Prelude.{◌≡◌, IfOk, option_map};
 ghost use Rattle.pkg_name.specs.Version.{is_version};
-ghost use Rattle.text_cuts.specs.Cuts.{now_all};
+ghost use Rattle.text_parts.specs.Cuts.{now_all};
 ghost use Rattle.ports_query.specs.Conditions.{condition_of, condition_with, conditions_of, condition_seen, conditions_seen, field_named};
 ghost use Rattle.ports_query.specs.declared.operators.Operator.TheVariants.{Plain, Ordered};
 
-use crate::operators::{Bound, Operator, Sign, operator_at, plain_length};
+use crate::operators::{Bound, Operator, OperatorSign, operator_at, plain_length};
 use pkg_name::{Version, VersionFault};
 use std::alloc::{AllocError, Global};
 
@@ -16,7 +16,7 @@ pub(crate) enum TextField {
     Path,
     /// The package's full name.
     Name,
-    /// What stands before the version in the name.
+    /// What precedes the version in the name.
     Stem,
     /// The version in the name.
     Version,
@@ -48,10 +48,10 @@ pub(crate) enum Field {
 #[derive(Debug, Drop)]
 pub(crate) enum Condition {
     /// On a text, by a value.
-    OnText(TextField, Sign, String),
+    OnText(TextField, OperatorSign, String),
     /// On several texts, by a value.
-    OnTexts(ListField, Sign, String),
-    /// On the version, by another.
+    OnTexts(ListField, OperatorSign, String),
+    /// On the version, by another version.
     OnVersion(Bound, Version),
 }
 
@@ -68,14 +68,15 @@ impl Condition {
         }
     }
 
-    /// The condition of a field's name, an operator and a value, if there is such a one.
+    /// The condition of a field's name, an operator and a value, if there is one.
     fn of(
         alloc: Global,
         name: &str,
         operator: Operator,
         value: &str,
     ) -> Result<Option<Condition>, AllocError>
-        ensures { IfOk result (λ read. option_map condition_seen read ≡ condition_with name.now operator value.now) }
+        ensures { IfOk result (λ read. option_map condition_seen read
+            ≡ condition_with name.now operator value.now) }
     {
         match operator {
             Operator::Plain(sign) => Condition::plain(alloc, name, sign, value),
@@ -83,14 +84,15 @@ impl Condition {
         }
     }
 
-    /// The condition that a field stands so to a value.
+    /// The condition that compares a field with a value by this sign. `None` if no field has this name.
     fn plain(
         alloc: Global,
         name: &str,
-        sign: Sign,
+        sign: OperatorSign,
         value: &str,
     ) -> Result<Option<Condition>, AllocError>
-        ensures { IfOk result (λ read. option_map condition_seen read ≡ condition_with name.now (Plain sign) value.now) }
+        ensures { IfOk result (λ read. option_map condition_seen read
+            ≡ condition_with name.now (Plain sign) value.now) }
     {
         let Some(field) = field_named(name) else {
             return Ok(None);
@@ -102,14 +104,16 @@ impl Condition {
         }
     }
 
-    /// The condition that the version is so ordered to a value.
+    /// The condition that compares the version with a value by this bound. `None` if the name isn't
+    /// `version`, or the value is no version.
     fn ordered(
         alloc: Global,
         name: &str,
         bound: Bound,
         value: &str,
     ) -> Result<Option<Condition>, AllocError>
-        ensures { IfOk result (λ read. option_map condition_seen read ≡ condition_with name.now (Ordered bound) value.now) }
+        ensures { IfOk result (λ read. option_map condition_seen read
+            ≡ condition_with name.now (Ordered bound) value.now) }
     {
         if name != "version" {
             return Ok(None);
@@ -127,7 +131,8 @@ pub(crate) fn read_conditions(
     alloc: Global,
     texts: &[&str],
 ) -> Result<Option<Vec<Condition>>, AllocError>
-    ensures { IfOk result (λ read. option_map conditions_seen read ≡ conditions_of (now_all texts.now)) }
+    ensures { IfOk result (λ read. option_map conditions_seen read
+        ≡ conditions_of (now_all texts.now)) }
 {
     let mut conditions = Vec::new(alloc);
     for text in texts {

@@ -11,16 +11,17 @@ use port_deps::{Edge, RootEdge};
 use port_rules::DependKind;
 use std::alloc::{AllocError, Global};
 
-/// The dependencies of these kinds that the port at a path has, in their order. Where the path names a
-/// subpackage, these are its own and those of the port as a whole, to be built and tested. It fails where
-/// no memory is left.
+/// The dependencies of these kinds that the port at a path has, in their order. If the path names a
+/// subpackage, these are the subpackage's own and those of the port as a whole, to be built and tested. It
+/// fails only if memory runs out.
 pub fn first_edges<'a>(
     alloc: Global,
     kinds: Kinds,
     path: &PkgPath,
     edges: &'a [RootEdge],
 ) -> Result<Vec<&'a RootEdge>, AllocError>
-    ensures { IfOk result (λ found. map (λ edge. edge.now) found.items ≡ asked.first_edges_of kinds path.now edges.now) }
+    ensures { IfOk result (λ found. map (λ edge. edge.now) found.items
+        ≡ asked.first_edges_of kinds path.now edges.now) }
 {
     let root = path.port_path(alloc)?;
     let mut found = Vec::new(alloc);
@@ -32,16 +33,17 @@ pub fn first_edges<'a>(
     Ok(found)
 }
 
-/// The dependencies of these kinds, of whatever status, that lead to the port that a path names, in their
-/// order. Where the path names a subpackage, these are those whose item names it, too. It fails where no
-/// memory is left.
+/// The dependencies of these kinds, of whatever status, that lead to the port that a path names, in
+/// their order. If the path names a subpackage, these are the ones whose item names it, too. It
+/// fails only if memory runs out.
 pub fn edges_to<'a>(
     alloc: Global,
     kinds: Kinds,
     path: &PkgPath,
     edges: &'a [RootEdge],
 ) -> Result<Vec<&'a RootEdge>, AllocError>
-    ensures { IfOk result (λ found. map (λ edge. edge.now) found.items ≡ asked.edges_to_of kinds path.now edges.now) }
+    ensures { IfOk result (λ found. map (λ edge. edge.now) found.items
+        ≡ asked.edges_to_of kinds path.now edges.now) }
 {
     let root = path.port_path(alloc)?;
     let mut found = Vec::new(alloc);
@@ -53,14 +55,17 @@ pub fn edges_to<'a>(
     Ok(found)
 }
 
-/// Whether a dependency of these kinds is one of a port, and of its subpackage where one is named.
+/// Whether a dependency is of these kinds and of a port, and of its subpackage if one is named.
 fn is_first(kinds: Kinds, root: &str, subpackage: Option<&str>, edge: &RootEdge) -> bool
-    ensures { result ≡ (are_asked kinds edge.now.edge.kind && (bytes_eq edge.now.root root.now && asked.keeps (option_copied subpackage.entry) edge.now.edge)) }
+    ensures { result
+        ≡ (are_asked kinds edge.now.edge.kind
+        && (bytes_eq edge.now.root root.now
+        && asked.keeps (option_copied subpackage.entry) edge.now.edge)) }
 {
     kinds.have(edge.edge().kind()) && edge.root() == root && keeps(subpackage, edge.edge())
 }
 
-/// Whether a subpackage, where one is named, keeps a dependency.
+/// Whether a dependency is kept for a subpackage. If none is named, each dependency is.
 fn keeps(subpackage: Option<&str>, edge: &Edge) -> bool
     ensures { result ≡ asked.keeps (option_copied subpackage.entry) edge.now }
 {
@@ -70,14 +75,14 @@ fn keeps(subpackage: Option<&str>, edge: &Edge) -> bool
     }
 }
 
-/// Whether what is needed for this is needed for the port as a whole.
+/// Whether dependencies of this kind are for the port as a whole.
 fn is_of_port(kind: DependKind) -> bool
     ensures { result ≡ asked.is_of_port kind }
 {
     matches!(kind, DependKind::Build | DependKind::Test)
 }
 
-/// Whether a dependency of these kinds leads to a port, and to its subpackage where one is named.
+/// Whether a dependency is of these kinds and leads to a port, and to its subpackage if one is named.
 fn leads_to(
     alloc: Global,
     kinds: Kinds,
@@ -85,7 +90,9 @@ fn leads_to(
     subpackage: Option<&str>,
     edge: &RootEdge,
 ) -> Result<bool, AllocError>
-    ensures { IfOk result (λ leads. leads ≡ (are_asked kinds edge.now.edge.kind && asked.is_at root.now (option_copied subpackage.entry) edge.now.edge.target)) }
+    ensures { IfOk result (λ leads. leads
+        ≡ (are_asked kinds edge.now.edge.kind
+        && asked.is_at root.now (option_copied subpackage.entry) edge.now.edge.target)) }
 {
     if !kinds.have(edge.edge().kind()) {
         return Ok(false);
@@ -97,7 +104,7 @@ fn leads_to(
     Ok(target_root.as_str() == root && names_it(subpackage, target.subpackage()))
 }
 
-/// Whether a target names a subpackage, where one is named.
+/// Whether a target names the same subpackage, if one is named.
 fn names_it(subpackage: Option<&str>, named: Option<&str>) -> bool
     ensures { result ≡ asked.names_it (option_copied subpackage.entry) (option_copied named.entry) }
 {

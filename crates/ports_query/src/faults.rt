@@ -3,14 +3,17 @@ ghost use Rattle.std.specs.Prelude.{◌≡◌};
 ghost use Rattle.ports_query.specs.declared.faults.QueryFault.TheVariants.{Memory};
 
 use std::alloc::AllocError;
+use thiserror::Error;
 
 /// Why a text is no query.
-#[derive(Clone, Copy, Debug, PartialEq, Eq)]
+#[derive(Clone, Copy, Debug, PartialEq, Eq, Error)]
 pub enum QueryFault {
-    /// More than eight conditions, one without an operator, one on a field that there isn't, or one of order
-    /// that isn't on the version or by a version.
+    /// There are more than eight conditions, or one has no operator or is on a field that doesn't exist. Or
+    /// one is of order, but isn't on the version, or its value is no version.
+    #[error("not conditions on packages")]
     BadQuery,
-    /// No memory for the query.
+    /// There is no memory for the query.
+    #[error("out of memory")]
     Memory,
 }
 

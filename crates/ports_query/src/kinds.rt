@@ -14,8 +14,8 @@ pub enum Kinds {
 }
 
 impl Kinds {
-    /// The kinds that a word names: `build`, `lib`, `run` and `test` one, `all` and the empty word each;
-    /// `None` for any other.
+    /// The kinds that a word names: `build`, `lib`, `run` and `test` name one, `all` and the empty word
+    /// name each. `None` for any other word.
     pub fn read(word: &str) -> Option<Kinds>
         ensures { result ≡ kinds.kinds_of word.now }
     {

@@ -30,7 +30,7 @@ impl Model for Listed {
 }
 
 impl Listed {
-    /// Its full name.
+    /// The package's full name.
     pub fn name(&self) -> &str
         ensures { result.now ≡ self.now.name }
     {
@@ -53,16 +53,16 @@ impl Listed {
     }
 }
 
-/// What packages are tested by.
+/// The test that packages are put to.
 #[derive(Clone, Copy)]
 enum Test<'a> {
     Meets(&'a Query),
     Admitted(&'a Spec),
 }
 
-/// The packages of these roots that meet all conditions of a query, root by root in the order of the list,
-/// those of a root in the order of the port. A root with a fault has none. It fails where no memory is
-/// left.
+/// The packages of these roots that meet all conditions of a query. They come root by root in the
+/// order of the list, those of a root in the order of the port. A root with a fault has none. It
+/// fails only if memory runs out.
 pub fn answer(alloc: Global, query: &Query, roots: &[Root]) -> Result<Vec<Listed>, AllocError>
     ensures { IfOk result (λ packages. packages.items ≡ listing.answer_of query.now roots.now) }
 {
@@ -70,7 +70,7 @@ pub fn answer(alloc: Global, query: &Query, roots: &[Root]) -> Result<Vec<Listed
 }
 
 /// The packages of these roots that a spec admits (packages-specs(7)), in the same order. A root with a
-/// fault has none. It fails where no memory is left.
+/// fault has none. It fails only if memory runs out.
 pub fn admitted(alloc: Global, spec: &Spec, roots: &[Root]) -> Result<Vec<Listed>, AllocError>
     ensures { IfOk result (λ packages. packages.items ≡ listing.admitted_of spec.now roots.now) }
 {
@@ -79,7 +79,8 @@ pub fn admitted(alloc: Global, spec: &Spec, roots: &[Root]) -> Result<Vec<Listed
 
 /// The packages of these roots that pass a test.
 fn list(alloc: Global, test: Test<'_>, roots: &[Root]) -> Result<Vec<Listed>, AllocError>
-    ensures { IfOk result (λ packages. packages.items ≡ listing.listed_by (listing.test_seen test.entry) roots.now) }
+    ensures { IfOk result (λ packages. packages.items
+        ≡ listing.listed_packages (listing.test_seen test.entry) roots.now) }
 {
     let mut listed = Vec::new(alloc);
     for root in roots {
@@ -95,7 +96,8 @@ fn list_root(
     root: &Root,
     listed: &mut Vec<Listed>,
 ) -> Result<(), AllocError>
-    ensures { OnOk result (listed.new.items ≡ listed.old.items ++ listing.listed_of (listing.test_seen test.entry) root.now.path root.now.state) }
+    ensures { OnOk result (listed.new.items ≡ listed.old.items
+        ++ listing.listed_of (listing.test_seen test.entry) root.now.path root.now.state) }
 {
     match root.state() {
         Ok(port) => list_port(alloc, test, root.path(), port, listed),
@@ -111,7 +113,9 @@ fn list_port(
     port: &PortRecord,
     listed: &mut Vec<Listed>,
 ) -> Result<(), AllocError>
-    ensures { OnOk result (listed.new.items ≡ listed.old.items ++ map (listing.listed_at path.now) (filter (listing.test_seen test.entry path.now port.now) port.now.packages)) }
+    ensures { OnOk result (listed.new.items ≡ listed.old.items
+        ++ map (listing.listed_at path.now)
+        (filter (listing.test_seen test.entry path.now port.now) port.now.packages)) }
 {
     for found in port.packages() {
         list_package(alloc, test, path, port, found, listed)?;
@@ -128,7 +132,9 @@ fn list_package(
     found: &Package,
     listed: &mut Vec<Listed>,
 ) -> Result<(), AllocError>
-    ensures { OnOk result (listed.new.items ≡ (if listing.test_seen test.entry path.now port.now found.now then listed.old.items ++ listing.listed_at path.now found.now ∷ [] else listed.old.items)) }
+    ensures { OnOk result (listed.new.items
+        ≡ (if listing.test_seen test.entry path.now port.now found.now then listed.old.items
+        ++ listing.listed_at path.now found.now ∷ [] else listed.old.items)) }
 {
     let full_name = found.name();
     let name = format!(in alloc; "{full_name}")?;
@@ -154,7 +160,8 @@ fn list_package(
 /// Whether a package passes a test.
 fn passes(test: Test<'_>, candidate: Candidate<'_>) -> bool
     requires { candidate.name.now ≡ name_text candidate.found.now.name }
-    ensures { result ≡ listing.test_seen test.entry candidate.entry.path.now candidate.entry.port.now candidate.entry.found.now }
+    ensures { result
+        ≡ listing.test_seen test.entry candidate.entry.path.now candidate.entry.port.now candidate.entry.found.now }
 {
     match test {
         Test::Meets(query) => meets_all(query.conditions(), candidate),

@@ -8,7 +8,7 @@ ghost use Rattle.ports_query.specs.Conditions.{condition_seen};
 ghost use Rattle.ports_query.specs.Meeting as meeting;
 
 use crate::conditions::{Condition, ListField, TextField};
-use crate::operators::{Bound, Sign};
+use crate::operators::{Bound, OperatorSign};
 use pkg_name::Version;
 use port_rules::{Package, PortRecord};
 
@@ -24,7 +24,9 @@ pub(crate) struct Candidate<'a> {
 /// Whether a package meets all conditions.
 pub(crate) fn meets_all(conditions: &[Condition], candidate: Candidate<'_>) -> bool
     requires { candidate.name.now ≡ name_text candidate.found.now.name }
-    ensures { result ≡ list_all (λ condition. meeting.meets candidate.entry.path.now candidate.entry.port.now candidate.entry.found.now (condition_seen condition)) conditions.now }
+    ensures { result
+        ≡ list_all (λ condition. meeting.meets candidate.entry.path.now candidate.entry.port.now
+        candidate.entry.found.now (condition_seen condition)) conditions.now }
 {
     conditions
         .iter()
@@ -34,7 +36,8 @@ pub(crate) fn meets_all(conditions: &[Condition], candidate: Candidate<'_>) -> b
 /// Whether a package meets a condition.
 fn meets(condition: &Condition, candidate: Candidate<'_>) -> bool
     requires { candidate.name.now ≡ name_text candidate.found.now.name }
-    ensures { result ≡ meeting.meets candidate.entry.path.now candidate.entry.port.now candidate.entry.found.now (condition_seen condition.now) }
+    ensures { result
+        ≡ meeting.meets candidate.entry.path.now candidate.entry.port.now candidate.entry.found.now (condition_seen condition.now) }
 {
     match condition {
         Condition::OnText(field, sign, value) => {
@@ -52,7 +55,8 @@ fn meets(condition: &Condition, candidate: Candidate<'_>) -> bool
 /// A text of a package or of its port.
 fn text_of<'a>(field: TextField, candidate: Candidate<'a>) -> &'a str
     requires { candidate.name.now ≡ name_text candidate.found.now.name }
-    ensures { result.now ≡ meeting.text_of field candidate.entry.path.now candidate.entry.port.now candidate.entry.found.now }
+    ensures { result.now
+        ≡ meeting.text_of field candidate.entry.path.now candidate.entry.port.now candidate.entry.found.now }
 {
     match field {
         TextField::Path => candidate.path,
@@ -74,25 +78,25 @@ fn texts_of(field: ListField, port: &PortRecord) -> &[String]
     }
 }
 
-/// Whether a text stands so to a value.
-fn text_meets(sign: Sign, value: &str, text: &str) -> bool
+/// Whether a text meets a sign and a value.
+fn text_meets(sign: OperatorSign, value: &str, text: &str) -> bool
     ensures { result ≡ meeting.text_meets sign value.now text.now }
 {
     match sign {
-        Sign::Is => text == value,
-        Sign::IsNot => text != value,
-        Sign::Has => has_part(text, value),
+        OperatorSign::Is => text == value,
+        OperatorSign::IsNot => text != value,
+        OperatorSign::Has => has_part(text, value),
     }
 }
 
-/// Whether texts stand so to a value.
-fn texts_meet(sign: Sign, value: &str, texts: &[String]) -> bool
+/// Whether texts meet a sign and a value.
+fn texts_meet(sign: OperatorSign, value: &str, texts: &[String]) -> bool
     ensures { result ≡ meeting.texts_meet sign value.now (map string_bytes texts.now) }
 {
     match sign {
-        Sign::Is => some_is(texts, value),
-        Sign::IsNot => !some_is(texts, value),
-        Sign::Has => some_has_part(texts, value),
+        OperatorSign::Is => some_is(texts, value),
+        OperatorSign::IsNot => !some_is(texts, value),
+        OperatorSign::Has => some_has_part(texts, value),
     }
 }
 
@@ -103,21 +107,21 @@ fn some_is(texts: &[String], value: &str) -> bool
     texts.iter().any(|text| text.as_str() == value)
 }
 
-/// Whether the value stands in some text.
+/// Whether the value is a part of some text.
 fn some_has_part(texts: &[String], value: &str) -> bool
     ensures { result ≡ list_any (λ text. meeting.has_part value.now (string_bytes text)) texts.now }
 {
     texts.iter().any(|text| has_part(text.as_str(), value))
 }
 
-/// Whether a part stands somewhere in a text.
+/// Whether a part is somewhere in a text.
 fn has_part(text: &str, part: &str) -> bool
     ensures { result ≡ meeting.has_part part.now text.now }
 {
     text.contains(part)
 }
 
-/// Whether a version is so ordered to another.
+/// Whether a version meets a bound that another version sets.
 fn bound_meets(bound: Bound, version: &Version, other: &Version) -> bool
     ensures { result ≡ meeting.bound_meets bound (version_cmp version.now other.now) }
 {

@@ -2,18 +2,18 @@
 ghost use Rattle.std.specs.Prelude.{◌≡◌, ◌≤◌, length, is_some, MatchOption, Some, None};
 ghost use Rattle.ports_query.specs.Conditions.{OperatorAt, operator_at, plain_length};
 
-/// How a text, or one of several, stands to a value.
+/// How a text, or one of several, is compared with a value.
 #[derive(Clone, Copy, Debug)]
-pub(crate) enum Sign {
+pub(crate) enum OperatorSign {
     /// `=`: it is the value.
     Is,
     /// `!=`: it isn't the value.
     IsNot,
-    /// `~`: the value stands in it.
+    /// `~`: the value is a part of it.
     Has,
 }
 
-/// How a version is ordered to another.
+/// How a version is compared with another.
 #[derive(Clone, Copy, Debug)]
 pub(crate) enum Bound {
     /// `<`
@@ -25,27 +25,29 @@ pub(crate) enum Bound {
 /// An operator of a condition.
 #[derive(Clone, Copy, Debug)]
 pub(crate) enum Operator {
-    /// One for each field.
-    Plain(Sign),
+    /// One for any field.
+    Plain(OperatorSign),
     /// One for the version alone.
     Ordered(Bound),
 }
 
-/// The operator that a text begins with, if it does, and what stands behind it.
+/// The operator that a text begins with, and what follows it. `None` if the text begins with no operator.
 pub(crate) fn operator_at(text: &str) -> Option<(Operator, &str)>
-    ensures { MatchOption result (operator_at text.now ≡ None) (λ found. operator_at text.now ≡ Some (record { operator = found.0; behind = found.1.now })) }
+    ensures { MatchOption result (operator_at text.now ≡ None)
+        (λ found. operator_at text.now
+        ≡ Some (record { operator = found.0; behind = found.1.now })) }
 {
     if let Some(behind) = text.strip_prefix("!=") {
-        return Some((Operator::Plain(Sign::IsNot), behind));
+        return Some((Operator::Plain(OperatorSign::IsNot), behind));
     }
     if let Some(behind) = text.strip_prefix(">=") {
         return Some((Operator::Ordered(Bound::AtLeast), behind));
     }
     if let Some(behind) = text.strip_prefix("=") {
-        return Some((Operator::Plain(Sign::Is), behind));
+        return Some((Operator::Plain(OperatorSign::Is), behind));
     }
     if let Some(behind) = text.strip_prefix("~") {
-        return Some((Operator::Plain(Sign::Has), behind));
+        return Some((Operator::Plain(OperatorSign::Has), behind));
     }
     match text.strip_prefix("<") {
         Some(behind) => Some((Operator::Ordered(Bound::Below), behind)),
@@ -53,7 +55,7 @@ pub(crate) fn operator_at(text: &str) -> Option<(Operator, &str)>
     }
 }
 
-/// How many bytes of a text stand before the first place where an operator begins.
+/// How many bytes of a text precede the first place where an operator begins: all of them if none begins.
 pub(crate) fn plain_length(text: &[u8]) -> usize
     ensures length { result ≡ plain_length text.now }
     ensures inside { result ≤ length text.now }

@@ -6,7 +6,7 @@ use crate::conditions::{Condition, read_conditions};
 use crate::faults::QueryFault;
 use std::alloc::Global;
 use std::marker::Model;
-use text_cuts::split_at;
+use text_parts::split_at;
 
 /// The most conditions of a query.
 const MOST_CONDITIONS: usize = 8;
@@ -27,16 +27,19 @@ impl Model for Query {
 }
 
 impl Query {
-    /// The query that a text is: up to eight conditions with semicolons between; an empty text has none.
+    /// The query that a text is: up to eight conditions with semicolons between
+    /// them. An empty text has none.
     ///
-    /// A condition is a field, an operator and a value; the operator is the one that begins first of `!=`,
-    /// `>=`, `=`, `~` and `<`. The fields are `path`, `name`, `stem`, `version`, `maintainer`, `comment`,
-    /// `category` and `flavor`. `=` asks that the field is the value, `!=` that it isn't, and `~` that the
-    /// value stands in it; of the categories and of the flavors that are chosen, that some is, that none is,
-    /// and that it stands in some. `<` and `>=` are for `version` alone, with a value that is a version, in
-    /// the order of versions.
+    /// A condition is a field, an operator and a value. The operator is the one that begins first of
+    /// `!=`, `>=`, `=`, `~` and `<`. The fields are `path`, `name`, `stem`, `version`, `maintainer`,
+    /// `comment`, `category` and `flavor`.
     ///
-    /// Any other text is `BadQuery`; `Memory` comes where none is left.
+    /// `=` asks that the field is the value, `!=` that it isn't, and `~` that the value is a part of it. Of
+    /// the categories, and of the flavors that are chosen, `=` asks that some is the value, `!=` that none
+    /// is, and `~` that the value is a part of some. `<` and `>=` are for `version` alone, in the order of
+    /// versions, with a value that is a version.
+    ///
+    /// Any other text gives `BadQuery`. If memory runs out, it gives `Memory`.
     pub fn read(alloc: Global, text: &str) -> Result<Query, QueryFault>
         ensures ok { IfOk result (λ query. query_of text.now ≡ Some query) }
         ensures bad { IsErrOf result QueryFault.BadQuery → query_of text.now ≡ None }
@@ -56,7 +59,7 @@ impl Query {
         }
     }
 
-    /// The conditions.
+    /// The conditions, in the order of the text.
     pub(crate) fn conditions(&self) -> &[Condition]
         ensures { map condition_seen result.now ≡ self.now }
     {

@@ -7,19 +7,22 @@ use crate::kinds::Kinds;
 use pkg_path::PkgPath;
 use port_deps::{RootEdge, Status};
 use std::alloc::{AllocError, Global};
-use text_cuts::copies_of;
 use text_graph::Arrow;
+use text_parts::copies_of;
 
-/// The canonical paths, without subpackages, of the ports that are reached over one or more dependencies of
-/// these kinds whose status is `Ok`, the first of them one of `first`, each of which begins where the one
-/// before it ended; in the order of their bytes, each once. It fails where no memory is left.
+/// The ports that are reached over one or more dependencies of these kinds whose status is `Ok`. The first
+/// of these dependencies is one of `first`, and each other one begins where the one before it ended.
+///
+/// The ports are given by their canonical paths without subpackages, in the order of the paths' bytes, each
+/// once. It fails only if memory runs out.
 pub fn reached(
     alloc: Global,
     kinds: Kinds,
     first: &[&RootEdge],
     edges: &[RootEdge],
 ) -> Result<Vec<String>, AllocError>
-    ensures { IfOk result (λ paths. map string_bytes paths.items ≡ reaching.reached_of kinds (map (λ edge. edge.now) first.now) edges.now) }
+    ensures { IfOk result (λ paths. map string_bytes paths.items
+        ≡ reaching.reached_of kinds (map (λ edge. edge.now) first.now) edges.now) }
 {
     let first_steps = steps_of_first(alloc, kinds, first)?;
     let steps = steps_of(alloc, kinds, edges)?;
@@ -30,17 +33,20 @@ pub fn reached(
     Ok(copied)
 }
 
-/// The canonical paths, without subpackages, of the ports that reach the port that a path names over one or
-/// more dependencies of these kinds whose status is `Ok`, each of which begins where the one before it
-/// ended; in the order of their bytes, each once. A subpackage of the path is ignored. It fails where no
-/// memory is left.
+/// The ports that reach the port that a path names, over one or more dependencies of these kinds whose
+/// status is `Ok`. Each of these dependencies but the first begins where the one before it ended. A
+/// subpackage of the path is ignored.
+///
+/// The ports are given by their canonical paths without subpackages, in the order of the paths' bytes, each
+/// once. It fails only if memory runs out.
 pub fn reaching(
     alloc: Global,
     kinds: Kinds,
     path: &PkgPath,
     edges: &[RootEdge],
 ) -> Result<Vec<String>, AllocError>
-    ensures { IfOk result (λ paths. map string_bytes paths.items ≡ reaching.reaching_of kinds path.now edges.now) }
+    ensures { IfOk result (λ paths. map string_bytes paths.items
+        ≡ reaching.reaching_of kinds path.now edges.now) }
 {
     let goal = path.port_path(alloc)?;
     let steps = steps_of(alloc, kinds, edges)?;
@@ -63,7 +69,8 @@ fn steps_of<'a>(
     kinds: Kinds,
     edges: &'a [RootEdge],
 ) -> Result<Vec<Step<'a>>, AllocError>
-    ensures { IfOk result (λ steps. map reaching.step_seen steps.items ≡ reaching.arrows_of kinds edges.now) }
+    ensures { IfOk result (λ steps. map reaching.step_seen steps.items
+        ≡ reaching.arrows_of kinds edges.now) }
 {
     let mut steps = Vec::new(alloc);
     for edge in edges {
@@ -72,13 +79,14 @@ fn steps_of<'a>(
     Ok(steps)
 }
 
-/// The same of the first ones.
+/// The same for the first dependencies.
 fn steps_of_first<'a>(
     alloc: Global,
     kinds: Kinds,
     edges: &[&'a RootEdge],
 ) -> Result<Vec<Step<'a>>, AllocError>
-    ensures { IfOk result (λ steps. map reaching.step_seen steps.items ≡ reaching.arrows_of kinds (map (λ edge. edge.now) edges.now)) }
+    ensures { IfOk result (λ steps. map reaching.step_seen steps.items
+        ≡ reaching.arrows_of kinds (map (λ edge. edge.now) edges.now)) }
 {
     let mut steps = Vec::new(alloc);
     for edge in edges {
@@ -87,14 +95,16 @@ fn steps_of_first<'a>(
     Ok(steps)
 }
 
-/// Adds the step over a dependency, if it is of these kinds and met.
+/// Adds the step over a dependency, if that is of these kinds and met.
 fn add_step<'a>(
     alloc: Global,
     kinds: Kinds,
     edge: &'a RootEdge,
     steps: &mut Vec<Step<'a>>,
 ) -> Result<(), AllocError>
-    ensures { OnOk result (map reaching.step_seen steps.new.items ≡ map reaching.step_seen steps.old.items ++ option_to_list (reaching.arrow_of kinds edge.now)) }
+    ensures { OnOk result (map reaching.step_seen steps.new.items
+        ≡ map reaching.step_seen steps.old.items
+        ++ option_to_list (reaching.arrow_of kinds edge.now)) }
 {
     if !kinds.have(edge.edge().kind()) || !is_met(edge.edge().status()) {
         return Ok(());

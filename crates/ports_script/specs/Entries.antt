@@ -25,7 +25,7 @@ shown (event.Fault conn) = Fault conn
 shown (event.Wrote conn count) = Wrote conn count
 shown (event.Turn tenant) = Turn tenant
 
--- what is read of the parts of a text before and behind its first blank; none for a text without a blank
+-- what is read of the parts of a text before and after its first blank; `None` for a text without a blank
 abbrev pub at_blank : (List ℕ → List ℕ → Option Entry) → List ℕ → Option Entry
 at_blank read text =
     if nat_lt (position_or_len (λ byte. byte == 32) text) (length text)
@@ -46,7 +46,7 @@ abbrev pub wrote_of : List ℕ → List ℕ → Option Entry
 wrote_of conn count =
     option_and_then (λ number. option_map (λ written. Wrote number written) (count_of count)) (number_of conn)
 
--- the event that a word and what stands behind it write
+-- the event that a word and what follows it write
 abbrev pub worded : List ℕ → List ℕ → Option Entry
 worded word rest =
     if bytes_eq word (codes "open") then option_map Open (number_of rest)
@@ -56,6 +56,7 @@ worded word rest =
     else (if bytes_eq word (codes "wrote") then at_blank wrote_of rest
     else (if bytes_eq word (codes "turn") then option_map Turn (number_of rest) else None)))))
 
--- the event that a line writes: its bytes are from 32 to 126, and it is a word, a blank and what the word asks for
+-- the event that a line writes: its bytes are from 32 to 126, and it is a word, a blank
+-- and what the word asks for
 unfoldable pub event_of : List ℕ → Option Entry
 event_of line = if list_all is_printable line then at_blank worded line else None

@@ -1,6 +1,8 @@
--- Bytes as scripts and transcripts write them: a byte from 32 to 126 that isn't the backslash stands for
--- itself, and any byte may be written as `\r`, `\n`, `\t`, `\\` or `\x` with two hexadecimal digits.
-use Rattle.std.specs.Prelude.{ℕ, suc, zero, ◌+◌, ◌-◌, ◌*◌, ◌/◌, ◌%◌, Bool, ◌&&◌, ◌==◌, nat_lt, nat_le, List, [], ◌∷◌, ◌++◌, length, flat_map, codes, Option, Some, None, option_map, option_and_then, if◌then◌else◌}
+-- Bytes as scripts and transcripts write them. A byte from 32 to 126 that isn't the backslash is written as
+-- itself. Any byte may be written as `\r`, `\n`, `\t`, `\\` or `\x` with two hexadecimal digits.
+use Rattle.std.specs.Prelude.{ℕ, suc, zero, ◌+◌, ◌-◌, ◌*◌, ◌/◌, ◌%◌, Bool, ◌&&◌, ◌==◌, nat_lt, nat_le, List, [], ◌∷◌}
+use Rattle.std.specs.Prelude.{◌++◌, length, flat_map, codes, Option, Some, None, option_map, option_and_then}
+use Rattle.std.specs.Prelude.{if◌then◌else◌}
 
 -- a byte from the blank to the tilde
 abbrev pub is_printable : ℕ → Bool
@@ -13,7 +15,7 @@ hex_value digit =
     else (if nat_le 97 digit && nat_le digit 102 then Some (digit - 87)
     else (if nat_le 65 digit && nat_le digit 70 then Some (digit - 55) else None))
 
--- the byte that two hexadecimal digits write, and the text behind them
+-- the byte that two hexadecimal digits write, and the text after them
 abbrev pub hex_byte : ℕ → ℕ → List ℕ → Option (ℕ × List ℕ)
 hex_byte high low rest =
     option_and_then (λ upper. option_map (λ lower. (upper * 16 + lower, rest)) (hex_value low)) (hex_value high)
@@ -24,7 +26,7 @@ hex_escape (high ∷ low ∷ rest) = hex_byte high low rest
 hex_escape (high ∷ []) = None
 hex_escape [] = None
 
--- the byte that is meant by what stands behind a backslash, and the text behind that
+-- the byte that the text after a backslash means, and the text after that
 abbrev pub escape_of : List ℕ → Option (ℕ × List ℕ)
 escape_of [] = None
 escape_of (letter ∷ rest) =
@@ -34,18 +36,18 @@ escape_of (letter ∷ rest) =
     else (if letter == 92 then Some (92, rest)
     else (if letter == 120 then hex_escape rest else None))))
 
--- the first byte that a text stands for, and the text behind it
+-- the first byte that a text encodes, and the text after it
 abbrev pub first_meant : ℕ → List ℕ → Option (ℕ × List ℕ)
 first_meant byte rest = if byte == 92 then escape_of rest else Some (byte, rest)
 
--- the bytes that a text of at most that many bytes stands for
+-- the bytes that a text of at most this many bytes encodes
 abbrev pub unescaped_within : ℕ → List ℕ → Option (List ℕ)
 unescaped_within most [] = Some []
 unescaped_within zero (byte ∷ rest) = None
 unescaped_within (suc most) (byte ∷ rest) =
     option_and_then (λ first. option_map (λ later. first.0 ∷ later) (unescaped_within most first.1)) (first_meant byte rest)
 
--- the bytes that a text stands for; none where a backslash begins no escape
+-- the bytes that a text encodes; `None` if a backslash begins no escape
 unfoldable pub unescaped : List ℕ → Option (List ℕ)
 unescaped text = unescaped_within (length text) text
 

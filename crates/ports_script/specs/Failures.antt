@@ -1,13 +1,14 @@
--- Why a run ends early: the status that tells it, and what is said.
+-- Why a run ends early: its exit status, and the text that is written.
 use Rattle.std.specs.Prelude.{ℕ, List, ◌++◌, codes, decimal}
 use Rattle.ports_core.specs.declared.service.NewFault.{NewFault}
 use Rattle.ports_core.specs.declared.service.NewFault.TheVariants as new
 use Rattle.ports_script.specs.declared.script.ScriptFault.{ScriptFault}
 use Rattle.ports_script.specs.declared.script.ScriptFault.TheVariants as fault
 use Rattle.ports_script.specs.declared.failure.Failure.{Failure}
-use Rattle.ports_script.specs.declared.failure.Failure.TheVariants.{BadKey, BadEvent, NotAllowed, CannotListen, CannotWrite, StoreFailed, OutOfMemory}
+use Rattle.ports_script.specs.declared.failure.Failure.TheVariants.{BadKey, BadEvent, NotAllowed, CannotListen}
+use Rattle.ports_script.specs.declared.failure.Failure.TheVariants.{CannotWrite, StoreFailed, OutOfMemory}
 
--- the exit status: 2 where what was asked can't be done, 1 where something outside failed
+-- the exit status: 2 if what was asked can't be done, 1 if something outside failed
 abbrev pub failure_status : Failure → ℕ
 failure_status BadKey = 2
 failure_status (BadEvent line) = 2
@@ -17,7 +18,7 @@ failure_status CannotWrite = 1
 failure_status StoreFailed = 1
 failure_status OutOfMemory = 1
 
--- what is said of a failure on standard error
+-- the text of a failure that is written on standard error
 abbrev pub failure_text : Failure → List ℕ
 failure_text BadKey = codes "portsd: bad key\n"
 failure_text (BadEvent line) = codes "portsd: line " ++ (decimal line ++ codes ": bad event\n")
@@ -27,12 +28,12 @@ failure_text CannotWrite = codes "portsd: cannot write\n"
 failure_text StoreFailed = codes "portsd: store failed\n"
 failure_text OutOfMemory = codes "portsd: out of memory\n"
 
--- the failure where a script isn't read
+-- the failure if a script isn't read
 abbrev pub script_failure : ScriptFault → Failure
 script_failure (fault.BadEvent line) = BadEvent line
 script_failure fault.Memory = OutOfMemory
 
--- the failure where a service can't begin
+-- the failure if a service can't begin
 abbrev pub new_failure : NewFault → Failure
 new_failure new.Config = BadKey
 new_failure new.Store = StoreFailed

@@ -7,17 +7,17 @@ use Rattle.ports_core.specs.declared.event.Refused.TheVariants as refused
 use Rattle.ports_script.specs.Escapes.{escaped}
 use Rattle.ports_script.specs.Entries.{Entry, Open, Piece, End, Fault, Wrote, Turn}
 
--- a printed line, behind the number of the line whose event it tells of
+-- a printed line, which begins with the number of the line whose event it is about
 abbrev pub print_line : ℕ → List ℕ → List ℕ
 print_line line words = decimal line ++ (codes " " ++ (words ++ codes "\n"))
 
--- `sent C TEXT`: the bytes that were taken off a connection, where there are some
+-- `sent C TEXT`: the bytes that were taken off a connection, if there are some
 abbrev pub sent_bytes : ℕ → ℕ → List ℕ → List ℕ
 sent_bytes line conn [] = []
 sent_bytes line conn (byte ∷ bytes) =
     print_line line (codes "sent " ++ (decimal conn ++ (codes " " ++ escaped (byte ∷ bytes))))
 
--- the same of an event, since only a Wrote takes bytes off its connection
+-- the same of an event; only a Wrote takes bytes off its connection
 abbrev pub sent_line : ℕ → Entry → List ℕ → List ℕ
 sent_line line (Wrote conn count) bytes = sent_bytes line conn bytes
 sent_line line (Open conn) bytes = []
@@ -31,23 +31,25 @@ abbrev pub tenant_text : Option ℕ → List ℕ
 tenant_text None = codes "-"
 tenant_text (Some tenant) = decimal tenant
 
--- `told T C S`: a reply, where there is one, by the number of its status
+-- `told T C S`: a reply, if there is one, by the number of its status
 abbrev pub told_line : ℕ → Option Tell → List ℕ
 told_line line None = []
 told_line line (Some tell) =
-    print_line line (codes "told " ++ (tenant_text tell.tenant ++ (codes " " ++ (decimal tell.conn ++ (codes " " ++ decimal tell.reply.status)))))
+    print_line line (codes "told "
+    ++ (tenant_text tell.tenant
+    ++ (codes " " ++ (decimal tell.conn ++ (codes " " ++ decimal tell.reply.status)))))
 
 -- why a connection wasn't opened
 abbrev pub refused_word : Refused → List ℕ
 refused_word refused.Connections = codes "connections"
 refused_word refused.Memory = codes "memory"
 
--- `refused WHY`: a connection that wasn't opened, where there is one
+-- `refused WHY`: a connection that wasn't opened, if there is one
 abbrev pub refused_line : ℕ → Option Refused → List ℕ
 refused_line line None = []
 refused_line line (Some why) = print_line line (codes "refused " ++ refused_word why)
 
--- `closed C`: the connection that closed, where there is one
+-- `closed C`: the connection that closed, if there is one
 abbrev pub closed_line : ℕ → Option ℕ → List ℕ
 closed_line line None = []
 closed_line line (Some conn) = print_line line (codes "closed " ++ decimal conn)

@@ -1,5 +1,6 @@
 -- Scripts: events, one a line. Empty lines and lines that begin with `#` are passed over, but counted.
-use Rattle.std.specs.Prelude.{◌≡◌, ℕ, ◌+◌, Bool, true, false, IsTrue, ◌||◌, ◌==◌, List, [], ◌∷◌, ◌++◌, length, map, zip, slice_index, Option, Some, None, Result, Ok, Err, if◌then◌else◌}
+use Rattle.std.specs.Prelude.{◌≡◌, ℕ, ◌+◌, Bool, true, false, IsTrue, ◌||◌, ◌==◌, List, [], ◌∷◌, ◌++◌, length, map}
+use Rattle.std.specs.Prelude.{zip, slice_index, Option, Some, None, Result, Ok, Err, if◌then◌else◌}
 use Rattle.std.specs.List.{slice_split}
 use Rattle.std.specs.Io.KnownBytes.{Consumes, IsAtEnd}
 use Rattle.ports_script.specs.declared.script.Script.{Script}
@@ -29,8 +30,8 @@ with_event line (Some event) later = put_before ((line, event) ∷ []) later
 abbrev pub with_line : ℕ → List ℕ → Reading → Reading
 with_line line text later = if is_passed_over text then later else with_event line (event_of text) later
 
--- the events of lines that are counted from a number on, or the first bad line; where the text isn't whole its
--- last line is a bad one
+-- the events of lines that are counted from a number on, or the first bad line; if the text isn't whole,
+-- its last line is a bad one
 unfoldable pub events_from : Bool → ℕ → List (List ℕ) → Reading
 events_from whole line [] = Ok []
 events_from whole line (text ∷ []) = if whole then with_line line text (Ok []) else Err line
@@ -49,7 +50,7 @@ abbrev pub IsFaultOf : Reading → ScriptFault → Type 0
 IsFaultOf reading (BadEvent line) = reading ≡ Err line
 IsFaultOf reading Memory = Unit {0}
 
--- an input has given these bytes, and all that it had where they are whole
+-- an input has given these bytes, and all that it had if they are whole
 abbrev pub HasGiven : Option (List ℕ) → Option (List ℕ) → Bool → List ℕ → Type 0
 HasGiven old new whole text = Consumes old new text × (IsTrue whole → IsAtEnd new)
 
@@ -61,7 +62,8 @@ HasGivenSome old new = (text : List ℕ) × HasGiven old new false text
 abbrev pub ReadsScript : Option (List ℕ) → Option (List ℕ) → List (ℕ × Entry) → Type 0
 ReadsScript old new entries = (text : List ℕ) × HasGiven old new true text × (script_of true text ≡ Ok entries)
 
--- an input isn't read: its bytes, which aren't whole where a read failed, have a bad line, or there is no memory
+-- an input isn't read: its bytes, which aren't whole if a read failed, have a bad
+-- line, or there is no memory
 abbrev pub FailsToRead : Option (List ℕ) → Option (List ℕ) → ScriptFault → Type 0
 FailsToRead old new fault =
     (whole : Bool) × (text : List ℕ) × HasGiven old new whole text × IsFaultOf (script_of whole text) fault

@@ -8,8 +8,8 @@ use crate::numerals::read_number;
 use ports_core::Event;
 use std::alloc::{AllocError, Global};
 
-/// The event that a line of a script writes; none for a line in no form of a script. The error: there
-/// was no memory for the bytes of a piece.
+/// The event that a line of a script writes. `None` if the line is in no form of a script. It fails only if
+/// there is no memory for the bytes of a piece.
 pub fn read_event(alloc: Global, line: &[u8]) -> Result<Option<Event>, AllocError>
     ensures { IfOk result (λ event. option_map shown event ≡ event_of line.now) }
 {
@@ -25,7 +25,7 @@ pub fn read_event(alloc: Global, line: &[u8]) -> Result<Option<Event>, AllocErro
     read_worded(alloc, word, rest)
 }
 
-/// The event that a word and what stands behind it write.
+/// The event that a word and what follows it write.
 fn read_worded(alloc: Global, word: &str, rest: &str) -> Result<Option<Event>, AllocError>
     ensures { IfOk result (λ event. option_map shown event ≡ worded word.now rest.now) }
 {
@@ -77,8 +77,8 @@ fn read_turn(text: &str) -> Option<Event>
     Some(Event::Turn(tenant as usize))
 }
 
-/// The bytes that an escaped text stands for: `\r`, `\n`, `\t`, `\\`, and `\xhh` with two hexadecimal
-/// digits of either case; none where a backslash begins nothing of these.
+/// The bytes that an escaped text encodes: `\r`, `\n`, `\t`, `\\`, and `\xhh` with two hexadecimal digits
+/// of either case. `None` if a backslash begins none of these.
 fn unescape(alloc: Global, text: &[u8]) -> Result<Option<Vec<u8>>, AllocError>
     ensures { IfOk result (λ bytes. option_map (λ b. b.items) bytes ≡ unescaped text.now) }
 {
@@ -94,9 +94,10 @@ fn unescape(alloc: Global, text: &[u8]) -> Result<Option<Vec<u8>>, AllocError>
     Ok(Some(bytes))
 }
 
-/// The first byte that a text stands for, and what is left of the text behind it.
+/// The first byte that a text encodes, and what is left of the text after it.
 fn read_first(first: u8, behind: &[u8]) -> Option<(u8, &[u8])>
-    ensures { MatchOption result (first_meant first behind.now ≡ None) (λ r. first_meant first behind.now ≡ Some (r.0, r.1.now)) }
+    ensures { MatchOption result (first_meant first behind.now ≡ None)
+        (λ r. first_meant first behind.now ≡ Some (r.0, r.1.now)) }
 {
     if first == b'\\' {
         read_escape(behind)
@@ -105,9 +106,10 @@ fn read_first(first: u8, behind: &[u8]) -> Option<(u8, &[u8])>
     }
 }
 
-/// The byte that what stands behind a backslash means, and what is left of the text.
+/// The byte that the text after a backslash means, and what is left of the text.
 fn read_escape(text: &[u8]) -> Option<(u8, &[u8])>
-    ensures { MatchOption result (escape_of text.now ≡ None) (λ r. escape_of text.now ≡ Some (r.0, r.1.now)) }
+    ensures { MatchOption result (escape_of text.now ≡ None)
+        (λ r. escape_of text.now ≡ Some (r.0, r.1.now)) }
 {
     match text {
         [b'r', rest @ ..] => Some((b'\r', rest)),
@@ -121,7 +123,8 @@ fn read_escape(text: &[u8]) -> Option<(u8, &[u8])>
 
 /// The byte that two hexadecimal digits write, and what is left of the text.
 fn read_hex(text: &[u8]) -> Option<(u8, &[u8])>
-    ensures { MatchOption result (hex_escape text.now ≡ None) (λ r. hex_escape text.now ≡ Some (r.0, r.1.now)) }
+    ensures { MatchOption result (hex_escape text.now ≡ None)
+        (λ r. hex_escape text.now ≡ Some (r.0, r.1.now)) }
 {
     let [high, low, rest @ ..] = text else {
         return None;

@@ -15,10 +15,10 @@ use std::io::{self, Write};
 /// The exit status of a run that went well.
 pub const DONE: u8 = 0;
 
-/// The exit status where something outside failed.
+/// The exit status if something outside failed.
 const FAILED: u8 = 1;
 
-/// The exit status where what was asked can't be done.
+/// The exit status if what was asked can't be done.
 pub const REFUSED: u8 = 2;
 
 /// Why a run ended early.
@@ -26,13 +26,13 @@ pub const REFUSED: u8 = 2;
 pub enum Failure {
     /// A key can't be one, is given twice, or is one too many; or a size is out of its limits.
     BadKey,
-    /// This line of the script is in no form of one, or couldn't be read.
+    /// This line of the script is in no form of a script, or couldn't be read.
     BadEvent(u64),
     /// The event of this line of the script isn't allowed.
     NotAllowed(u64),
     /// Nothing listens on the port.
     CannotListen,
-    /// What was to be printed can't be.
+    /// What was to be printed can't be written.
     CannotWrite,
     /// The store of the tenants' files failed.
     StoreFailed,
@@ -85,7 +85,8 @@ impl From<NewFault> for Failure {
     }
 }
 
-/// Says the failure, and gives its status. Where that can't be written the status tells.
+/// Writes the text of the failure, and gives its status. If the text can't be written,
+/// the status still says it.
 pub fn report<E: Write>(failure: Failure, err: &mut E) -> u8
     ensures status { result ≡ failure_status failure }
     ensures said { AppendsUpTo (E.contents err.old) (E.contents err.new) (failure_text failure) }
@@ -96,8 +97,10 @@ pub fn report<E: Write>(failure: Failure, err: &mut E) -> u8
 
 /// Writes the text of a failure.
 fn say<E: Write>(failure: Failure, err: &mut E) -> io::Result<()>
-    ensures written { OnOk result (Appends (E.contents err.old) (E.contents err.new) (failure_text failure)) }
-    ensures front { OnErr result (AppendsFront (E.contents err.old) (E.contents err.new) (failure_text failure)) }
+    ensures written { OnOk result (Appends (E.contents err.old) (E.contents err.new)
+        (failure_text failure)) }
+    ensures front { OnErr result (AppendsFront (E.contents err.old) (E.contents err.new)
+        (failure_text failure)) }
 {
     match failure {
         Failure::BadKey => write_whole(err, "portsd: bad key\n".as_bytes()),
@@ -112,8 +115,10 @@ fn say<E: Write>(failure: Failure, err: &mut E) -> io::Result<()>
 
 /// Writes a text that names a line of the script.
 fn say_line<E: Write>(line: u64, what: &str, err: &mut E) -> io::Result<()>
-    ensures written { OnOk result (Appends (E.contents err.old) (E.contents err.new) (codes "portsd: line " ++ (decimal line ++ what.now))) }
-    ensures front { OnErr result (AppendsFront (E.contents err.old) (E.contents err.new) (codes "portsd: line " ++ (decimal line ++ what.now))) }
+    ensures written { OnOk result (Appends (E.contents err.old) (E.contents err.new)
+        (codes "portsd: line " ++ (decimal line ++ what.now))) }
+    ensures front { OnErr result (AppendsFront (E.contents err.old) (E.contents err.new)
+        (codes "portsd: line " ++ (decimal line ++ what.now))) }
 {
     let mut number = Buffer::new();
     write_whole(err, "portsd: line ".as_bytes())?;

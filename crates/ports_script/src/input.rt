@@ -5,7 +5,7 @@ ghost use Rattle.ports_script.specs.Scripts.{HasGiven, HasGivenSome};
 use std::alloc::{AllocError, Global};
 use std::io::{ErrorKind, Read};
 
-/// The most reads of an input. One that hasn't ended by then is taken as if its next read failed.
+/// The most reads of an input. If an input hasn't ended by then, it is treated as if its next read failed.
 const MOST_READS: u64 = 4_294_967_296;
 
 /// The bytes that an input gave.
@@ -13,14 +13,15 @@ const MOST_READS: u64 = 4_294_967_296;
 pub struct Given {
     /// The bytes, up to the input's end or to the read that failed.
     pub text: Vec<u8>,
-    /// Whether the input ended behind them, and no read failed.
+    /// Whether the input ended after them, and no read failed.
     pub whole: bool,
 }
 
-/// Reads an input to its end, or up to a read that fails; one that was interrupted is tried again. The
-/// error: there was no memory for the bytes.
+/// Reads an input to its end, or up to a read that fails. A read that was interrupted is tried again. It
+/// fails only if there is no memory for the bytes.
 pub fn read_input<R: Read>(alloc: Global, reader: &mut R) -> Result<Given, AllocError>
-    ensures given { IfOk result (λ given. HasGiven (R.remaining reader.old) (R.remaining reader.new) given.whole given.text.items) }
+    ensures given { IfOk result (λ given. HasGiven (R.remaining reader.old)
+        (R.remaining reader.new) given.whole given.text.items) }
     ensures err { OnErr result (HasGivenSome (R.remaining reader.old) (R.remaining reader.new)) }
 {
     let mut text = Vec::new(alloc);

@@ -1,5 +1,5 @@
-//! The texts of the program: scripts of events, which it reads, and what it writes: what a run of events told
-//! and sent, and why a run ended early.
+//! The texts of the program: the scripts of events that it reads, and what it writes. That is the effects
+//! of a run's events, and why a run ended early.
 #![tactic(auto)]
 
 mod entries;

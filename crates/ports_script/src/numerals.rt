@@ -2,8 +2,8 @@
 ghost use Rattle.std.specs.Prelude.{◌≡◌};
 ghost use Rattle.ports_script.specs.Numerals.{number_of};
 
-/// The number that the text writes: 1 to 20 decimal digits, within 64 bits; leading zeros are
-/// allowed. None for any other text, the empty one too.
+/// The number that the text writes: 1 to 20 decimal digits, within 64 bits. Leading zeros are allowed.
+/// `None` for any other text, also for the empty one.
 pub fn read_number(text: &str) -> Option<u64>
     ensures { result ≡ number_of text.now }
 {

@@ -3,16 +3,17 @@ ghost use Rattle.std.specs.Prelude.{◌≡◌, ◌++◌, IfOk, OnOk, string_byte
 ghost use Rattle.ports_script.specs.Escapes.{escape, escaped, hex_text};
 ghost use Rattle.ports_script.specs.Entries.{shown};
 ghost use Rattle.ports_script.specs.Scripts.{numbered};
-ghost use Rattle.ports_script.specs.Printing.{sent_line, sent_bytes, told_line, refused_line, closed_line, refused_word, printed, transcript};
+ghost use Rattle.ports_script.specs.Printing.{sent_line, sent_bytes, told_line, refused_line, closed_line};
+ghost use Rattle.ports_script.specs.Printing.{refused_word, printed, transcript};
 
 use crate::script::Script;
 use ports_core::{Event, Refused, Step, Tell};
 use std::alloc::{AllocError, Global};
 use std::fmt::Write;
 
-/// The lines that a run prints: for each event, in this order, what it sent, told, refused and closed,
-/// each behind the number of the event's line. There is nothing for events that have no step. The
-/// error: there was no memory for the text.
+/// The lines that a run prints. For each event they are, in this order, the bytes that it sent, its reply,
+/// the refusal of a connection, and the connection that closed. Each line begins with the number of the
+/// event's line. Events that have no step print nothing. It fails only if there is no memory for the text.
 pub fn transcript_text(alloc: Global, script: &Script, steps: &[Step]) -> Result<String, AllocError>
     ensures { IfOk result (λ text. string_bytes text ≡ transcript (numbered script.now) steps.now) }
 {
@@ -27,7 +28,8 @@ pub fn transcript_text(alloc: Global, script: &Script, steps: &[Step]) -> Result
 
 /// Everything that is printed of one event.
 fn push_step(text: &mut String, line: u64, event: &Event, step: &Step) -> Result<(), AllocError>
-    ensures { OnOk result (string_bytes text.new ≡ string_bytes text.old ++ printed line (shown event.now) step.now) }
+    ensures { OnOk result (string_bytes text.new ≡ string_bytes text.old
+        ++ printed line (shown event.now) step.now) }
 {
     let told = &step.told;
     push_sent(text, line, event, step.sent.as_slice())?;
@@ -36,9 +38,10 @@ fn push_step(text: &mut String, line: u64, event: &Event, step: &Step) -> Result
     push_closed(text, line, told.closed)
 }
 
-/// The bytes that a Wrote took off its connection, where there are some.
+/// The bytes that a Wrote took off its connection, if there are some.
 fn push_sent(text: &mut String, line: u64, event: &Event, bytes: &[u8]) -> Result<(), AllocError>
-    ensures { OnOk result (string_bytes text.new ≡ string_bytes text.old ++ sent_line line (shown event.now) bytes.now) }
+    ensures { OnOk result (string_bytes text.new ≡ string_bytes text.old
+        ++ sent_line line (shown event.now) bytes.now) }
 {
     let Event::Wrote(conn, _) = event else {
         return Ok(());
@@ -51,9 +54,10 @@ fn push_sent(text: &mut String, line: u64, event: &Event, bytes: &[u8]) -> Resul
     text.push_str("\n")
 }
 
-/// A reply, where there is one: its tenant, its connection and the number of its status.
+/// A reply, if there is one: its tenant, its connection and the number of its status.
 fn push_told(text: &mut String, line: u64, reply: &Option<Tell>) -> Result<(), AllocError>
-    ensures { OnOk result (string_bytes text.new ≡ string_bytes text.old ++ told_line line reply.now) }
+    ensures { OnOk result (string_bytes text.new ≡ string_bytes text.old
+        ++ told_line line reply.now) }
 {
     let Some(tell) = reply else {
         return Ok(());
@@ -67,9 +71,10 @@ fn push_told(text: &mut String, line: u64, reply: &Option<Tell>) -> Result<(), A
     }
 }
 
-/// A connection that wasn't opened, where there is one.
+/// A connection that wasn't opened, if there is one.
 fn push_refused(text: &mut String, line: u64, refused: Option<Refused>) -> Result<(), AllocError>
-    ensures { OnOk result (string_bytes text.new ≡ string_bytes text.old ++ refused_line line refused) }
+    ensures { OnOk result (string_bytes text.new ≡ string_bytes text.old
+        ++ refused_line line refused) }
 {
     let Some(refused) = refused else {
         return Ok(());
@@ -87,9 +92,10 @@ fn refused_word(refused: Refused) -> &'static str
     }
 }
 
-/// The connection that closed, where there is one.
+/// The connection that closed, if there is one.
 fn push_closed(text: &mut String, line: u64, closed: Option<u64>) -> Result<(), AllocError>
-    ensures { OnOk result (string_bytes text.new ≡ string_bytes text.old ++ closed_line line closed) }
+    ensures { OnOk result (string_bytes text.new ≡ string_bytes text.old
+        ++ closed_line line closed) }
 {
     let Some(conn) = closed else {
         return Ok(());
@@ -107,7 +113,8 @@ fn push_escaped(text: &mut String, bytes: &[u8]) -> Result<(), AllocError>
     Ok(())
 }
 
-/// A byte from 32 to 126 as it is but for the backslash, another one as an escape.
+/// A byte from 32 to 126 as it is, except for the backslash; any other byte, and
+/// the backslash, as an escape.
 fn push_escape(text: &mut String, byte: u8) -> Result<(), AllocError>
     ensures { OnOk result (string_bytes text.new ≡ string_bytes text.old ++ escape byte) }
 {

@@ -1,5 +1,6 @@
 //! Scripts of events.
-ghost use Rattle.std.specs.Prelude.{◌≡◌, ◌==◌, ◌<◌, [], ◌∷◌, ◌++◌, length, slice_get, option_map, MatchOption, IfSome, IfOk, IfErr, OnOk, vec_len};
+ghost use Rattle.std.specs.Prelude.{◌≡◌, ◌==◌, ◌<◌, [], ◌∷◌, ◌++◌, length, slice_get, option_map, MatchOption};
+ghost use Rattle.std.specs.Prelude.{IfSome, IfOk, IfErr, OnOk, vec_len};
 ghost use Rattle.std.specs.List.{slice_split};
 ghost use Rattle.ports_script.specs.declared.script.ScriptFault.TheVariants as faults;
 ghost use Rattle.ports_script.specs.Entries.{shown};
@@ -10,13 +11,16 @@ use crate::input::read_input;
 use ports_core::Event;
 use std::alloc::{AllocError, AllocFailed, Global};
 use std::io::Read;
+use thiserror::Error;
 
 /// Why a script wasn't read.
-#[derive(Clone, Copy, Debug, PartialEq, Eq)]
+#[derive(Clone, Copy, Debug, PartialEq, Eq, Error)]
 pub enum ScriptFault {
     /// This line, counted from 1, is in no form of a script, or couldn't be read.
+    #[error("line {0} is no event")]
     BadEvent(u64),
     /// There was no memory for the script.
+    #[error("out of memory")]
     Memory,
 }
 
@@ -44,19 +48,22 @@ pub struct Script {
 }
 
 impl Script {
-    /// The event at that place of the script, behind its line; none where the script ends before it.
+    /// The event at this place of the script, with its line before it. `None` if the
+    /// script ends before this place.
     pub fn entry(&self, index: usize) -> Option<(u64, &Event)>
-        ensures { option_map (λ entry. (entry.0, shown entry.1.now)) result ≡ slice_get (numbered self.now) index }
+        ensures { option_map (λ entry. (entry.0, shown entry.1.now)) result
+            ≡ slice_get (numbered self.now) index }
     {
         let line = self.lines.get(index)?;
         let event = self.events.get(index)?;
         Some((*line, event))
     }
 
-    /// Adds an event with its line. `Memory` is the only error.
+    /// Adds an event with its line. The only error is `Memory`.
     fn push(&mut self, line: u64, event: Event) -> Result<(), ScriptFault>
         requires { vec_len self.old.lines ≡ vec_len self.old.events }
-        ensures added { OnOk result (numbered self.new ≡ numbered self.old ++ (line, shown event) ∷ []) }
+        ensures added { OnOk result (numbered self.new ≡ numbered self.old
+            ++ (line, shown event) ∷ []) }
         ensures paired { OnOk result (vec_len self.new.lines ≡ vec_len self.new.events) }
         ensures err { IfErr result (λ fault. fault ≡ faults.Memory) }
     {
@@ -69,10 +76,12 @@ impl Script {
 /// Reads a whole script: its events with their lines. Empty lines and lines that begin with `#` are
 /// passed over, but counted.
 ///
-/// `BadEvent` is told of the first line that is in no form of a script. A read that fails makes the
-/// line that stood there a bad one, as does an input that hasn't ended after 4,294,967,296 reads. `Memory`: there was none for the bytes or for the events.
+/// `BadEvent` names the first line that is in no form of a script. If a read fails, the line where it
+/// failed is a bad one. So is the last line so far, if the input hasn't ended after 4,294,967,296 reads.
+/// The error is `Memory` if there is none for the bytes or for the events.
 pub fn read_script<R: Read>(alloc: Global, reader: &mut R) -> Result<Script, ScriptFault>
-    ensures ok { IfOk result (λ script. ReadsScript (R.remaining reader.old) (R.remaining reader.new) (numbered script)) }
+    ensures ok { IfOk result (λ script. ReadsScript (R.remaining reader.old)
+        (R.remaining reader.new) (numbered script)) }
     ensures err { IfErr result (FailsToRead (R.remaining reader.old) (R.remaining reader.new)) }
     ensures paired { IfOk result (λ script. vec_len script.lines ≡ vec_len script.events) }
 {
@@ -80,7 +89,7 @@ pub fn read_script<R: Read>(alloc: Global, reader: &mut R) -> Result<Script, Scr
     read_lines(alloc, given.text.as_slice(), given.whole)
 }
 
-/// The events of a script's text. Where the text isn't whole its last line is a bad one.
+/// The events of a script's text. If the text isn't whole, its last line is a bad one.
 fn read_lines(alloc: Global, text: &[u8], whole: bool) -> Result<Script, ScriptFault>
     ensures ok { IfOk result (λ script. script_of whole text.now ≡ Ok (numbered script)) }
     ensures paired { IfOk result (λ script. vec_len script.lines ≡ vec_len script.events) }
@@ -104,11 +113,12 @@ fn read_lines(alloc: Global, text: &[u8], whole: bool) -> Result<Script, ScriptF
     Ok(script)
 }
 
-/// The first line of a text, and the text behind the line feed that ends it; none where no line feed
-/// stands in the text.
+/// The first line of a text, and the text after the line feed that ends it. `None` if
+/// the text has no line feed.
 fn first_line(text: &[u8]) -> Option<(&[u8], &[u8])>
     ensures lines { MatchOption result (slice_split (λ byte. byte == 10) text.now ≡ text.now ∷ [])
-        (λ parts. slice_split (λ byte. byte == 10) text.now ≡ parts.0.now ∷ slice_split (λ byte. byte == 10) parts.1.now) }
+        (λ parts. slice_split (λ byte. byte == 10) text.now
+        ≡ parts.0.now ∷ slice_split (λ byte. byte == 10) parts.1.now) }
     ensures shorter { IfSome result (λ parts. length parts.1.now < length text.now) }
 {
     let end = text.iter().position(|byte| *byte == b'\n')?;
@@ -118,9 +128,12 @@ fn first_line(text: &[u8]) -> Option<(&[u8], &[u8])>
 /// Adds the event of a line, unless the line is passed over.
 fn push_line(alloc: Global, script: &mut Script, line: u64, text: &[u8]) -> Result<(), ScriptFault>
     requires { vec_len script.old.lines ≡ vec_len script.old.events }
-    ensures ok { OnOk result ((later : Reading) → put_before (numbered script.old) (with_line line text.now later) ≡ put_before (numbered script.new) later) }
+    ensures ok { OnOk result ((later : Reading)
+        → put_before (numbered script.old) (with_line line text.now later)
+        ≡ put_before (numbered script.new) later) }
     ensures paired { OnOk result (vec_len script.new.lines ≡ vec_len script.new.events) }
-    ensures err { IfErr result (λ fault. (later : Reading) → IsFaultOf (with_line line text.now later) fault) }
+    ensures err { IfErr result (λ fault. (later : Reading)
+        → IsFaultOf (with_line line text.now later) fault) }
 {
     if text.is_empty() || text.starts_with(b"#") {
         return Ok(());

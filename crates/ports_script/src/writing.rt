@@ -5,14 +5,15 @@ ghost use Rattle.ports_script.specs.Writing.{AppendsFront};
 
 use std::io::{self, ErrorKind, Write};
 
-/// Writes all of the bytes, each once, in as many writes as that takes. A write that was interrupted
-/// is tried again.
+/// Writes all of the bytes, each once, in as many writes as that takes. A write that was
+/// interrupted is tried again.
 ///
-/// The error is that of the write that failed, or took nothing; up to there a front of the bytes was
-/// written. Nothing fails where there are no bytes.
+/// The error is that of the write that failed or took nothing. Up to there a front of the bytes was
+/// written. If there are no bytes, nothing fails.
 pub fn write_whole<W: Write>(out: &mut W, bytes: &[u8]) -> io::Result<()>
     ensures written { OnOk result (Appends (W.contents out.old) (W.contents out.new) bytes.now) }
-    ensures front { OnErr result (AppendsFront (W.contents out.old) (W.contents out.new) bytes.now) }
+    ensures front { OnErr result (AppendsFront (W.contents out.old)
+        (W.contents out.new) bytes.now) }
 {
     let mut done = 0;
     for _ in 0..u64::MAX {

@@ -13,7 +13,7 @@ use Rattle.ports_core.specs.Runs.{Happens, Run, sent_by}
 use Rattle.ports_serve.specs.declared.wire.Outcome.{Outcome}
 use Rattle.ports_serve.specs.declared.wire.Outcome.TheVariants.{Nothing, Got, End, Fault}
 use Rattle.ports_serve.specs.Calls.{Call, Accept, Read, Write, Shut, Leads}
-use Rattle.ports_serve.specs.Rounds.{Course, quiet, joined, called, unopened, opening, writing, Rests, Follows, HappensOn, HearsPiece, Each, Accepts, Reads, Writes, TakesTurn, IsRound, Goes, numbers_from}
+use Rattle.ports_serve.specs.Rounds.{Course, quiet, joined, called, unopened, opening, writing, ChangesNothing, Follows, HappensOn, HearsPiece, Each, Accepts, Reads, Writes, TakesTurn, IsRound, Goes, numbers_from}
 
 joined-assoc : (a b c : Course) → joined (joined a b) c ≡ joined a (joined b c)
 joined-assoc a b c =
@@ -82,7 +82,7 @@ module _ {W : Type 0} (After : W → Call → W → Type 0) where
   leads-append old mid new (call ∷ calls) more (next, after, rest) leads = (next, after, leads-append next mid new calls more rest leads)
 
   -- nothing happens
-  pub rests : (wire : W) (state : State) → Goes After Rests wire state wire state
+  pub rests : (wire : W) (state : State) → Goes After ChangesNothing wire state wire state
   rests wire state = record { course = quiet; goes = (refl, refl); wire = refl; run = refl }
 
   -- a call brings nothing

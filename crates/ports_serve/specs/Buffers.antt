@@ -3,6 +3,6 @@ use Rattle.std.specs.Prelude.{ℕ, ◌≤◌, Vec, vec_capacity}
 use Rattle.std.specs.declared.alloc.Global.{Global}
 use Rattle.ports_serve.specs.declared.serving.TheConstants.{READ_SIZE}
 
--- it has room for what is read at once
+-- the buffer has room for what is read at once
 abbrev pub IsBuffer : Vec ℕ Global → Type 0
 IsBuffer buffer = READ_SIZE ≤ vec_capacity buffer

@@ -3,8 +3,9 @@ use Rattle.std.specs.Prelude.{◌≡◌, ℕ, ◌≤◌, List, [], ◌∷◌, ta
 use Rattle.ports_serve.specs.declared.wire.Outcome.{Outcome}
 use Rattle.ports_serve.specs.declared.wire.Outcome.TheVariants.{Nothing, Got, End, Fault}
 
--- a call of a wire, and what it brought: a client for a number; bytes of a connection, where so many were asked
--- for; how many of these bytes of a connection were written; a connection was dropped
+-- A call of a wire, and what it brought. `Accept`: a client for this number. `Read`: bytes of a
+-- connection, if so many were asked for. `Write`: how many of these bytes were written to a connection.
+-- `Shut`: a connection was dropped.
 pub data Call : Type 0 where
   Accept : ℕ → Outcome (Unit {0}) → Call
   Read : ℕ → ℕ → Outcome (List ℕ) → Call
@@ -25,7 +26,7 @@ read_outcome buffer (Got count) = Got (take count buffer)
 read_outcome buffer End = End
 read_outcome buffer Fault = Fault
 
--- what a wire is behind a list of calls, each of which leads on from what it was before
+-- what a wire is after a list of calls, each of which leads on from what it was before
 abbrev pub Leads : {W : Type 0} → (W → Call → W → Type 0) → W → List Call → W → Type 0
 Leads After old [] new = new ≡ old
 Leads {W} After old (call ∷ calls) new = (mid : W) × After old call mid × Leads After mid calls new

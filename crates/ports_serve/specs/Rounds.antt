@@ -13,7 +13,7 @@ use Rattle.ports_serve.specs.declared.wire.Outcome.{Outcome}
 use Rattle.ports_serve.specs.declared.wire.Outcome.TheVariants.{Nothing, Got, End, Fault}
 use Rattle.ports_serve.specs.Calls.{Call, Accept, Read, Write, Shut, Leads}
 
--- what happened: the calls of the wire, and the events with what was told and sent
+-- what happened: the calls of the wire, and the events with their effects
 pub record Course : Type 0 where
   pub calls : List Call
   pub events : List Event
@@ -23,7 +23,7 @@ pub record Course : Type 0 where
 abbrev pub quiet : Course
 quiet = record { calls = []; events = []; steps = [] }
 
--- one behind the other
+-- one after the other
 abbrev pub joined : Course → Course → Course
 joined first rest = record { calls = first.calls ++ rest.calls; events = first.events ++ rest.events; steps = first.steps ++ rest.steps }
 
@@ -36,7 +36,7 @@ abbrev pub unopened : Event → Option Refused → List ℕ
 unopened (events.Open c) (Some why) = c ∷ []
 unopened event refused = []
 
--- the connections that are dropped behind an event: one that isn't opened, and one that closes
+-- the connections that are dropped after an event: one that isn't opened, and one that closes
 abbrev pub shuts : Event → Told → List Call
 shuts event told = map Shut (unopened event told.refused) ++ map Shut (option_to_list told.closed)
 
@@ -47,8 +47,8 @@ pub record HappensOn (event : Event) (old : State) (course : Course) (new : Stat
   pub course_is : course ≡ record { calls = shuts event step.told; events = event ∷ []; steps = step ∷ [] }
 
 -- no call and no event
-abbrev pub Rests : State → Course → State → Type 0
-Rests old course new = (course ≡ quiet) × (new ≡ old)
+abbrev pub ChangesNothing : State → Course → State → Type 0
+ChangesNothing old course new = (course ≡ quiet) × (new ≡ old)
 
 -- a call, and what its answer makes happen, if anything
 abbrev pub Follows : Call → Option Event → State → Course → State → Type 0
@@ -61,7 +61,9 @@ opening c (Got client) = Some (events.Open c)
 opening c outcome = None
 
 abbrev pub Accepts : State → Course → State → Type 0
-Accepts old course new = (outcome : Outcome (Unit {0})) × Follows (Accept (next_of old) outcome) (opening (next_of old) outcome) old course new
+Accepts old course new =
+    (outcome : Outcome (Unit {0}))
+    × Follows (Accept (next_of old) outcome) (opening (next_of old) outcome) old course new
 
 -- these bytes are a piece of a connection's stream
 abbrev pub HearsPiece : ℕ → List ℕ → State → Course → State → Type 0
@@ -69,15 +71,17 @@ HearsPiece c bytes old course new = (piece : Vec ℕ Global) × (piece.items ≡
 
 -- what a read brings: bytes are a piece of the stream
 abbrev pub Brings : ℕ → ℕ → Outcome (List ℕ) → State → Course → State → Type 0
-Brings c size (Got bytes) old course new = (behind : Course) × HearsPiece c bytes old behind new × (course ≡ joined (called (Read c size (Got bytes))) behind)
+Brings c size (Got bytes) old course new =
+    (behind : Course) × HearsPiece c bytes old behind new
+    × (course ≡ joined (called (Read c size (Got bytes))) behind)
 Brings c size End old course new = Follows (Read c size End) (Some (events.End c)) old course new
 Brings c size Fault old course new = Follows (Read c size Fault) (Some (events.Fault c)) old course new
 Brings c size Nothing old course new = Follows (Read c size Nothing) None old course new
 
--- a connection is read once, at most as many bytes as it has room for, and not at all where it has none
+-- a connection is read once, at most as many bytes as it has room for; if it has no room, it isn't read
 abbrev pub Reads : ℕ → State → Course → State → Type 0
 Reads c old course new =
-    ((room_at c old ≡ 0) × Rests old course new)
+    ((room_at c old ≡ 0) × ChangesNothing old course new)
     ⊎ ((size : ℕ) × (outcome : Outcome (List ℕ)) × (0 < size) × (size ≤ room_at c old) × Brings c size outcome old course new)
 
 -- what a write makes happen
@@ -86,10 +90,10 @@ writing c (Got count) = Some (events.Wrote c (Some count))
 writing c Fault = Some (events.Fault c)
 writing c outcome = None
 
--- a connection's pending bytes are written once, where there are some
+-- a connection's pending bytes are written once, if there are some
 abbrev pub Writes : ℕ → State → Course → State → Type 0
 Writes c old course new =
-    ((pending_at c old ≡ []) × Rests old course new)
+    ((pending_at c old ≡ []) × ChangesNothing old course new)
     ⊎ ((pending_at c old ≢ []) × (outcome : Outcome ℕ) × Follows (Write c (pending_at c old) outcome) (writing c outcome) old course new)
 
 -- a tenant has its turn
@@ -98,17 +102,17 @@ TakesTurn t old course new = HappensOn (events.Turn t) old course new
 
 -- the same for each of a list, one after another
 abbrev pub Each : (ℕ → State → Course → State → Type 0) → List ℕ → State → Course → State → Type 0
-Each P [] old course new = Rests old course new
+Each P [] old course new = ChangesNothing old course new
 Each P (x ∷ xs) old course new =
     (first : Course) × (mid : State) × (rest : Course) × P x old first mid × Each P xs mid rest new × (course ≡ joined first rest)
 
--- so many numbers, from the first on
+-- so many numbers, from this one on
 abbrev pub numbers_from : ℕ → ℕ → List ℕ
 numbers_from first zero = []
 numbers_from first (suc count) = first ∷ numbers_from (suc first) count
 
--- A round: at most one client is accepted; each connection that is open then is read, each that is open behind that
--- is written to, and each tenant has a turn.
+-- A round. At most one client is accepted. Each connection that is open then is read, each that is open
+-- after that is written to, and each tenant has a turn.
 pub record IsRound (old : State) (course : Course) (new : State) : Type 0 where
   pub opened : State
   pub accepting : Course
@@ -127,8 +131,8 @@ pub record IsRound (old : State) (course : Course) (new : State) : Type 0 where
 abbrev pub Rounds : ℕ → State → Course → State → Type 0
 Rounds count = Each (λ round. IsRound) (numbers_from 0 count)
 
--- A wire and a service go through a course of some kind, call by call, and the events of the course are a run of the
--- service.
+-- A wire and a service go through a course of some kind, call by call, and the events of the course
+-- are a run of the service.
 pub record Goes {W : Type 0} (After : W → Call → W → Type 0) (P : State → Course → State → Type 0)
     (old_wire : W) (old : State) (new_wire : W) (new : State) : Type 0 where
   pub course : Course

@@ -1,8 +1,11 @@
-//! The service over a wire: clients are accepted, read and written, and each tenant has its turn, round by round.
+//! The service over a wire: clients are accepted, read and written, and each tenant has
+//! its turn, round by round.
 #![tactic(auto)]
 
+mod listen;
 mod serving;
 mod wire;
 
+pub use listen::{Listen, ListenFault};
 pub use serving::serve;
 pub use wire::{Outcome, Wire};

@@ -3,25 +3,26 @@ ghost use Rattle.std.specs.Prelude.{◌≡◌, ◌<◌, ◌≤◌, length, map, 
 ghost use Rattle.std.specs.Option.{option_to_list};
 ghost use Rattle.ports_core.specs.State.{IsAllowed, keys_of, connections_of, room_at};
 ghost use Rattle.ports_serve.specs.Calls.{Leads, Read, Shut, GotWithin, read_outcome};
-ghost use Rattle.ports_serve.specs.Rounds.{unopened, Accepts, Reads, Writes, TakesTurn, Each, HappensOn, HearsPiece, IsRound, Goes, IsServed, numbers_from};
+ghost use Rattle.ports_serve.specs.Rounds.{unopened, Accepts, Reads, Writes, TakesTurn, Each, HappensOn, HearsPiece};
+ghost use Rattle.ports_serve.specs.Rounds.{IsRound, Goes, IsServed, numbers_from};
 ghost use Rattle.ports_serve.specs.declared.serving.TheConstants.{READ_SIZE};
 ghost use Rattle.ports_serve.specs.Buffers.{IsBuffer};
 
 use crate::wire::{Outcome, Wire};
-use ports_core::{Event, Refused, Service, Worlds};
+use ports_core::{Event, Refused, Service, Tenants};
 use std::alloc::{AllocError, Global};
 
 /// The most bytes that are read of a connection at once.
 const READ_SIZE: usize = 16_384;
 
-/// Serves clients for so many rounds, and hands the service back. In a round at most one client is accepted, under
-/// the number of the next connection; each open connection is read once, at most as many bytes as it has room for;
-/// each that has bytes pending is written to once; and each tenant has one turn. A connection that isn't opened, or
-/// that closes, is shut.
+/// Serves clients for so many rounds, and hands the service back. In a round at most one client is
+/// accepted, under the number of the next connection. Each open connection is read once, at most as many
+/// bytes as it has room for. Each that has bytes pending is written to once, and each tenant has one turn.
+/// A connection that isn't opened, or that closes, is shut.
 ///
-/// Whatever the wire answers, the service changes by `step` alone, at events that may happen. The error is want of
-/// memory for the buffer of what is read, before anything is served.
-pub fn serve<W: Wire, K: Worlds>(
+/// Whatever the wire answers, the service changes by `step` alone, at events that may happen. It fails only
+/// if there is no memory for the buffer of what is read, before anything is served.
+pub fn serve<W: Wire, K: Tenants>(
     alloc: Global,
     wire: &mut W,
     service: Service<K>,
@@ -41,8 +42,9 @@ pub fn serve<W: Wire, K: Worlds>(
     Ok(service)
 }
 
-/// One round; and whether nothing came in it and no request waits behind it.
-fn round<W: Wire, K: Worlds>(
+/// One round. It gives the buffer back, and whether nothing came in the round and
+/// no request waits after it.
+fn round<W: Wire, K: Tenants>(
     wire: &mut W,
     service: &mut Service<K>,
     buffer: Vec<u8>,
@@ -59,8 +61,9 @@ fn round<W: Wire, K: Worlds>(
     (buffer, !(accepted || heard || written || worked))
 }
 
-/// An event happens, and a connection that isn't opened, or that closes, is shut. Whether a reply was told.
-fn happen<W: Wire, K: Worlds>(wire: &mut W, service: &mut Service<K>, event: &Event) -> bool
+/// An event happens, and a connection that isn't opened, or that closes, is shut. It gives
+/// whether there was a reply.
+fn happen<W: Wire, K: Tenants>(wire: &mut W, service: &mut Service<K>, event: &Event) -> bool
     requires { IsAllowed event.now service.old }
     ensures { Goes W.after (HappensOn event.now) wire.old service.old wire.new service.new }
 {
@@ -86,8 +89,8 @@ fn shut_closed<W: Wire>(wire: &mut W, closed: Option<u64>)
     }
 }
 
-/// A client is accepted, if one waits. Whether something came.
-fn accept<W: Wire, K: Worlds>(wire: &mut W, service: &mut Service<K>, idle: bool) -> bool
+/// Accepts a client, if one waits. It gives whether something came.
+fn accept<W: Wire, K: Tenants>(wire: &mut W, service: &mut Service<K>, idle: bool) -> bool
     ensures { Goes W.after Accepts wire.old service.old wire.new service.new }
 {
     let conn = service.next_conn();
@@ -100,14 +103,15 @@ fn accept<W: Wire, K: Worlds>(wire: &mut W, service: &mut Service<K>, idle: bool
     }
 }
 
-/// Each open connection is read. Whether something came.
-fn read_all<W: Wire, K: Worlds>(
+/// Reads each open connection. It gives the buffer back, and whether something came.
+fn read_all<W: Wire, K: Tenants>(
     wire: &mut W,
     service: &mut Service<K>,
     buffer: Vec<u8>,
 ) -> (Vec<u8>, bool)
     requires { IsBuffer buffer }
-    ensures goes { Goes W.after (Each Reads (connections_of service.old)) wire.old service.old wire.new service.new }
+    ensures goes { Goes W.after (Each Reads
+        (connections_of service.old)) wire.old service.old wire.new service.new }
     ensures buffer { IsBuffer result.0 }
 {
     let mut buffer = buffer;
@@ -121,8 +125,8 @@ fn read_all<W: Wire, K: Worlds>(
     (buffer, heard)
 }
 
-/// A connection is read, if it has room. Whether something came.
-fn read<W: Wire, K: Worlds>(
+/// Reads a connection, if it has room. It gives the buffer back, and whether something came.
+fn read<W: Wire, K: Tenants>(
     wire: &mut W,
     service: &mut Service<K>,
     conn: u64,
@@ -151,20 +155,21 @@ fn read<W: Wire, K: Worlds>(
     }
 }
 
-/// Bytes of a connection are read into the buffer, at most so many.
+/// Reads bytes of a connection into the buffer, at most so many.
 fn fill<W: Wire>(wire: &mut W, conn: u64, buffer: &mut Vec<u8>, size: usize) -> Outcome<usize>
     requires sized { IsBuffer buffer.old }
     requires within { size ≤ READ_SIZE }
     ensures within { GotWithin size result }
     ensures buffer { IsBuffer buffer.new }
-    ensures after { W.after wire.old (Read conn size (read_outcome buffer.new.items result)) wire.new }
+    ensures after { W.after wire.old (Read conn size
+        (read_outcome buffer.new.items result)) wire.new }
 {
     buffer.resize(size, 0).unwrap();
     wire.read(conn, buffer.as_mut_slice())
 }
 
-/// The first bytes of the buffer are a piece of a connection's stream.
-fn take_piece<W: Wire, K: Worlds>(
+/// The first bytes of the buffer come as a piece of a connection's stream. It gives the buffer back.
+fn take_piece<W: Wire, K: Tenants>(
     wire: &mut W,
     service: &mut Service<K>,
     conn: u64,
@@ -175,7 +180,8 @@ fn take_piece<W: Wire, K: Worlds>(
     requires within { count ≤ READ_SIZE }
     requires room { count ≤ room_at conn service.old }
     requires hears { 0 < room_at conn service.old }
-    ensures goes { Goes W.after (HearsPiece conn (take count buffer.items)) wire.old service.old wire.new service.new }
+    ensures goes { Goes W.after (HearsPiece conn
+        (take count buffer.items)) wire.old service.old wire.new service.new }
     ensures buffer { IsBuffer result }
 {
     let mut piece = buffer;
@@ -188,9 +194,10 @@ fn take_piece<W: Wire, K: Worlds>(
     buffer
 }
 
-/// Each connection that has bytes pending is written to. Whether some were taken.
-fn write_all<W: Wire, K: Worlds>(wire: &mut W, service: &mut Service<K>) -> bool
-    ensures { Goes W.after (Each Writes (connections_of service.old)) wire.old service.old wire.new service.new }
+/// Writes to each connection that has bytes pending. It gives whether some were taken.
+fn write_all<W: Wire, K: Tenants>(wire: &mut W, service: &mut Service<K>) -> bool
+    ensures { Goes W.after (Each Writes
+        (connections_of service.old)) wire.old service.old wire.new service.new }
 {
     let mut written = false;
     let open = service.connections();
@@ -201,8 +208,8 @@ fn write_all<W: Wire, K: Worlds>(wire: &mut W, service: &mut Service<K>) -> bool
     written
 }
 
-/// A connection's pending bytes are written, if there are some. Whether the wire took some.
-fn write<W: Wire, K: Worlds>(wire: &mut W, service: &mut Service<K>, conn: u64) -> bool
+/// Writes a connection's pending bytes, if there are some. It gives whether the wire took some.
+fn write<W: Wire, K: Tenants>(wire: &mut W, service: &mut Service<K>, conn: u64) -> bool
     ensures { Goes W.after (Writes conn) wire.old service.old wire.new service.new }
 {
     let pending = service.pending(conn);
@@ -222,9 +229,10 @@ fn write<W: Wire, K: Worlds>(wire: &mut W, service: &mut Service<K>, conn: u64) 
     }
 }
 
-/// Each tenant has a turn. Whether a reply was told, or a request waits.
-fn turn_all<W: Wire, K: Worlds>(wire: &mut W, service: &mut Service<K>) -> bool
-    ensures { Goes W.after (λ old. Each TakesTurn (numbers_from 0 (length (keys_of old))) old) wire.old service.old wire.new service.new }
+/// Each tenant has a turn. It gives whether there was a reply, or a request waits.
+fn turn_all<W: Wire, K: Tenants>(wire: &mut W, service: &mut Service<K>) -> bool
+    ensures { Goes W.after (λ old. Each TakesTurn
+        (numbers_from 0 (length (keys_of old))) old) wire.old service.old wire.new service.new }
 {
     let mut worked = false;
     for tenant in 0..service.tenants() {

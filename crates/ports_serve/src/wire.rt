@@ -17,14 +17,14 @@ pub enum Outcome<T> {
 
 /// What carries the bytes of connections, each under the number that it was accepted with.
 ///
-/// Its meaning is a relation: what it was, a call with what it brought, and what it is then. A wire that keeps
-/// a list of its calls has "the list has this call more" as that relation; sockets, of which nothing is known,
-/// have any.
+/// Its meaning is a relation: what it was, a call with what it brought, and what it is after that. For a
+/// wire that keeps a list of its calls, the relation is that the list has this call more. Nothing is known
+/// of sockets, so theirs may be any relation.
 pub trait Wire {
     ghost after: { Self → Call → Self → Type 0 };
 
-    /// Takes the client that waited longest, if one waits, and gives its connection this number. Where the
-    /// caller is idle it may wait a while for something to come, on any connection.
+    /// Takes the client that waited longest, if one waits, and gives its connection this number. If the
+    /// caller is idle, it may wait a while for something to come, on any connection.
     fn accept(&mut self, conn: u64, idle: bool) -> Outcome<()>
         ensures after { after self.old (Accept conn result) self.new };
 
@@ -32,7 +32,8 @@ pub trait Wire {
     fn read(&mut self, conn: u64, buffer: &mut [u8]) -> Outcome<usize>
         ensures within { GotWithin (length buffer.old) result }
         ensures size { length buffer.new ≡ length buffer.old }
-        ensures after { after self.old (Read conn (length buffer.old) (read_outcome buffer.new result)) self.new };
+        ensures after { after self.old (Read conn (length buffer.old)
+            (read_outcome buffer.new result)) self.new };
 
     /// Writes bytes to a connection, from the first on; `Got` says how many.
     fn write(&mut self, conn: u64, bytes: &[u8]) -> Outcome<usize>

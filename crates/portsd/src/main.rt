@@ -1,13 +1,13 @@
 //! `portsd`: an index over OpenBSD ports trees for several tenants. `portsd serve` answers clients over
-//! HTTP on 127.0.0.1; `portsd replay` runs a script of events over the service and prints what was told
-//! and sent.
+//! HTTP on 127.0.0.1. `portsd replay` runs a script of events over the service and prints the replies and
+//! the bytes that were sent.
 #![tactic(auto)]
 
 use ports_host::{Loopback, words_given};
 use ports_program::run_command;
 use std::io;
 use std::process::ExitCode;
-use tenant_worlds::StoredWorlds;
+use tenant_worlds::StoredTenants;
 
 fn main(rt: HostRuntime) -> ExitCode {
     let alloc = rt.alloc();
@@ -15,7 +15,7 @@ fn main(rt: HostRuntime) -> ExitCode {
         let _ = eprintln!(rt; "portsd: out of memory");
         return ExitCode::from(1);
     };
-    let status = run_command::<StoredWorlds, _, _, _, _>(
+    let status = run_command::<StoredTenants, _, _, _, _>(
         alloc,
         words.as_slice(),
         &mut rt.reader(),

@@ -10,7 +10,7 @@ use Rattle.mk_paths.specs.SearchPath.{standard_trees, trees_of}
 use Rattle.sqlite.specs.Effect.{Database}
 use Rattle.sqlite.specs.State.{State}
 use Rattle.tenant_store.specs.Holdings.{File, Account, Holdings, files_in, files_of, path_of, account_in, bytes_of, files_with, bytes_with, is_over, ChangesFiles, ChangesPath}
-use Rattle.tenant_limits.specs.Limits.{passes}
+use Rattle.mk_files.specs.Limits.{passes}
 use Rattle.tenant_store.specs.Tables.{IsKept, IsCounted, IsFormed, Stays, Makes, held_in, holdings_in, accounts_after, files_after, Suits}
 use Rattle.std.specs.Borrow.{Bor}
 use Rattle.tenant_store.specs.Accounts.{shown_account, IsAccountOf}

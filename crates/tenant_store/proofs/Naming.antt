@@ -19,8 +19,8 @@ use Rattle.sqlite.specs.Listing.{understood}
 use Rattle.sqlite.specs.State.{State, Shown, FailsToQuery}
 use Rattle.sqlite.proofs.Callers.{IsPlain}
 use Rattle.mk_paths.specs.World.{FileMap}
-use Rattle.text_order.specs.Order.{in_order}
-use Rattle.text_order.specs.Ordered.{by_bytes, among, among-in_order, in_order-sorted, same_in_order}
+use Rattle.text_parts.specs.Order.{in_order}
+use Rattle.text_parts.specs.Ordered.{by_bytes, among, among-in_order, in_order-sorted, same_in_order}
 use Rattle.tenant_store.specs.Holdings.{files_in, files_of}
 use Rattle.tenant_store.specs.Tables.{AreFilled, IsFileRow, file_of, file_key, is_file, name_in, held_in, store_schema, select_names, AreNames, IsFormed, IsSettled, Stays}
 use Rattle.tenant_store.proofs.Statements.{AreSeen, seen as columns, shows, shown_stays, query_fails_stays}

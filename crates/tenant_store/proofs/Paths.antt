@@ -5,8 +5,8 @@ use Rattle.std.specs.Prelude.{◌==◌, nat_le}
 use Rattle.std.specs.List.{list_all}
 use Rattle.std.proofs.lemmas.Bool.{and_parts, and_from}
 use Rattle.std.proofs.lemmas.Bool.Decides.{nat_tests}
-use Rattle.text_cuts.specs.Laws.{is_between, are_between, behind_marks}
-use Rattle.text_cuts.proofs.PartTexts.{written_is_cut_again}
+use Rattle.text_parts.specs.Laws.{is_between, are_between, behind_marks}
+use Rattle.text_parts.proofs.PartTexts.{written_is_cut_again}
 use Rattle.mk_paths.specs.SearchPath.{colon, trees_of, may_be_in_part, is_part, is_tree, IsSearchPath}
 
 any : ℕ → Bool

@@ -4,7 +4,7 @@ use Rattle.std.specs.Coded.{Coded, code_by, coded×, coded_list, coded_ℕ}
 use Rattle.std.specs.FinMap as finite
 use Rattle.mk_paths.specs.World.{FileMap}
 use Rattle.mk_paths.specs.SearchPath.{standard_trees}
-pub use Rattle.tenant_limits.specs.Limits.{bytes_of, is_over, files_with, bytes_with}
+pub use Rattle.mk_files.specs.Limits.{bytes_of, is_over, files_with, bytes_with}
 
 -- a file of a tenant
 pub record File : Type 0 where
@@ -12,7 +12,8 @@ pub record File : Type 0 where
   pub name : List ℕ
   pub content : List ℕ
 
--- what is kept of a tenant beside its files: how many they are, the sum of their contents in bytes, and the trees of its search path
+-- what is kept of a tenant besides its files: how many there are, the sum of their contents in bytes, and
+-- the trees of its search path
 pub record Account : Type 0 where
   pub tenant : ℕ
   pub files : ℕ
@@ -26,18 +27,22 @@ pub record Holdings : Type 0 where
 
 abbrev file_code : Coded File
 file_code =
-    code_by (ℕ × (List ℕ × List ℕ)) (coded× coded_ℕ (coded× (coded_list coded_ℕ) (coded_list coded_ℕ))) (λ f. (f.tenant, (f.name, f.content)))
+    code_by (ℕ × (List ℕ × List ℕ)) (coded× coded_ℕ (coded× (coded_list coded_ℕ) (coded_list coded_ℕ)))
+    (λ f. (f.tenant, (f.name, f.content)))
     (λ p. record { tenant = p.0; name = p.1.0; content = p.1.1 }) (λ _. refl)
 
 abbrev account_code : Coded Account
 account_code =
-    code_by (ℕ × (ℕ × (ℕ × List (List ℕ)))) (coded× coded_ℕ (coded× coded_ℕ (coded× coded_ℕ (coded_list (coded_list coded_ℕ))))) (λ a. (a.tenant, (a.files, (a.bytes, a.trees))))
+    code_by (ℕ × (ℕ × (ℕ × List (List ℕ))))
+    (coded× coded_ℕ (coded× coded_ℕ (coded× coded_ℕ (coded_list (coded_list coded_ℕ)))))
+    (λ a. (a.tenant, (a.files, (a.bytes, a.trees))))
     (λ p. record { tenant = p.0; files = p.1.0; bytes = p.1.1.0; trees = p.1.1.1 }) (λ _. refl)
 
 -- holdings are stored as the pair of their parts
 abbrev pub holdings_code : Coded Holdings
 holdings_code =
-    code_by (List File × List Account) (coded× (coded_list file_code) (coded_list account_code)) (λ h. (h.files, h.accounts)) (λ p. record { files = p.0; accounts = p.1 }) (λ _. refl)
+    code_by (List File × List Account) (coded× (coded_list file_code) (coded_list account_code))
+    (λ h. (h.files, h.accounts)) (λ p. record { files = p.0; accounts = p.1 }) (λ _. refl)
 
 -- no file, and no account
 abbrev pub nothing : Holdings
@@ -62,13 +67,13 @@ account_in tenant accounts = find (λ a. a.tenant == tenant) accounts
 abbrev pub path_of : ℕ → Holdings → List (List ℕ)
 path_of tenant held = unwrap_or (option_map (λ a. a.trees) (account_in tenant held.accounts)) standard_trees
 
--- everything is as it was, but that the files of this tenant are these
+-- everything is as it was, except that the files of this tenant are these
 pub record ChangesFiles (old new : Holdings) (tenant : ℕ) (files : FileMap) : Type 0 where
   pub own : files_of tenant new ≡ files
   pub others : (other : ℕ) → other ≢ tenant → files_of other new ≡ files_of other old
   pub paths : (any : ℕ) → path_of any new ≡ path_of any old
 
--- everything is as it was, but that this tenant's search path is this
+-- everything is as it was, except that this tenant's search path is this
 pub record ChangesPath (old new : Holdings) (tenant : ℕ) (path : List (List ℕ)) : Type 0 where
   pub own : path_of tenant new ≡ path
   pub others : (other : ℕ) → other ≢ tenant → path_of other new ≡ path_of other old

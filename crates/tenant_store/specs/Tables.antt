@@ -1,5 +1,6 @@
--- The tables of the store, and what their rows stand for.
-use Rattle.std.specs.Prelude.{◌≡◌, ℕ, ℤ, pos, ◌==◌, not, ◌&&◌, if◌then◌else◌, Bool, true, false, codes, List, [], ◌∷◌, ◌++◌, map, filter, Option, None, Some}
+-- The tables of the store, and what their rows mean.
+use Rattle.std.specs.Prelude.{◌≡◌, ℕ, ℤ, pos, ◌==◌, not, ◌&&◌, if◌then◌else◌, Bool, true, false, codes, List, [], ◌∷◌}
+use Rattle.std.specs.Prelude.{◌++◌, map, filter, Option, None, Some}
 use Rattle.std.specs.Option.{option_map_or}
 use Rattle.std.specs.Ordering.{is_eq, nat_cmp}
 use Rattle.std.specs.Cmp.Lexicographic.{slice_cmp}
@@ -11,7 +12,7 @@ use Rattle.sqlite_value.specs.Order.{Row, column}
 use Rattle.sqlite_value.specs.Keys.{plain}
 use Rattle.mk_paths.specs.SearchPath.{trees_of}
 use Rattle.mk_paths.specs.World.{FileMap}
-use Rattle.text_order.specs.Ordered.{among}
+use Rattle.text_parts.specs.Ordered.{among}
 use Rattle.sqlite_trees.specs.Tree.{Trees}
 use Rattle.sqlite_trees.specs.View.{IsShaped}
 use Rattle.sqlite_trees.specs.declared.store.Shape.TheVariants as Shapes
@@ -51,11 +52,16 @@ keyed name columns key order = record {
 }
 
 abbrev pub file_table : Table
-file_table = keyed (codes "file") (filled (codes "tenant") kind.Integer ∷ filled (codes "name") kind.Text ∷ filled (codes "content") kind.Blob ∷ []) (1 ∷ 2 ∷ []) plain
+file_table =
+    keyed (codes "file")
+    (filled (codes "tenant") kind.Integer ∷ filled (codes "name") kind.Text ∷ filled (codes "content") kind.Blob ∷ [])
+    (1 ∷ 2 ∷ []) plain
 
 abbrev pub account_table : Table
 account_table =
-    keyed (codes "account") (filled (codes "tenant") kind.Integer ∷ filled (codes "files") kind.Integer ∷ filled (codes "bytes") kind.Integer ∷ filled (codes "path") kind.Text ∷ []) (1 ∷ []) plain
+    keyed (codes "account")
+    (filled (codes "tenant") kind.Integer ∷ filled (codes "files") kind.Integer
+    ∷ filled (codes "bytes") kind.Integer ∷ filled (codes "path") kind.Text ∷ []) (1 ∷ []) plain
 
 abbrev pub no_schema : Schema
 no_schema = record { tables = []; indexes = []; views = [] }
@@ -73,7 +79,8 @@ abbrev pub create_file : List ℕ
 create_file = codes "CREATE TABLE file (tenant INTEGER NOT NULL, name TEXT NOT NULL, content BLOB NOT NULL, UNIQUE (tenant, name)) STRICT"
 
 abbrev pub create_account : List ℕ
-create_account = codes "CREATE TABLE account (tenant INTEGER NOT NULL UNIQUE, files INTEGER NOT NULL, bytes INTEGER NOT NULL, path TEXT NOT NULL) STRICT"
+create_account =
+    codes "CREATE TABLE account (tenant INTEGER NOT NULL UNIQUE, files INTEGER NOT NULL, bytes INTEGER NOT NULL, path TEXT NOT NULL) STRICT"
 
 abbrev pub insert_file : List ℕ
 insert_file = codes "INSERT INTO file (tenant, name, content) VALUES (?1, ?2, ?3)"
@@ -99,7 +106,7 @@ delete_account = codes "DELETE FROM account WHERE tenant = ?1"
 abbrev pub select_account : List ℕ
 select_account = codes "SELECT files, bytes, path FROM account WHERE tenant = ?1"
 
--- ---- what the rows stand for
+-- ---- what the rows mean
 
 -- the trees of the tables
 abbrev pub files_at : ℕ
@@ -117,13 +124,19 @@ bytes_in (Text t) = t
 bytes_in (Blob b) = b
 bytes_in _ = []
 
--- a row of `file`, behind its rowid
+-- a row of `file`: the columns after its rowid
 abbrev pub file_of : Row → File
 file_of row = record { tenant = number_in (column row 1); name = bytes_in (column row 2); content = bytes_in (column row 3) }
 
--- a row of `account`, behind its rowid
+-- a row of `account`: the columns after its rowid
 abbrev pub account_of : Row → Account
-account_of row = record { tenant = number_in (column row 1); files = number_in (column row 2); bytes = number_in (column row 3); trees = trees_of (bytes_in (column row 4)) }
+account_of row =
+    record {
+      tenant = number_in (column row 1);
+      files = number_in (column row 2);
+      bytes = number_in (column row 3);
+      trees = trees_of (bytes_in (column row 4));
+    }
 
 abbrev pub holdings_in : Trees → Holdings
 holdings_in trees = record { files = map file_of (trees files_at); accounts = map account_of (trees accounts_at) }
@@ -132,7 +145,8 @@ holdings_in trees = record { files = map file_of (trees files_at); accounts = ma
 abbrev pub held_in : State → Holdings
 held_in s = holdings_in s.now.trees
 
--- rows that show what was sought: none where it isn't there, else what each of them reads as
+-- rows that show what was looked for: if there are no rows, it isn't there; otherwise it is what each of
+-- them reads as
 pub record Shows {X : Type 0} (IsShown : Row → X → Type 0) (rows : List Row) (sought : Option X) : Type 0 where
   pub none : rows ≡ [] → sought ≡ None
   pub some : (row : Row) (x : X) → Has rows row → IsShown row x → Some x ≡ sought
@@ -145,16 +159,18 @@ IsContent row content = column row 0 ≡ Blob content
 abbrev pub name_in : Row → List ℕ
 name_in row = bytes_in (column row 0)
 
--- these are the names of the files, in whatever order
+-- these are the names of the files, in any order
 abbrev pub AreNames : FileMap → List (List ℕ) → Type 0
 AreNames files names = (name : List ℕ) → among name names ≡ finite.contains_key files name
 
 -- the row of the parts of an account
 abbrev pub IsAccount : ℕ → Row → Account → Type 0
 IsAccount tenant row a =
-    (path : List ℕ) × (column row 0 ≡ Int (pos a.files)) × (column row 1 ≡ Int (pos a.bytes)) × (column row 2 ≡ Text path) × (a ≡ record { tenant = tenant; files = a.files; bytes = a.bytes; trees = trees_of path })
+    (path : List ℕ) × (column row 0 ≡ Int (pos a.files)) × (column row 1 ≡ Int (pos a.bytes))
+    × (column row 2 ≡ Text path)
+    × (a ≡ record { tenant = tenant; files = a.files; bytes = a.bytes; trees = trees_of path })
 
--- the rows of a table of the store: their rowids rise, each has its form, and no two have one key
+-- the rows of a table of the store: their rowids rise, each has its form, and no two have the same key
 pub record AreFilled {K : Type 0} (HasForm : Row → Type 0) (key : Row → K) (rows : List Row) : Type 0 where
   pub rise : IsShaped Shapes.Table rows
   pub formed : (r : Row) → Has rows r → HasForm r
@@ -167,7 +183,11 @@ abbrev pub file_key : Row → ℕ × List ℕ
 file_key row = ((file_of row).tenant, (file_of row).name)
 
 abbrev pub IsAccountRow : Row → Type 0
-IsAccountRow row = (id : ℤ) × (path : List ℕ) × (row ≡ Int id ∷ Int (pos (account_of row).tenant) ∷ Int (pos (account_of row).files) ∷ Int (pos (account_of row).bytes) ∷ Text path ∷ [])
+IsAccountRow row =
+    (id : ℤ) × (path : List ℕ)
+    × (row
+    ≡ Int id ∷ Int (pos (account_of row).tenant) ∷ Int (pos (account_of row).files) ∷ Int (pos (account_of row).bytes)
+    ∷ Text path ∷ [])
 
 abbrev pub account_key : Row → ℕ
 account_key row = (account_of row).tenant
@@ -183,12 +203,12 @@ pub record IsSettled (s : State) : Type 0 where
   pub autocommit : s.in_transaction ≡ false
   pub committed : s.committed ≡ s.now
 
--- each account counts its tenant's files, and a tenant with no account has none
+-- each account counts its tenant's files, and a tenant with no account has no file
 pub record IsCounted (held : Holdings) : Type 0 where
   pub files : (tenant : ℕ) → option_map_or (λ a. a.files) (account_in tenant held.accounts) 0 ≡ finite.len (files_of tenant held)
   pub bytes : (tenant : ℕ) → option_map_or (λ a. a.bytes) (account_in tenant held.accounts) 0 ≡ bytes_of (files_of tenant held)
 
--- between the calls
+-- what holds between the calls
 pub record IsKept (s : State) : Type 0 where
   pub settled : IsSettled s
   pub formed : IsFormed s.now
@@ -214,7 +234,7 @@ files_after tenant (Add name content) files = files ++ file tenant name.now cont
 files_after tenant (Replace name content) files = map (λ f. if is_file tenant name.now f then file tenant name.now content.now else f) files
 files_after tenant (Remove name) files = filter (λ f. not (is_file tenant name.now f)) files
 
--- whether the change says rightly what is there
+-- the change is right about what is there: a file is added only if it isn't there
 abbrev pub Suits : ℕ → Change → List File → Type 0
 Suits tenant (Add name content) files = finite.get (files_in tenant files) name.now ≡ None
 Suits tenant _ files = Unit {0}
@@ -229,7 +249,7 @@ accounts_after account accounts = filter (λ a. not (a.tenant == account.tenant)
 pub record KeepsCommit (old new : State) : Type 0 where
   pub committed : new.committed ≡ old.committed
 
--- the statement went on in its transaction
+-- the transaction goes on after the statement
 pub record GoesOn (old new : State) : Type 0 where
   pub inside : new.in_transaction ≡ true
   pub formed : IsFormed new.now

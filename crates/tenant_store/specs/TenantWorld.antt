@@ -1,16 +1,16 @@
 -- The world that the files of one tenant are.
 use Rattle.std.specs.Prelude.{◌≡◌, ℕ, None}
 use Rattle.std.specs.Borrow.{GName, MutBor}
-use Rattle.mk_paths.specs.Shelf.{Shelf}
+use Rattle.mk_paths.specs.FilesView.{FilesView}
 use Rattle.mk_paths.specs.declared.asking.FilesFault.{FilesFault}
 use Rattle.tenant_store.specs.Holdings.{Holdings, files_of}
 use Rattle.tenant_store.specs.declared.tenant_files.TenantFiles.{TenantFiles}
 
 -- the tenant's map, and the failures so far; it keeps no log
-abbrev pub shelf_of : TenantFiles → Shelf
-shelf_of world = record { files = files_of world.tenant world.store.now; log = None; failures = world.failures }
+abbrev pub view_of : TenantFiles → FilesView
+view_of world = record { files = files_of world.tenant world.store.now; log = None; failures = world.failures }
 
--- the reference to the store over which they stand
+-- the reference to the store that they are in
 abbrev pub name_of : TenantFiles → GName
 name_of world = world.store.ghost_name
 
@@ -18,7 +18,7 @@ name_of world = world.store.ghost_name
 abbrev pub held_by : TenantFiles → Holdings
 held_by world = world.store.now
 
--- a store may refuse, and memory may be wanting
+-- the store may refuse, and memory may run out
 abbrev pub IsAnyFault : FilesFault → Type 0
 IsAnyFault fault = Unit {0}
 

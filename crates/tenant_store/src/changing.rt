@@ -3,7 +3,7 @@ ghost use Rattle.std.specs.Prelude.{◌≡◌, false, IfOk, OnOk, OnErr, IsTrue,
 ghost use Rattle.std.specs.Option.{option_map_or};
 ghost use Rattle.std.specs.FinMap.{get, insert, remove, contains_key};
 ghost use Rattle.mk_paths.specs.SearchPath.{trees_of, colon};
-ghost use Rattle.text_cuts.specs.Laws.{behind_marks};
+ghost use Rattle.text_parts.specs.Laws.{behind_marks};
 ghost use Rattle.sqlite.specs.Held.{state};
 ghost use Rattle.sqlite.specs.Steps.{over_memory};
 ghost use Rattle.tenant_store.specs.Holdings.{files_of, is_over, ChangesFiles, ChangesPath};
@@ -12,12 +12,12 @@ ghost use Rattle.tenant_store.specs.Tables.{IsKept, Stays, held_in};
 
 use crate::reading::{Account, account_of, content_of};
 use crate::writing::{Change, write};
+use mk_files::Usage;
 use mk_paths::SearchPath;
 use sqlite::{Connection, Error, MemStore};
 use std::alloc::{AllocError, Global};
-use tenant_limits::Usage;
 
-/// The account of a tenant, or that of one with no file and the standard path.
+/// The account of a tenant; if it has none, an account with no file and the standard path.
 pub(crate) fn account_or_new(
     conn: &mut Connection<MemStore>,
     alloc: Global,
@@ -45,8 +45,11 @@ fn look_up(
     name: &str,
 ) -> Result<(Option<usize>, Account), Error>
     requires { IsKept (state over_memory conn.old) }
-    ensures length { IfOk result (λ seen. seen.0 ≡ option_map length (get (files_of tenant (held_in (state over_memory conn.old))) name.now)) }
-    ensures account { IfOk result (λ seen. IsAccountOf tenant (held_in (state over_memory conn.old)) seen.1) }
+    ensures length { IfOk result (λ seen. seen.0
+        ≡ option_map length (get
+        (files_of tenant (held_in (state over_memory conn.old))) name.now)) }
+    ensures account { IfOk result (λ seen. IsAccountOf tenant
+        (held_in (state over_memory conn.old)) seen.1) }
     ensures stays { Stays (state over_memory conn.old) (state over_memory conn.new) }
 {
     let old = content_of(conn, tenant, name)?;
@@ -57,7 +60,7 @@ fn look_up(
     }
 }
 
-/// Stores a file of a tenant, new or in place of the one of its name, and tells whether it fits.
+/// Stores a file of a tenant, new or in place of the one of its name, and gives whether it fits.
 pub(crate) fn put(
     conn: &mut Connection<MemStore>,
     alloc: Global,
@@ -66,9 +69,18 @@ pub(crate) fn put(
     content: &[u8],
 ) -> Result<bool, Error>
     requires { IsKept (state over_memory conn.old) }
-    ensures stored { IfOk result (λ fits. IsTrue fits → IsKept (state over_memory conn.new) × ChangesFiles (held_in (state over_memory conn.old)) (held_in (state over_memory conn.new)) tenant (insert (files_of tenant (held_in (state over_memory conn.old))) name.now content.now)) }
-    ensures fits { IfOk result (λ fits. IsTrue fits → is_over (insert (files_of tenant (held_in (state over_memory conn.old))) name.now content.now) ≡ false) }
-    ensures full { IfOk result (λ fits. fits ≡ false → IsTrue (is_over (insert (files_of tenant (held_in (state over_memory conn.old))) name.now content.now)) × Stays (state over_memory conn.old) (state over_memory conn.new)) }
+    ensures stored { IfOk result (λ fits. IsTrue fits
+        → IsKept (state over_memory conn.new)
+        × ChangesFiles (held_in (state over_memory conn.old))
+        (held_in (state over_memory conn.new)) tenant
+        (insert (files_of tenant (held_in (state over_memory conn.old))) name.now content.now)) }
+    ensures fits { IfOk result (λ fits. IsTrue fits
+        → is_over (insert (files_of tenant
+        (held_in (state over_memory conn.old))) name.now content.now) ≡ false) }
+    ensures full { IfOk result (λ fits. fits ≡ false
+        → IsTrue (is_over (insert
+        (files_of tenant (held_in (state over_memory conn.old))) name.now content.now))
+        × Stays (state over_memory conn.old) (state over_memory conn.new)) }
     ensures err { OnErr result (Stays (state over_memory conn.old) (state over_memory conn.new)) }
 {
     let (old, account) = look_up(conn, alloc, tenant, name)?;
@@ -85,9 +97,11 @@ pub(crate) fn put(
     Ok(true)
 }
 
-// The change that stores a file, where one of the old length is there or none.
+// The change that stores a file, if one of the old length is there, or if there is none.
 fn stored_as<'x>(old: Option<usize>, name: &'x str, content: &'x [u8]) -> Change<'x>
-    ensures { result ≡ option_map_or (λ _. Change.Replace name.entry content.entry) old (Change.Add name.entry content.entry) }
+    ensures { result
+        ≡ option_map_or (λ _. Change.Replace name.entry content.entry) old
+        (Change.Add name.entry content.entry) }
 {
     match old {
         Some(_) => Change::Replace(name, content),
@@ -95,7 +109,7 @@ fn stored_as<'x>(old: Option<usize>, name: &'x str, content: &'x [u8]) -> Change
     }
 }
 
-/// Takes a file of a tenant away, and tells whether it was there.
+/// Removes a file of a tenant, and gives whether it was there.
 pub(crate) fn take(
     conn: &mut Connection<MemStore>,
     alloc: Global,
@@ -103,9 +117,15 @@ pub(crate) fn take(
     name: &str,
 ) -> Result<bool, Error>
     requires { IsKept (state over_memory conn.old) }
-    ensures was_there { IfOk result (λ there. there ≡ contains_key (files_of tenant (held_in (state over_memory conn.old))) name.now) }
-    ensures removed { IfOk result (λ there. IsTrue there → IsKept (state over_memory conn.new) × ChangesFiles (held_in (state over_memory conn.old)) (held_in (state over_memory conn.new)) tenant (remove (files_of tenant (held_in (state over_memory conn.old))) name.now)) }
-    ensures absent { IfOk result (λ there. there ≡ false → Stays (state over_memory conn.old) (state over_memory conn.new)) }
+    ensures was_there { IfOk result (λ there. there
+        ≡ contains_key (files_of tenant (held_in (state over_memory conn.old))) name.now) }
+    ensures removed { IfOk result (λ there. IsTrue there
+        → IsKept (state over_memory conn.new)
+        × ChangesFiles (held_in (state over_memory conn.old))
+        (held_in (state over_memory conn.new)) tenant
+        (remove (files_of tenant (held_in (state over_memory conn.old))) name.now)) }
+    ensures absent { IfOk result (λ there. there ≡ false
+        → Stays (state over_memory conn.old) (state over_memory conn.new)) }
     ensures err { OnErr result (Stays (state over_memory conn.old) (state over_memory conn.new)) }
 {
     let (old, account) = look_up(conn, alloc, tenant, name)?;
@@ -125,7 +145,9 @@ pub(crate) fn set(
     path: &SearchPath,
 ) -> Result<(), Error>
     requires { IsKept (state over_memory conn.old) }
-    ensures path { OnOk result (IsKept (state over_memory conn.new) × ChangesPath (held_in (state over_memory conn.old)) (held_in (state over_memory conn.new)) tenant path.now) }
+    ensures path { OnOk result (IsKept (state over_memory conn.new)
+        × ChangesPath (held_in (state over_memory conn.old))
+        (held_in (state over_memory conn.new)) tenant path.now) }
     ensures err { OnErr result (Stays (state over_memory conn.old) (state over_memory conn.new)) }
 {
     let account = account_or_new(conn, alloc, tenant)?;
@@ -137,7 +159,7 @@ pub(crate) fn set(
     write(conn, tenant, Change::Keep, &next)
 }
 
-// The trees of a search path, with colons between.
+// The trees of a search path, with colons between them.
 fn path_text(alloc: Global, path: &SearchPath) -> Result<String, AllocError>
     ensures { IfOk result (λ text. trees_of (string_bytes text) ≡ path.now) }
 {
@@ -145,9 +167,10 @@ fn path_text(alloc: Global, path: &SearchPath) -> Result<String, AllocError>
     joined(alloc, trees[0].as_str(), &trees[1..])
 }
 
-// The first text, and each other behind a colon.
+// The first text, and each other text after a colon.
 fn joined(alloc: Global, first: &str, more: &[String]) -> Result<String, AllocError>
-    ensures { IfOk result (λ text. string_bytes text ≡ first.now ++ behind_marks colon (map string_bytes more.now)) }
+    ensures { IfOk result (λ text. string_bytes text ≡ first.now
+        ++ behind_marks colon (map string_bytes more.now)) }
 {
     let mut text = String::from_str(alloc, first)?;
     for tree in more {

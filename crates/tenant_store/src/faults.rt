@@ -4,15 +4,19 @@ ghost use Rattle.tenant_store.specs.declared.faults.PutFault.TheVariants as puts
 
 use mk_paths::FilesFault;
 use sqlite::{Error, ErrorCode};
+use thiserror::Error;
 
 /// Why a file was not stored. Nothing has changed then.
-#[derive(Clone, Copy, Debug, PartialEq, Eq)]
+#[derive(Clone, Copy, Debug, PartialEq, Eq, Error)]
 pub enum PutFault {
     /// The tenant would have more than 2,000 files, or more than 8,388,608 bytes of contents.
+    #[error("the tenant would have more than 2,000 files or 8,388,608 bytes")]
     Full,
     /// The database refused a statement.
+    #[error("the store failed")]
     Store,
-    /// No memory was left.
+    /// Memory ran out.
+    #[error("out of memory")]
     Memory,
 }
 
@@ -30,7 +34,7 @@ impl From<FilesFault> for PutFault {
     }
 }
 
-/// The fault of a statement: want of memory, or whatever else the database refused.
+/// The fault of a statement: out of memory, or whatever else the database refused.
 pub(crate) fn fault_of(error: &Error) -> FilesFault {
     match error {
         Error::SqliteFailure(ErrorCode::OutOfMemory) => FilesFault::Memory,

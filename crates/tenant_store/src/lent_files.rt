@@ -1,8 +1,8 @@
-// The files of one tenant in a store of which it is known that no question changes it.
+// The files of one tenant, in a store that is known not to change with any question.
 ghost use Rattle.std.specs.Prelude.{◌≡◌};
 ghost use Rattle.std.specs.Coded.{Coded-set};
 ghost use Rattle.tenant_store.specs.Holdings.{holdings_code};
-ghost use Rattle.tenant_store.specs.TenantWorld.{shelf_of, name_of, held_by};
+ghost use Rattle.tenant_store.specs.TenantWorld.{view_of, name_of, held_by};
 
 use crate::tenant_files::TenantFiles;
 use mk_files::{Content, Files, Listing};
@@ -10,8 +10,8 @@ use mk_paths::{FilesFault, Name, Names};
 use std::alloc::Global;
 use std::marker::{Brand, PhantomData};
 
-/// Stands for a store that was lent: the reference to it, and what it holds. A caller chooses both where it
-/// passes `Brand`.
+/// Names a store that was lent: by the reference to it, and by what it holds. A caller chooses both when
+/// it passes `Brand`.
 pub(crate) trait Lent {
     ghost use Rattle.std.specs.Borrow.{GName};
     ghost use Rattle.tenant_store.specs.Holdings.{Holdings};
@@ -29,8 +29,8 @@ impl Lent for Brand {
     ghost held = { nothing };
 }
 
-/// The files of one tenant, over a store that holds the same as when it was lent, whatever was asked. So more
-/// is known of them behind a function over any `Listing` than that function says.
+/// The files of one tenant, over a store that holds the same as when it was lent, whatever was asked. So
+/// after a function over any `Listing`, more is known of them than that function says.
 #[derive(Drop)]
 pub(crate) struct LentFiles<'s, L: Lent> {
     files: TenantFiles<'s>,
@@ -40,11 +40,11 @@ pub(crate) struct LentFiles<'s, L: Lent> {
 }
 
 impl<'s, L: Lent> LentFiles<'s, L> {
-    /// The same files, over the store that `L` stands for.
+    /// The same files, over the store that `L` names.
     pub(crate) fn new(files: TenantFiles<'s>) -> LentFiles<'s, L>
         requires name { name_of files ≡ L.name }
         requires held { held_by files ≡ L.held }
-        ensures files { shelf_of result.files ≡ shelf_of files.entry }
+        ensures files { view_of result.files ≡ view_of files.entry }
     {
         LentFiles {
             files,
@@ -62,9 +62,9 @@ impl<'s, L: Lent> LentFiles<'s, L> {
 }
 
 impl<L: Lent> Names for LentFiles<'_, L> {
-    ghost use Rattle.tenant_store.specs.TenantWorld.{shelf_of, IsAnyFault};
+    ghost use Rattle.tenant_store.specs.TenantWorld.{view_of, IsAnyFault};
 
-    ghost shelf = { λ world. shelf_of world.files };
+    ghost view = { λ world. view_of world.files };
 
     ghost fails_with = { IsAnyFault };
 

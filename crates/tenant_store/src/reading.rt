@@ -9,7 +9,7 @@ ghost use Rattle.tenant_store.specs.Accounts.{shown_account};
 
 use sqlite::{Connection, Error, MemStore, Row, params};
 use std::alloc::Global;
-use text_order::put_in_order;
+use text_parts::put_in_order;
 
 /// The account of a tenant: how many files it has, the sum of their contents in bytes, and its search path.
 #[derive(Debug, Drop)]
@@ -22,7 +22,8 @@ pub(crate) struct Account {
 fn content_rows(conn: &mut Connection<MemStore>, tenant: u32, name: &str) -> Result<Vec<Row>, Error>
     requires settled { IsSettled (state over_memory conn.old) }
     requires formed { IsFormed (state over_memory conn.old).now }
-    ensures rows { IfOk result (λ rows. Shows IsContent rows.items (get (files_of tenant (held_in (state over_memory conn.old))) name.now)) }
+    ensures rows { IfOk result (λ rows. Shows IsContent rows.items
+        (get (files_of tenant (held_in (state over_memory conn.old))) name.now)) }
     ensures stays { Stays (state over_memory conn.old) (state over_memory conn.new) }
 {
     conn.query_all(
@@ -57,7 +58,8 @@ pub(crate) fn content_of(
 ) -> Result<Option<Vec<u8>>, Error>
     requires settled { IsSettled (state over_memory conn.old) }
     requires formed { IsFormed (state over_memory conn.old).now }
-    ensures content { IfOk result (λ found. option_map (λ bytes. bytes.items) found ≡ get (files_of tenant (held_in (state over_memory conn.old))) name.now) }
+    ensures content { IfOk result (λ found. option_map (λ bytes. bytes.items) found
+        ≡ get (files_of tenant (held_in (state over_memory conn.old))) name.now) }
     ensures stays { Stays (state over_memory conn.old) (state over_memory conn.new) }
 {
     let rows = content_rows(conn, tenant, name)?;
@@ -70,7 +72,8 @@ pub(crate) fn content_of(
 fn account_rows(conn: &mut Connection<MemStore>, tenant: u32) -> Result<Vec<Row>, Error>
     requires settled { IsSettled (state over_memory conn.old) }
     requires formed { IsFormed (state over_memory conn.old).now }
-    ensures rows { IfOk result (λ rows. Shows (IsAccount tenant) rows.items (account_in tenant (held_in (state over_memory conn.old)).accounts)) }
+    ensures rows { IfOk result (λ rows. Shows (IsAccount tenant) rows.items
+        (account_in tenant (held_in (state over_memory conn.old)).accounts)) }
     ensures stays { Stays (state over_memory conn.old) (state over_memory conn.new) }
 {
     conn.query_all(
@@ -96,7 +99,8 @@ pub(crate) fn account_of(
 ) -> Result<Option<Account>, Error>
     requires settled { IsSettled (state over_memory conn.old) }
     requires formed { IsFormed (state over_memory conn.old).now }
-    ensures account { IfOk result (λ found. option_map (shown_account tenant) found ≡ account_in tenant (held_in (state over_memory conn.old)).accounts) }
+    ensures account { IfOk result (λ found. option_map (shown_account tenant) found
+        ≡ account_in tenant (held_in (state over_memory conn.old)).accounts) }
     ensures stays { Stays (state over_memory conn.old) (state over_memory conn.new) }
 {
     let rows = account_rows(conn, tenant)?;
@@ -109,7 +113,8 @@ pub(crate) fn account_of(
 fn name_rows(conn: &mut Connection<MemStore>, tenant: u32) -> Result<Vec<Row>, Error>
     requires settled { IsSettled (state over_memory conn.old) }
     requires formed { IsFormed (state over_memory conn.old).now }
-    ensures rows { IfOk result (λ rows. AreNames (files_of tenant (held_in (state over_memory conn.old))) (map name_in rows.items)) }
+    ensures rows { IfOk result (λ rows. AreNames
+        (files_of tenant (held_in (state over_memory conn.old))) (map name_in rows.items)) }
     ensures stays { Stays (state over_memory conn.old) (state over_memory conn.new) }
 {
     conn.query_all("SELECT name FROM file WHERE tenant = ?1", params![tenant])
@@ -134,7 +139,8 @@ pub(crate) fn names_of(
 ) -> Result<Vec<String>, Error>
     requires settled { IsSettled (state over_memory conn.old) }
     requires formed { IsFormed (state over_memory conn.old).now }
-    ensures names { IfOk result (λ names. map string_bytes names.items ≡ keys (files_of tenant (held_in (state over_memory conn.old)))) }
+    ensures names { IfOk result (λ names. map string_bytes names.items
+        ≡ keys (files_of tenant (held_in (state over_memory conn.old)))) }
     ensures stays { Stays (state over_memory conn.old) (state over_memory conn.new) }
 {
     let rows = name_rows(conn, tenant)?;

@@ -42,7 +42,7 @@ impl Model for TenantStore {
 impl TenantStore {
     /// A store in which no tenant has a file, and each has the path `/ports:/mystuff`.
     ///
-    /// The error is a refusal of the database, or want of memory.
+    /// The error is `Store` if the database refuses a statement, and `Memory` if memory runs out.
     pub fn open_in_memory(alloc: Global) -> Result<TenantStore, FilesFault>
         ensures { IfOk result (λ store. store ≡ nothing) }
     {
@@ -52,13 +52,14 @@ impl TenantStore {
         }
     }
 
-    /// Gives the file of this name of a tenant this content, whether or not it was there.
+    /// Gives a tenant's file of this name this content, whether or not the file was there.
     ///
     /// # Errors
     ///
-    /// `Full` exactly where the tenant would then have more than 2,000 files or more than 8,388,608 bytes of
-    /// contents; a file that is replaced counts as what takes its place. `Store` where the database refuses a
-    /// statement, `Memory` where none is left. Nothing has changed then.
+    /// `Full` exactly if the tenant would then have more than 2,000 files or more than 8,388,608
+    /// bytes of contents. A file that is replaced counts as the one that takes its place. `Store`
+    /// if the database refuses a statement, and `Memory` if memory runs out. After an error
+    /// nothing has changed.
     pub fn put_file(
         &mut self,
         alloc: Global,
@@ -66,9 +67,12 @@ impl TenantStore {
         name: &Name,
         content: &[u8],
     ) -> Result<(), PutFault>
-        ensures stored { OnOk result (ChangesFiles self.old self.new tenant (insert (files_of tenant self.old) name.now content.now)) }
-        ensures fits { OnOk result (is_over (insert (files_of tenant self.old) name.now content.now) ≡ false) }
-        ensures full { IsErrOf result PutFault.Full → IsTrue (is_over (insert (files_of tenant self.old) name.now content.now)) }
+        ensures stored { OnOk result (ChangesFiles self.old self.new tenant
+            (insert (files_of tenant self.old) name.now content.now)) }
+        ensures fits { OnOk result (is_over
+            (insert (files_of tenant self.old) name.now content.now) ≡ false) }
+        ensures full { IsErrOf result PutFault.Full
+            → IsTrue (is_over (insert (files_of tenant self.old) name.now content.now)) }
         ensures err { OnErr result (self.new ≡ self.old) }
     {
         match put(&mut self.conn, alloc, tenant, name.as_str(), content) {
@@ -78,19 +82,22 @@ impl TenantStore {
         }
     }
 
-    /// Takes the file of this name of a tenant away, and tells whether it was there.
+    /// Removes a tenant's file of this name, and gives whether it was there.
     ///
     /// # Errors
     ///
-    /// `Store` where the database refuses a statement, `Memory` where none is left. Nothing has changed then.
+    /// `Store` if the database refuses a statement, and `Memory` if memory runs out. After an error
+    /// nothing has changed.
     pub fn remove_file(
         &mut self,
         alloc: Global,
         tenant: u32,
         name: &Name,
     ) -> Result<bool, FilesFault>
-        ensures was_there { IfOk result (λ there. there ≡ contains_key (files_of tenant self.old) name.now) }
-        ensures removed { OnOk result (ChangesFiles self.old self.new tenant (remove (files_of tenant self.old) name.now)) }
+        ensures was_there { IfOk result (λ there. there
+            ≡ contains_key (files_of tenant self.old) name.now) }
+        ensures removed { OnOk result (ChangesFiles self.old self.new tenant
+            (remove (files_of tenant self.old) name.now)) }
         ensures err { OnErr result (self.new ≡ self.old) }
     {
         match take(&mut self.conn, alloc, tenant, name.as_str()) {
@@ -99,18 +106,19 @@ impl TenantStore {
         }
     }
 
-    /// The content of the file of this name of a tenant; `None` where it isn't there.
+    /// The content of a tenant's file of this name; `None` if it isn't there.
     ///
     /// # Errors
     ///
-    /// `Store` where the database refuses a statement, `Memory` where none is left.
+    /// `Store` if the database refuses a statement, and `Memory` if memory runs out.
     pub fn get_file(
         &mut self,
         alloc: Global,
         tenant: u32,
         name: &Name,
     ) -> Result<Option<Content>, FilesFault>
-        ensures content { IfOk result (λ content. content ≡ get (files_of tenant self.old) name.now) }
+        ensures content { IfOk result (λ content. content
+            ≡ get (files_of tenant self.old) name.now) }
         ensures same { self.new ≡ self.old }
     {
         shared_content(&mut self.conn, alloc, tenant, name.as_str())
@@ -120,9 +128,10 @@ impl TenantStore {
     ///
     /// # Errors
     ///
-    /// `Store` where the database refuses a statement, `Memory` where none is left.
+    /// `Store` if the database refuses a statement, and `Memory` if memory runs out.
     pub fn names(&mut self, alloc: Global, tenant: u32) -> Result<Vec<String>, FilesFault>
-        ensures names { IfOk result (λ names. map string_bytes names.items ≡ keys (files_of tenant self.old)) }
+        ensures names { IfOk result (λ names. map string_bytes names.items
+            ≡ keys (files_of tenant self.old)) }
         ensures same { self.new ≡ self.old }
     {
         match names_of(&mut self.conn, alloc, tenant) {
@@ -135,7 +144,8 @@ impl TenantStore {
     ///
     /// # Errors
     ///
-    /// `Store` where the database refuses a statement, `Memory` where none is left. Nothing has changed then.
+    /// `Store` if the database refuses a statement, and `Memory` if memory runs out. After an error
+    /// nothing has changed.
     pub fn set_path(
         &mut self,
         alloc: Global,
@@ -155,7 +165,7 @@ impl TenantStore {
     ///
     /// # Errors
     ///
-    /// `Store` where the database refuses a statement, `Memory` where none is left.
+    /// `Store` if the database refuses a statement, and `Memory` if memory runs out.
     pub fn settings(&mut self, alloc: Global, tenant: u32) -> Result<Settings, FilesFault>
         ensures path { IfOk result (λ settings. settings.path ≡ path_of tenant self.old) }
         ensures same { self.new ≡ self.old }
@@ -163,8 +173,9 @@ impl TenantStore {
         settings_of(&mut self.conn, alloc, tenant)
     }
 
-    /// Limits the steps of each later statement, or limits them no more. A statement that would take more is
-    /// refused as `Store`; the end of a transaction takes none. It changes nothing that is held.
+    /// Limits the steps of each later statement; with `None` they are no longer limited. If a statement
+    /// would take more steps, it is refused as `Store`. The end of a transaction takes no steps. This
+    /// changes nothing that is held.
     pub fn limit_steps(&mut self, limit: Option<u64>)
         ensures { self.new ≡ self.old }
     {
@@ -172,7 +183,7 @@ impl TenantStore {
     }
 }
 
-// The path of a text that the store holds.
+// The search path of a text that the store holds.
 fn path_from(alloc: Global, text: &str) -> Result<SearchPath, FilesFault>
     ensures { IfOk result (λ path. path ≡ trees_of text.now) }
 {
@@ -191,7 +202,8 @@ fn shared_content(
     name: &str,
 ) -> Result<Option<Content>, FilesFault>
     requires { IsKept (state over_memory conn.old) }
-    ensures content { IfOk result (λ content. content ≡ get (files_of tenant (held_in (state over_memory conn.old))) name.now) }
+    ensures content { IfOk result (λ content. content
+        ≡ get (files_of tenant (held_in (state over_memory conn.old))) name.now) }
     ensures stays { Stays (state over_memory conn.old) (state over_memory conn.new) }
 {
     match content_of(conn, tenant, name) {
@@ -208,7 +220,8 @@ fn settings_of(
     tenant: u32,
 ) -> Result<Settings, FilesFault>
     requires { IsKept (state over_memory conn.old) }
-    ensures path { IfOk result (λ settings. settings.path ≡ path_of tenant (held_in (state over_memory conn.old))) }
+    ensures path { IfOk result (λ settings. settings.path
+        ≡ path_of tenant (held_in (state over_memory conn.old))) }
     ensures stays { Stays (state over_memory conn.old) (state over_memory conn.new) }
 {
     match account_of(conn, tenant) {

@@ -1,7 +1,7 @@
 // The files of one tenant, as a world that can be read and listed.
 ghost use Rattle.std.specs.Prelude.{◌≡◌, map, string_bytes, IfOk, OnOk, OnErr, None};
 ghost use Rattle.std.specs.FinMap.{get, keys};
-ghost use Rattle.mk_paths.specs.Shelf.{Contents, Presence, Answers, Fails};
+ghost use Rattle.mk_paths.specs.FilesView.{Contents, Presence, Answers, Fails};
 ghost use Rattle.tenant_store.specs.Holdings.{files_of};
 
 use crate::store::TenantStore;
@@ -19,12 +19,13 @@ pub struct TenantFiles<'s> {
 }
 
 impl<'s> TenantFiles<'s> {
-    ghost use Rattle.tenant_store.specs.TenantWorld.{shelf_of, StaysOver, StandsOver};
+    ghost use Rattle.tenant_store.specs.TenantWorld.{view_of, StaysOver, StandsOver};
 
     /// The files of this tenant, with no failure yet.
     pub fn new(alloc: Global, store: &'s mut TenantStore, tenant: u32) -> TenantFiles<'s>
         ensures over { StandsOver result store.entry tenant }
-        ensures world { shelf_of result ≡ record { files = files_of tenant store.old; log = None; failures = 0 } }
+        ensures world { view_of result
+            ≡ record { files = files_of tenant store.old; log = None; failures = 0 } }
     {
         TenantFiles {
             store,
@@ -36,7 +37,7 @@ impl<'s> TenantFiles<'s> {
 
     // Counts one more reading that failed, with this fault.
     fn failed(&mut self, fault: FilesFault) -> FilesFault
-        ensures counted { Fails (shelf_of self.old) (shelf_of self.new) }
+        ensures counted { Fails (view_of self.old) (view_of self.new) }
         ensures fault { result ≡ fault }
         ensures stays { StaysOver self.old self.new }
     {
@@ -46,17 +47,19 @@ impl<'s> TenantFiles<'s> {
 
     // Whether a file of this name is there.
     pub(crate) fn holds(&mut self, name: &Name) -> Result<bool, FilesFault>
-        ensures there { IfOk result (λ there. Answers (shelf_of self.old) (shelf_of self.new) name.now (Presence there)) }
-        ensures fault { OnErr result (Fails (shelf_of self.old) (shelf_of self.new)) }
+        ensures there { IfOk result (λ there. Answers (view_of self.old)
+            (view_of self.new) name.now (Presence there)) }
+        ensures fault { OnErr result (Fails (view_of self.old) (view_of self.new)) }
         ensures stays { StaysOver self.old self.new }
     {
         Ok(self.content(name)?.is_some())
     }
 
-    // The content of the file of this name; `None` where it isn't there.
+    // The content of the file of this name; `None` if it isn't there.
     pub(crate) fn content(&mut self, name: &Name) -> Result<Option<Content>, FilesFault>
-        ensures content { IfOk result (λ content. Answers (shelf_of self.old) (shelf_of self.new) name.now (Contents content)) }
-        ensures fault { OnErr result (Fails (shelf_of self.old) (shelf_of self.new)) }
+        ensures content { IfOk result (λ content. Answers (view_of self.old)
+            (view_of self.new) name.now (Contents content)) }
+        ensures fault { OnErr result (Fails (view_of self.old) (view_of self.new)) }
         ensures stays { StaysOver self.old self.new }
     {
         match self.store.get_file(self.alloc, self.tenant, name) {
@@ -67,9 +70,10 @@ impl<'s> TenantFiles<'s> {
 
     // The names of all files, in the order of their bytes.
     pub(crate) fn listed(&mut self, alloc: Global) -> Result<Vec<String>, FilesFault>
-        ensures names { IfOk result (λ names. map string_bytes names.items ≡ keys (shelf_of self.old).files) }
-        ensures same { OnOk result (shelf_of self.new ≡ shelf_of self.old) }
-        ensures fault { OnErr result (Fails (shelf_of self.old) (shelf_of self.new)) }
+        ensures names { IfOk result (λ names. map string_bytes names.items
+            ≡ keys (view_of self.old).files) }
+        ensures same { OnOk result (view_of self.new ≡ view_of self.old) }
+        ensures fault { OnErr result (Fails (view_of self.old) (view_of self.new)) }
         ensures stays { StaysOver self.old self.new }
     {
         match self.store.names(alloc, self.tenant) {
@@ -80,9 +84,9 @@ impl<'s> TenantFiles<'s> {
 }
 
 impl Names for TenantFiles<'_> {
-    ghost use Rattle.tenant_store.specs.TenantWorld.{shelf_of, IsAnyFault};
+    ghost use Rattle.tenant_store.specs.TenantWorld.{view_of, IsAnyFault};
 
-    ghost shelf = { shelf_of };
+    ghost view = { view_of };
 
     ghost fails_with = { IsAnyFault };
 

@@ -1,11 +1,12 @@
-// The statements that write, and the one transaction in which they stand.
+// The statements that write, and the one transaction that they are in.
 ghost use Rattle.std.specs.Prelude.{◌≡◌, [], ◌∷◌, ◌++◌, map, filter, not, ◌==◌, if◌then◌else◌, IfOk, OnOk, OnErr, IsTrue, None};
 ghost use Rattle.std.specs.FinMap.{get};
 ghost use Rattle.sqlite.specs.Held.{state};
 ghost use Rattle.sqlite.specs.Steps.{over_memory};
 ghost use Rattle.tenant_store.specs.Holdings.{files_in, account_in};
 ghost use Rattle.tenant_store.specs.Accounts.{shown_account};
-ghost use Rattle.tenant_store.specs.Tables.{IsFormed, IsSettled, Stays, Suits, held_in, file, is_file, files_after, accounts_after, KeepsCommit, MakesFiles, MakesAccounts, Makes};
+ghost use Rattle.tenant_store.specs.Tables.{IsFormed, IsSettled, Stays, Suits, held_in, file, is_file, files_after};
+ghost use Rattle.tenant_store.specs.Tables.{accounts_after, KeepsCommit, MakesFiles, MakesAccounts, Makes};
 
 use crate::reading::Account;
 use sqlite::{Connection, Error, MemStore, Transaction, params};
@@ -19,7 +20,7 @@ pub(crate) enum Change<'a> {
     Add(&'a str, &'a [u8]),
     /// A file that is there gets another content.
     Replace(&'a str, &'a [u8]),
-    /// A file that is there is taken away.
+    /// A file that is there is removed.
     Remove(&'a str),
 }
 
@@ -31,10 +32,15 @@ fn insert_file<'x>(
 ) -> Result<(), Error>
     requires inside { IsTrue (state over_memory tx.old.conn.now).in_transaction }
     requires formed { IsFormed (state over_memory tx.old.conn.now).now }
-    requires free { get (files_in tenant (held_in (state over_memory tx.old.conn.now)).files) name.now ≡ None }
+    requires free { get (files_in tenant
+        (held_in (state over_memory tx.old.conn.now)).files) name.now ≡ None }
     ensures same_reference { tx.new.conn.ghost_name ≡ tx.old.conn.ghost_name }
-    ensures kept { KeepsCommit (state over_memory tx.old.conn.now) (state over_memory tx.new.conn.now) }
-    ensures made { OnOk result (MakesFiles (state over_memory tx.old.conn.now) (state over_memory tx.new.conn.now) ((held_in (state over_memory tx.old.conn.now)).files ++ file tenant name.now content.now ∷ [])) }
+    ensures kept { KeepsCommit (state over_memory tx.old.conn.now)
+        (state over_memory tx.new.conn.now) }
+    ensures made { OnOk result (MakesFiles (state over_memory tx.old.conn.now)
+        (state over_memory tx.new.conn.now)
+        ((held_in (state over_memory tx.old.conn.now)).files
+        ++ file tenant name.now content.now ∷ [])) }
 {
     tx.execute(
         "INSERT INTO file (tenant, name, content) VALUES (?1, ?2, ?3)",
@@ -52,8 +58,12 @@ fn update_file<'x>(
     requires inside { IsTrue (state over_memory tx.old.conn.now).in_transaction }
     requires formed { IsFormed (state over_memory tx.old.conn.now).now }
     ensures same_reference { tx.new.conn.ghost_name ≡ tx.old.conn.ghost_name }
-    ensures kept { KeepsCommit (state over_memory tx.old.conn.now) (state over_memory tx.new.conn.now) }
-    ensures made { OnOk result (MakesFiles (state over_memory tx.old.conn.now) (state over_memory tx.new.conn.now) (map (λ f. if is_file tenant name.now f then file tenant name.now content.now else f) (held_in (state over_memory tx.old.conn.now)).files)) }
+    ensures kept { KeepsCommit (state over_memory tx.old.conn.now)
+        (state over_memory tx.new.conn.now) }
+    ensures made { OnOk result (MakesFiles (state over_memory tx.old.conn.now)
+        (state over_memory tx.new.conn.now)
+        (map (λ f. if is_file tenant name.now f then file tenant name.now content.now else f)
+        (held_in (state over_memory tx.old.conn.now)).files)) }
 {
     tx.execute(
         "UPDATE file SET content = ?3 WHERE tenant = ?1 AND name = ?2",
@@ -66,8 +76,12 @@ fn delete_file(tx: &mut Transaction<'_, MemStore>, tenant: u32, name: &str) -> R
     requires inside { IsTrue (state over_memory tx.old.conn.now).in_transaction }
     requires formed { IsFormed (state over_memory tx.old.conn.now).now }
     ensures same_reference { tx.new.conn.ghost_name ≡ tx.old.conn.ghost_name }
-    ensures kept { KeepsCommit (state over_memory tx.old.conn.now) (state over_memory tx.new.conn.now) }
-    ensures made { OnOk result (MakesFiles (state over_memory tx.old.conn.now) (state over_memory tx.new.conn.now) (filter (λ f. not (is_file tenant name.now f)) (held_in (state over_memory tx.old.conn.now)).files)) }
+    ensures kept { KeepsCommit (state over_memory tx.old.conn.now)
+        (state over_memory tx.new.conn.now) }
+    ensures made { OnOk result (MakesFiles (state over_memory tx.old.conn.now)
+        (state over_memory tx.new.conn.now)
+        (filter (λ f. not (is_file tenant name.now f))
+        (held_in (state over_memory tx.old.conn.now)).files)) }
 {
     tx.execute(
         "DELETE FROM file WHERE tenant = ?1 AND name = ?2",
@@ -80,8 +94,12 @@ fn delete_account(tx: &mut Transaction<'_, MemStore>, tenant: u32) -> Result<(),
     requires inside { IsTrue (state over_memory tx.old.conn.now).in_transaction }
     requires formed { IsFormed (state over_memory tx.old.conn.now).now }
     ensures same_reference { tx.new.conn.ghost_name ≡ tx.old.conn.ghost_name }
-    ensures kept { KeepsCommit (state over_memory tx.old.conn.now) (state over_memory tx.new.conn.now) }
-    ensures made { OnOk result (MakesAccounts (state over_memory tx.old.conn.now) (state over_memory tx.new.conn.now) (filter (λ a. not (a.tenant == tenant)) (held_in (state over_memory tx.old.conn.now)).accounts)) }
+    ensures kept { KeepsCommit (state over_memory tx.old.conn.now)
+        (state over_memory tx.new.conn.now) }
+    ensures made { OnOk result (MakesAccounts (state over_memory tx.old.conn.now)
+        (state over_memory tx.new.conn.now)
+        (filter (λ a. not (a.tenant == tenant))
+        (held_in (state over_memory tx.old.conn.now)).accounts)) }
 {
     tx.execute("DELETE FROM account WHERE tenant = ?1", params![tenant])?;
     Ok(())
@@ -94,10 +112,15 @@ fn insert_account(
 ) -> Result<(), Error>
     requires inside { IsTrue (state over_memory tx.old.conn.now).in_transaction }
     requires formed { IsFormed (state over_memory tx.old.conn.now).now }
-    requires free { account_in tenant (held_in (state over_memory tx.old.conn.now)).accounts ≡ None }
+    requires free { account_in tenant (held_in (state over_memory tx.old.conn.now)).accounts
+        ≡ None }
     ensures same_reference { tx.new.conn.ghost_name ≡ tx.old.conn.ghost_name }
-    ensures kept { KeepsCommit (state over_memory tx.old.conn.now) (state over_memory tx.new.conn.now) }
-    ensures made { OnOk result (MakesAccounts (state over_memory tx.old.conn.now) (state over_memory tx.new.conn.now) ((held_in (state over_memory tx.old.conn.now)).accounts ++ (shown_account tenant account.now) ∷ [])) }
+    ensures kept { KeepsCommit (state over_memory tx.old.conn.now)
+        (state over_memory tx.new.conn.now) }
+    ensures made { OnOk result (MakesAccounts (state over_memory tx.old.conn.now)
+        (state over_memory tx.new.conn.now)
+        ((held_in (state over_memory tx.old.conn.now)).accounts
+        ++ (shown_account tenant account.now) ∷ [])) }
 {
     tx.execute(
         "INSERT INTO account (tenant, files, bytes, path) VALUES (?1, ?2, ?3, ?4)",
@@ -115,8 +138,11 @@ fn change_files(
     requires formed { IsFormed (state over_memory tx.old.conn.now).now }
     requires suits { Suits tenant change (held_in (state over_memory tx.old.conn.now)).files }
     ensures same_reference { tx.new.conn.ghost_name ≡ tx.old.conn.ghost_name }
-    ensures kept { KeepsCommit (state over_memory tx.old.conn.now) (state over_memory tx.new.conn.now) }
-    ensures made { OnOk result (MakesFiles (state over_memory tx.old.conn.now) (state over_memory tx.new.conn.now) (files_after tenant change.entry (held_in (state over_memory tx.old.conn.now)).files)) }
+    ensures kept { KeepsCommit (state over_memory tx.old.conn.now)
+        (state over_memory tx.new.conn.now) }
+    ensures made { OnOk result (MakesFiles (state over_memory tx.old.conn.now)
+        (state over_memory tx.new.conn.now)
+        (files_after tenant change.entry (held_in (state over_memory tx.old.conn.now)).files)) }
 {
     match change {
         Change::Keep => Ok(()),
@@ -134,14 +160,18 @@ fn change_account(
     requires inside { IsTrue (state over_memory tx.old.conn.now).in_transaction }
     requires formed { IsFormed (state over_memory tx.old.conn.now).now }
     ensures same_reference { tx.new.conn.ghost_name ≡ tx.old.conn.ghost_name }
-    ensures kept { KeepsCommit (state over_memory tx.old.conn.now) (state over_memory tx.new.conn.now) }
-    ensures made { OnOk result (MakesAccounts (state over_memory tx.old.conn.now) (state over_memory tx.new.conn.now) (accounts_after (shown_account tenant account.now) (held_in (state over_memory tx.old.conn.now)).accounts)) }
+    ensures kept { KeepsCommit (state over_memory tx.old.conn.now)
+        (state over_memory tx.new.conn.now) }
+    ensures made { OnOk result (MakesAccounts (state over_memory tx.old.conn.now)
+        (state over_memory tx.new.conn.now)
+        (accounts_after (shown_account tenant account.now)
+        (held_in (state over_memory tx.old.conn.now)).accounts)) }
 {
     delete_account(tx, tenant)?;
     insert_account(tx, tenant, account)
 }
 
-/// Makes the change to the files of a tenant, and writes its account anew, or changes nothing.
+/// Makes the change to the files of a tenant, and writes its account anew. If it fails, nothing changes.
 pub(crate) fn write(
     conn: &mut Connection<MemStore>,
     tenant: u32,
@@ -151,7 +181,13 @@ pub(crate) fn write(
     requires settled { IsSettled (state over_memory conn.old) }
     requires formed { IsFormed (state over_memory conn.old).now }
     requires suits { Suits tenant change (held_in (state over_memory conn.old)).files }
-    ensures ok { OnOk result (Makes (state over_memory conn.new) (record { files = files_after tenant change.entry (held_in (state over_memory conn.old)).files; accounts = accounts_after (shown_account tenant account.now) (held_in (state over_memory conn.old)).accounts })) }
+    ensures ok { OnOk result (Makes (state over_memory conn.new)
+        (record {
+          files = files_after tenant change.entry
+              (held_in (state over_memory conn.old)).files;
+          accounts = accounts_after (shown_account tenant account.now)
+              (held_in (state over_memory conn.old)).accounts;
+        })) }
     ensures err { OnErr result (Stays (state over_memory conn.old) (state over_memory conn.new)) }
 {
     let mut tx = conn.transaction();

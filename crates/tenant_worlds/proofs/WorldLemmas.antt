@@ -10,10 +10,10 @@ use Rattle.mk_paths.specs.World.{World, opening_world}
 use Rattle.mk_paths.specs.declared.search_path.Settings.{Settings}
 use Rattle.ports_http.specs.Messages.{RequestMessage, ReplyMessage}
 use Rattle.ports_plain.specs.declared.changing.Change.{Change}
-use Rattle.ports_plain.specs.Changing.{settled}
+use Rattle.ports_plain.specs.Changing.{settle_change}
 use Rattle.ports_plain.specs.Plain.{Served, answer}
 use Rattle.tenant_store.specs.Holdings.{Holdings, nothing, files_of, path_of}
-use Rattle.ports_core.specs.Answering.{Answers, AnswersFor, asked_of, plain_answer}
+use Rattle.ports_core.specs.Answering.{Answers, AnswersFor, plain_request_of, plain_answer}
 use Rattle.tenant_worlds.specs.Stored.{world_in, worlds_in, KeepsOtherWorlds}
 
 pub if_ok : {A E : Type 0} {P Q : A → Type 0} (r : Result A E) → ((a : A) → P a → Q a) → IfOk r P → IfOk r Q
@@ -22,13 +22,13 @@ if_ok (Err e) f p = tt
 
 -- what becomes of what was prepared over a tenant's files and settings is the plain answer over its world
 pub served : (held asked_in mid : Holdings) (tenant : ℕ) (settings : Settings) (request : RequestMessage) (reply : ReplyMessage) (change : Option Change) (end : Served)
-    → asked_in ≡ held → mid ≡ asked_in → settings.path ≡ path_of tenant held → (reply, change) ≡ answer ((world_in asked_in tenant).0, settings) (asked_of request)
-    → settled (world_in mid tenant) reply change ≡ end → plain_answer (world_in held tenant) request ≡ end
+    → asked_in ≡ held → mid ≡ asked_in → settings.path ≡ path_of tenant held → (reply, change) ≡ answer ((world_in asked_in tenant).0, settings) (plain_request_of request)
+    → settle_change (world_in mid tenant) reply change ≡ end → plain_answer (world_in held tenant) request ≡ end
 served held asked_in mid tenant settings request reply change end e0 e1 path was is =
     let world : World = world_in held tenant in
     let same : ◌≡◌ {A = World} ((world_in asked_in tenant).0, settings) world = λ i. (files_of tenant (e0 i), record { path = path i }) in
-    let prepared = was ∙ ap (λ (w : World). answer w (asked_of request)) same in
-    ap (λ (a : ReplyMessage × Option Change). settled world a.0 a.1) (sym prepared) ∙ ap (λ (h : Holdings). settled (world_in h tenant) reply change) (sym (e1 ∙ e0)) ∙ is
+    let prepared = was ∙ ap (λ (w : World). answer w (plain_request_of request)) same in
+    ap (λ (a : ReplyMessage × Option Change). settle_change world a.0 a.1) (sym prepared) ∙ ap (λ (h : Holdings). settle_change (world_in h tenant) reply change) (sym (e1 ∙ e0)) ∙ is
 
 opening_from : (first count : ℕ) → map (world_in nothing) (range_with_len first count) ≡ replicate count opening_world
 opening_from first zero = refl

@@ -21,9 +21,11 @@ pub(crate) struct Asking<'a> {
 
 impl Asker for Asking<'_> {
     ghost use Rattle.std.specs.Prelude.{◌≡◌, IfOk};
-    ghost use Rattle.ports_plain.specs.Plain.{answer, asked};
+    ghost use Rattle.ports_plain.specs.Plain.{answer, plain_request};
 
-    ghost answered = { λ old shelf new. IfOk new.prepared (λ p. (p.reply, p.change) ≡ answer (shelf.files, old.settings.now) (asked old.method old.target.now old.body.items)) };
+    ghost answered = { λ old view new. IfOk new.prepared (λ p. (p.reply, p.change)
+        ≡ answer (view.files, old.settings.now)
+        (plain_request old.method old.target.now old.body.items)) };
 
     fn ask<F: Listing>(&mut self, files: &mut F) {
         let body = mem::replace(&mut self.body, Vec::new(self.alloc));

@@ -5,4 +5,4 @@ mod asking;
 mod world;
 mod worlds;
 
-pub use worlds::StoredWorlds;
+pub use worlds::StoredTenants;

@@ -1,10 +1,10 @@
 //! A request over the world of one tenant in the store.
 ghost use Rattle.std.specs.Prelude.{◌≡◌, false, IfOk, IsErrOf, IsTrue, OnOk, OnErr};
 ghost use Rattle.ports_http.specs.Replies.{reply_text};
-ghost use Rattle.ports_plain.specs.Changing.{changed, overfills, settled};
+ghost use Rattle.ports_plain.specs.Changing.{changed, overfills, settle_change};
 ghost use Rattle.ports_plain.specs.Plain.{answer};
 ghost use Rattle.ports_plain.specs.Replies.{full as full_reply};
-ghost use Rattle.ports_core.specs.Answering.{asked_of, plain_answer};
+ghost use Rattle.ports_core.specs.Answering.{plain_request_of, plain_answer};
 ghost use Rattle.tenant_worlds.specs.Stored.{world_in, KeepsOtherWorlds};
 
 use crate::asking::Asking;
@@ -14,9 +14,9 @@ use ports_plain::{Change, Plain, Prepared, full};
 use std::alloc::{AllocError, Global};
 use tenant_store::{PutFault, TenantStore};
 
-/// The reply to a request over a tenant's world, and its bytes, which say whether the connection closes and are
-/// made before the world changes. No other tenant's world changes. Err: the store failed, or there was no
-/// memory, and nothing has changed.
+/// The reply to a request over a tenant's world, and its bytes, which say whether the connection closes.
+/// The bytes are made before the world changes. No other tenant's world changes. It fails if the store
+/// fails, or if memory runs out; then nothing has changed.
 pub(crate) fn reply_to(
     store: &mut TenantStore,
     alloc: Global,
@@ -25,7 +25,8 @@ pub(crate) fn reply_to(
     request: Request,
     close: bool,
 ) -> Result<(Reply, Vec<u8>), FilesFault>
-    ensures reply { IfOk result (λ r. plain_answer (world_in store.old tenant) request ≡ (r.0, world_in store.new tenant)) }
+    ensures reply { IfOk result (λ r. plain_answer (world_in store.old tenant) request
+        ≡ (r.0, world_in store.new tenant)) }
     ensures others { OnOk result (KeepsOtherWorlds tenant store.old store.new) }
     ensures bytes { IfOk result (λ r. r.1.items ≡ reply_text r.0 close) }
     ensures err { OnErr result (store.new ≡ store.old) }
@@ -35,7 +36,7 @@ pub(crate) fn reply_to(
     settle(store, alloc, tenant, prepared, close)
 }
 
-/// What a request over a tenant's files is answered, with nothing changed yet.
+/// The answer to a request over a tenant's files. Nothing is changed yet.
 fn prepare(
     store: &mut TenantStore,
     alloc: Global,
@@ -44,7 +45,8 @@ fn prepare(
     settings: &Settings,
     request: Request,
 ) -> Result<Prepared, FilesFault>
-    ensures ok { IfOk result (λ p. (p.reply, p.change) ≡ answer ((world_in store.old tenant).0, settings.now) (asked_of request)) }
+    ensures ok { IfOk result (λ p. (p.reply, p.change)
+        ≡ answer ((world_in store.old tenant).0, settings.now) (plain_request_of request)) }
     ensures same { store.new ≡ store.old }
 {
     let Request {
@@ -66,9 +68,9 @@ fn prepare(
     asking.prepared
 }
 
-/// Carries out what a request changes, and gives its reply with its bytes: 409 where a file isn't stored since
-/// the tenant would have more than it may. Err: the store failed, or there was no memory, and nothing has
-/// changed.
+/// Carries out what a request changes, and gives its reply with its bytes. If a file isn't stored since the
+/// tenant would have more than it may, the reply is 409. It fails if the store fails, or if memory runs
+/// out; then nothing has changed.
 fn settle(
     store: &mut TenantStore,
     alloc: Global,
@@ -76,7 +78,9 @@ fn settle(
     prepared: Prepared,
     close: bool,
 ) -> Result<(Reply, Vec<u8>), FilesFault>
-    ensures settled { IfOk result (λ r. settled (world_in store.old tenant) prepared.reply prepared.change ≡ (r.0, world_in store.new tenant)) }
+    ensures settle_change { IfOk result (λ r. settle_change
+        (world_in store.old tenant) prepared.reply prepared.change
+        ≡ (r.0, world_in store.new tenant)) }
     ensures others { OnOk result (KeepsOtherWorlds tenant store.old store.new) }
     ensures bytes { IfOk result (λ r. r.1.items ≡ reply_text r.0 close) }
     ensures err { OnErr result (store.new ≡ store.old) }
@@ -104,8 +108,8 @@ fn full_with_bytes(alloc: Global, close: bool) -> Result<(Reply, Vec<u8>), Alloc
     Ok((reply, bytes))
 }
 
-/// Carries out a change of a tenant's world. Err: `Full` where the tenant would have more than it may, the
-/// others where the store failed or there was no memory, and nothing has changed.
+/// Carries out a change of a tenant's world. The error is `Full` if the tenant would have more than it may,
+/// and another one if the store fails or memory runs out. If it fails, nothing has changed.
 fn carry_out(
     store: &mut TenantStore,
     alloc: Global,
@@ -113,9 +117,11 @@ fn carry_out(
     change: Change,
 ) -> Result<(), PutFault>
     ensures fits { OnOk result (overfills (world_in store.old tenant) change ≡ false) }
-    ensures changes { OnOk result (world_in store.new tenant ≡ changed (world_in store.old tenant) change) }
+    ensures changes { OnOk result (world_in store.new tenant
+        ≡ changed (world_in store.old tenant) change) }
     ensures others { OnOk result (KeepsOtherWorlds tenant store.old store.new) }
-    ensures full { IsErrOf result PutFault.Full → IsTrue (overfills (world_in store.old tenant) change) }
+    ensures full { IsErrOf result PutFault.Full
+        → IsTrue (overfills (world_in store.old tenant) change) }
     ensures err { OnErr result (store.new ≡ store.old) }
 {
     match change {

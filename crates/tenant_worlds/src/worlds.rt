@@ -1,23 +1,23 @@
 //! The tenants' worlds in one store, and the plain service over them.
 use crate::world::reply_to;
 use mk_paths::FilesFault;
-use ports_core::Worlds;
+use ports_core::Tenants;
 use ports_http::{Reply, Request};
 use ports_plain::Plain;
 use std::alloc::Global;
 use std::marker::Model;
 use tenant_store::TenantStore;
 
-/// The world of each tenant, by the tenants' numbers, all in one store, and the plain service that answers over
-/// one of them. A contract sees the list of the worlds.
+/// The world of each tenant, by the tenants' numbers, all in one store, and the plain service that answers
+/// over one of them. A contract sees the list of the worlds.
 #[derive(Drop)]
-pub struct StoredWorlds {
+pub struct StoredTenants {
     store: TenantStore,
     plain: Plain,
     count: usize,
 }
 
-impl Model for StoredWorlds {
+impl Model for StoredTenants {
     ghost use Rattle.std.specs.Prelude.{List};
     ghost use Rattle.mk_paths.specs.World.{World};
     ghost use Rattle.tenant_worlds.specs.Stored.{worlds_in};
@@ -36,13 +36,13 @@ impl Model for StoredWorlds {
     ghost invariant = { λ w. w.count ≤ 64 };
 }
 
-impl Worlds for StoredWorlds {
+impl Tenants for StoredTenants {
     ghost worlds = { λ w. w };
 
-    fn new(alloc: Global, count: usize) -> Result<StoredWorlds, FilesFault> {
+    fn new(alloc: Global, count: usize) -> Result<StoredTenants, FilesFault> {
         let store = TenantStore::open_in_memory(alloc)?;
         let plain = Plain::new(alloc)?;
-        Ok(StoredWorlds {
+        Ok(StoredTenants {
             store,
             plain,
             count,

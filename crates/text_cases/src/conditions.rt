@@ -7,8 +7,9 @@ use mk_text::Span;
 use std::alloc::{AllocError, Global};
 use std::fmt::Write;
 
-/// `condition TEXT`: its tree as `or(..)` of `and(..)` of terms: `not(..)`, `group(..)`, a call with its
-/// argument in single quotes, or sides, a quoted one in single quotes; or `unclosed`, `unreadable`.
+/// `condition TEXT`: its tree as `or(..)` of `and(..)` of terms; or `unclosed`, `unreadable`. A
+/// term is `not(..)`, `group(..)`, a call with its argument in single quotes, or sides. A quoted
+/// side is in single quotes.
 pub fn condition(alloc: Global, given: &[Vec<u8>]) -> Result<Answer, Trouble> {
     let text = one_text(given)?;
     match read_condition(alloc, text) {
@@ -97,7 +98,7 @@ fn show_side(out: &mut String, text: &str, side: Side) -> Result<(), AllocError>
     }
 }
 
-/// What stands at a place of the text.
+/// What is at a place of the text.
 fn at_place(text: &str, span: Span) -> &str {
     text.get(span.start..span.end).unwrap_or("no-place")
 }

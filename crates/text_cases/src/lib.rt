@@ -11,7 +11,8 @@ use case_lines::{Answer, Trouble};
 pub use packages::{add_texts, path_of};
 use std::alloc::Global;
 
-/// What the call of a line gives.
+/// What the call of a line gives. The error is `NoCase` if the line is in no form of a case, and
+/// `Memory` if memory runs out.
 pub fn answer(alloc: Global, call: &str, given: &[Vec<u8>]) -> Result<Answer, Trouble> {
     match call {
         "lines" => texts::lines_of(alloc, given),

@@ -6,8 +6,8 @@ use pkg_spec::{Spec, SpecFault};
 use std::alloc::Global;
 use std::cmp::Ordering;
 
-/// `path TEXT`: its canonical text, and `twice` where reading that gives another path; or the number
-/// of its refusal.
+/// `path TEXT`: its canonical text, and `twice` if reading that gives another path; or
+/// the number of its refusal.
 pub fn canonical_path(alloc: Global, given: &[Vec<u8>]) -> Result<Answer, Trouble> {
     match PkgPath::read(alloc, one_text(given)?) {
         Ok(path) => canonical_told(alloc, &path),
@@ -33,15 +33,15 @@ pub fn path_of(alloc: Global, text: &str) -> Result<PkgPath, Trouble> {
     })
 }
 
-/// What is told of a refusal with this number.
+/// The answer for a refusal with this number.
 fn refused(alloc: Global, number: Option<u8>) -> Answer {
     let mut answer = Answer::of_word(alloc, "refused");
     answer.number(u64::from(number.unwrap_or(0)));
     answer
 }
 
-/// `parts of path TEXT`: its directory, its flavors (or `default`), its subpackage behind `sub`, and
-/// what it is without that.
+/// `parts of path TEXT`: its directory, its flavors (or `default`), its subpackage after `sub`,
+/// and what it is without that.
 pub fn parts_of_path(alloc: Global, given: &[Vec<u8>]) -> Result<Answer, Trouble> {
     let path = path_of(alloc, one_text(given)?)?;
     let mut answer = Answer::of_text(alloc, path.directory());
@@ -84,8 +84,7 @@ fn same_told(alloc: Global, one: &PkgPath, other: &PkgPath) -> Result<Answer, Tr
     Ok(Answer::of_choice(alloc, alike, "yes", "no"))
 }
 
-/// `package name TEXT`: stem, version and flavors, and how it prints where that is another text; or
-/// `NoName`.
+/// `package name TEXT`: stem, version and flavors, and how it prints if that is another text; or `NoName`.
 pub fn package_name(alloc: Global, given: &[Vec<u8>]) -> Result<Answer, Trouble> {
     let text = one_text(given)?;
     match PkgName::split(alloc, text) {
@@ -132,8 +131,8 @@ fn version_of(alloc: Global, text: &[u8]) -> Result<Version, Trouble> {
     })
 }
 
-/// `version order TEXT..`: `rising` where each is lower than each later one and equal to itself,
-/// however two are compared; else the first two that aren't.
+/// `version order TEXT..`: `rising` if each is lower than each later one and equal to itself, however two
+/// are compared; else the first two that aren't.
 pub fn version_order(alloc: Global, given: &[Vec<u8>]) -> Result<Answer, Trouble> {
     let mut versions = Vec::new(alloc);
     for text in given {

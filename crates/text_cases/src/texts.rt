@@ -8,8 +8,8 @@ use mk_text::{TextFault, is_blank, logical_lines, skip_blanks, trim_blanks, word
 use std::alloc::{AllocError, Global};
 use std::fmt::Write;
 
-/// `lines TEXT`: each logical line as its number with a colon and its text; of a command with a bar
-/// in place of the colon.
+/// `lines TEXT`: each logical line as its number with a colon and its text. A command has a
+/// bar in place of the colon.
 pub fn lines_of(alloc: Global, given: &[Vec<u8>]) -> Result<Answer, Trouble> {
     let mut answer = Answer::new(alloc);
     for logical in &logical_lines(alloc, one_text(given)?)? {
@@ -31,7 +31,7 @@ pub fn words_of(alloc: Global, given: &[Vec<u8>]) -> Result<Answer, Trouble> {
     Ok(answer)
 }
 
-/// `trim TEXT`, `skip TEXT`: without blanks at both ends, or in front.
+/// `trim TEXT`, `skip TEXT`: the text without blanks at both ends, or in front.
 pub fn without_blanks(alloc: Global, given: &[Vec<u8>], both: bool) -> Result<Answer, Trouble> {
     let text = one_text(given)?;
     let rest = if both {
@@ -53,9 +53,9 @@ pub fn blanks(alloc: Global) -> Answer {
     answer
 }
 
-/// `pieces TEXT`: each literal as it stands, a pair behind `pair`, a reference behind `reference`
-/// with its name and modifiers; or `unclosed at` with the byte where a reference begins that doesn't
-/// end.
+/// `pieces TEXT`: each literal as it is, a pair after `pair`, a reference after `reference`
+/// with its name and modifiers. If a reference doesn't end, it is `unclosed at` with the byte
+/// where that reference begins.
 pub fn pieces_of(alloc: Global, given: &[Vec<u8>]) -> Result<Answer, Trouble> {
     let text = one_text(given)?;
     match pieces(alloc, text) {
@@ -80,7 +80,7 @@ fn told_pieces(alloc: Global, text: &str, pieces: &[Piece]) -> Answer {
 fn add_piece(answer: &mut Answer, text: &str, piece: Piece) {
     match piece {
         Piece::Literal(span) => add_place(answer, text, span.start, span.end),
-        Piece::Pair(span) => {
+        Piece::EscapedDollar(span) => {
             answer.word("pair");
             add_place(answer, text, span.start, span.end);
         }
@@ -97,7 +97,7 @@ fn add_piece(answer: &mut Answer, text: &str, piece: Piece) {
     }
 }
 
-/// Adds what stands at a place of the text.
+/// Adds what is at a place of the text.
 fn add_place(answer: &mut Answer, text: &str, start: usize, end: usize) {
     match text.get(start..end) {
         Some(found) => answer.text(found.as_bytes()),
@@ -131,7 +131,7 @@ pub fn fits(alloc: Global, given: &[Vec<u8>]) -> Result<Answer, Trouble> {
 }
 
 /// `modifiers MODIFIERS of VALUE`: what they make of it, one after another; or `BadMod`, `Length`, or
-/// `Reference` where one isn't expanded.
+/// `Reference` if one isn't expanded.
 pub fn modified(alloc: Global, given: &[Vec<u8>]) -> Result<Answer, Trouble> {
     let [text, value] = given else {
         return Err(Trouble::NoCase);
@@ -159,7 +159,7 @@ fn applied(alloc: Global, mods: &Mods, value: &str) -> Result<Answer, Trouble> {
     Ok(Answer::of_text(alloc, made.as_str()))
 }
 
-/// The modifiers that a text is; none where it is no modifiers.
+/// The modifiers that a text is. `None` if it is no modifiers.
 fn read_modifiers(alloc: Global, text: &str) -> Result<Option<Mods>, Trouble> {
     match Mods::read(alloc, text) {
         Ok(mods) => Ok(Some(mods)),
@@ -192,9 +192,9 @@ pub fn substituted(alloc: Global, given: &[Vec<u8>]) -> Result<Answer, Trouble> 
     Ok(answer)
 }
 
-/// `modifiers as read MODIFIERS`: `M` and `N` with the pattern in single quotes; a `:S` with its old
-/// and new text, in which texts stand in single quotes, the old text as `&` and references between
-/// `<` and `>`; the others by their names.
+/// `modifiers as read MODIFIERS`: `M` and `N` with the pattern in single quotes; a `:S` with its old and
+/// new text; the others by their names. In a `:S` texts are in single quotes, the old text is `&`, and
+/// references are between `<` and `>`.
 pub fn modifiers_as_read(alloc: Global, given: &[Vec<u8>]) -> Result<Answer, Trouble> {
     let Some(mods) = read_modifiers(alloc, one_text(given)?)? else {
         return Ok(Answer::of_word(alloc, "BadMod"));
@@ -237,7 +237,7 @@ fn shown_parts(alloc: Global, parts: &[Part]) -> Result<String, AllocError> {
     Ok(out)
 }
 
-/// `line TEXT`: the kind of the line; of a directive with what stands behind its word, of an
+/// `line TEXT`: the kind of the line; of a directive with what follows its word, of an
 /// assignment with its name and value.
 pub fn kind_of_line(alloc: Global, given: &[Vec<u8>]) -> Result<Answer, Trouble> {
     let kind = line_kind(alloc, one_text(given)?)?;

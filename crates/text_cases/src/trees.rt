@@ -5,8 +5,8 @@ use mk_text::Logical;
 use std::alloc::{AllocError, Global};
 use std::fmt::Write;
 
-/// `tree MAKEFILE`: its nodes in order with semicolons between, a line as `line N` by its number, a
-/// choice as `if N {..} elif N {..} else {..}`, a loop as `for N {..}`; or its fault.
+/// `tree MAKEFILE`: its nodes in order with semicolons between them; or its fault. A line is `line N` by
+/// its number, a choice is `if N {..} elif N {..} else {..}`, a loop is `for N {..}`.
 pub fn tree_of(alloc: Global, given: &[Vec<u8>]) -> Result<Answer, Trouble> {
     let [bytes] = given else {
         return Err(Trouble::NoCase);

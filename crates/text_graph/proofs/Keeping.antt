@@ -7,9 +7,9 @@ use Rattle.std.specs.BTreeSet.{BTreeSet, UpdatesBy, contains_by}
 use Rattle.std.specs.Cmp.Lexicographic.{slice_cmp}
 use Rattle.std.specs.Ordering.{nat_cmp}
 use Rattle.std.specs.Str.{bytes_eq}
-use Rattle.text_cuts.specs.Cuts.{now_all}
-use Rattle.text_order.specs.Order.{in_order}
-use Rattle.text_order.specs.Ordered.{in_order-sorted, among-in_order}
+use Rattle.text_parts.specs.Cuts.{now_all}
+use Rattle.text_parts.specs.Order.{in_order}
+use Rattle.text_parts.specs.Ordered.{in_order-sorted, among-in_order}
 use Rattle.text_graph.specs.declared.arrow.Arrow.{Arrow}
 use Rattle.text_graph.specs.Arrows.{ArrowValue, arrow_seen, arrows_seen}
 use Rattle.text_graph.specs.Reaching.{ListsJust}

@@ -7,8 +7,8 @@ use Rattle.std.specs.List.{Contains, All, filter, list_any}
 use Rattle.std.specs.Cmp.Lexicographic.{slice_cmp}
 use Rattle.std.specs.Ordering.{nat_cmp, eq_by_cmp}
 use Rattle.std.specs.Str.{bytes_eq}
-use Rattle.text_order.specs.Order.{in_order}
-use Rattle.text_order.specs.Ordered.{among, in_order-sorted, among-in_order, same_in_order}
+use Rattle.text_parts.specs.Order.{in_order}
+use Rattle.text_parts.specs.Ordered.{among, in_order-sorted, among-in_order, same_in_order}
 use Rattle.text_graph.specs.Arrows.{ArrowValue, Lead, Way}
 use Rattle.text_graph.specs.Reaching.{IsReached, Reaches, ListsJust}
 use Rattle.text_graph.specs.Searching.{is_among, IsFrom}

@@ -1,5 +1,6 @@
 -- What a search keeps from text to text, and what it has at its end.
 use Rattle.std.proofs.Common.{◌≡◌, ◌∙◌, sym, ap, refl, subst, ℕ, ◌+◌, ◌<◌, ◌≤◌, Bool, true, false, ◌||◌, List, [], ◌∷◌, ◌++◌, map, take, length, get_or, arith, length-append}
+use Rattle.std.proofs.lemmas.Bool.{or_left, or_right}
 use Rattle.std.proofs.lemmas.Cmp.{nat_list_eq_equiv}
 use Rattle.std.proofs.lemmas.List.{take_all, take_more, length-map}
 use Rattle.std.proofs.lemmas.List.Folds.{list_any-append}
@@ -29,14 +30,6 @@ pub record Searched (starts : List (List ℕ)) (arrows : List ArrowValue) (found
 or_cases : {P : Type 0} (a b : Bool) → (a || b) ≡ true → (a ≡ true → P) → (b ≡ true → P) → P
 or_cases true b is left right = left refl
 or_cases false b is left right = right is
-
-or_left : (a b : Bool) → a ≡ true → (a || b) ≡ true
-or_left true b is = refl
-or_left false b is = cc
-
-or_right : (a b : Bool) → b ≡ true → (a || b) ≡ true
-or_right true b is = refl
-or_right false b is = is
 
 -- a text that is added is one of the new ones, or was there
 new_or_there : {P : Type 0} (text : List ℕ) (texts more : List (List ℕ)) → is_among text (all_added texts more) ≡ true → (is_among text more ≡ true → P) → (is_among text texts ≡ true → P) → P

@@ -6,14 +6,15 @@ pub record ArrowValue : Type 0 where
   pub from : List ℕ
   pub to : List ℕ
 
--- what arrows between texts behind references are
+-- the arrows between the texts that references point to
 abbrev pub arrow_seen : Arrow → ArrowValue
 arrow_seen arrow = record { from = arrow.from.now; to = arrow.to.now }
 
 abbrev pub arrows_seen : List Arrow → List ArrowValue
 arrows_seen arrows = map arrow_seen arrows
 
--- arrows, one behind another, lead from a text to a text: each begins where the one before it ended; with none of them one stays where one is
+-- arrows, one after another, lead from a text to a text: each begins where the one before it ended; an
+-- empty list leads from a text to itself
 unfoldable pub Lead : List ArrowValue → List ℕ → List ℕ → Type 0
 Lead [] from to = from ≡ to
 Lead (arrow ∷ way) from to = (arrow.from ≡ from) × Lead way arrow.to to

@@ -5,7 +5,8 @@ use Rattle.std.specs.List.Sorted.{IsStrictlySortedBy}
 use Rattle.std.specs.Ordering.{nat_cmp}
 use Rattle.text_graph.specs.Arrows.{ArrowValue, Way}
 
--- a text is reached over one or more arrows: the first is one of the first ones, and each other one of the others
+-- a text is reached over one or more arrows: the first arrow is one of `first`, and each other is one of
+-- `arrows`
 pub record IsReached (first arrows : List ArrowValue) (text : List ℕ) : Type 0 where
   pub start : ArrowValue
   pub is_first : Contains first start
@@ -18,7 +19,7 @@ pub record Reaches (arrows : List ArrowValue) (goal text : List ℕ) : Type 0 wh
   pub begins : start.from ≡ text
   pub further : Way arrows start.to goal
 
--- just the texts of which something holds, in the order of their bytes, each once
+-- exactly the texts of which something holds, in the order of their bytes, each once
 pub record ListsJust (P : List ℕ → Type 0) (texts : List (List ℕ)) : Type 0 where
   pub in_order : IsStrictlySortedBy (slice_cmp nat_cmp) texts
   pub just : (text : List ℕ) → Contains texts text ↔ P text

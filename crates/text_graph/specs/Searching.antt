@@ -7,7 +7,7 @@ use Rattle.std.specs.List.{list_any}
 use Rattle.std.specs.Option.{option_map_or}
 use Rattle.std.specs.Ordering.{nat_cmp}
 use Rattle.std.specs.Str.{bytes_eq}
-use Rattle.text_cuts.specs.Cuts.{now_all}
+use Rattle.text_parts.specs.Cuts.{now_all}
 use Rattle.text_graph.specs.Arrows.{ArrowValue, Way}
 use Rattle.text_graph.specs.declared.steps.Steps.{Steps}
 use Rattle.text_graph.specs.declared.searching.Found.{Found}
@@ -34,13 +34,15 @@ added texts text = if is_among text texts then texts else texts ++ text ∷ []
 abbrev pub all_added : List (List ℕ) → List (List ℕ) → List (List ℕ)
 all_added texts more = fold added texts more
 
--- the texts that were found, in the order in which they were
+-- the texts that were found, in the order in which they were found
 abbrev pub found_texts : Found → List (List ℕ)
 found_texts found = now_all found.texts.items
 
--- the set knows just these
+-- the set knows exactly these texts
 abbrev pub KnowsItsTexts : Found → Type 0
-KnowsItsTexts found = (text : List ℕ) → sorted.contains_by (λ held. slice_cmp nat_cmp text held.now) found.known ≡ is_among text (found_texts found)
+KnowsItsTexts found =
+    (text : List ℕ)
+    → sorted.contains_by (λ held. slice_cmp nat_cmp text held.now) found.known ≡ is_among text (found_texts found)
 
 -- a text is one of the starts, or is reached from one of them
 pub record IsFrom (starts : List (List ℕ)) (arrows : List ArrowValue) (text : List ℕ) : Type 0 where
@@ -48,6 +50,6 @@ pub record IsFrom (starts : List (List ℕ)) (arrows : List ArrowValue) (text : 
   pub is_start : Contains starts start
   pub way : Way arrows start text
 
--- the texts that a search found are the starts and those that are reached from them
+-- the texts that a search found are exactly the starts and those that are reached from them
 abbrev pub FindsAll : List (List ℕ) → List ArrowValue → List (List ℕ) → Type 0
 FindsAll starts arrows texts = (text : List ℕ) → (is_among text texts ≡ true) ↔ IsFrom starts arrows text

@@ -1,6 +1,6 @@
 //! Arrows from text to text.
 ghost use Rattle.std.specs.Prelude.{◌≡◌, IfOk, map};
-ghost use Rattle.text_cuts.specs.Cuts.{now_all};
+ghost use Rattle.text_parts.specs.Cuts.{now_all};
 ghost use Rattle.text_graph.specs.Arrows.{ArrowValue, arrows_seen};
 ghost use Rattle.text_graph.specs.Searching as searching;
 
@@ -9,15 +9,16 @@ use std::alloc::{AllocError, Global};
 /// An arrow from a text to a text.
 #[derive(Clone, Copy, Debug)]
 pub struct Arrow<'a> {
-    /// Where it begins.
+    /// The text where it begins.
     pub from: &'a str,
-    /// Where it ends.
+    /// The text where it ends.
     pub to: &'a str,
 }
 
-/// The same arrows, the other way round.
+/// The same arrows, turned: each from its end to its beginning.
 pub(crate) fn turned<'a>(alloc: Global, arrows: &[Arrow<'a>]) -> Result<Vec<Arrow<'a>>, AllocError>
-    ensures { IfOk result (λ turned. arrows_seen turned.items ≡ map searching.turned (arrows_seen arrows.now)) }
+    ensures { IfOk result (λ turned. arrows_seen turned.items
+        ≡ map searching.turned (arrows_seen arrows.now)) }
 {
     let mut turned = Vec::with_capacity(alloc, arrows.len())?;
     for arrow in arrows {
@@ -29,9 +30,10 @@ pub(crate) fn turned<'a>(alloc: Global, arrows: &[Arrow<'a>]) -> Result<Vec<Arro
     Ok(turned)
 }
 
-/// Where these arrows end.
+/// The texts where these arrows end.
 pub(crate) fn ends<'a>(alloc: Global, arrows: &[Arrow<'a>]) -> Result<Vec<&'a str>, AllocError>
-    ensures { IfOk result (λ ends. now_all ends.items ≡ map (λ (arrow : ArrowValue). arrow.to) (arrows_seen arrows.now)) }
+    ensures { IfOk result (λ ends. now_all ends.items
+        ≡ map (λ (arrow : ArrowValue). arrow.to) (arrows_seen arrows.now)) }
 {
     let mut ends = Vec::with_capacity(alloc, arrows.len())?;
     for arrow in arrows {
@@ -40,13 +42,14 @@ pub(crate) fn ends<'a>(alloc: Global, arrows: &[Arrow<'a>]) -> Result<Vec<&'a st
     Ok(ends)
 }
 
-/// Where the arrows begin that end at a text.
+/// The texts where the arrows begin that end at `goal`.
 pub(crate) fn beginnings<'a>(
     alloc: Global,
     arrows: &[Arrow<'a>],
     goal: &str,
 ) -> Result<Vec<&'a str>, AllocError>
-    ensures { IfOk result (λ beginnings. now_all beginnings.items ≡ searching.next_of (map searching.turned (arrows_seen arrows.now)) goal.now) }
+    ensures { IfOk result (λ beginnings. now_all beginnings.items
+        ≡ searching.next_of (map searching.turned (arrows_seen arrows.now)) goal.now) }
 {
     let mut beginnings = Vec::new(alloc);
     for arrow in arrows {

@@ -1,7 +1,7 @@
 //! All texts that are reached, and all that reach a text.
 ghost use Rattle.std.specs.Prelude.{◌≡◌, IfOk};
-ghost use Rattle.text_order.specs.Order.{in_order};
-ghost use Rattle.text_cuts.specs.Cuts.{now_all};
+ghost use Rattle.text_parts.specs.Order.{in_order};
+ghost use Rattle.text_parts.specs.Cuts.{now_all};
 ghost use Rattle.text_graph.specs.Arrows.{arrows_seen};
 ghost use Rattle.text_graph.specs.Listed.{reached_list, reaching_list};
 
@@ -9,14 +9,16 @@ use crate::arrow::{Arrow, beginnings, ends, turned};
 use crate::searching::search;
 use std::alloc::{AllocError, Global};
 
-/// All texts that are reached over one or more arrows, the first of them one of `first` and each other one
-/// of `arrows`, in the order of their bytes, each once. It fails where no memory is left.
+/// All texts that are reached over one or more arrows: the first arrow is one of `first`, and each
+/// other is one of `arrows`. The texts are in the order of their bytes, each once. It fails only if
+/// memory runs out.
 pub fn reached<'a>(
     alloc: Global,
     first: &[Arrow<'a>],
     arrows: &[Arrow<'a>],
 ) -> Result<Vec<&'a str>, AllocError>
-    ensures { IfOk result (λ texts. now_all texts.items ≡ reached_list (arrows_seen first.now) (arrows_seen arrows.now)) }
+    ensures { IfOk result (λ texts. now_all texts.items
+        ≡ reached_list (arrows_seen first.now) (arrows_seen arrows.now)) }
 {
     let starts = ends(alloc, first)?;
     let mut texts = search(alloc, &starts, arrows)?;
@@ -24,14 +26,15 @@ pub fn reached<'a>(
     Ok(texts)
 }
 
-/// All texts that reach a text over one or more arrows, in the order of their bytes, each once. It fails
-/// where no memory is left.
+/// All texts from which one or more of `arrows` lead to `goal`, in the order of their bytes, each once.
+/// It fails only if memory runs out.
 pub fn reaching<'a>(
     alloc: Global,
     arrows: &[Arrow<'a>],
     goal: &str,
 ) -> Result<Vec<&'a str>, AllocError>
-    ensures { IfOk result (λ texts. now_all texts.items ≡ reaching_list (arrows_seen arrows.now) goal.now) }
+    ensures { IfOk result (λ texts. now_all texts.items
+        ≡ reaching_list (arrows_seen arrows.now) goal.now) }
 {
     let starts = beginnings(alloc, arrows, goal)?;
     let back = turned(alloc, arrows)?;
@@ -40,7 +43,7 @@ pub fn reaching<'a>(
     Ok(texts)
 }
 
-/// Puts texts in the order of their bytes, and leaves one of each.
+/// Sorts texts by their bytes, and leaves one of each.
 fn put_in_order(texts: &mut Vec<&str>)
     ensures { now_all texts.new.items ≡ in_order (now_all texts.old.items) }
 {

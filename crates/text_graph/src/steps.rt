@@ -1,7 +1,7 @@
 //! Where the arrows from each text lead.
 ghost use Rattle.std.specs.Prelude.{◌≡◌, ℕ, List, [], IfOk};
 ghost use Rattle.std.specs.Option.{option_map_or};
-ghost use Rattle.text_cuts.specs.Cuts.{now_all};
+ghost use Rattle.text_parts.specs.Cuts.{now_all};
 ghost use Rattle.text_graph.specs.Arrows.{arrows_seen};
 ghost use Rattle.text_graph.specs.Searching.{next_of, next_kept};
 
@@ -9,8 +9,8 @@ use crate::arrow::Arrow;
 use std::alloc::{AllocError, Global};
 use std::collections::BTreeMap;
 
-/// Where the arrows from each text lead, looked up in time in proportion to the logarithm of the number
-/// of texts.
+/// Where the arrows from each text lead. Looking one up takes time in proportion to the logarithm of
+/// the number of texts.
 #[derive(Drop)]
 pub(crate) struct Steps<'a> {
     next: BTreeMap<&'a str, Vec<&'a str>>,
@@ -19,7 +19,8 @@ pub(crate) struct Steps<'a> {
 impl<'a> Steps<'a> {
     /// The steps over these arrows.
     pub(crate) fn over(alloc: Global, arrows: &[Arrow<'a>]) -> Result<Steps<'a>, AllocError>
-        ensures { IfOk result (λ steps. (text : List ℕ) → next_kept steps text ≡ next_of (arrows_seen arrows.now) text) }
+        ensures { IfOk result (λ steps. (text : List ℕ)
+            → next_kept steps text ≡ next_of (arrows_seen arrows.now) text) }
     {
         let mut next: BTreeMap<&'a str, Vec<&'a str>> = BTreeMap::new(alloc);
         for arrow in arrows {
@@ -28,9 +29,11 @@ impl<'a> Steps<'a> {
         Ok(Steps { next })
     }
 
-    /// Where the arrows from a text lead, in the order of the arrows; `None` where there are no arrows.
+    /// Where the arrows from a text lead, in the order of the arrows; `None` if there are no arrows
+    /// from it.
     pub(crate) fn next(&self, text: &'a str) -> Option<&Vec<&'a str>>
-        ensures { option_map_or (λ next. now_all next.now.items) result [] ≡ next_kept self.now text.now }
+        ensures { option_map_or (λ next. now_all next.now.items) result []
+            ≡ next_kept self.now text.now }
     {
         self.next.get(&text)
     }

@@ -7,7 +7,7 @@ use ports_http::Method;
 use std::alloc::{AllocError, Global};
 use tenant_store::TenantStore;
 
-/// What lines without `=>` set up for those behind them.
+/// What lines without `=>` set up for the lines after them.
 #[derive(Drop)]
 pub struct Bench {
     alloc: Global,
@@ -26,7 +26,8 @@ impl Bench {
         })
     }
 
-    /// Sets up what a line without `=>` says.
+    /// Sets up what a line without `=>` says. The error is `NoCase` if the line is in no form of a case or
+    /// can't be set up, and `Memory` if memory runs out.
     pub fn set_up(&mut self, call: &str, given: &[Vec<u8>]) -> Result<(), Trouble> {
         match call {
             "empty store" => self.store = Some(stores::empty(self.alloc)?),
@@ -36,7 +37,8 @@ impl Bench {
         Ok(())
     }
 
-    /// What the call of a line gives.
+    /// What the call of a line gives. The error is `NoCase` if the line is in no form of a case, or what it
+    /// needs can't be made. It is `Memory` if memory runs out.
     pub fn answer(&mut self, call: &str, given: &[Vec<u8>]) -> Result<Answer, Trouble> {
         let alloc = self.alloc;
         match call {

@@ -6,16 +6,42 @@ use case_lines::{Answer, Line, Trouble};
 use std::alloc::{AllocError, Global};
 use std::net::Net;
 
-/// The cases of an input, as far as they were taken.
+/// What begins a line that continues the one before it.
+const INDENT: &str = "    ";
+
+/// The cases of some files, as far as they were taken.
 #[derive(Drop)]
 pub struct Cases {
     alloc: Global,
     bench: Bench,
-    script: Option<Script>,
-    /// The number of the line.
+    open: Open,
+    /// The name of the file.
+    file: String,
+    /// The number of its last line that was taken.
     line: u64,
     count: u64,
     wrong: u64,
+}
+
+/// What the next line may continue.
+#[derive(Drop)]
+enum Open {
+    Nothing,
+    /// A case, or a line that sets something up; indented lines continue it.
+    Call(Call),
+    /// The same up to its block, of which some lines were taken.
+    Block(Call),
+    Script(Script),
+}
+
+/// A case, or a line that sets something up, as far as its lines were taken.
+#[derive(Drop)]
+struct Call {
+    /// The number of its first line.
+    line: u64,
+    words: String,
+    /// The lines of its block, if it has one.
+    block: Option<String>,
 }
 
 /// A case that is a whole script, as far as its lines were taken.
@@ -32,7 +58,8 @@ impl Cases {
         Ok(Cases {
             alloc,
             bench: Bench::new(alloc)?,
-            script: None,
+            open: Open::Nothing,
+            file: String::new(alloc),
             line: 0,
             count: 0,
             wrong: 0,
@@ -44,55 +71,114 @@ impl Cases {
         self.count
     }
 
-    /// How many of them differed.
+    /// How many of them differed, with the lines that are no case.
     pub fn wrong(&self) -> u64 {
         self.wrong
     }
 
-    /// Whether a script was begun and not ended.
-    pub fn is_open(&self) -> bool {
-        self.script.is_some()
+    /// Begins a file: nothing that another file set up is left.
+    pub fn begin_file(&mut self, name: &str) -> Result<(), AllocError> {
+        self.bench = Bench::new(self.alloc)?;
+        self.file = String::from_str(self.alloc, name)?;
+        self.line = 0;
+        Ok(())
     }
 
-    /// Takes the next line; gives what is to be told of it, where its case differs or it is none. The
-    /// error: there was no memory.
+    /// Ends a file, and gives what is wrong with its last case.
+    pub fn end_file(&mut self, net: &impl Net) -> Result<Option<String>, AllocError> {
+        match std::mem::replace(&mut self.open, Open::Nothing) {
+            Open::Nothing => Ok(None),
+            Open::Call(call) => self.settle(net, call),
+            Open::Block(_) | Open::Script(_) => self.no_case(self.line),
+        }
+    }
+
+    /// Takes the next line, and gives what is wrong with the case that it ends.
     pub fn take(&mut self, net: &impl Net, text: &str) -> Result<Option<String>, AllocError> {
         self.line = self.line.saturating_add(1);
-        let told = match self.script.take() {
-            Some(script) => self.take_script(script, text),
-            None => self.take_line(net, text),
-        };
-        match told {
-            Ok(told) => Ok(told),
-            Err(Trouble::Memory) => Err(AllocError),
-            Err(Trouble::NoCase) => {
-                self.wrong = self.wrong.saturating_add(1);
-                let line = self.line;
-                Ok(Some(format!(in self.alloc; "line {line}: no case")?))
+        match std::mem::replace(&mut self.open, Open::Nothing) {
+            Open::Nothing => {
+                self.begin(text)?;
+                Ok(None)
             }
+            Open::Call(call) if text.starts_with(INDENT) => self.take_more(call, text),
+            Open::Call(call) => {
+                self.begin(text)?;
+                self.settle(net, call)
+            }
+            Open::Block(call) => self.take_block(call, text),
+            Open::Script(script) => self.take_script(script, text),
         }
     }
 
-    fn take_line(&mut self, net: &impl Net, text: &str) -> Result<Option<String>, Trouble> {
+    /// Begins with a line what it begins; an empty line and a comment begin nothing.
+    fn begin(&mut self, text: &str) -> Result<(), AllocError> {
         if text.is_empty() || text.starts_with('#') {
-            return Ok(None);
+            return Ok(());
         }
-        match text.strip_prefix("script ") {
-            Some(words) => self.begin_script(words),
-            None => self.take_case(net, &Line::read(self.alloc, text)?),
+        if let Some(words) = text.strip_prefix("script ") {
+            self.open = Open::Script(Script::new(self.alloc, words)?);
+            return Ok(());
         }
+        let (words, has_block) = match text.strip_suffix(" lines") {
+            Some(words) => (words, true),
+            None => (text, false),
+        };
+        let mut call = Call {
+            line: self.line,
+            words: String::from_str(self.alloc, words)?,
+            block: None,
+        };
+        if has_block {
+            call.block = Some(String::new(self.alloc));
+            self.open = Open::Block(call);
+        } else {
+            self.open = Open::Call(call);
+        }
+        Ok(())
     }
 
-    fn begin_script(&mut self, words: &str) -> Result<Option<String>, Trouble> {
-        self.script = Some(Script {
-            words: String::from_str(self.alloc, words)?,
-            input: String::new(self.alloc),
-            printed: None,
-        });
+    /// Adds an indented line to a case.
+    fn take_more(&mut self, mut call: Call, text: &str) -> Result<Option<String>, AllocError> {
+        call.words.push(' ')?;
+        call.words.push_str(text.trim_start_matches(' '))?;
+        self.open = Open::Call(call);
         Ok(None)
     }
 
-    fn take_case(&mut self, net: &impl Net, line: &Line) -> Result<Option<String>, Trouble> {
+    /// Takes a line of a block, or its end, which may say what the call must give.
+    fn take_block(&mut self, mut call: Call, text: &str) -> Result<Option<String>, AllocError> {
+        if text == "end" || text.starts_with("end =>") {
+            if let Some(wanted) = text.strip_prefix("end") {
+                call.words.push_str(wanted)?;
+            }
+            self.open = Open::Call(call);
+            return Ok(None);
+        }
+        if let Some(block) = &mut call.block {
+            block.push_str(text)?;
+            block.push('\n')?;
+        }
+        self.open = Open::Block(call);
+        Ok(None)
+    }
+
+    /// Does what a line sets up, or makes the call of a case and judges it.
+    fn settle(&mut self, net: &impl Net, call: Call) -> Result<Option<String>, AllocError> {
+        let line = call.line;
+        match self.answer(net, call) {
+            Ok(wrong) => Ok(wrong),
+            Err(Trouble::Memory) => Err(AllocError),
+            Err(Trouble::NoCase) => self.no_case(line),
+        }
+    }
+
+    fn answer(&mut self, net: &impl Net, call: Call) -> Result<Option<String>, Trouble> {
+        let mut line = Line::read(self.alloc, call.words.as_str())?;
+        if let Some(block) = &call.block {
+            line.given
+                .push(Vec::from_slice(self.alloc, block.as_bytes())?)?;
+        }
         let given = line.given.as_slice();
         let Some(wanted) = &line.wanted else {
             self.bench.set_up(line.call.as_str(), given)?;
@@ -100,64 +186,108 @@ impl Cases {
         };
         let answer = match line.call.as_str() {
             "loopback" => loopback::answered(self.alloc, net, given)?,
-            call => self.bench.answer(call, given)?,
+            name => self.bench.answer(name, given)?,
         };
-        self.judge(answer.whole()?, wanted.as_str())
+        self.judge(call.line, answer.whole()?, wanted.as_str())
     }
 
     /// Takes a line of a script: of its input, or of what must be printed, or its end.
-    fn take_script(&mut self, mut script: Script, text: &str) -> Result<Option<String>, Trouble> {
-        match (&mut script.printed, text.starts_with("status ")) {
-            (Some(_), true) => return self.run(&script, text),
-            (Some(printed), false) => {
-                printed.push_str(text)?;
-                printed.push('\n')?;
-            }
-            (None, _) if text == "prints" => script.printed = Some(String::new(self.alloc)),
-            (None, _) => {
-                script.input.push_str(text)?;
-                script.input.push('\n')?;
-            }
+    fn take_script(
+        &mut self,
+        mut script: Script,
+        text: &str,
+    ) -> Result<Option<String>, AllocError> {
+        let is_printed = script.printed.is_some();
+        if is_printed && text.starts_with("status ") {
+            return self.run(&script, text);
         }
-        self.script = Some(script);
+        if !is_printed && text == "prints" {
+            script.printed = Some(String::new(self.alloc));
+        } else {
+            script.add(text)?;
+        }
+        self.open = Open::Script(script);
         Ok(None)
     }
 
-    /// Runs a script whose last line is this one: `status N`, and `says TEXT` where the program says
+    /// Runs a script whose last line is this one: `status N`, and `says TEXT` if the program says
     /// something on standard error.
-    fn run(&mut self, script: &Script, last: &str) -> Result<Option<String>, Trouble> {
-        let ran = run_program(self.alloc, script.words.as_str(), script.input.as_bytes())?;
-        let told = told_of_run(self.alloc, &ran);
+    fn run(&mut self, script: &Script, last: &str) -> Result<Option<String>, AllocError> {
+        let judged = match run_program(self.alloc, script.words.as_str(), script.input.as_bytes()) {
+            Ok(ran) => self.judge_run(script, &ran, last),
+            Err(trouble) => Err(trouble),
+        };
+        match judged {
+            Ok(wrong) => Ok(wrong),
+            Err(Trouble::Memory) => Err(AllocError),
+            Err(Trouble::NoCase) => self.no_case(self.line),
+        }
+    }
+
+    fn judge_run(
+        &mut self,
+        script: &Script,
+        ran: &Ran,
+        last: &str,
+    ) -> Result<Option<String>, Trouble> {
+        let given = answer_of_run(self.alloc, ran);
         let mut wanted = Answer::new(self.alloc);
         if let Some(printed) = &script.printed {
             wanted.text(printed.as_bytes());
         }
         wanted.word(last);
-        self.judge(told.whole()?, wanted.whole()?)
+        self.judge(self.line, given.whole()?, wanted.whole()?)
     }
 
-    /// Counts a case, and tells where it differs.
-    fn judge(&mut self, told: &str, wanted: &str) -> Result<Option<String>, Trouble> {
+    /// Counts a case, and says where it differs.
+    fn judge(&mut self, line: u64, given: &str, wanted: &str) -> Result<Option<String>, Trouble> {
         self.count = self.count.saturating_add(1);
-        if told == wanted {
+        if given == wanted {
             return Ok(None);
         }
         self.wrong = self.wrong.saturating_add(1);
-        let line = self.line;
-        Ok(Some(format!(in self.alloc; "line {line}: {told}, not {wanted}")?))
+        let file = self.file.as_str();
+        Ok(Some(format!(in self.alloc; "{file}:{line}: {given}, not {wanted}")?))
+    }
+
+    /// Counts a line that is no case, and says which one it is.
+    fn no_case(&mut self, line: u64) -> Result<Option<String>, AllocError> {
+        self.wrong = self.wrong.saturating_add(1);
+        let file = self.file.as_str();
+        Ok(Some(format!(in self.alloc; "{file}:{line}: no case")?))
     }
 }
 
-/// What is told of a run of the program: what it printed, its status, and what it said where it said
-/// something.
-fn told_of_run(alloc: Global, ran: &Ran) -> Answer {
-    let mut told = Answer::new(alloc);
-    told.text(ran.printed.as_slice());
-    told.word("status");
-    told.number(u64::from(ran.status));
-    if !ran.said.is_empty() {
-        told.word("says");
-        told.text(ran.said.as_slice());
+impl Script {
+    fn new(alloc: Global, words: &str) -> Result<Script, AllocError> {
+        Ok(Script {
+            words: String::from_str(alloc, words)?,
+            input: String::new(alloc),
+            printed: None,
+        })
     }
-    told
+
+    /// Adds a line to what must be printed, or to the input before that begins.
+    fn add(&mut self, text: &str) -> Result<(), AllocError> {
+        let lines = match &mut self.printed {
+            Some(printed) => printed,
+            None => &mut self.input,
+        };
+        lines.push_str(text)?;
+        lines.push('\n')
+    }
+}
+
+/// A run of the program, in the words of a case: what it printed, its status, and what it said, if it
+/// said something.
+fn answer_of_run(alloc: Global, ran: &Ran) -> Answer {
+    let mut answer = Answer::new(alloc);
+    answer.text(ran.printed.as_slice());
+    answer.word("status");
+    answer.number(u64::from(ran.status));
+    if !ran.said.is_empty() {
+        answer.word("says");
+        answer.text(ran.said.as_slice());
+    }
+    answer
 }

@@ -6,8 +6,7 @@ use crate::service::{bytes_told, service_of_one};
 use case_lines::{Answer, Trouble};
 use mio::net::TcpStream;
 use ports_host::{Loopback, Sockets};
-use ports_program::Listen;
-use ports_serve::{Outcome, Wire, serve};
+use ports_serve::{Listen, Outcome, Wire, serve};
 use std::alloc::Global;
 use std::io::{Read, Write};
 use std::net::Net;
@@ -75,8 +74,8 @@ impl Wire for Pair {
     }
 }
 
-/// `loopback BYTES`: what a client that sends these bytes over a socket is sent, within 200 rounds of a service
-/// with the key `alpha`, and whether its connection is then `open` or `closed`.
+/// `loopback BYTES`: what a client that sends these bytes over a socket is sent, within 200 rounds of a
+/// service with the key `alpha`, and whether its connection is then `open` or `closed`.
 pub fn answered(alloc: Global, net: &impl Net, given: &[Vec<u8>]) -> Result<Answer, Trouble> {
     let [sent] = given else {
         return Err(Trouble::NoCase);

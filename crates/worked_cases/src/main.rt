@@ -1,6 +1,7 @@
-//! `worked_cases` reads cases from standard input, calls the layer that each names, and prints the
-//! cases that differ and how many there were. The form of a case stands at the head of the input that
-//! lies beside this program, the file `stdin`.
+//! `worked_cases` reads files of cases, calls the layer that each case names, and prints the cases that
+//! differ and how many there were. The words of its command line name the files; if there is none, it
+//! reads standard input. The files are in the folder `data` beside this program, one a layer, each with
+//! a list of its calls on top.
 #![tactic(auto)]
 
 mod bench;
@@ -14,30 +15,37 @@ mod streams;
 mod trickle;
 
 use cases::Cases;
-use std::io;
+use ports_host::words_given;
+use std::{fs, io};
 
 fn main(rt: HostRuntime) -> io::Result<()> {
-    let input = io::read_to_string(rt.alloc(), rt.reader())?;
+    let words = words_given(&rt)?;
     let mut cases = Cases::new(rt.alloc())?;
-    take_all(&rt, &mut cases, input.as_str())?;
-    tell_counts(&rt, &cases)
-}
-
-/// Takes each line of the input, and prints what is to be told of it.
-fn take_all(rt: &HostRuntime, cases: &mut Cases, input: &str) -> io::Result<()> {
-    for line in input.lines() {
-        if let Some(wrong) = cases.take(rt, line)? {
-            println!(rt; "{wrong}")?;
-        }
+    if words.len() < 2 {
+        let input = io::read_to_string(rt.alloc(), rt.reader())?;
+        take_file(&rt, &mut cases, "standard input", input.as_str())?;
     }
-    Ok(())
-}
-
-fn tell_counts(rt: &HostRuntime, cases: &Cases) -> io::Result<()> {
+    for name in words.iter().skip(1) {
+        let input = fs::read_to_string(&rt, name.as_str())?;
+        take_file(&rt, &mut cases, name.as_str(), input.as_str())?;
+    }
     let count = cases.count();
     let wrong = cases.wrong();
-    if cases.is_open() {
-        println!(rt; "the last script has no end")?;
-    }
     println!(rt; "{count} cases, {wrong} differ")
+}
+
+/// Takes each line of a file, and prints what is wrong.
+fn take_file(rt: &HostRuntime, cases: &mut Cases, name: &str, input: &str) -> io::Result<()> {
+    cases.begin_file(name)?;
+    for line in input.lines() {
+        tell(rt, cases.take(rt, line)?)?;
+    }
+    tell(rt, cases.end_file(rt)?)
+}
+
+fn tell(rt: &HostRuntime, wrong: Option<String>) -> io::Result<()> {
+    match wrong {
+        Some(wrong) => println!(rt; "{wrong}"),
+        None => Ok(()),
+    }
 }

@@ -2,11 +2,10 @@
 ghost use Rattle.std.specs.Prelude.{ℕ};
 ghost use Rattle.ports_serve.specs.Calls.{Call};
 
-use ports_program::{Listen, ListenFault};
-use ports_serve::{Outcome, Wire};
+use ports_serve::{Listen, ListenFault, Outcome, Wire};
 use std::alloc::Global;
 
-/// What listens on any port but 1, which can't be had, and 2, for which there is no memory.
+/// What listens on any port but 1, which isn't available, and 2, for which there is no memory.
 #[derive(Clone, Copy)]
 pub struct QuietPorts;
 

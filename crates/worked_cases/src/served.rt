@@ -49,7 +49,7 @@ pub fn new(alloc: Global) -> Result<StoredService, Trouble> {
     Service::new(alloc, config).map_err(|_| Trouble::NoCase)
 }
 
-/// What requests to the service are answered.
+/// What the service answers to requests.
 pub fn answer(
     alloc: Global,
     service: &mut StoredService,
@@ -86,7 +86,7 @@ fn asked_told(
     Ok(reply_told(alloc, &reply))
 }
 
-/// The reply to a request on a new connection, which is lost behind it.
+/// The reply to a request on a new connection, which is lost after the request.
 fn ask(alloc: Global, service: &mut StoredService, asked: Asked<'_>) -> Result<Reply, Trouble> {
     let conn = service.next_conn();
     let piece = Event::Piece(conn, stream_of(alloc, asked)?);
@@ -97,7 +97,7 @@ fn ask(alloc: Global, service: &mut StoredService, asked: Asked<'_>) -> Result<R
     reply.ok_or(Trouble::NoCase)
 }
 
-/// The reply that an event tells.
+/// The reply that an event gives, if it gives one.
 fn happen(service: &mut StoredService, event: &Event) -> Result<Option<Reply>, Trouble> {
     if !service.allows(event) {
         return Err(Trouble::NoCase);
@@ -119,8 +119,8 @@ fn stream_of(alloc: Global, asked: Asked<'_>) -> Result<Vec<u8>, Trouble> {
     Ok(bytes)
 }
 
-/// `service fill TENANT N BYTES`: how many of N files of these bytes are stored, and what the first that
-/// isn't is told.
+/// `service fill TENANT N BYTES`: how many of N files of these bytes are stored, and the
+/// reply to the first that isn't.
 fn fill(alloc: Global, service: &mut StoredService, given: &[Vec<u8>]) -> Result<Answer, Trouble> {
     let [tenant, count, body] = given else {
         return Err(Trouble::NoCase);
@@ -140,8 +140,8 @@ fn fill(alloc: Global, service: &mut StoredService, given: &[Vec<u8>]) -> Result
 }
 
 /// `service PUT stopped TENANT TARGET BODY by PROBE`, `service DELETE stopped TENANT TARGET by PROBE`: the
-/// request under a limit of 1, 2, 3 .. steps of the store until it isn't answered 503; whether a GET of the
-/// probe gave behind each 503 what it gave before, and the last status.
+/// request under a limit of 1, 2, 3 .. steps of the store until it isn't answered 503. It gives whether a
+/// GET of the probe gave after each 503 what it gave before, and the last status.
 fn stopped(
     alloc: Global,
     service: &mut StoredService,

@@ -12,13 +12,13 @@ use ports_program::run_command;
 use ports_script::read_script;
 use std::alloc::{AllocError, Global};
 use std::fmt::Write;
-use tenant_worlds::StoredWorlds;
+use tenant_worlds::StoredTenants;
 
 /// The service over worlds in one store.
-pub type StoredService = Service<StoredWorlds>;
+pub type StoredService = Service<StoredTenants>;
 
-/// `stream PIECE..`: the requests of a stream that comes in these pieces, each as its method, target
-/// and body, with `key` and its key, and `closes` where it does; then how the stream ends.
+/// `stream PIECE..`: the requests of a stream that comes in these pieces, each as its method, target and
+/// body, with `key` and its key, and `closes` if it does; then how the stream ends.
 pub fn stream(alloc: Global, given: &[Vec<u8>]) -> Result<Answer, Trouble> {
     let decoded = decode(alloc, given)?;
     let mut answer = Answer::new(alloc);
@@ -46,7 +46,7 @@ fn add_request(answer: &mut Answer, request: &Request) {
     }
 }
 
-/// `stream by bytes TEXT`: the same, each byte being a piece.
+/// `stream by bytes TEXT`: the same; each byte is a piece.
 pub fn stream_by_bytes(alloc: Global, given: &[Vec<u8>]) -> Result<Answer, Trouble> {
     let [text] = given else {
         return Err(Trouble::NoCase);
@@ -67,7 +67,7 @@ pub fn file_reply(alloc: Global, given: &[Vec<u8>]) -> Result<Answer, Trouble> {
     Ok(bytes_told(alloc, write_reply(alloc, &reply, false)?.as_slice()))
 }
 
-/// `reply method`: a 405 of a route that has every method, behind which the connection closes.
+/// `reply method`: a 405 of a route that has every method, after which the connection closes.
 pub fn method_reply(alloc: Global) -> Result<Answer, Trouble> {
     let text = "{\"error\":\"Method\"}";
     let reply = Reply::of_text(
@@ -168,7 +168,7 @@ impl Ran {
     }
 }
 
-/// Runs the program on an input, with the words of its command line behind its own name.
+/// Runs the program on an input, with these words of its command line after its own name.
 pub fn run_program(alloc: Global, words: &str, input: &[u8]) -> Result<Ran, Trouble> {
     let mut arguments = Vec::new(alloc);
     arguments.push(String::from_str(alloc, "portsd")?)?;
@@ -180,7 +180,7 @@ pub fn run_program(alloc: Global, words: &str, input: &[u8]) -> Result<Ran, Trou
     let mut printed = Vec::new(alloc);
     let mut said = Vec::new(alloc);
     let mut reader = input;
-    let status = run_command::<StoredWorlds, _, _, _, _>(
+    let status = run_command::<StoredTenants, _, _, _, _>(
         alloc,
         arguments.as_slice(),
         &mut reader,
@@ -214,8 +214,8 @@ pub fn status_told(alloc: Global, status: u8) -> Answer {
     answer
 }
 
-/// `open and end N`: how many connections close where so many are opened and ended one after another
-/// and then one more is opened; `refused` where one wasn't opened.
+/// `open and end N`: how many connections close if so many are opened and ended one after another and then
+/// one more is opened; `refused` if one wasn't opened.
 pub fn open_and_end(alloc: Global, given: &[Vec<u8>]) -> Result<Answer, Trouble> {
     let [count] = given else {
         return Err(Trouble::NoCase);
@@ -242,8 +242,8 @@ fn opening_and_ending(alloc: Global, count: u64) -> Result<String, AllocError> {
     Ok(script)
 }
 
-/// `after SCRIPT at CONN TENANT`: the service of one tenant with the key `alpha` behind a script: the
-/// number of the next connection, and of that connection the room and the pending bytes, and how many
+/// `after SCRIPT at CONN TENANT`: the service of one tenant with the key `alpha` after a script. It gives
+/// the number of the next connection, the room and the pending bytes of the connection CONN, and how many
 /// requests of the tenant wait.
 pub fn after(alloc: Global, given: &[Vec<u8>]) -> Result<Answer, Trouble> {
     let [script, conn, tenant] = given else {
@@ -259,7 +259,7 @@ pub fn after(alloc: Global, given: &[Vec<u8>]) -> Result<Answer, Trouble> {
     Ok(answer)
 }
 
-/// The service of one tenant behind a script.
+/// The service of one tenant after a script.
 fn replayed(alloc: Global, script: &[u8]) -> Result<StoredService, Trouble> {
     let mut input = script;
     let script = read_script(alloc, &mut input).map_err(|_| Trouble::NoCase)?;

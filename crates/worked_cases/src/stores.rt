@@ -139,8 +139,8 @@ fn set(
     }
 }
 
-/// `store fill TENANT N BYTES`: puts that many files of these bytes, and tells how many were stored before
-/// the first that wasn't, and what that one was told.
+/// `store fill TENANT N BYTES`: puts so many files of these bytes. It gives how many were stored before the
+/// first that wasn't, and the answer to that one.
 fn fill(alloc: Global, store: &mut TenantStore, given: &[Vec<u8>]) -> Result<Answer, Trouble> {
     let [tenant, count, bytes] = given else {
         return Err(Trouble::NoCase);
@@ -156,7 +156,7 @@ fn fill(alloc: Global, store: &mut TenantStore, given: &[Vec<u8>]) -> Result<Ans
     Ok(filled(alloc, count, "stored"))
 }
 
-/// How many files were stored, and what was told then.
+/// How many files were stored, and the answer after them.
 pub fn filled(alloc: Global, stored: u64, told: &str) -> Answer {
     let mut answer = Answer::new(alloc);
     answer.number(stored);
@@ -164,7 +164,7 @@ pub fn filled(alloc: Global, stored: u64, told: &str) -> Answer {
     answer
 }
 
-/// The bytes of a file, or `absent`; every way of asking tells the same.
+/// The bytes of a file, or `absent`. Every way of asking gives the same.
 fn got(
     alloc: Global,
     store: &mut TenantStore,
@@ -189,8 +189,8 @@ fn settings(alloc: Global, store: &mut TenantStore, tenant: u32) -> Result<Answe
     Ok(trees_told(alloc, &settings.path))
 }
 
-/// `store put stopped TENANT NAME BYTES`: the put under a limit of 1, 2, 3 .. steps until it isn't stopped;
-/// whether each put that was stopped had kept the file as it was, and what the last was told.
+/// `store put stopped TENANT NAME BYTES`: the put under a limit of 1, 2, 3 .. steps until it isn't stopped.
+/// It gives whether each put that was stopped kept the file as it was, and the answer to the last put.
 fn put_stopped(
     alloc: Global,
     store: &mut TenantStore,
@@ -265,7 +265,7 @@ fn path_stopped(
     Err(Trouble::NoCase)
 }
 
-/// `never` where the first call wasn't stopped, else `kept` or `changed`; and what the last was told.
+/// `never` if the first call wasn't stopped, else `kept` or `changed`; and the answer to the last call.
 pub fn stops_told(alloc: Global, limit: u64, is_kept: bool, told: &str) -> Answer {
     let mut answer = Answer::of_word(
         alloc,

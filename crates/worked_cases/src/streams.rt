@@ -1,17 +1,16 @@
 //! Inputs and outputs that fail, and steps that no run can be made to take.
 use crate::quiet::QuietPorts;
 use crate::service::{Ran, config_of_one, status_told};
-use case_lines::{Answer, Trouble, as_number};
-use failing_streams::{FailingReader, FailingWriter};
+use case_lines::{Answer, FailingReader, FailingWriter, Trouble, as_number};
 use ports_core::{Refused, Step, Tell, Told};
 use ports_http::Reply;
 use ports_program::{Serving, run_config, run_serving};
 use ports_script::{ScriptFault, read_script, transcript_text};
 use std::alloc::Global;
-use tenant_worlds::StoredWorlds;
+use tenant_worlds::StoredTenants;
 
-/// `input SCRIPT failing after N`: the fault of a script whose input gives five bytes at a read and
-/// fails after so many, or how many events were read.
+/// `input SCRIPT failing after N`: the fault of a script whose input gives five bytes at a read and fails
+/// after so many reads, or how many events were read.
 pub fn failing_input(alloc: Global, given: &[Vec<u8>]) -> Result<Answer, Trouble> {
     let [script, reads] = given else {
         return Err(Trouble::NoCase);
@@ -32,10 +31,10 @@ pub fn failing_input(alloc: Global, given: &[Vec<u8>]) -> Result<Answer, Trouble
     Ok(answer)
 }
 
-/// `narrow output SCRIPT PRINTED`: how many bytes were written by a run whose output takes one byte at
-/// a write and all that is to be printed; before that, runs in which each write fails in turn. Where
-/// one of them ends with another status than 1, writes other than the bytes in front of that write, or
-/// says anything but that it can't write, `wrong` and the number of that write.
+/// `narrow output SCRIPT PRINTED`: how many bytes a run writes whose output takes one byte at a write and
+/// all that is to be printed. Before that there are runs in which each write fails in turn. If one of them
+/// ends with another status than 1, writes other bytes than those before that write, or says anything but
+/// that it can't write, it gives `wrong` and the number of that write.
 pub fn narrow_output(alloc: Global, given: &[Vec<u8>]) -> Result<Answer, Trouble> {
     let [script, printed] = given else {
         return Err(Trouble::NoCase);
@@ -56,9 +55,9 @@ pub fn narrow_output(alloc: Global, given: &[Vec<u8>]) -> Result<Answer, Trouble
     Ok(answer)
 }
 
-/// `serve on PORT within N`: how a service for clients, for one tenant and three rounds, ends on that port
-/// where no client comes and the output takes N bytes, one at a write: its status, what was written, and
-/// what was said.
+/// `serve on PORT within N`: how a service for clients ends on that port: its status, what was
+/// written, and what was said. It serves one tenant for three rounds, no client comes, and the output
+/// takes N bytes, one at a write.
 pub fn narrow_serving(alloc: Global, given: &[Vec<u8>]) -> Result<Answer, Trouble> {
     let [port, writes] = given else {
         return Err(Trouble::NoCase);
@@ -74,7 +73,7 @@ pub fn narrow_serving(alloc: Global, given: &[Vec<u8>]) -> Result<Answer, Troubl
         writes: as_number(writes)? as usize,
     };
     let mut said = Vec::new(alloc);
-    let status = run_serving::<StoredWorlds, _, _, _>(
+    let status = run_serving::<StoredTenants, _, _, _>(
         alloc,
         serving,
         &QuietPorts,
@@ -96,7 +95,7 @@ fn run_narrow(alloc: Global, script: &[u8], writes: usize) -> Result<Ran, Troubl
     };
     let mut said = Vec::new(alloc);
     let mut input = script;
-    let status = run_config::<StoredWorlds, _, _, _>(
+    let status = run_config::<StoredTenants, _, _, _>(
         alloc, config, &mut input, &mut out, &mut said,
     );
     let FailingWriter { taken, .. } = out;
@@ -107,8 +106,9 @@ fn run_narrow(alloc: Global, script: &[u8], writes: usize) -> Result<Ran, Troubl
     })
 }
 
-/// `print SENT`: what is printed of two events: the first refused for memory and closed connection 7,
-/// the second refused for memory and, a Wrote, sent these bytes; each told 403 to no tenant.
+/// `print SENT`: what is printed of two events. The first is refused for memory and closes
+/// connection 7. The second, a Wrote, is refused for memory and sends these bytes. Each gives a
+/// reply of 403 to no tenant.
 pub fn printed_steps(alloc: Global, given: &[Vec<u8>]) -> Result<Answer, Trouble> {
     let [sent] = given else {
         return Err(Trouble::NoCase);

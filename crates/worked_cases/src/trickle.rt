@@ -23,7 +23,7 @@ struct Trickle<'a> {
 }
 
 impl Trickle<'_> {
-    /// Counts a read or a write, and tells whether it is the one that is lost.
+    /// Counts a read or a write, and gives whether it is the one that is lost.
     fn is_lost(&mut self) -> bool {
         self.calls = self.calls.saturating_add(1);
         self.calls == self.lost
@@ -69,9 +69,9 @@ impl Wire for Trickle<'_> {
     }
 }
 
-/// `trickle STREAM`: what a client takes that sends this stream, for the tenant `alpha`, and no more, one byte at a
-/// time. Before that, each of its reads and writes is lost in turn. Where such a client takes anything but a front of
-/// it, or one isn't shut, `wrong` and the number of that call.
+/// `trickle STREAM`: what a client takes that sends this stream, for the tenant `alpha`, and no more, one
+/// byte at a time. Before that, each of its reads and writes is lost in turn. If such a client takes
+/// anything but a front of it, or one isn't shut, it gives `wrong` and the number of that call.
 pub fn trickled(alloc: Global, given: &[Vec<u8>]) -> Result<Answer, Trouble> {
     let [stream] = given else {
         return Err(Trouble::NoCase);

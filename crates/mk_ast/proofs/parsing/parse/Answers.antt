@@ -6,15 +6,15 @@ use Rattle.mk_ast.specs.declared.parsing.ParseFault.{ParseFault}
 use Rattle.mk_ast.specs.declared.parsing.ParseError.TheVariants as errors
 use Rattle.mk_ast.specs.Trees.{Block}
 use Rattle.mk_ast.specs.Blocks.{blocks_of}
-use Rattle.mk_ast.specs.Parsing.{bad_line, told, parsed, Answers}
+use Rattle.mk_ast.specs.Parsing.{bad_line, with_kind, parsed, Answers}
 use Rattle.mk_ast.proofs.ParseLaws.{parsed-good, parsed-bad, answers-parses}
 use Rattle.mk_ast.proofs.parsing.parse.Goals as goal
 
 pub returns-in-Ok : goal.returns-in-Ok
 returns-in-Ok c =
     let bytes = c.args.bytes.now in
-    let same : told (blocks_of BLOCKS (logical_lines c.in-Ok.text.now)) ≡ parsed bytes =
-    ap (λ text. told (blocks_of BLOCKS (logical_lines text))) c.in-Ok.ensures.cases.0 ∙ sym (parsed-good bytes c.in-Ok.ensures.cases.1) in
+    let same : with_kind (blocks_of BLOCKS (logical_lines c.in-Ok.text.now)) ≡ parsed bytes =
+    ap (λ text. with_kind (blocks_of BLOCKS (logical_lines text))) c.in-Ok.ensures.cases.0 ∙ sym (parsed-good bytes c.in-Ok.ensures.cases.1) in
     let is = subst (λ reading. Answers c.parse_text.result (λ answer. answer ≡ reading)) same c.parse_text.ensures in
     record { reads = answers-parses bytes c.parse_text.result is; function = is }
 

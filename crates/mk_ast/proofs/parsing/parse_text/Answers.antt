@@ -2,7 +2,7 @@ use Rattle.std.proofs.Common.{◌≡◌, sym, ap, subst, ◌∙◌}
 use Rattle.std.proofs.lemmas.Result.{err_from_is_err_and}
 use Rattle.mk_ast.specs.declared.nodes.TheConstants.{BLOCKS}
 use Rattle.mk_ast.specs.Blocks.{finished, read_on}
-use Rattle.mk_ast.specs.Parsing.{Answers, told}
+use Rattle.mk_ast.specs.Parsing.{Answers, with_kind}
 use Rattle.mk_ast.specs.ReaderViews.{held_of}
 use Rattle.mk_ast.proofs.LineRuns.{read-end, read-next, read-wrong, empty-of}
 use Rattle.mk_ast.proofs.parsing.parse_text.Goals as goal
@@ -26,4 +26,4 @@ pub returns : goal.returns
 returns c =
     let none = empty-of c.loop-line.line-iterator.rest.items (sym c.loop-line.line-iterator.rest.ok.0 ∙ c.in-None.ensures.steps.0) in
     let all = c.loop-line.invariant.2 ∙ ap (read_on BLOCKS (held_of c.loop-line.reader)) none ∙ read-end BLOCKS (held_of c.loop-line.reader) in
-    subst (λ reading. Answers c.finish.result (λ answer. answer ≡ told (finished reading))) (sym all) c.finish.ensures
+    subst (λ reading. Answers c.finish.result (λ answer. answer ≡ with_kind (finished reading))) (sym all) c.finish.ensures

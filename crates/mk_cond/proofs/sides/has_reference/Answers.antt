@@ -14,7 +14,7 @@ use Rattle.mk_cond.proofs.sides.has_reference.Goals as goal
 
 same_piece : (text : List ℕ) (piece : Piece) → is_reference_piece piece ≡ is_reference (shown text piece)
 same_piece text (v.Literal span) = refl
-same_piece text (v.Pair span) = refl
+same_piece text (v.EscapedDollar span) = refl
 same_piece text (v.Reference reference) = refl
 
 same_pieces : (text : List ℕ) (found : List Piece) → list_any is_reference_piece found ≡ list_any is_reference (map (shown text) found)

@@ -3,7 +3,7 @@ use Rattle.std.proofs.lemmas.Result.{err_from_is_err_and}
 use Rattle.mk_base.specs.Meter.{IsLater-on}
 use Rattle.mk_base.specs.Stopping.{StopsAt, StopsAt-whole}
 use Rattle.mk_files.specs.Asking.{account}
-use Rattle.mk_files.specs.Looking.{Asked-on, Asked-files, LeavesAtStop-on}
+use Rattle.mk_files.specs.Looking.{AfterQuestions-on, AfterQuestions-files, LeavesAtStop-on}
 use Rattle.cond_grammar.specs.Placed.{IsTokenIn}
 use Rattle.cond_grammar.specs.Trees.{or_tokens, not_tokens}
 use Rattle.cond_grammar.specs.Views.{condition_tree, conjunction_tree, term_tree}
@@ -25,47 +25,47 @@ condition_truth-conjunction_truth-requires-in-loop-conjunction g t c κs within 
 
 pub condition_truth-returns-then-held-clause-gives : goal.condition_truth-returns-then-held-clause-gives
 condition_truth-returns-then-held-clause-gives g t c =
-    let shelf = g.F.Names.shelf in
-    let s = among c.args.setting (shelf c.args.files.now).files in
+    let view = g.F.Names.view in
+    let s = among c.args.setting (view c.args.files.now).files in
     let items = c.deref-conjunction-items.result.now in
     or-begins s c.args.condition.now items _ _ c.in_ok-held.held c.deref-conjunction-items.ensures.value c.in_ok-held.ensures.gives ∙ c.loop-conjunction.invariant.goes ∙ ands-decided s _ c.loop-conjunction.held _ c.if-held.true
 
 pub condition_truth-returns-in_err-held-2-clause-gives : goal.condition_truth-returns-in_err-held-2-clause-gives
 condition_truth-returns-in_err-held-2-clause-gives g t c =
-    let shelf = g.F.Names.shelf in
-    let s = among c.args.setting (shelf c.args.files.now).files in
+    let view = g.F.Names.view in
+    let s = among c.args.setting (view c.args.files.now).files in
     let items = c.deref-conjunction-items.result.now in
-    let same = Asked-files (shelf c.args.files.now) (shelf c.loop-conjunction.files) c.loop-conjunction.invariant.asked in
+    let same = AfterQuestions-files (view c.args.files.now) (view c.loop-conjunction.files) c.loop-conjunction.invariant.asked in
     let p = err_from_is_err_and c.from_residual-in_err-held-2.result c.from_residual-in_err-held-2.ensures.1 in
     rw (p.1, p.2)
-    (StopsAt-whole c.in_err-held-2.field-0.0 (account c.conjunction_truth-in-loop-conjunction.new.budget (shelf c.conjunction_truth-in-loop-conjunction.new.files)) _ _
+    (StopsAt-whole c.in_err-held-2.field-0.0 (account c.conjunction_truth-in-loop-conjunction.new.budget (view c.conjunction_truth-in-loop-conjunction.new.files)) _ _
     (λ end stops. or-begins s c.args.condition.now items _ _ c.in_ok-held.held c.deref-conjunction-items.ensures.value c.in_ok-held.ensures.gives ∙ c.loop-conjunction.invariant.goes ∙ ands-stop s items c.loop-conjunction.conjunction-index c.conjunction-item.result c.loop-conjunction.held _ end c.loop-conjunction-test.true c.conjunction-item.is c.if-held.false stops)
-    (subst (λ files. StopsAt c.in_err-held-2.field-0.0 (account c.conjunction_truth-in-loop-conjunction.new.budget (shelf c.conjunction_truth-in-loop-conjunction.new.files)) (and_truth (among c.args.setting files) (conjunction_tree c.conjunction-item.result) (account c.loop-conjunction.budget (shelf c.loop-conjunction.files)))) same c.in_err-held-2.ensures.gives))
+    (subst (λ files. StopsAt c.in_err-held-2.field-0.0 (account c.conjunction_truth-in-loop-conjunction.new.budget (view c.conjunction_truth-in-loop-conjunction.new.files)) (and_truth (among c.args.setting files) (conjunction_tree c.conjunction-item.result) (account c.loop-conjunction.budget (view c.loop-conjunction.files)))) same c.in_err-held-2.ensures.gives))
 
 pub condition_truth-returns-in_err-held-2-clause-stops : goal.condition_truth-returns-in_err-held-2-clause-stops
 condition_truth-returns-in_err-held-2-clause-stops g t c =
-    let shelf = g.F.Names.shelf in
+    let view = g.F.Names.view in
     let p = err_from_is_err_and c.from_residual-in_err-held-2.result c.from_residual-in_err-held-2.ensures.1 in
-    rw (p.1, p.2) (LeavesAtStop-on g.F.Names.fails_with (shelf c.args.files.now) (shelf c.loop-conjunction.files) _ c.in_err-held-2.field-0.0 c.loop-conjunction.invariant.asked c.in_err-held-2.ensures.stops)
+    rw (p.1, p.2) (LeavesAtStop-on g.F.Names.fails_with (view c.args.files.now) (view c.loop-conjunction.files) _ c.in_err-held-2.field-0.0 c.loop-conjunction.invariant.asked c.in_err-held-2.ensures.stops)
 
 pub condition_truth-loop-conjunction-preserved : goal.condition_truth-loop-conjunction-preserved
 condition_truth-loop-conjunction-preserved g t c =
-    let shelf = g.F.Names.shelf in
-    let s = among c.args.setting (shelf c.args.files.now).files in
+    let view = g.F.Names.view in
+    let s = among c.args.setting (view c.args.files.now).files in
     let items = c.deref-conjunction-items.result.now in
-    let same = Asked-files (shelf c.args.files.now) (shelf c.loop-conjunction.files) c.loop-conjunction.invariant.asked in
+    let same = AfterQuestions-files (view c.args.files.now) (view c.loop-conjunction.files) c.loop-conjunction.invariant.asked in
     record {
       goes = c.loop-conjunction.invariant.goes
           ∙ ands-next s items c.loop-conjunction.conjunction-index c.conjunction-item.result c.loop-conjunction.held c.in_ok-held-2.held _ _ c.loop-conjunction-test.true c.conjunction-item.is c.if-held.false
-          (subst (λ files. and_truth (among c.args.setting files) (conjunction_tree c.conjunction-item.result) (account c.loop-conjunction.budget (shelf c.loop-conjunction.files)) ≡ Ok (c.in_ok-held-2.held, account c.conjunction_truth-in-loop-conjunction.new.budget (shelf c.conjunction_truth-in-loop-conjunction.new.files))) same c.in_ok-held-2.ensures.gives);
-      asked = Asked-on (shelf c.args.files.now) (shelf c.loop-conjunction.files) _ c.loop-conjunction.invariant.asked c.in_ok-held-2.ensures.asked;
+          (subst (λ files. and_truth (among c.args.setting files) (conjunction_tree c.conjunction-item.result) (account c.loop-conjunction.budget (view c.loop-conjunction.files)) ≡ Ok (c.in_ok-held-2.held, account c.conjunction_truth-in-loop-conjunction.new.budget (view c.conjunction_truth-in-loop-conjunction.new.files))) same c.in_ok-held-2.ensures.gives);
+      asked = AfterQuestions-on (view c.args.files.now) (view c.loop-conjunction.files) _ c.loop-conjunction.invariant.asked c.in_ok-held-2.ensures.asked;
       later = IsLater-on c.loop-conjunction.invariant.later c.in_ok-held-2.ensures.later;
     }
 
 pub condition_truth-returns-clause-gives : goal.condition_truth-returns-clause-gives
 condition_truth-returns-clause-gives g t c =
-    let shelf = g.F.Names.shelf in
-    let s = among c.args.setting (shelf c.args.files.now).files in
+    let view = g.F.Names.view in
+    let s = among c.args.setting (view c.args.files.now).files in
     let items = c.deref-conjunction-items.result.now in
     or-begins s c.args.condition.now items _ _ c.in_ok-held.held c.deref-conjunction-items.ensures.value c.in_ok-held.ensures.gives ∙ c.loop-conjunction.invariant.goes ∙ ands-end s items c.loop-conjunction.conjunction-index c.loop-conjunction.held _ (omega arith)
 
@@ -81,47 +81,47 @@ conjunction_truth-term_truth-requires-in-loop-term g t c κs within =
 
 pub conjunction_truth-returns-then-not-held-clause-gives : goal.conjunction_truth-returns-then-not-held-clause-gives
 conjunction_truth-returns-then-not-held-clause-gives g t c =
-    let shelf = g.F.Names.shelf in
-    let s = among c.args.setting (shelf c.args.files.now).files in
+    let view = g.F.Names.view in
+    let s = among c.args.setting (view c.args.files.now).files in
     let items = c.deref-term-items.result.now in
     and-begins s c.args.conjunction.now items _ _ c.in_ok-held.held c.deref-term-items.ensures.value c.in_ok-held.ensures.gives ∙ c.loop-term.invariant.goes ∙ nots-decided s _ c.loop-term.held _ c.if-not-held.true
 
 pub conjunction_truth-returns-in_err-held-2-clause-gives : goal.conjunction_truth-returns-in_err-held-2-clause-gives
 conjunction_truth-returns-in_err-held-2-clause-gives g t c =
-    let shelf = g.F.Names.shelf in
-    let s = among c.args.setting (shelf c.args.files.now).files in
+    let view = g.F.Names.view in
+    let s = among c.args.setting (view c.args.files.now).files in
     let items = c.deref-term-items.result.now in
-    let same = Asked-files (shelf c.args.files.now) (shelf c.loop-term.files) c.loop-term.invariant.asked in
+    let same = AfterQuestions-files (view c.args.files.now) (view c.loop-term.files) c.loop-term.invariant.asked in
     let p = err_from_is_err_and c.from_residual-in_err-held-2.result c.from_residual-in_err-held-2.ensures.1 in
     rw (p.1, p.2)
-    (StopsAt-whole c.in_err-held-2.field-0.0 (account c.term_truth-in-loop-term.new.budget (shelf c.term_truth-in-loop-term.new.files)) _ _
+    (StopsAt-whole c.in_err-held-2.field-0.0 (account c.term_truth-in-loop-term.new.budget (view c.term_truth-in-loop-term.new.files)) _ _
     (λ end stops. and-begins s c.args.conjunction.now items _ _ c.in_ok-held.held c.deref-term-items.ensures.value c.in_ok-held.ensures.gives ∙ c.loop-term.invariant.goes ∙ nots-stop s items c.loop-term.term-index c.term-item.result c.loop-term.held _ end c.loop-term-test.true c.term-item.is c.if-not-held.false stops)
-    (subst (λ files. StopsAt c.in_err-held-2.field-0.0 (account c.term_truth-in-loop-term.new.budget (shelf c.term_truth-in-loop-term.new.files)) (not_truth (among c.args.setting files) (term_tree c.term-item.result) (account c.loop-term.budget (shelf c.loop-term.files)))) same c.in_err-held-2.ensures.gives))
+    (subst (λ files. StopsAt c.in_err-held-2.field-0.0 (account c.term_truth-in-loop-term.new.budget (view c.term_truth-in-loop-term.new.files)) (not_truth (among c.args.setting files) (term_tree c.term-item.result) (account c.loop-term.budget (view c.loop-term.files)))) same c.in_err-held-2.ensures.gives))
 
 pub conjunction_truth-returns-in_err-held-2-clause-stops : goal.conjunction_truth-returns-in_err-held-2-clause-stops
 conjunction_truth-returns-in_err-held-2-clause-stops g t c =
-    let shelf = g.F.Names.shelf in
+    let view = g.F.Names.view in
     let p = err_from_is_err_and c.from_residual-in_err-held-2.result c.from_residual-in_err-held-2.ensures.1 in
-    rw (p.1, p.2) (LeavesAtStop-on g.F.Names.fails_with (shelf c.args.files.now) (shelf c.loop-term.files) _ c.in_err-held-2.field-0.0 c.loop-term.invariant.asked c.in_err-held-2.ensures.stops)
+    rw (p.1, p.2) (LeavesAtStop-on g.F.Names.fails_with (view c.args.files.now) (view c.loop-term.files) _ c.in_err-held-2.field-0.0 c.loop-term.invariant.asked c.in_err-held-2.ensures.stops)
 
 pub conjunction_truth-loop-term-preserved : goal.conjunction_truth-loop-term-preserved
 conjunction_truth-loop-term-preserved g t c =
-    let shelf = g.F.Names.shelf in
-    let s = among c.args.setting (shelf c.args.files.now).files in
+    let view = g.F.Names.view in
+    let s = among c.args.setting (view c.args.files.now).files in
     let items = c.deref-term-items.result.now in
-    let same = Asked-files (shelf c.args.files.now) (shelf c.loop-term.files) c.loop-term.invariant.asked in
+    let same = AfterQuestions-files (view c.args.files.now) (view c.loop-term.files) c.loop-term.invariant.asked in
     record {
       goes = c.loop-term.invariant.goes
           ∙ nots-next s items c.loop-term.term-index c.term-item.result c.loop-term.held c.in_ok-held-2.held _ _ c.loop-term-test.true c.term-item.is c.if-not-held.false
-          (subst (λ files. not_truth (among c.args.setting files) (term_tree c.term-item.result) (account c.loop-term.budget (shelf c.loop-term.files)) ≡ Ok (c.in_ok-held-2.held, account c.term_truth-in-loop-term.new.budget (shelf c.term_truth-in-loop-term.new.files))) same c.in_ok-held-2.ensures.gives);
-      asked = Asked-on (shelf c.args.files.now) (shelf c.loop-term.files) _ c.loop-term.invariant.asked c.in_ok-held-2.ensures.asked;
+          (subst (λ files. not_truth (among c.args.setting files) (term_tree c.term-item.result) (account c.loop-term.budget (view c.loop-term.files)) ≡ Ok (c.in_ok-held-2.held, account c.term_truth-in-loop-term.new.budget (view c.term_truth-in-loop-term.new.files))) same c.in_ok-held-2.ensures.gives);
+      asked = AfterQuestions-on (view c.args.files.now) (view c.loop-term.files) _ c.loop-term.invariant.asked c.in_ok-held-2.ensures.asked;
       later = IsLater-on c.loop-term.invariant.later c.in_ok-held-2.ensures.later;
     }
 
 pub conjunction_truth-returns-clause-gives : goal.conjunction_truth-returns-clause-gives
 conjunction_truth-returns-clause-gives g t c =
-    let shelf = g.F.Names.shelf in
-    let s = among c.args.setting (shelf c.args.files.now).files in
+    let view = g.F.Names.view in
+    let s = among c.args.setting (view c.args.files.now).files in
     let items = c.deref-term-items.result.now in
     and-begins s c.args.conjunction.now items _ _ c.in_ok-held.held c.deref-term-items.ensures.value c.in_ok-held.ensures.gives ∙ c.loop-term.invariant.goes ∙ nots-end s items c.loop-term.term-index c.loop-term.held _ (omega arith)
 

@@ -1,7 +1,7 @@
 use Rattle.std.proofs.Common.{◌≡◌, ◌+◌, ◌*◌, map, drop, length}
 use Rattle.mk_base.specs.Meter.{IsLater}
 use Rattle.mk_files.specs.Asking.{account}
-use Rattle.mk_files.specs.Looking.{Asked}
+use Rattle.mk_files.specs.Looking.{AfterQuestions}
 use Rattle.cond_grammar.specs.Reading.{later_ands, later_nots}
 use Rattle.cond_grammar.specs.Trees.{or_tokens, and_tokens, not_tokens}
 use Rattle.cond_grammar.specs.Views.{condition_tree, conjunction_tree, term_tree}
@@ -22,22 +22,22 @@ decreases-condition_truth g l = 3 * length (or_tokens (condition_tree l.conditio
 -- what is left to look at, from the held answer, ends as all of it from the first one
 abbrev pub invariant-condition_truth-loop-conjunction : goal.invariant-condition_truth-loop-conjunction
 invariant-condition_truth-loop-conjunction g l =
-    let shelf = g.F.Names.shelf in
-    let s = among l.setting (shelf l.fn.files).files in
+    let view = g.F.Names.view in
+    let s = among l.setting (view l.fn.files).files in
     record {
-      goes : later_ands_truth s (later_ands (map conjunction_tree l.conjunction-items)) l.initial.held (account l.initial.budget (shelf l.initial.files))
-          ≡ later_ands_truth s (later_ands (map conjunction_tree (drop l.conjunction-index l.conjunction-items))) l.held (account l.budget (shelf l.files));
-      asked : Asked (shelf l.fn.files) (shelf l.files);
+      goes : later_ands_truth s (later_ands (map conjunction_tree l.conjunction-items)) l.initial.held (account l.initial.budget (view l.initial.files))
+          ≡ later_ands_truth s (later_ands (map conjunction_tree (drop l.conjunction-index l.conjunction-items))) l.held (account l.budget (view l.files));
+      asked : AfterQuestions (view l.fn.files) (view l.files);
       later : IsLater l.fn.budget l.budget;
     }
 
 abbrev pub invariant-conjunction_truth-loop-term : goal.invariant-conjunction_truth-loop-term
 invariant-conjunction_truth-loop-term g l =
-    let shelf = g.F.Names.shelf in
-    let s = among l.setting (shelf l.fn.files).files in
+    let view = g.F.Names.view in
+    let s = among l.setting (view l.fn.files).files in
     record {
-      goes : later_nots_truth s (later_nots (map term_tree l.term-items)) l.initial.held (account l.initial.budget (shelf l.initial.files))
-          ≡ later_nots_truth s (later_nots (map term_tree (drop l.term-index l.term-items))) l.held (account l.budget (shelf l.files));
-      asked : Asked (shelf l.fn.files) (shelf l.files);
+      goes : later_nots_truth s (later_nots (map term_tree l.term-items)) l.initial.held (account l.initial.budget (view l.initial.files))
+          ≡ later_nots_truth s (later_nots (map term_tree (drop l.term-index l.term-items))) l.held (account l.budget (view l.files));
+      asked : AfterQuestions (view l.fn.files) (view l.files);
       later : IsLater l.fn.budget l.budget;
     }

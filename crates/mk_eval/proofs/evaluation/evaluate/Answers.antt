@@ -7,23 +7,23 @@ use Rattle.mk_eval.proofs.evaluation.evaluate.Goals as goal
 
 pub returns-in-Ok : goal.returns-in-Ok
 returns-in-Ok g c =
-    let shelf = g.F.Names.shelf in
-    let end = Ok (c.in-Ok.standing, account c.run.new.budget (shelf c.run.new.files)) in
+    let view = g.F.Names.view in
+    let end = Ok (c.in-Ok.standing, account c.run.new.budget (view c.run.new.files)) in
     record {
-      means = means-ended c.args.settings.now c.args.name.now (flavors_in c.args.flavors) (shelf c.args.files.now) (shelf c.run.new.files) c.new-budget.result end c.new-budget.ensures c.in-Ok.ensures.gives
+      means = means-ended c.args.settings.now c.args.name.now (flavors_in c.args.flavors) (view c.args.files.now) (view c.run.new.files) c.new-budget.result end c.new-budget.ensures c.in-Ok.ensures.gives
           ∙ ap (λ cost. Ok (record { kind = c.in-Ok.standing.kind; env = c.in-Ok.standing.variables; cost = cost })) (sym c.spent.ensures);
-      files = files-ended c.args.settings.now c.args.name.now (flavors_in c.args.flavors) (shelf c.args.files.now) (shelf c.run.new.files) c.new-budget.result c.spent.result end c.new-budget.ensures c.in-Ok.ensures.gives
+      files = files-ended c.args.settings.now c.args.name.now (flavors_in c.args.flavors) (view c.args.files.now) (view c.run.new.files) c.new-budget.result c.spent.result end c.new-budget.ensures c.in-Ok.ensures.gives
           refl (sym c.spent.ensures) c.in-Ok.ensures.asked;
     }
 
 pub returns-in-Err : goal.returns-in-Err
 returns-in-Err g c =
-    let shelf = g.F.Names.shelf in
+    let view = g.F.Names.view in
     let stop = c.in-Err.stop in
     let spends = c.spent-in-Err.ensures in
     record {
-      means = fails-with c.args.settings.now c.args.name.now (flavors_in c.args.flavors) (shelf c.args.files.now) (shelf c.run.new.files) c.new-budget.result c.run.new.budget c.spent-in-Err.result c.new-budget.ensures spends
+      means = fails-with c.args.settings.now c.args.name.now (flavors_in c.args.flavors) (view c.args.files.now) (view c.run.new.files) c.new-budget.result c.run.new.budget c.spent-in-Err.result c.new-budget.ensures spends
           c.in-Err.stop c.with_cost.result c.with_cost.ensures c.in-Err.ensures.gives;
-      files = leaves-at c.args.settings.now c.args.name.now (flavors_in c.args.flavors) (shelf c.args.files.now) (shelf c.run.new.files) c.new-budget.result c.run.new.budget c.spent-in-Err.result c.new-budget.ensures spends
+      files = leaves-at c.args.settings.now c.args.name.now (flavors_in c.args.flavors) (view c.args.files.now) (view c.run.new.files) c.new-budget.result c.run.new.budget c.spent-in-Err.result c.new-budget.ensures spends
           g.F.Names.fails_with c.in-Err.stop c.with_cost.result c.with_cost.ensures c.in-Err.ensures.gives c.in-Err.ensures.stops;
     }

@@ -9,9 +9,9 @@ use Rattle.mk_eval.proofs.including.open_port.Goals as goal
 
 pub returns-clause-gives : goal.returns-clause-gives
 returns-clause-gives g c =
-    let shelf = g.F.Names.shelf in
-    let place = place_of c.args.spot (shelf c.args.files.now).files in
-    let a = account c.args.budget.now (shelf c.args.files.now) in
+    let view = g.F.Names.view in
+    let place = place_of c.args.here (view c.args.files.now).files in
+    let a = account c.args.budget.now (view c.args.files.now) in
     let name = resolved (name_under (directory_of place.makefile) (codes "../Makefile.inc")) in
     Gives-same _ _ _ _ _
     (ap (λ again. (if again then (λ b. Ok ((includes.with_kind c.args.standing.now roles.Port, None), b)) else includes.open_shared place (includes.first_port c.args.standing.now) name) a) c.if-standing.false

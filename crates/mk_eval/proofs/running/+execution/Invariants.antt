@@ -4,7 +4,7 @@ use Rattle.mk_base.specs.Outcome.{each}
 use Rattle.mk_ast.specs.Blocks.{branches_from}
 use Rattle.mk_ast.specs.Views.{block_of, branch_of, last_branch}
 use Rattle.mk_files.specs.Asking.{account}
-use Rattle.mk_files.specs.Looking.{Asked}
+use Rattle.mk_files.specs.Looking.{AfterQuestions}
 use Rattle.mk_loop.specs.Scopes.{turns_in}
 use Rattle.mk_eval.specs.Execution.{execute, execute_branches, turn_of}
 use Rattle.mk_eval.specs.Views.{loops_of}
@@ -36,38 +36,38 @@ decreases-execute_line g l = 8 * (l.budget.now.limit - l.budget.now.spent) + 2
 -- what is left to execute, from here, ends as all of it from the start
 abbrev pub invariant-execute_block-loop-node : goal.invariant-execute_block-loop-node
 invariant-execute_block-loop-node g l =
-    let shelf = g.F.Names.shelf in
-    let works = works_of l.spot (shelf l.fn.files).files in
+    let view = g.F.Names.view in
+    let works = works_of l.here (view l.fn.files).files in
     record {
-      goes : execute works (block_of l.nodes) (loops_of l.scope) l.initial.standing (account l.initial.budget (shelf l.initial.files))
-          ≡ execute works (block_of (drop l.node-index l.nodes)) (loops_of l.scope) l.standing (account l.budget (shelf l.files));
-      asked : Asked (shelf l.fn.files) (shelf l.files);
+      goes : execute works (block_of l.nodes) (loops_of l.scope) l.initial.standing (account l.initial.budget (view l.initial.files))
+          ≡ execute works (block_of (drop l.node-index l.nodes)) (loops_of l.scope) l.standing (account l.budget (view l.files));
+      asked : AfterQuestions (view l.fn.files) (view l.files);
       later : IsLater l.fn.budget l.budget;
     }
 
 -- the branches that are left, from here, end as all of them from the start
 abbrev pub invariant-execute_branches-loop-branch : goal.invariant-execute_branches-loop-branch
 invariant-execute_branches-loop-branch g l =
-    let shelf = g.F.Names.shelf in
-    let works = works_of l.spot (shelf l.fn.files).files in
+    let view = g.F.Names.view in
+    let works = works_of l.here (view l.fn.files).files in
     let last = last_branch (option_map (λ block. block_of block.value.items) l.otherwise) in
     record {
-      goes : execute_branches works (branches_from (map branch_of l.branches) last) (loops_of l.scope) l.initial.standing (account l.initial.budget (shelf l.initial.files))
-          ≡ execute_branches works (branches_from (map branch_of (drop l.branch-index l.branches)) last) (loops_of l.scope) l.standing (account l.budget (shelf l.files));
-      asked : Asked (shelf l.fn.files) (shelf l.files);
+      goes : execute_branches works (branches_from (map branch_of l.branches) last) (loops_of l.scope) l.initial.standing (account l.initial.budget (view l.initial.files))
+          ≡ execute_branches works (branches_from (map branch_of (drop l.branch-index l.branches)) last) (loops_of l.scope) l.standing (account l.budget (view l.files));
+      asked : AfterQuestions (view l.fn.files) (view l.files);
       later : IsLater l.fn.budget l.budget;
     }
 
 -- the turns that are left, from here, end as all of them from the first
 abbrev pub invariant-execute_loop-loop-index : goal.invariant-execute_loop-loop-index
 invariant-execute_loop-loop-index g l =
-    let shelf = g.F.Names.shelf in
-    let works = works_of l.spot (shelf l.fn.files).files in
+    let view = g.F.Names.view in
+    let works = works_of l.here (view l.fn.files).files in
     let turn = turn_of (works.begins l.head) (execute works (block_of l.body)) (loops_of l.scope) in
     record {
-      goes : each turn l.initial.standing (turns_in l.turns) (account l.initial.budget (shelf l.initial.files))
-          ≡ each turn l.standing (drop l.index (turns_in l.turns)) (account l.budget (shelf l.files));
-      asked : Asked (shelf l.fn.files) (shelf l.files);
+      goes : each turn l.initial.standing (turns_in l.turns) (account l.initial.budget (view l.initial.files))
+          ≡ each turn l.standing (drop l.index (turns_in l.turns)) (account l.budget (view l.files));
+      asked : AfterQuestions (view l.fn.files) (view l.files);
       later : IsLater l.fn.budget l.budget;
       behind : IsLater l.initial.budget l.budget;
     }

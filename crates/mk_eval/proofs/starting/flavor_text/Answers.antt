@@ -1,6 +1,6 @@
 -- The copies, put in order, are joined.
 use Rattle.std.proofs.Common.{◌∙◌, map, string_bytes, codes, ap}
-use Rattle.text_order.specs.Order.{in_order}
+use Rattle.text_parts.specs.Order.{in_order}
 use Rattle.mk_eval.proofs.Joining.{joined-between}
 use Rattle.mk_eval.proofs.starting.flavor_text.Goals as goal
 

@@ -1,6 +1,6 @@
 use Rattle.std.proofs.Common.{◌+◌, Some, sym, ap, ◌∙◌, inl, inr, refl}
 use Rattle.std.proofs.lemmas.Bool.{ne_eqb}
-use Rattle.mk_ref.specs.Units.{Byte, Pair}
+use Rattle.mk_ref.specs.Units.{Byte, EscapedDollar}
 use Rattle.mk_loop.proofs.Standing.{stands-byte, stands-pair}
 use Rattle.mk_loop.proofs.NameSteps.{name-more, name-ends, name-letter, name-marked, name-open}
 use Rattle.mk_loop.proofs.names.name_end.Goals as goal
@@ -25,7 +25,7 @@ pub loop-at-preserved : goal.loop-at-preserved
 loop-at-preserved c =
     let text = c.args.bytes.now in
     let at = c.loop-at.at in
-    name-more text c.args.start c.args.closing at (at + 2) Pair c.loop-at.invariant c.loop-at-test.true c.if-bytes-at.false
+    name-more text c.args.start c.args.closing at (at + 2) EscapedDollar c.loop-at.invariant c.loop-at-test.true c.if-bytes-at.false
     (stands-pair text at c.in-Some-Doubled.ensures.inside (sym c.in-Some-Doubled.ensures.opening ∙ ap Some c.in-Some-Doubled.field-0-is)) refl refl
 
 pub returns-in-Some-Letter : goal.returns-in-Some-Letter

@@ -1,7 +1,7 @@
 -- The text so far is the parts up to here, each behind a slash.
 use Rattle.std.proofs.Common.{◌≡◌, take}
 use Rattle.std.specs.String.{string_bytes}
-use Rattle.text_cuts.specs.Cuts.{now_all}
+use Rattle.text_parts.specs.Cuts.{now_all}
 use Rattle.mk_paths.specs.FileName.{joined}
 use Rattle.mk_paths.proofs.file_name.join.Given as goal
 

@@ -1,6 +1,6 @@
 -- What the parts from here on leave, after those kept, is what all parts leave.
 use Rattle.std.proofs.Common.{◌≡◌, [], drop}
-use Rattle.text_cuts.specs.Cuts.{now_all}
+use Rattle.text_parts.specs.Cuts.{now_all}
 use Rattle.mk_paths.specs.FileName.{kept_parts}
 use Rattle.mk_paths.proofs.file_name.kept_of.Given as goal
 

@@ -4,7 +4,7 @@ use Rattle.std.proofs.lemmas.Grind.{common_steps}
 use Rattle.std.proofs.lemmas.List.{length-map}
 use Rattle.std.specs.List.{list_all}
 use Rattle.std.specs.Borrow.{Bor}
-use Rattle.text_cuts.specs.Cuts.{now_all}
+use Rattle.text_parts.specs.Cuts.{now_all}
 use Rattle.mk_paths.specs.SearchPath.{is_search_path, is_tree}
 use Rattle.mk_paths.proofs.search_path.is_path.Goals as goal
 use Rattle.mk_paths.proofs.search_path.is_path.Goals.{then-not-is_empty, else-not-is_empty}

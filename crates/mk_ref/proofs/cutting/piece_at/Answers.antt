@@ -2,11 +2,11 @@ use Rattle.std.proofs.Common.{◌+◌, Some, sym, ap, ◌∙◌, subst}
 use Rattle.mk_ref.specs.declared.cutting.Piece.TheVariants as v
 use Rattle.mk_ref.specs.Ends.{EndsInside}
 use Rattle.mk_ref.specs.Firsts.{IsPieceAt}
-use Rattle.mk_ref.proofs.PieceSteps.{piece_pair, piece_letter, piece_marked, piece_broken}
+use Rattle.mk_ref.proofs.PieceSteps.{piece_escaped_dollar, piece_letter, piece_marked, piece_broken}
 use Rattle.mk_ref.proofs.cutting.piece_at.Goals as goal
 
 pub returns-in-Doubled : goal.returns-in-Doubled
-returns-in-Doubled c = piece_pair c.args.text.now c.args.at c.utf8.text c.requires.room (c.requires.opens ∙ ap Some c.in-Doubled.is)
+returns-in-Doubled c = piece_escaped_dollar c.args.text.now c.args.at c.utf8.text c.requires.room (c.requires.opens ∙ ap Some c.in-Doubled.is)
 
 pub returns-in-Letter : goal.returns-in-Letter
 returns-in-Letter c = piece_letter c.args.text.now c.args.at c.utf8.text c.requires.room (c.requires.opens ∙ ap Some c.in-Letter.is)

@@ -5,7 +5,7 @@ use Rattle.std.specs.Borrow.{Bor}
 use Rattle.std.specs.List.{list_all}
 use Rattle.pkg_name.specs.Version.{is_version}
 use Rattle.pkg_name.specs.Name.{name_of, name_if, is_word}
-use Rattle.text_cuts.specs.Cuts.{now_all}
+use Rattle.text_parts.specs.Cuts.{now_all}
 use Rattle.pkg_name.proofs.name.version_and_flavors.Goals as goal
 use Rattle.pkg_name.proofs.name.version_and_flavors.Goals.{else-is_word_text-via-then-is_word_text+else-are_words, else-is_word_text-via-else-is_word_text}
 

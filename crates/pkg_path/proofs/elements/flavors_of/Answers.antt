@@ -3,8 +3,8 @@ use Rattle.std.proofs.Common.{◌≡◌, ◌∙◌, ap, sym, refl, ℕ, Bool, tr
 use Rattle.std.specs.Borrow.{Bor}
 use Rattle.std.specs.List.{list_all, list_any, filter}
 use Rattle.pkg_path.specs.Paths.{is_subpackage, is_flavor, flavors_of}
-use Rattle.text_order.specs.Order.{in_order}
-use Rattle.text_cuts.specs.Cuts.{now_all}
+use Rattle.text_parts.specs.Order.{in_order}
+use Rattle.text_parts.specs.Cuts.{now_all}
 use Rattle.pkg_path.proofs.elements.flavors_of.Goals as goal
 
 one_step : (a b : Bool) → (not a || not b) ≡ not (a && b)

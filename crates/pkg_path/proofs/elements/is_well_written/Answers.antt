@@ -3,7 +3,7 @@ use Rattle.std.proofs.Common.{◌≡◌, ◌∙◌, ap, sym, refl, ℕ, true, no
 use Rattle.std.specs.Borrow.{Bor}
 use Rattle.std.specs.List.{list_any, list_all}
 use Rattle.pkg_path.specs.Paths.{is_bare_dash, is_well_cut, is_directory, may_stand}
-use Rattle.text_cuts.specs.Cuts.{now_all}
+use Rattle.text_parts.specs.Cuts.{now_all}
 use Rattle.pkg_path.proofs.elements.is_well_written.Goals as goal
 use Rattle.pkg_path.proofs.elements.is_well_written.Goals.{then-has_path_bytes, else-has_path_bytes}
 use Rattle.std.proofs.lemmas.Bool.{false≢true}

@@ -2,7 +2,7 @@
 use Rattle.std.proofs.Common.{◌≡◌, drop}
 use Rattle.std.specs.List.{find}
 use Rattle.pkg_path.specs.Paths.{is_subpackage}
-use Rattle.text_cuts.specs.Cuts.{now_all}
+use Rattle.text_parts.specs.Cuts.{now_all}
 use Rattle.pkg_path.proofs.elements.subpackage_of.Given as goal
 
 abbrev pub invariant-loop-choice : goal.invariant-loop-choice

@@ -3,7 +3,7 @@ use Rattle.std.proofs.Common.{◌≡◌, map, take, drop}
 use Rattle.std.specs.List.{filter}
 use Rattle.std.specs.String.{string_bytes}
 use Rattle.pkg_spec.specs.Alternatives.{forbids}
-use Rattle.text_cuts.specs.Cuts.{now_all}
+use Rattle.text_parts.specs.Cuts.{now_all}
 use Rattle.pkg_spec.proofs.alternatives.forbidden_of.Given as goal
 
 abbrev pub invariant-loop-flavor : goal.invariant-loop-flavor

@@ -6,7 +6,7 @@ use Rattle.std.specs.Borrow.{Bor}
 use Rattle.std.specs.List.{list_all}
 use Rattle.std.specs.Option.{option_map}
 use Rattle.pkg_spec.specs.Alternatives.{ComparisonValue, signed, is_comparison}
-use Rattle.text_cuts.specs.Cuts.{now_all}
+use Rattle.text_parts.specs.Cuts.{now_all}
 use Rattle.pkg_spec.specs.Seen.{comparison_seen}
 use Rattle.pkg_spec.specs.declared.comparisons.Comparison.{Comparison}
 use Rattle.pkg_spec.proofs.comparisons.read_comparisons.Goals as goal

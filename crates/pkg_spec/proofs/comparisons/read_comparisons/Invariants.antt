@@ -2,7 +2,7 @@
 use Rattle.std.proofs.Common.{◌≡◌, true, map, take}
 use Rattle.std.specs.List.{list_all}
 use Rattle.pkg_spec.specs.Alternatives.{is_comparison, signed}
-use Rattle.text_cuts.specs.Cuts.{now_all}
+use Rattle.text_parts.specs.Cuts.{now_all}
 use Rattle.pkg_spec.specs.Seen.{comparison_seen}
 use Rattle.pkg_spec.proofs.comparisons.read_comparisons.Given as goal
 

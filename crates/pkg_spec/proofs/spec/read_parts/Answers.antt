@@ -8,7 +8,7 @@ use Rattle.std.specs.List.{list_any, filter_map}
 use Rattle.std.specs.Option.{option_to_list}
 use Rattle.std.specs.Result.{result_ok}
 use Rattle.pkg_spec.specs.Alternatives.{AlternativeValue, alternative_of, is_refused}
-use Rattle.text_cuts.specs.Cuts.{now_all}
+use Rattle.text_parts.specs.Cuts.{now_all}
 use Rattle.pkg_spec.specs.declared.faults.SpecFault.{SpecFault}
 use Rattle.pkg_spec.specs.declared.faults.SpecFault.TheVariants.{NoStem, BadVersion, EmptyAlternative}
 use Rattle.pkg_spec.proofs.spec.read_parts.Goals as goal

@@ -1,6 +1,6 @@
 -- What is read so far is read of the parts up to here.
 use Rattle.std.proofs.Common.{take}
-use Rattle.text_cuts.specs.Cuts.{now_all}
+use Rattle.text_parts.specs.Cuts.{now_all}
 use Rattle.pkg_spec.specs.Seen.{ReadsParts}
 use Rattle.pkg_spec.proofs.spec.read_parts.Given as goal
 

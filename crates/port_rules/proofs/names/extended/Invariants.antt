@@ -1,7 +1,7 @@
 -- Behind what stood there stand the words up to here, each behind a dash.
 use Rattle.std.proofs.Common.{◌≡◌, ◌∷◌, ◌++◌, map, take, string_bytes}
 use Rattle.std.specs.List.{flat_map}
-use Rattle.text_cuts.specs.Cuts.{now_all}
+use Rattle.text_parts.specs.Cuts.{now_all}
 use Rattle.pkg_name.specs.Name.{dash}
 use Rattle.port_rules.proofs.names.extended.Given as goal
 

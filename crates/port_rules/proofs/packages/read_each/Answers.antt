@@ -1,7 +1,7 @@
 use Rattle.std.proofs.Common.{◌∙◌, ◌++◌, ◌∷◌, [], ap, sym, Ok, Err}
 use Rattle.std.proofs.lemmas.Result.{err_from_is_err_and}
 use Rattle.mk_base.specs.Outcome.{after, give}
-use Rattle.text_cuts.specs.Cuts.{now_all}
+use Rattle.text_parts.specs.Cuts.{now_all}
 use Rattle.port_rules.specs.Packages.{add_package, package_of}
 use Rattle.port_rules.proofs.Exits.{told, stops-too, walk-on, walk-stops, walk-ends}
 use Rattle.port_rules.proofs.packages.read_each.Goals as goal

@@ -1,7 +1,7 @@
 -- What is left to read, from here, ends as all of it from the start.
 use Rattle.std.proofs.Common.{◌≡◌, [], map, drop, string_bytes}
 use Rattle.mk_base.specs.Outcome.{each}
-use Rattle.text_cuts.specs.Cuts.{now_all}
+use Rattle.text_parts.specs.Cuts.{now_all}
 use Rattle.port_rules.specs.Packages.{add_package}
 use Rattle.port_rules.proofs.packages.read_each.Given as goal
 

@@ -1,9 +1,9 @@
 -- The rows say what the world says.
 use Rattle.std.proofs.Common.{◌∙◌, ◌++◌, sym, ap, subst, map, string_bytes}
 use Rattle.std.specs.List.{flat_map}
-use Rattle.text_order.specs.Ordered.{in_order-sorted}
+use Rattle.text_parts.specs.Ordered.{in_order-sorted}
 use Rattle.mk_paths.specs.World.{World, files_in}
-use Rattle.ports_index.specs.Standings.{standing_at}
+use Rattle.ports_index.specs.PathOutcomes.{outcome_at}
 use Rattle.ports_index.specs.Naming.{directories, named_at}
 use Rattle.ports_index.specs.Depending.{roots_among}
 use Rattle.ports_index.specs.Filling.{IsListed}
@@ -15,13 +15,13 @@ use Rattle.ports_index.proofs.indexing.index_roots.Goals as goal
 
 pub roots_of_all-requires : goal.roots_of_all-requires
 roots_of_all-requires g c =
-    let world : World = ((g.F.Names.shelf c.args.files.now).files, c.args.settings.now) in
+    let world : World = ((g.F.Names.view c.args.files.now).files, c.args.settings.now) in
     subst IsListed (sym (ap (map string_bytes) c.deref.ensures.value ∙ c.in_ok-paths.ensures.listed))
-    (in_order-sorted (flat_map (named_at (standing_at world)) (directories (files_in world)) ++ directories (files_in world)))
+    (in_order-sorted (flat_map (named_at (outcome_at world)) (directories (files_in world)) ++ directories (files_in world)))
 
 pub returns-clause-roots : goal.returns-clause-roots
 returns-clause-roots g c =
-    let world : World = ((g.F.Names.shelf c.args.files.now).files, c.args.settings.now) in
+    let world : World = ((g.F.Names.view c.args.files.now).files, c.args.settings.now) in
     let held = held_in c.list.new.rows in
     c.in_ok-roots.ensures
     ∙ ap (λ paths. roots_among (known_in held) (map string_bytes paths)) c.deref.ensures.value

@@ -1,10 +1,10 @@
 -- The rows of the listed paths say which paths the items name.
 use Rattle.std.proofs.Common.{◌≡◌, ◌∙◌, ◌++◌, sym, ap, subst, map, string_bytes}
 use Rattle.std.specs.List.{filter_map}
-use Rattle.text_order.specs.Ordered.{among-in_order}
+use Rattle.text_parts.specs.Ordered.{among-in_order}
 use Rattle.std.specs.Str.{bytes_eq}
 use Rattle.mk_paths.specs.World.{World}
-use Rattle.ports_index.specs.Standings.{standing_at}
+use Rattle.ports_index.specs.PathOutcomes.{outcome_at}
 use Rattle.ports_index.specs.Depending.{items_among, target_of}
 use Rattle.ports_index.specs.Filling.{Fills}
 use Rattle.ports_index.specs.Index.{listed, rests}
@@ -16,7 +16,7 @@ use Rattle.ports_index.proofs.indexing.walk.Goals as goal
 pub returns-clause-items : goal.returns-clause-items
 returns-clause-items g c =
     let held = g.R.Rows.held in
-    let world : World = ((g.F.Names.shelf c.args.files.now).files, c.args.settings.now) in
+    let world : World = ((g.F.Names.view c.args.files.now).files, c.args.settings.now) in
     c.in_ok-items.ensures
     ∙ ap (λ paths. items_among (known_in (held c.list.new.rows)) (map string_bytes paths)) c.deref.ensures.value
     ∙ ap (items_among (known_in (held c.list.new.rows))) c.in_ok-paths.ensures.listed
@@ -24,16 +24,16 @@ returns-clause-items g c =
 
 pub returns-clause-fills : goal.returns-clause-fills
 returns-clause-fills g c =
-    let shelf = g.F.Names.shelf in
+    let view = g.F.Names.view in
     let held = g.R.Rows.held in
     let settings = c.args.settings.now in
-    let world : World = ((shelf c.args.files.now).files, settings) in
-    let targets = filter_map target_of (items_among (standing_at world) (listed world)) in
+    let world : World = ((view c.args.files.now).files, settings) in
+    let targets = filter_map target_of (items_among (outcome_at world) (listed world)) in
     let targets_are : map string_bytes c.in_ok-targets.targets.items ≡ targets =
     c.in_ok-targets.ensures ∙ ap (λ items. filter_map target_of (map item_seen items)) c.deref-2.ensures.value ∙ ap (filter_map target_of) (returns-clause-items g c) in
     let second : Fills world targets (held c.list.new.rows) (held c.fill.new.rows) =
     subst (λ paths. Fills world paths (held c.list.new.rows) (held c.fill.new.rows)) targets_are
     (subst (λ files. Fills (files, settings) (map string_bytes c.in_ok-targets.targets.items) (held c.list.new.rows) (held c.fill.new.rows)) c.in_ok-paths.ensures.keeps.files
-    (subst (λ items. Fills ((shelf c.list.new.files).files, settings) (map string_bytes items) (held c.list.new.rows) (held c.fill.new.rows)) c.deref-3.ensures.value c.in_ok-fill.ensures.fills)) in
+    (subst (λ items. Fills ((view c.list.new.files).files, settings) (map string_bytes items) (held c.list.new.rows) (held c.fill.new.rows)) c.deref-3.ensures.value c.in_ok-fill.ensures.fills)) in
     Fills-same world (listed world ++ targets) (rests world) (held c.args.rows.now) (held c.fill.new.rows) (λ path. sym (among-in_order (λ one. bytes_eq one path) (listed world ++ targets)))
     (Fills-on world (listed world) targets (held c.args.rows.now) (held c.list.new.rows) (held c.fill.new.rows) c.in_ok-paths.ensures.fills second)

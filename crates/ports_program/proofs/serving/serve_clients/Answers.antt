@@ -11,7 +11,7 @@ pub returns-clause-done : goal.returns-clause-done
 returns-clause-done g c = record {
   fit = not_false (is_fit c.args.serving.config) (λ unfit. let refused = c.in_ok-service.ensures.unfit.1 unfit in cc);
   wire = c.in_ok-wire.wire;
-  listens = c.in_ok-wire.ensures;
+  listens = c.in_ok-wire.ensures.listens;
   ready = c.in_ok-say_ready.ensures.said;
   wire_left = c.serve.new.wire;
   left = c.in_ok-_served._served;
@@ -22,7 +22,7 @@ pub returns-in_err-wire-clause-failed : goal.returns-in_err-wire-clause-failed
 returns-in_err-wire-clause-failed g c =
     let fit = not_false (is_fit c.args.serving.config) (λ unfit. let refused = c.in_ok-service.ensures.unfit.1 unfit in cc) in
     let p = err_from_is_err_and c.from_residual-in_err-wire.result c.from_residual-in_err-wire.ensures.1 in
-    rw (p.1, p.2) (not_listening c.args.serving (g.O.Write.contents c.args.out.now) fit c.in_err-wire.field-0.0)
+    rw (p.1, p.2) (not_listening c.args.serving (g.O.Write.contents c.args.out.now) fit _ c.in_err-wire.ensures.fails)
 
 pub returns-in_err-say_ready-clause-failed : goal.returns-in_err-say_ready-clause-failed
 returns-in_err-say_ready-clause-failed g c =

@@ -1,6 +1,6 @@
 -- The texts up to here are conditions, and are read.
 use Rattle.std.proofs.Common.{◌≡◌, map, drop}
-use Rattle.text_cuts.specs.Cuts.{now_all}
+use Rattle.text_parts.specs.Cuts.{now_all}
 use Rattle.ports_query.specs.Conditions.{condition_seen, conditions_of}
 use Rattle.ports_query.proofs.Reading.{in_front}
 use Rattle.ports_query.proofs.conditions.read_conditions.Given as goal

@@ -1,6 +1,6 @@
 -- The arrows are those of the dependencies that are met.
 use Rattle.std.proofs.Common.{◌≡◌, ◌∙◌, ap, map, string_bytes}
-use Rattle.text_cuts.specs.Cuts.{now_all}
+use Rattle.text_parts.specs.Cuts.{now_all}
 use Rattle.text_graph.specs.Arrows.{arrows_seen}
 use Rattle.text_graph.specs.Listed.{reaching_list}
 use Rattle.pkg_path.specs.Paths.{port_path}

@@ -1,6 +1,6 @@
 -- The text so far is the first and the trees up to here, each behind a colon.
 use Rattle.std.proofs.Common.{◌≡◌, ◌++◌, map, take, string_bytes}
-use Rattle.text_cuts.specs.Laws.{behind_marks}
+use Rattle.text_parts.specs.Laws.{behind_marks}
 use Rattle.mk_paths.specs.SearchPath.{colon}
 use Rattle.tenant_store.proofs.changing.joined.Given as goal
 

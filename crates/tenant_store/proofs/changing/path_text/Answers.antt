@@ -1,7 +1,7 @@
 -- The text is cut into the trees again.
 use Rattle.std.proofs.Common.{◌≡◌, ◌∙◌, ap, subst, sym, ◌++◌, map, drop, string_bytes, take, length, ◌-◌, arith}
 use Rattle.std.proofs.lemmas.Grind.{common_steps}
-use Rattle.text_cuts.specs.Laws.{behind_marks}
+use Rattle.text_parts.specs.Laws.{behind_marks}
 use Rattle.mk_paths.specs.SearchPath.{colon, IsSearchPath}
 use Rattle.tenant_store.proofs.Making.{if_ok_then}
 use Rattle.tenant_store.proofs.Paths.{text_trees}

@@ -5,7 +5,7 @@ use Rattle.std.specs.FinMap as finite
 use Rattle.sqlite.specs.Held.{state}
 use Rattle.sqlite.specs.Steps.{over_memory}
 use Rattle.tenant_store.specs.Holdings.{Holdings, ChangesFiles, files_of, bytes_of, files_with, bytes_with}
-use Rattle.tenant_limits.specs.Limits.{passes}
+use Rattle.mk_files.specs.Limits.{passes}
 use Rattle.tenant_store.specs.Accounts.{IsAccountOf, shown_account}
 use Rattle.tenant_store.specs.declared.reading.Account.{Account as Kept}
 use Rattle.tenant_store.specs.Tables.{IsKept, Suits, Makes, held_in, files_after}

@@ -2,7 +2,7 @@
 use Rattle.std.proofs.Common.{ap, ◌∙◌, map}
 use Rattle.sqlite.specs.Held.{state}
 use Rattle.sqlite.specs.Steps.{over_memory}
-use Rattle.text_order.specs.Order.{in_order}
+use Rattle.text_parts.specs.Order.{in_order}
 use Rattle.tenant_store.specs.Holdings.{files_of}
 use Rattle.tenant_store.specs.Tables.{held_in, name_in}
 use Rattle.tenant_store.proofs.Naming.{names_in_order}

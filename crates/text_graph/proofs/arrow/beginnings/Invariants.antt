@@ -1,6 +1,6 @@
 -- Where those of the arrows up to here begin that end at the goal.
 use Rattle.std.proofs.Common.{◌≡◌, map, take}
-use Rattle.text_cuts.specs.Cuts.{now_all}
+use Rattle.text_parts.specs.Cuts.{now_all}
 use Rattle.text_graph.specs.Arrows.{arrows_seen}
 use Rattle.text_graph.specs.Searching as searching
 use Rattle.text_graph.proofs.arrow.beginnings.Given as goal

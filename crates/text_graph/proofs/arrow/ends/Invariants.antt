@@ -1,6 +1,6 @@
 -- The ends of the arrows up to here.
 use Rattle.std.proofs.Common.{◌≡◌, map, take}
-use Rattle.text_cuts.specs.Cuts.{now_all}
+use Rattle.text_parts.specs.Cuts.{now_all}
 use Rattle.text_graph.specs.Arrows.{ArrowValue, arrows_seen}
 use Rattle.text_graph.proofs.arrow.ends.Given as goal
 

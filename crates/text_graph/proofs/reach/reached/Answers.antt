@@ -1,6 +1,6 @@
 -- What is found from the ends of the first arrows is reached over these.
 use Rattle.std.proofs.Common.{◌∙◌, ap, subst}
-use Rattle.text_cuts.specs.Cuts.{now_all}
+use Rattle.text_parts.specs.Cuts.{now_all}
 use Rattle.text_graph.specs.Arrows.{arrows_seen}
 use Rattle.text_graph.specs.Reaching.{IsReached}
 use Rattle.text_graph.specs.Searching.{FindsAll}

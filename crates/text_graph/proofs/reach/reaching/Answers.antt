@@ -1,6 +1,6 @@
 -- What is found over the turned arrows reaches the goal.
 use Rattle.std.proofs.Common.{◌∙◌, ap, subst, map}
-use Rattle.text_cuts.specs.Cuts.{now_all}
+use Rattle.text_parts.specs.Cuts.{now_all}
 use Rattle.text_graph.specs.Arrows.{arrows_seen}
 use Rattle.text_graph.specs.Reaching.{Reaches}
 use Rattle.text_graph.specs.Searching.{turned, next_of, FindsAll}

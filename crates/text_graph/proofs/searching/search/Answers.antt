@@ -1,7 +1,7 @@
 -- The search goes on from text to text.
 use Rattle.std.proofs.Common.{◌≡◌, ◌∙◌, sym, ap, subst, arith, ◌+◌, ℕ, List, [], get_or, Bor}
 use Rattle.std.proofs.lemmas.List.{length-map, get_or-map}
-use Rattle.text_cuts.specs.Cuts.{now_all}
+use Rattle.text_parts.specs.Cuts.{now_all}
 use Rattle.text_graph.specs.Arrows.{arrow_seen, arrows_seen}
 use Rattle.text_graph.specs.Searching.{all_added, found_texts, next_of}
 use Rattle.text_graph.proofs.Searches.{Searched, search-begins, search-goes_on, search-bound, search-ends, KeepsSearching}

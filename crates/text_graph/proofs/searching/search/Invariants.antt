@@ -1,6 +1,6 @@
 -- Where the arrows from all texts before this place lead was added; each place is one of a start or of the end of an arrow.
 use Rattle.std.proofs.Common.{◌+◌, ◌-◌, length}
-use Rattle.text_cuts.specs.Cuts.{now_all}
+use Rattle.text_parts.specs.Cuts.{now_all}
 use Rattle.text_graph.specs.Arrows.{arrows_seen}
 use Rattle.text_graph.proofs.Searches.{KeepsSearching}
 use Rattle.text_graph.proofs.searching.search.Given as goal

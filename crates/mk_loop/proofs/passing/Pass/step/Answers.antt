@@ -1,5 +1,5 @@
 use Rattle.std.proofs.Common.{◌+◌, ◌≤◌, length, Some, Ok, drop, refl, ap, sym, subst, ◌∙◌, get_or}
-use Rattle.mk_ref.specs.Units.{Byte, Pair, opening_of}
+use Rattle.mk_ref.specs.Units.{Byte, EscapedDollar, opening_of}
 use Rattle.mk_loop.specs.Scopes.{words_in}
 use Rattle.mk_loop.specs.Places.{GoesOn, closes}
 use Rattle.mk_loop.proofs.Standing.{stands-byte, stands-pair}
@@ -29,7 +29,7 @@ returns-in-Some-Doubled-clause-goes c = λ left stands.
     let m = c.args.budget.now in
     let bytes = sym c.as_bytes-bytes.ensures.value in
     subst (λ next. GoesOn words variables line pass left m (Ok next) m) (sym c.on-in-Some-Doubled.ensures)
-    (pass-on words variables line pass (pass.at + 2) Pair left m c.requires.placed c.requires.near
+    (pass-on words variables line pass (pass.at + 2) EscapedDollar left m c.requires.placed c.requires.near
     (stands-pair line pass.at (subst (λ l. pass.at + 2 ≤ length l) c.as_bytes-bytes.ensures.value c.in-Some-Doubled.ensures.inside)
     (ap (λ l. opening_of (drop pass.at l)) bytes ∙ sym c.in-Some-Doubled.ensures.opening ∙ ap Some c.in-Some-Doubled.field-0-is))
     (ap (λ l. closes pass (get_or l pass.at 0)) bytes ∙ sym c.closes.ensures ∙ c.if-closes.false)

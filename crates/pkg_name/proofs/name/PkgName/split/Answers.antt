@@ -3,7 +3,7 @@ use Rattle.std.proofs.Common.{◌∙◌, sym, ap, map}
 use Rattle.std.specs.String.{string_bytes}
 use Rattle.pkg_name.specs.Version.{is_version}
 use Rattle.pkg_name.specs.Name.{NameParts}
-use Rattle.text_cuts.specs.Cuts.{now_all}
+use Rattle.text_parts.specs.Cuts.{now_all}
 use Rattle.pkg_name.proofs.NameTexts.{name_read, split-IsName}
 use Rattle.pkg_name.proofs.name.PkgName.split.Goals as goal
 

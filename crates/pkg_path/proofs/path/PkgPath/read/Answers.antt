@@ -1,6 +1,6 @@
 -- Each way to end is the definition's.
 use Rattle.std.proofs.Common.{◌∙◌, ap, sym}
-use Rattle.text_cuts.specs.Cuts.{now_all}
+use Rattle.text_parts.specs.Cuts.{now_all}
 use Rattle.pkg_path.proofs.Cutting.{some_element, is_empty, has_two, is_bad, is_read}
 use Rattle.pkg_path.proofs.Rereading.{path_of-IsPath}
 use Rattle.pkg_path.proofs.path.PkgPath.read.Goals as goal

@@ -1,7 +1,7 @@
 -- Each way to end is the definition's.
 use Rattle.std.proofs.Common.{◌∙◌, ap, sym, map}
 use Rattle.pkg_spec.specs.Alternatives.{alternative_of_words}
-use Rattle.text_cuts.specs.Cuts.{now_all}
+use Rattle.text_parts.specs.Cuts.{now_all}
 use Rattle.pkg_spec.specs.Seen.{comparison_seen}
 use Rattle.pkg_spec.proofs.Reading.{is_empty, at_cut, without_stem, of_words, no_words, no_versions, some_versions, nameless, is_whole}
 use Rattle.pkg_spec.proofs.alternatives.Alternative.read.Goals as goal

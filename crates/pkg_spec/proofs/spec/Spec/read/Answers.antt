@@ -1,7 +1,7 @@
 -- Each way to end is the definition's.
 use Rattle.std.proofs.Common.{◌∙◌, ap}
 use Rattle.pkg_spec.specs.Alternatives.{spec_of}
-use Rattle.text_cuts.specs.Cuts.{now_all}
+use Rattle.text_parts.specs.Cuts.{now_all}
 use Rattle.pkg_spec.proofs.PartReadings.{is_no_stem, is_bad_version, is_empty_alternative, is_spec, gives_alternatives}
 use Rattle.pkg_spec.proofs.spec.Spec.read.Goals as goal
 

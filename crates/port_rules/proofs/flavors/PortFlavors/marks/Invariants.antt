@@ -1,6 +1,6 @@
 -- The marks so far are those of the flavors up to here.
 use Rattle.std.proofs.Common.{◌≡◌, map, filter, take, string_bytes}
-use Rattle.text_cuts.specs.Cuts.{now_all}
+use Rattle.text_parts.specs.Cuts.{now_all}
 use Rattle.mk_env.specs.Expansion.{is_among}
 use Rattle.port_rules.proofs.flavors.PortFlavors.marks.Given as goal
 

@@ -6,10 +6,10 @@ use Rattle.ports_core.proofs.service.Service.connections.Goals as goal
 -- a number is left of those of at most 16 connections
 pub push-requires : goal.push-requires
 push-requires g c =
-    let lines = c.self.inside.lines.entries in
-    let all : length (c.loop-conn.numbers.items ++ c.in-Some.conn.now ∷ c.next.new.self) ≡ length lines =
+    let connections = c.self.inside.connections.entries in
+    let all : length (c.loop-conn.numbers.items ++ c.in-Some.conn.now ∷ c.next.new.self) ≡ length connections =
     ap (λ left. length (c.loop-conn.numbers.items ++ left)) (sym c.in-Some.ensures.steps) ∙ ap length c.loop-conn.invariant.2
-    ∙ ap (λ (s : State). length (connections_of s)) (sym c.self.view_is) ∙ length-map _ lines in
+    ∙ ap (λ (s : State). length (connections_of s)) (sym c.self.view_is) ∙ length-map _ connections in
     let few = c.self.invariant.few in
     let split = length-append c.loop-conn.numbers.items (c.in-Some.conn.now ∷ c.next.new.self) in
     (omega arith, omega (arith, all, few, split))

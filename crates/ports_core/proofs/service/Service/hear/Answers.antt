@@ -1,38 +1,38 @@
 use Rattle.std.proofs.Common.{ap, sym, subst, ◌∙◌, arith, List, length}
 use Rattle.std.proofs.lemmas.List.{with_items_is}
 use Rattle.ports_core.specs.Keys.{key_texts}
-use Rattle.ports_core.specs.Lines.{Fits}
+use Rattle.ports_core.specs.Connections.{Fits}
 use Rattle.ports_core.specs.Opened.{OpenAnd}
 use Rattle.ports_core.specs.Places.{AreSeated}
 use Rattle.ports_core.specs.Slices.{Queue}
-use Rattle.ports_core.specs.State.{State, line_of}
+use Rattle.ports_core.specs.State.{State, connection_of}
 use Rattle.ports_core.proofs.PlaceLemmas.{heard_fresh, heard_seats, open_places}
 use Rattle.ports_core.proofs.StepLemmas.{heard}
 use Rattle.ports_core.proofs.service.Service.hear.Goals as goal
 
-pub hear_line-requires-clause-places : goal.hear_line-requires-clause-places
-hear_line-requires-clause-places g c =
-    open_places c.self.inside.queues.items c.deref_mut.result.now c.self.inside.lines.entries c.args.conn (Fits c.args.event.now) c.deref_mut.ensures.value c.self.invariant.few c.self.invariant.seated
-    (subst (λ (s : State). OpenAnd (line_of c.args.conn s) (Fits c.args.event.now)) (sym c.self.view_is) c.requires)
+pub hear_connection-requires-clause-places : goal.hear_connection-requires-clause-places
+hear_connection-requires-clause-places g c =
+    open_places c.self.inside.queues.items c.deref_mut.result.now c.self.inside.connections.entries c.args.conn (Fits c.args.event.now) c.deref_mut.ensures.value c.self.invariant.few c.self.invariant.seated
+    (subst (λ (s : State). OpenAnd (connection_of c.args.conn s) (Fits c.args.event.now)) (sym c.self.view_is) c.requires)
 
 pub invariant_of-self : goal.invariant_of-self
 invariant_of-self g c =
-    let queues = with_items_is c.self.inside.queues c.hear_line.new.queues (c.hear_line.auto.queues ∙ c.deref_mut.ensures.len) in
+    let queues = with_items_is c.self.inside.queues c.hear_connection.new.queues (c.hear_connection.auto.queues ∙ c.deref_mut.ensures.len) in
     record {
       worlds = c.self.invariant.worlds;
-      queues = ap length queues ∙ c.hear_line.auto.queues ∙ ap length c.deref_mut.ensures.value ∙ c.self.invariant.queues;
-      few = omega (arith, c.self.invariant.few, c.hear_line.ensures.count);
-      fresh = heard_fresh _ c.args.event.now c.args.conn c.hear_line.result _ c.hear_line.new.lines.entries _ _ c.hear_line.ensures.hears c.self.inside.next c.self.invariant.fresh;
-      seated = subst (λ (qs : List Queue). AreSeated qs c.hear_line.new.lines.entries) (sym queues)
-          (heard_seats _ c.args.event.now c.args.conn c.hear_line.result _ c.hear_line.new.lines.entries _ _ c.hear_line.ensures.hears
-          (subst (λ (qs : List Queue). AreSeated qs c.self.inside.lines.entries) (sym c.deref_mut.ensures.value) c.self.invariant.seated));
+      queues = ap length queues ∙ c.hear_connection.auto.queues ∙ ap length c.deref_mut.ensures.value ∙ c.self.invariant.queues;
+      few = omega (arith, c.self.invariant.few, c.hear_connection.ensures.count);
+      fresh = heard_fresh _ c.args.event.now c.args.conn c.hear_connection.result _ c.hear_connection.new.connections.entries _ _ c.hear_connection.ensures.hears c.self.inside.next c.self.invariant.fresh;
+      seated = subst (λ (qs : List Queue). AreSeated qs c.hear_connection.new.connections.entries) (sym queues)
+          (heard_seats _ c.args.event.now c.args.conn c.hear_connection.result _ c.hear_connection.new.connections.entries _ _ c.hear_connection.ensures.hears
+          (subst (λ (qs : List Queue). AreSeated qs c.self.inside.connections.entries) (sym c.deref_mut.ensures.value) c.self.invariant.seated));
     }
 
 pub returns-clause-hears : goal.returns-clause-hears
 returns-clause-hears g c =
     rw (← c.self.view_is)
-    (heard (key_texts c.self.inside.keys.items) c.self.inside.next c.args.event.now c.args.conn c.hear_line.result (g.K.Worlds.worlds c.self.inside.worlds)
-    c.self.inside.queues.items c.deref_mut.result.now c.hear_line.new.queues _ c.self.inside.lines.entries c.hear_line.new.lines.entries
+    (heard (key_texts c.self.inside.keys.items) c.self.inside.next c.args.event.now c.args.conn c.hear_connection.result (g.K.Tenants.worlds c.self.inside.worlds)
+    c.self.inside.queues.items c.deref_mut.result.now c.hear_connection.new.queues _ c.self.inside.connections.entries c.hear_connection.new.connections.entries
     (key_texts c.deref.result.now) (ap key_texts c.deref.ensures.value) c.deref_mut.ensures.value
-    (with_items_is c.self.inside.queues c.hear_line.new.queues (c.hear_line.auto.queues ∙ c.deref_mut.ensures.len))
-    c.hear_line.ensures.hears)
+    (with_items_is c.self.inside.queues c.hear_connection.new.queues (c.hear_connection.auto.queues ∙ c.deref_mut.ensures.len))
+    c.hear_connection.ensures.hears)

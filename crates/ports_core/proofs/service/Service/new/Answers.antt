@@ -7,7 +7,7 @@ use Rattle.ports_core.proofs.StepLemmas.{new_state_is}
 use Rattle.ports_core.proofs.service.Service.new.Goals as goal
 
 pub returns-clause-ok : goal.returns-clause-ok
-returns-clause-ok g c = new_state_is c.args.config.keys.items (g.K.Worlds.worlds c.in_ok-worlds.worlds) c.in_ok-queues.queues.items c.len-count.result c.new-2.result.entries c.in_ok-worlds.ensures c.in_ok-queues.ensures (omega arith) c.new-2.ensures.empty
+returns-clause-ok g c = new_state_is c.args.config.keys.items (g.K.Tenants.worlds c.in_ok-worlds.worlds) c.in_ok-queues.queues.items c.len-count.result c.new-2.result.entries c.in_ok-worlds.ensures c.in_ok-queues.ensures (omega arith) c.new-2.ensures.empty
 
 pub invariant_of-result : goal.invariant_of-result
 invariant_of-result g c =

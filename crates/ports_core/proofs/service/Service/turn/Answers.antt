@@ -3,7 +3,7 @@ use Rattle.std.proofs.Math.ListN.{length-set}
 use Rattle.std.proofs.lemmas.Option.{slice_get_read}
 use Rattle.std.specs.Prelude.{option_and_then}
 use Rattle.ports_core.specs.Keys.{key_texts}
-use Rattle.ports_core.specs.Lines.{kept}
+use Rattle.ports_core.specs.Connections.{kept}
 use Rattle.ports_core.proofs.PlaceLemmas.{answered_fresh, answered_seats}
 use Rattle.ports_core.proofs.StepLemmas.{idle, answered_in_turn, within_keys}
 use Rattle.ports_core.proofs.service.Service.turn.Goals as goal
@@ -11,43 +11,43 @@ use Rattle.ports_core.proofs.service.Service.turn.Goals as goal
 -- nothing waits
 pub returns-in_default-clause-turns : goal.returns-in_default-clause-turns
 returns-in_default-clause-turns g c =
-    let within : c.args.tenant < length c.self.inside.queues.items = within_keys c.args.tenant c.args.self.now c.self.inside.keys.items (g.K.Worlds.worlds c.self.inside.worlds) c.self.inside.queues.items c.self.inside.lines.entries c.self.inside.next c.self.inside.queues.items c.self.view_is c.self.invariant.queues c.requires in
+    let within : c.args.tenant < length c.self.inside.queues.items = within_keys c.args.tenant c.args.self.now c.self.inside.keys.items (g.K.Tenants.worlds c.self.inside.worlds) c.self.inside.queues.items c.self.inside.connections.entries c.self.inside.next c.self.inside.queues.items c.self.view_is c.self.invariant.queues c.requires in
     rw (← c.self.view_is)
-    (inl (idle (key_texts c.self.inside.keys.items) c.self.inside.next c.args.tenant c.nothing.result (g.K.Worlds.worlds c.self.inside.worlds) c.self.inside.queues.items c.index_mut-queue.result.now c.next.new.self c.self.inside.lines.entries
+    (inl (idle (key_texts c.self.inside.keys.items) c.self.inside.next c.args.tenant c.nothing.result (g.K.Tenants.worlds c.self.inside.worlds) c.self.inside.queues.items c.index_mut-queue.result.now c.next.new.self c.self.inside.connections.entries
     (slice_get_read c.self.inside.queues.items (length c.self.inside.queues.items) c.args.tenant c.index_mut-queue.result.now refl within c.index_mut-queue.ensures.value)
     c.in_default.ensures.none c.in_default.ensures.same c.nothing.ensures.reply c.nothing.ensures.refused c.nothing.ensures.closed))
 
 -- a tenant with a key has a world
 pub answer-reply-requires : goal.answer-reply-requires
-answer-reply-requires g c = within_keys c.args.tenant c.args.self.now c.self.inside.keys.items (g.K.Worlds.worlds c.self.inside.worlds) c.self.inside.queues.items c.self.inside.lines.entries c.self.inside.next (g.K.Worlds.worlds c.self.inside.worlds) c.self.view_is c.self.invariant.worlds c.requires
+answer-reply-requires g c = within_keys c.args.tenant c.args.self.now c.self.inside.keys.items (g.K.Tenants.worlds c.self.inside.worlds) c.self.inside.queues.items c.self.inside.connections.entries c.self.inside.next (g.K.Tenants.worlds c.self.inside.worlds) c.self.view_is c.self.invariant.worlds c.requires
 
 -- the first request is answered
 pub returns-clause-turns : goal.returns-clause-turns
 returns-clause-turns g c =
-    let within : c.args.tenant < length c.self.inside.queues.items = within_keys c.args.tenant c.args.self.now c.self.inside.keys.items (g.K.Worlds.worlds c.self.inside.worlds) c.self.inside.queues.items c.self.inside.lines.entries c.self.inside.next c.self.inside.queues.items c.self.view_is c.self.invariant.queues c.requires in
+    let within : c.args.tenant < length c.self.inside.queues.items = within_keys c.args.tenant c.args.self.now c.self.inside.keys.items (g.K.Tenants.worlds c.self.inside.worlds) c.self.inside.queues.items c.self.inside.connections.entries c.self.inside.next c.self.inside.queues.items c.self.view_is c.self.invariant.queues c.requires in
     rw (← c.self.view_is)
-    (inr (answered_in_turn (key_texts c.self.inside.keys.items) c.self.inside.next c.args.tenant c.of.result (g.K.Worlds.worlds c.self.inside.worlds) (g.K.Worlds.worlds c.answer-reply.new.self) c.self.inside.queues.items c.index_mut-queue.result.now c.next.new.self
+    (inr (answered_in_turn (key_texts c.self.inside.keys.items) c.self.inside.next c.args.tenant c.of.result (g.K.Tenants.worlds c.self.inside.worlds) (g.K.Tenants.worlds c.answer-reply.new.self) c.self.inside.queues.items c.index_mut-queue.result.now c.next.new.self
     c.in-Some.field-0 c.answer-reply.result.0 c.close_done-closed.result
-    c.self.inside.lines.entries c.answer_line.new.lines.entries c.close_done-closed.new.lines.entries
+    c.self.inside.connections.entries c.answer_connection.new.connections.entries c.close_done-closed.new.connections.entries
     within
     (slice_get_read c.self.inside.queues.items (length c.self.inside.queues.items) c.args.tenant c.index_mut-queue.result.now refl within c.index_mut-queue.ensures.value)
     c.in-Some.ensures.some c.answer-reply.ensures.answers
-    c.answer_line.ensures.line c.answer_line.ensures.others c.close_done-closed.ensures.closed c.close_done-closed.ensures.line c.close_done-closed.ensures.others
+    c.answer_connection.ensures.connection c.answer_connection.ensures.others c.close_done-closed.ensures.closed c.close_done-closed.ensures.connection c.close_done-closed.ensures.others
     c.of.ensures.reply c.of.ensures.refused c.of.ensures.closed))
 
 -- the places, then
 pub invariant_of-self-2 : goal.invariant_of-self-2
 invariant_of-self-2 g c =
-    let within : c.args.tenant < length c.self.inside.queues.items = within_keys c.args.tenant c.args.self.now c.self.inside.keys.items (g.K.Worlds.worlds c.self.inside.worlds) c.self.inside.queues.items c.self.inside.lines.entries c.self.inside.next c.self.inside.queues.items c.self.view_is c.self.invariant.queues c.requires in
+    let within : c.args.tenant < length c.self.inside.queues.items = within_keys c.args.tenant c.args.self.now c.self.inside.keys.items (g.K.Tenants.worlds c.self.inside.worlds) c.self.inside.queues.items c.self.inside.connections.entries c.self.inside.next c.self.inside.queues.items c.self.view_is c.self.invariant.queues c.requires in
     let was = slice_get_read c.self.inside.queues.items (length c.self.inside.queues.items) c.args.tenant c.index_mut-queue.result.now refl within c.index_mut-queue.ensures.value in
-    let line = c.close_done-closed.ensures.line ∙ ap (option_and_then kept) c.answer_line.ensures.line in
-    let others = λ (d : ℕ) (ne : d ≢ c.in-Some.field-0.conn). c.close_done-closed.ensures.others d ne ∙ c.answer_line.ensures.others d ne in
+    let connection = c.close_done-closed.ensures.connection ∙ ap (option_and_then kept) c.answer_connection.ensures.connection in
+    let others = λ (d : ℕ) (ne : d ≢ c.in-Some.field-0.conn). c.close_done-closed.ensures.others d ne ∙ c.answer_connection.ensures.others d ne in
     record {
       worlds = c.answer-reply.ensures.count ∙ c.self.invariant.worlds;
       queues = length-set c.self.inside.queues.items c.args.tenant c.next.new.self ∙ c.self.invariant.queues;
-      few = omega (arith, c.self.invariant.few, c.answer_line.ensures.count, c.close_done-closed.ensures.count);
-      fresh = answered_fresh c.args.tenant c.self.inside.queues.items c.index_mut-queue.result.now c.next.new.self c.in-Some.field-0 c.answer-reply.result.0 c.self.inside.lines.entries c.close_done-closed.new.lines.entries
-          within was c.in-Some.ensures.some line others c.self.inside.next c.self.invariant.fresh;
-      seated = answered_seats c.args.tenant c.self.inside.queues.items c.index_mut-queue.result.now c.next.new.self c.in-Some.field-0 c.answer-reply.result.0 c.self.inside.lines.entries c.close_done-closed.new.lines.entries
-          within was c.in-Some.ensures.some line others c.self.invariant.seated;
+      few = omega (arith, c.self.invariant.few, c.answer_connection.ensures.count, c.close_done-closed.ensures.count);
+      fresh = answered_fresh c.args.tenant c.self.inside.queues.items c.index_mut-queue.result.now c.next.new.self c.in-Some.field-0 c.answer-reply.result.0 c.self.inside.connections.entries c.close_done-closed.new.connections.entries
+          within was c.in-Some.ensures.some connection others c.self.inside.next c.self.invariant.fresh;
+      seated = answered_seats c.args.tenant c.self.inside.queues.items c.index_mut-queue.result.now c.next.new.self c.in-Some.field-0 c.answer-reply.result.0 c.self.inside.connections.entries c.close_done-closed.new.connections.entries
+          within was c.in-Some.ensures.some connection others c.self.invariant.seated;
     }

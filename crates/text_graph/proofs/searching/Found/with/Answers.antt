@@ -1,7 +1,7 @@
 -- The set knows the text that was put behind the others.
 use Rattle.std.proofs.Common.{◌∙◌, sym, ap, ℕ, List, [], ◌∷◌, Bor}
 use Rattle.std.proofs.lemmas.List.{map-append}
-use Rattle.text_cuts.specs.Cuts.{now_all}
+use Rattle.text_parts.specs.Cuts.{now_all}
 use Rattle.text_graph.specs.Searching.{is_among, found_texts}
 use Rattle.text_graph.proofs.Keeping.{also-known}
 use Rattle.text_graph.proofs.searching.Found.with.Goals as goal

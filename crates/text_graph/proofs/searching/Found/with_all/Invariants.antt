@@ -1,6 +1,6 @@
 -- The texts up to here are added.
 use Rattle.std.proofs.Common.{◌≡◌, take}
-use Rattle.text_cuts.specs.Cuts.{now_all}
+use Rattle.text_parts.specs.Cuts.{now_all}
 use Rattle.text_graph.specs.Searching.{all_added, found_texts, KnowsItsTexts}
 use Rattle.text_graph.proofs.searching.Found.with_all.Given as goal
 

@@ -2,7 +2,7 @@
 use Rattle.std.proofs.Common.{◌∙◌, ap, arith, take}
 use Rattle.std.proofs.lemmas.Grind.{text_groups}
 use Rattle.std.proofs.lemmas.List.{take_all}
-use Rattle.text_cuts.specs.Cuts.{now_all}
+use Rattle.text_parts.specs.Cuts.{now_all}
 use Rattle.text_graph.specs.Arrows.{arrows_seen}
 use Rattle.text_graph.specs.Searching.{next_of}
 use Rattle.text_graph.proofs.Keeping.{next_seen}

@@ -1,0 +1,212 @@
+//! Names of files, search paths, and worlds of files.
+use case_lines::{Answer, Trouble, as_number, as_text, one_text};
+use mk_base::{Budget, FaultKind, UNITS};
+use mk_files::{Content, Files, Listing, MemoryFiles, ask_has, ask_read, look_has, look_read};
+use mk_paths::{Name, NameFault, Names, PathFault, SearchPath, Settings, find};
+use std::alloc::Global;
+use text_cases::add_texts;
+
+/// `name TEXT`, `name under DIRECTORY TEXT`: the resolved name of a file, or why there is none.
+pub fn name_of(alloc: Global, given: &[Vec<u8>]) -> Result<Answer, Trouble> {
+    let read = match given {
+        [text] => Name::read(alloc, as_text(text)?),
+        [directory, text] => Name::under(alloc, as_text(directory)?, as_text(text)?),
+        _ => return Err(Trouble::NoCase),
+    };
+    match read {
+        Ok(name) => Ok(name_told(alloc, name)),
+        Err(NameFault::BadName) => Ok(Answer::of_word(alloc, "BadName")),
+        Err(NameFault::Above) => Ok(Answer::of_word(alloc, "Above")),
+        Err(NameFault::Memory) => Err(Trouble::Memory),
+    }
+}
+
+fn name_told(alloc: Global, name: Name) -> Answer {
+    let mut answer = Answer::of_text(alloc, name.as_str());
+    if name.into_text().as_bytes().is_empty() {
+        answer.word("lost");
+    }
+    answer
+}
+
+/// `directory of NAME`: the directory that a file is in.
+pub fn directory_of(alloc: Global, given: &[Vec<u8>]) -> Result<Answer, Trouble> {
+    let [name] = given else {
+        return Err(Trouble::NoCase);
+    };
+    let name = given_name(alloc, name)?;
+    Ok(Answer::of_text(alloc, name.directory()))
+}
+
+/// `search path TEXT`: its trees, or `BadPath`.
+pub fn trees_of(alloc: Global, given: &[Vec<u8>]) -> Result<Answer, Trouble> {
+    match SearchPath::read(alloc, one_text(given)?) {
+        Ok(path) => Ok(trees_told(alloc, &path)),
+        Err(PathFault::BadPath) => Ok(Answer::of_word(alloc, "BadPath")),
+        Err(PathFault::Memory) => Err(Trouble::Memory),
+    }
+}
+
+/// `standard search path`
+pub fn standard_trees(alloc: Global) -> Result<Answer, Trouble> {
+    let settings = Settings {
+        path: SearchPath::standard(alloc)?,
+    };
+    Ok(trees_told(alloc, &settings.path))
+}
+
+/// The trees of a search path.
+pub fn trees_told(alloc: Global, path: &SearchPath) -> Answer {
+    let mut answer = Answer::new(alloc);
+    for tree in path.trees() {
+        answer.text(tree.as_bytes());
+    }
+    answer
+}
+
+/// A name that a case gives.
+pub fn given_name(alloc: Global, text: &[u8]) -> Result<Name, Trouble> {
+    Name::read(alloc, as_text(text)?).map_err(|fault| match fault {
+        NameFault::Memory => Trouble::Memory,
+        _ => Trouble::NoCase,
+    })
+}
+
+/// `put NAME BYTES`: stores a file.
+pub fn put(alloc: Global, world: &mut MemoryFiles, given: &[Vec<u8>]) -> Result<(), Trouble> {
+    let [name, bytes] = given else {
+        return Err(Trouble::NoCase);
+    };
+    let content = Content::new(alloc, bytes.clone()?)?;
+    world.put(given_name(alloc, name)?, content.share()?)?;
+    Ok(())
+}
+
+/// `names`: the names of all files.
+pub fn names(alloc: Global, files: &mut MemoryFiles) -> Result<Answer, Trouble> {
+    let mut answer = Answer::new(alloc);
+    add_texts(&mut answer, &files.names(alloc)?);
+    Ok(answer)
+}
+
+/// `remove NAME`: `removed` or `absent`.
+pub fn remove(
+    alloc: Global,
+    world: &mut MemoryFiles,
+    given: &[Vec<u8>],
+) -> Result<Answer, Trouble> {
+    let [name] = given else {
+        return Err(Trouble::NoCase);
+    };
+    let removed = world.remove(&given_name(alloc, name)?);
+    Ok(Answer::of_choice(alloc, removed, "removed", "absent"))
+}
+
+/// `read NAME`: the bytes of a file, or `absent`. Every way of asking gives the same.
+pub fn read(alloc: Global, world: &mut MemoryFiles, given: &[Vec<u8>]) -> Result<Answer, Trouble> {
+    let [name] = given else {
+        return Err(Trouble::NoCase);
+    };
+    let name = given_name(alloc, name)?;
+    let is_there = is_there(world, &name)?;
+    let read = world.read(&name)?;
+    let seen = look_read::<MemoryFiles, FaultKind>(world, &name).map_err(|_| Trouble::Memory)?;
+    Ok(match (read, seen) {
+        (Some(read), Some(seen)) if is_there == Some(true) => {
+            two_told(alloc, read.as_slice(), seen.as_slice())
+        },
+        (None, None) if is_there == Some(false) => Answer::of_word(alloc, "absent"),
+        _ => Answer::of_word(alloc, "both"),
+    })
+}
+
+/// Whether a file is there. `None` if two ways of asking give different answers.
+fn is_there(world: &mut MemoryFiles, name: &Name) -> Result<Option<bool>, Trouble> {
+    let has = world.has(name)?;
+    let is_held = world.get(name).is_some();
+    match look_has::<MemoryFiles, FaultKind>(world, name) {
+        Ok(seen) if seen == has && is_held == has => Ok(Some(has)),
+        Ok(_) => Ok(None),
+        Err(_) => Err(Trouble::Memory),
+    }
+}
+
+/// The bytes of a content, and those of the other one if they aren't the same.
+pub fn two_told(alloc: Global, one: &[u8], other: &[u8]) -> Answer {
+    let mut answer = Answer::new(alloc);
+    answer.text(one);
+    if one != other {
+        answer.text(other);
+    }
+    answer
+}
+
+/// A budget that has counted so many questions.
+fn asked(count: &[u8]) -> Result<Budget, Trouble> {
+    let mut budget = Budget::new(UNITS);
+    for _ in 0..as_number(count)? {
+        budget.ask().map_err(|_| Trouble::NoCase)?;
+    }
+    Ok(budget)
+}
+
+/// `ask has NAME after N`: after N questions were counted, `there` or `absent`, or the kind of the fault,
+/// and how many questions are counted then.
+pub fn ask_has_told(
+    alloc: Global,
+    world: &mut MemoryFiles,
+    given: &[Vec<u8>],
+) -> Result<Answer, Trouble> {
+    let [name, count] = given else {
+        return Err(Trouble::NoCase);
+    };
+    let mut budget = asked(count)?;
+    let mut answer = Answer::new(alloc);
+    match ask_has(world, &given_name(alloc, name)?, &mut budget) {
+        Ok(true) => answer.word("there"),
+        Ok(false) => answer.word("absent"),
+        Err(stop) => answer.stop(stop),
+    }
+    answer.number(budget.questions());
+    Ok(answer)
+}
+
+/// `ask read NAME after N`: the same of a file's bytes.
+pub fn ask_read_told(
+    alloc: Global,
+    world: &mut MemoryFiles,
+    given: &[Vec<u8>],
+) -> Result<Answer, Trouble> {
+    let [name, count] = given else {
+        return Err(Trouble::NoCase);
+    };
+    let mut budget = asked(count)?;
+    let mut answer = Answer::new(alloc);
+    match ask_read(world, &given_name(alloc, name)?, &mut budget) {
+        Ok(Some(content)) => answer.text(content.as_slice()),
+        Ok(None) => answer.word("absent"),
+        Err(stop) => answer.stop(stop),
+    }
+    answer.number(budget.questions());
+    Ok(answer)
+}
+
+/// `place of DIRECTORY on PATH`: the makefile of a directory, or `none`.
+pub fn place(alloc: Global, world: &mut MemoryFiles, given: &[Vec<u8>]) -> Result<Answer, Trouble> {
+    let [directory, path] = given else {
+        return Err(Trouble::NoCase);
+    };
+    let path = given_path(alloc, path)?;
+    Ok(match find(alloc, world, &path, as_text(directory)?)? {
+        Some(name) => Answer::of_text(alloc, name.as_str()),
+        None => Answer::of_word(alloc, "none"),
+    })
+}
+
+/// A search path that a case gives.
+pub fn given_path(alloc: Global, text: &[u8]) -> Result<SearchPath, Trouble> {
+    SearchPath::read(alloc, as_text(text)?).map_err(|fault| match fault {
+        PathFault::Memory => Trouble::Memory,
+        PathFault::BadPath => Trouble::NoCase,
+    })
+}

@@ -1,0 +1,152 @@
+//! Budgets, faults, variables and expansion.
+use case_lines::{Answer, Trouble, as_number, as_text, one_text};
+use mk_base::{Budget, Fault, FaultKind, Stop, UNITS};
+use mk_env::{Env, expand, expand_inside, expand_now, expand_variable, modify};
+use std::alloc::Global;
+
+/// `numbers of kinds`: each kind of fault, with the number by which replies name it.
+pub fn numbers_of_kinds(alloc: Global) -> Answer {
+    let mut answer = Answer::new(alloc);
+    for kind in [
+        FaultKind::Line,
+        FaultKind::Block,
+        FaultKind::Condition,
+        FaultKind::For,
+        FaultKind::Include,
+        FaultKind::IncludeDepth,
+        FaultKind::Reference,
+        FaultKind::Modifier,
+        FaultKind::Recursive,
+        FaultKind::Depth,
+        FaultKind::Budget,
+        FaultKind::Length,
+        FaultKind::Shell,
+        FaultKind::Utf8,
+        FaultKind::Flavor,
+        FaultKind::NoName,
+        FaultKind::BadName,
+        FaultKind::Questions,
+    ] {
+        answer.kind(&kind);
+        answer.number(u64::from(kind.number()));
+    }
+    answer
+}
+
+/// `budget LIMIT pays N asks M`: pays so many units and asks so many questions. Then it gives the first
+/// fault of each, if any, and what was spent and asked.
+pub fn budget(alloc: Global, given: &[Vec<u8>]) -> Result<Answer, Trouble> {
+    let [limit, units, questions] = given else {
+        return Err(Trouble::NoCase);
+    };
+    let mut budget = Budget::new(as_number(limit)?);
+    let mut answer = Answer::new(alloc);
+    let mut fault = None;
+    for _ in 0..as_number(units)? {
+        fault = fault.or(budget.pay().err());
+    }
+    add_fault_kind(&mut answer, fault);
+    fault = None;
+    for _ in 0..as_number(questions)? {
+        fault = fault.or(budget.ask().err());
+    }
+    add_fault_kind(&mut answer, fault);
+    answer.number(budget.spent());
+    answer.number(budget.questions());
+    Ok(answer)
+}
+
+fn add_fault_kind(answer: &mut Answer, kind: Option<FaultKind>) {
+    match kind {
+        Some(kind) => answer.kind(&kind),
+        None => answer.word("ok"),
+    }
+}
+
+/// `blame NAME LINE`: a fault that arose there, as it reports its kind, name and line.
+pub fn blamed(alloc: Global, given: &[Vec<u8>]) -> Result<Answer, Trouble> {
+    let [name, line] = given else {
+        return Err(Trouble::NoCase);
+    };
+    let stop = Stop::Fault(FaultKind::Reference);
+    match stop.blame(alloc, as_text(name)?, as_number(line)?) {
+        Stop::Fault(fault) => told_fault(alloc, &fault),
+        Stop::Store => Ok(Answer::of_word(alloc, "Store")),
+        Stop::Memory => Err(Trouble::Memory),
+    }
+}
+
+/// A fault as `KIND at NAME:LINE`.
+pub fn told_fault(alloc: Global, fault: &Fault) -> Result<Answer, Trouble> {
+    let kind = fault.kind();
+    let name = fault.name();
+    let line = fault.line();
+    let told = format!(in alloc; "{kind:?} at {name}:{line}")?;
+    Ok(Answer::of_word(alloc, told.as_str()))
+}
+
+/// `expand TEXT`, `expand now TEXT`, `variable NAME`, `inside TEXT`: what one of these calls expands a text
+/// to, with the units spent; of a fault its kind. A number in front is the limit of the budget.
+pub fn expansion(
+    alloc: Global,
+    variables: &Env,
+    call: &str,
+    given: &[Vec<u8>],
+) -> Result<Answer, Trouble> {
+    let (limit, text) = match given {
+        [text] => (UNITS, text),
+        [limit, text] => (as_number(limit)?, text),
+        _ => return Err(Trouble::NoCase),
+    };
+    let text = as_text(text)?;
+    let mut budget = Budget::new(limit);
+    let outcome = match call {
+        "expand now" => expand_now(alloc, variables, text, &mut budget),
+        "variable" => expand_variable(alloc, variables, text, &mut budget),
+        "inside" | "inside within" => expand_inside(alloc, variables, text, &mut budget),
+        _ => expand(alloc, variables, text, &mut budget),
+    };
+    Ok(told_expansion(alloc, outcome, &budget))
+}
+
+/// `modify MODIFIERS on TEXT`: what they make of a text that is given, in the form of `expand`. A number
+/// after `within` is the limit of the budget.
+pub fn modified(alloc: Global, variables: &Env, given: &[Vec<u8>]) -> Result<Answer, Trouble> {
+    let (limit, modifiers, text) = match given {
+        [modifiers, text] => (UNITS, modifiers, text),
+        [modifiers, text, limit] => (as_number(limit)?, modifiers, text),
+        _ => return Err(Trouble::NoCase),
+    };
+    let mut budget = Budget::new(limit);
+    let (text, modifiers) = (as_text(text)?, as_text(modifiers)?);
+    let outcome = modify(alloc, variables, text, modifiers, &mut budget);
+    Ok(told_expansion(alloc, outcome, &budget))
+}
+
+fn told_expansion(
+    alloc: Global,
+    outcome: Result<String, Stop<FaultKind>>,
+    budget: &Budget,
+) -> Answer {
+    let mut answer = Answer::new(alloc);
+    match outcome {
+        Ok(text) => answer.text(text.as_bytes()),
+        Err(stop) => answer.stop(stop),
+    }
+    answer.number(budget.spent());
+    answer
+}
+
+/// `get NAME`, `get from copy NAME`: the text of a variable, or `undefined`.
+pub fn text_of_variable(
+    alloc: Global,
+    variables: &Env,
+    given: &[Vec<u8>],
+) -> Result<Answer, Trouble> {
+    let name = one_text(given)?;
+    Ok(match variables.get(name) {
+        Some(text) if variables.defined(name) => Answer::of_text(alloc, text),
+        None if !variables.defined(name) => Answer::of_word(alloc, "undefined"),
+        _ => Answer::of_word(alloc, "both"),
+    })
+}

@@ -1,0 +1,40 @@
+-- Files that can be asked, and what it is to ask them.
+use Rattle.std.specs.Prelude.{◌≡◌, ℕ, ◌+◌, ◌-◌, ◌^◌, min, Bool, List, [], ◌∷◌, ◌++◌, Option, option_map}
+use Rattle.std.specs.FinMap.{get, contains_key}
+use Rattle.mk_paths.specs.World.{FileMap}
+
+-- the answer to a question: whether the file is there, or its content, if it is there
+pub data Reply : Type 0 where
+  Presence : Bool → Reply
+  Contents : Option (List ℕ) → Reply
+
+-- a name that was asked about, with its answer
+abbrev pub Question : Type 0
+Question = List ℕ × Reply
+
+-- a view of files: the map, the log of the questions asked if one is kept, and how many questions failed
+pub record FilesView : Type 0 where
+  pub files : FileMap
+  pub log : Option (List Question)
+  pub failures : ℕ
+
+-- the reply is the one that the files give
+abbrev pub IsReply : FileMap → List ℕ → Reply → Type 0
+IsReply files name (Presence there) = there ≡ contains_key files name
+IsReply files name (Contents content) = content ≡ get files name
+
+-- the view with more questions in its log, if it keeps one
+abbrev pub noted : FilesView → List Question → FilesView
+noted world questions = record world { log = option_map (λ log. log ++ questions) world.log }
+
+-- the view with one more failure counted, up to the greatest number of 64 bits
+abbrev pub failed : FilesView → FilesView
+failed world = record world { failures = min (world.failures + 1) (2 ^ 64 - 1) }
+
+-- a question was answered as the files say, and is in the log
+abbrev pub Answers : FilesView → FilesView → List ℕ → Reply → Type 0
+Answers old new name reply = IsReply old.files name reply × (new ≡ noted old ((name, reply) ∷ []))
+
+-- a question failed: nothing changed but the count of failures
+abbrev pub Fails : FilesView → FilesView → Type 0
+Fails old new = new ≡ failed old

@@ -1,0 +1,32 @@
+//! What listens for clients.
+ghost use Rattle.std.specs.Prelude.{ℕ, IfOk};
+
+use crate::wire::Wire;
+use std::alloc::Global;
+use thiserror::Error;
+
+/// Why nothing listens.
+#[derive(Clone, Copy, Debug, PartialEq, Eq, Error)]
+pub enum ListenFault {
+    /// The port isn't available, or no socket is.
+    #[error("the port can't be had")]
+    Port,
+    /// There was no memory for what listens.
+    #[error("out of memory")]
+    Memory,
+}
+
+/// What can begin to listen for clients.
+///
+/// `listens_on` says of a wire that it listens on a port. Nothing is known of sockets,
+/// so theirs may be anything.
+pub trait Listen {
+    type Wire: Wire + Drop;
+
+    ghost listens_on: { ℕ → Self.Wire → Type 0 };
+
+    /// A wire that listens on the port. The error is `Port` if the port isn't available, and
+    /// `Memory` if memory runs out.
+    fn listen(&self, alloc: Global, port: u16) -> Result<Self::Wire, ListenFault>
+        ensures { IfOk result (listens_on port) };
+}

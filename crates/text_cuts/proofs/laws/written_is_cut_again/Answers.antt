@@ -1,5 +1,0 @@
-use Rattle.text_cuts.proofs.PartTexts.{written_is_cut_again}
-use Rattle.text_cuts.proofs.laws.written_is_cut_again.Goals as goal
-
-pub returns : goal.returns
-returns c = written_is_cut_again

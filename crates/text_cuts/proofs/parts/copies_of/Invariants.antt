@@ -1,8 +1,0 @@
--- The copies so far are the texts up to here.
-use Rattle.std.proofs.Common.{◌≡◌, map, take}
-use Rattle.std.specs.String.{string_bytes}
-use Rattle.text_cuts.specs.Cuts.{now_all}
-use Rattle.text_cuts.proofs.parts.copies_of.Given as goal
-
-abbrev pub invariant-loop-text : goal.invariant-loop-text
-invariant-loop-text l = map string_bytes l.copies.items ≡ now_all (take l.text-index l.texts)

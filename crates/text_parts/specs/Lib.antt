@@ -1,0 +1,4 @@
+pub mod Cuts
+pub mod Laws
+pub mod Order
+pub mod Ordered

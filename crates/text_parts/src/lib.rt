@@ -1,0 +1,13 @@
+//! Texts cut at marks, and texts put in order. A text is cut in two, at the first mark after which a
+//! certain text follows, or into parts, at every mark. Cuts are places in the text, and copy nothing.
+#![tactic(auto)]
+
+mod cutting;
+mod laws;
+mod ordering;
+mod parts;
+
+pub use cutting::cut_where;
+pub use laws::{cut_is_its_text, parts_are_between, written_is_cut_again, written_stands};
+pub use ordering::put_in_order;
+pub use parts::{copies_of, split_at};

@@ -1,0 +1,28 @@
+// The parts of a text.
+ghost use Rattle.std.specs.Prelude.{◌≡◌, ◌==◌, ◌<◌, IfOk, map};
+ghost use Rattle.std.specs.List.{slice_split};
+ghost use Rattle.std.specs.String.{string_bytes};
+ghost use Rattle.text_parts.specs.Cuts.{now_all};
+
+use std::alloc::{AllocError, Global};
+
+/// The parts of a text between its marks, in their order: one more than there are marks. It fails only
+/// if memory runs out.
+pub fn split_at(alloc: Global, text: &str, mark: char) -> Result<Vec<&str>, AllocError>
+    requires { mark < 128 }
+    ensures { IfOk result (λ parts. now_all parts.items
+        ≡ slice_split (λ byte. byte == mark) text.now) }
+{
+    text.split(mark).collect(alloc)
+}
+
+/// A copy of each of these texts, in the same order. It fails only if memory runs out.
+pub fn copies_of(alloc: Global, texts: &[&str]) -> Result<Vec<String>, AllocError>
+    ensures { IfOk result (λ copies. map string_bytes copies.items ≡ now_all texts.now) }
+{
+    let mut copies = Vec::with_capacity(alloc, texts.len())?;
+    for text in texts {
+        copies.push(String::from_str(alloc, text)?)?;
+    }
+    Ok(copies)
+}
