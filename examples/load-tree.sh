@@ -1,59 +1,83 @@
 #!/usr/bin/env bash
-# Uploads the Makefiles of a ports tree to a portsd that serves, over one connection, and prints those
-# that were refused, each with its status and its body.
+# Uploads files of a ports tree to a portsd that serves, over one connection.
 #
-#   load-tree.sh DIR PORT KEY
+#   load-tree.sh DIR PORT KEY [PATTERN...]
 #
-# DIR/CATEGORY/NAME/Makefile becomes the file /ports/CATEGORY/NAME/Makefile; every file of the tree
-# whose name begins with Makefile is taken.
+# DIR/CATEGORY/NAME/Makefile becomes the file /ports/CATEGORY/NAME/Makefile. A file is taken if its name
+# matches Makefile*, *.inc, *.port.mk or a PATTERN, as -name of find(1) matches them. If a file isn't
+# stored, it is named on standard error with the status and the body of the reply, and the next file
+# follows; the exit status is 1 then.
 set -euo pipefail
-[ $# = 3 ] || { echo "usage: load-tree.sh DIR PORT KEY" >&2; exit 2; }
-dir=${1%/} port=$2 key=$3
+export LC_ALL=C
+[[ $# -ge 3 && $2 =~ ^[0-9]+$ && $3 =~ ^[!-~]+$ ]] ||
+    { echo "usage: load-tree.sh DIR PORT KEY [PATTERN...]" >&2; exit 2; }
+dir=$1 port=$2 key=$3
+shift 3
+matches=(-name 'Makefile*')
+for pattern in '*.inc' '*.port.mk' "$@"; do matches+=(-o -name "$pattern"); done
+CDPATH='' cd -- "$dir"
 work=$(mktemp -d)
 trap 'rm -rf "$work"' EXIT
+: >"$work/replies"
 
-# One curl for all files, so that it keeps its connection: a config with a block for each.
-cat >"$work/blocks.awk" <<'EOF'
-BEGIN {
-    dir = ENVIRON["dir"]
-    key = quoted(ENVIRON["key"])
-    for (i = 1; i < 256; i++) code[sprintf("%c", i)] = i
+# encode NAME: REPLY has a name as it is written in a parameter of a target
+encode() {
+    local i c
+    REPLY=$1
+    [[ $1 == *[!A-Za-z0-9._/-]* ]] || return 0
+    REPLY=
+    for ((i = 0; i < ${#1}; i++)); do
+        c=${1:i:1}
+        [[ $c == [A-Za-z0-9._/-] ]] || printf -v c '%%%02X' $(($(printf %d "'$c") & 255))
+        REPLY+=$c
+    done
 }
 
-# The bytes of a name as a parameter of a target has them.
-function encoded(name,   text, i, c) {
-    for (i = 1; i <= length(name); i++) {
-        c = substr(name, i, 1)
-        text = text (c ~ /[A-Za-z0-9._\/-]/ ? c : sprintf("%%%02X", code[c]))
-    }
-    return text
+# quote TEXT: REPLY has a text as it is written between quotes in a config of curl
+quote() {
+    REPLY=${1//\\/\\\\}
+    REPLY=${REPLY//\"/\\\"}
+    REPLY=${REPLY//$'\n'/\\n}
 }
 
-# A text as it stands between quotes in a config of curl.
-function quoted(text) {
-    gsub(/[\\"]/, "\\\\&", text)
-    return text
+# block NUMBER FILE: what uploads a file, and prints the reply's body, its status and the number
+block() {
+    quote "$key"
+    printf '%s\n' 'request = PUT' 'silent' 'show-error' 'noproxy = "*"' 'header = "Expect:"' \
+        "header = \"X-Ports-Key: $REPLY\"" "write-out = \"\\t%{http_code}\\t$1\\n\""
+    quote "$2"
+    echo "data-binary = \"@$REPLY\""
+    encode "${2#./}"
+    echo "url = \"http://127.0.0.1:$port/v1/file?name=/ports/$REPLY\""
 }
 
-{
-    name = substr($0, length(dir) + 2)
-    shown = quoted(name)
-    gsub(/%/, "%%", shown)
-    if (NR > 1) print "next"
-    print "request = PUT"
-    print "header = \"X-Ports-Key: " key "\""
-    print "header = \"Expect:\""
-    print "data-binary = \"@" quoted($0) "\""
-    print "url = \"http://127.0.0.1:" port "/v1/file?name=/ports/" encoded(name) "\""
-    print "silent"
-    print "show-error"
-    print "write-out = \"\\t%{http_code}\\t" shown "\\n\""
-}
-EOF
-find "$dir" -type f -name 'Makefile*' | LC_ALL=C sort |
-    LC_ALL=C dir=$dir key=$key awk -v port="$port" -f "$work/blocks.awk" >"$work/config"
-[ -s "$work/config" ] || { echo "load-tree.sh: no Makefile in $dir" >&2; exit 1; }
+# One curl for all files, so that it keeps its connection: a config with a block for each file. A file
+# that can't be read has no block, since curl would upload it as an empty one.
+status=0 stored=0 next='' files=() replies=()
+find . -type f \( "${matches[@]}" \) -print0 | sort -z >"$work/names" || status=1
+while IFS= read -r -d '' file; do
+    if [ -r "$file" ]; then
+        printf %s "$next"
+        block "${#files[@]}" "$file"
+        next=$'next\n'
+    fi
+    files+=("$file")
+done <"$work/names" >"$work/config"
+[ ${#files[@]} -gt 0 ] || { echo "load-tree.sh: no such file in $dir" >&2; exit 1; }
 
-curl --config "$work/config" >"$work/replies"
-awk -F '\t' '$2 == 200 { stored++ } $2 != 200 { print $3 ": " $2 " " $1; refused++ }
-    END { print stored + 0 " stored, " refused + 0 " refused" }' "$work/replies"
+[ ! -s "$work/config" ] || curl -q --config "$work/config" >"$work/replies" || status=1
+while IFS= read -r line; do
+    number=${line##*$'\t'} line=${line%$'\t'*}
+    if [[ $number =~ ^(0|[1-9][0-9]{0,8})$ ]]; then replies[number]="${line##*$'\t'} ${line%$'\t'*}"; fi
+done <"$work/replies"
+for i in "${!files[@]}"; do
+    reply=${replies[i]-no reply, or the file cannot be read}
+    if [[ $reply == '200 '* ]]; then
+        stored=$((stored + 1))
+    else
+        printf '%q: %s\n' "${files[i]#./}" "$reply" >&2
+        status=1
+    fi
+done
+echo "$stored stored, $((${#files[@]} - stored)) refused"
+exit "$status"
