@@ -1,7 +1,7 @@
 -- Operands read one after another.
 use Rattle.std.proofs.Common.{◌≡◌, ◌<◌, ◌≤◌, ℕ, zero, suc, List, [], ◌∷◌, ◌++◌, length, Option, Some, None, IfSome, option_map, refl, sym, ap, ◌∙◌, arith, append_assoc, append-nil}
 use Rattle.cond_grammar.specs.declared.tokens.Token.{Token}
-use Rattle.cond_grammar.specs.Reading.{Reader, operand_on, signed, operands_by, operands}
+use Rattle.cond_grammar.specs.Reading.{Reader, operand_on, operands_after, operands_by, operands}
 
 -- what is read of these operands, where tokens are left
 abbrev pub continued : {A : Type 0} → (List Token → Option (List Token)) → Reader A → List A → List Token → Option (List A × List Token)
@@ -36,7 +36,7 @@ module _ {A : Type 0} (sign : List Token → Option (List Token)) (read : Reader
 
   same_signed : (one other : Reader (List A)) (tokens : List Token) (behind : Option (List Token)) (size : ℕ) → IfSome behind (λ rest. length rest < size)
       → ((left : List Token) → length left < size → one left ≡ other left)
-      → signed (λ rest. operand_on one (read rest)) tokens behind ≡ signed (λ rest. operand_on other (read rest)) tokens behind
+      → operands_after (λ rest. operand_on one (read rest)) tokens behind ≡ operands_after (λ rest. operand_on other (read rest)) tokens behind
   same_signed one other tokens None size low agree = refl
   same_signed one other tokens (Some rest) size low agree = same_operand one other (read rest) size (lower (read rest) (length rest) size (shrinks rest) low) agree
 
@@ -48,15 +48,15 @@ module _ {A : Type 0} (sign : List Token → Option (List Token)) (read : Reader
       same_signed (operands_by sign read one) (operands_by sign read other) tokens (sign tokens) (length tokens) (takes tokens)
       (λ left small. same_fuel one other left (omega arith) (omega arith))
 
-  pub operands-next : (tokens : List Token) → operands sign read tokens ≡ signed (λ behind. operand_on (operands sign read) (read behind)) tokens (sign tokens)
+  pub operands-next : (tokens : List Token) → operands sign read tokens ≡ operands_after (λ behind. operand_on (operands sign read) (read behind)) tokens (sign tokens)
   unfolding operands operands_by
   operands-next tokens =
       same_signed (operands_by sign read (length tokens)) (operands sign read) tokens (sign tokens) (length tokens) (takes tokens)
       (λ left small. same_fuel (length tokens) (suc (length left)) left small (omega arith))
 
   operands_from : (tokens : List Token) (behind : Option (List Token)) → sign tokens ≡ behind
-      → operands sign read tokens ≡ signed (λ rest. operand_on (operands sign read) (read rest)) tokens behind
-  operands_from tokens behind is = operands-next tokens ∙ ap (signed (λ rest. operand_on (operands sign read) (read rest)) tokens) is
+      → operands sign read tokens ≡ operands_after (λ rest. operand_on (operands sign read) (read rest)) tokens behind
+  operands_from tokens behind is = operands-next tokens ∙ ap (operands_after (λ rest. operand_on (operands sign read) (read rest)) tokens) is
 
   -- nothing is read yet
   pub continued-begins : (rest : List Token) → continued sign read [] rest ≡ operands sign read rest

@@ -7,12 +7,13 @@ use Rattle.std.proofs.lemmas.List.Elements.{All-nil, All-cons}
 use Rattle.cond_grammar.proofs.Scans.{dropped, end-low}
 use Rattle.mk_text.specs.Blanks.{is_blank}
 use Rattle.mk_ref.specs.Outside.{outside}
-use Rattle.mk_ref.specs.Laws.{OutsideStandsInPlace}
+use Rattle.mk_ref.specs.Laws.{OutsideKeepsPlaces}
 use Rattle.cond_grammar.specs.declared.tokens.Call.{Call}
 use Rattle.cond_grammar.specs.declared.tokens.Side.TheVariants.{Quoted, Bare}
 use Rattle.cond_grammar.specs.declared.tokens.Token.{Token}
 use Rattle.cond_grammar.specs.declared.tokens.Token.TheVariants as t
-use Rattle.cond_grammar.specs.Tokens.{is_stop, first_at, first_or_end, closing, call_of, word_token, word_at, blanks_end, begins, closed_call, quoted, sign_at, pair_at, token_at, token_before, walk}
+use Rattle.cond_grammar.specs.Tokens.{is_stop, call_of}
+use Rattle.cond_grammar.specs.Scanning.{first_at, first_or_end, closing_place, word_token, word_at, blanks_end, begins, call_token, quoted_side, sign_at, pair_at, token_at, token_before, walk}
 
 -- a byte that ends a side stands there
 pub record StopAt (bytes : List ℕ) (at : ℕ) : Type 0 where
@@ -33,7 +34,7 @@ stop_low b is = grind arith
 stop_plain : (b : ℕ) → is_stop b ≡ true → b ≢ 36
 stop_plain b is e = cc (subst (λ n. is_stop n ≡ true) e is)
 
-module _ (law : OutsideStandsInPlace) (text : List ℕ) (utf8 : IsUtf8 text) where
+module _ (law : OutsideKeepsPlaces) (text : List ℕ) (utf8 : IsUtf8 text) where
   low_there : (at : ℕ) → StopAt (outside text) at → (at < length text) × (get_or text at 0 < 128)
   low_there at stop = (
     subst (λ n. at < n) (law text).0 stop.inside,
@@ -85,18 +86,18 @@ module _ (bytes : List ℕ) where
   quote-stop at [] is = tt
   quote-stop at (b ∷ rest) is = quote_on at b rest is (b == 34) refl (quote-stop (at + 1) rest (step bytes at b rest is).2)
 
-  pub closing-stop : (at depth : ℕ) (text : List ℕ) → drop at bytes ≡ text → IfSome (closing at depth text) (StopAt bytes)
-  closing-stop at depth [] is = tt
-  closing-stop at depth (b ∷ rest) is =
+  pub closing_place-stop : (at depth : ℕ) (text : List ℕ) → drop at bytes ≡ text → IfSome (closing_place at depth text) (StopAt bytes)
+  closing_place-stop at depth [] is = tt
+  closing_place-stop at depth (b ∷ rest) is =
       let h = (step bytes at b rest is).2 in
       elim (eqb_tells b 40) [
-        | inl left ↦ rw left.0 (closing-stop (at + 1) (suc depth) rest h)
+        | inl left ↦ rw left.0 (closing_place-stop (at + 1) (suc depth) rest h)
         | inr other ↦ rw other.0 (elim (eqb_tells b 41) [
           | inl right ↦ rw right.0 (elim (eqb_tells depth 0) [
             | inl none ↦ rw none.0 (stop_at at b rest is (subst (λ n. is_stop n ≡ true) (sym right.1) refl))
-            | inr some ↦ rw some.0 (closing-stop (at + 1) (depth - 1) rest h)
+            | inr some ↦ rw some.0 (closing_place-stop (at + 1) (depth - 1) rest h)
           ])
-          | inr plain ↦ rw plain.0 (closing-stop (at + 1) depth rest h)
+          | inr plain ↦ rw plain.0 (closing_place-stop (at + 1) depth rest h)
         ])
       ]
 
@@ -120,17 +121,17 @@ module _ (bytes : List ℕ) where
   later at None h = tt
   later at (Some end) h = omega arith
 
-  closing_low : (at depth : ℕ) (text : List ℕ) → IfSome (closing at depth text) (λ end. at ≤ end)
+  closing_low : (at depth : ℕ) (text : List ℕ) → IfSome (closing_place at depth text) (λ end. at ≤ end)
   closing_low at depth [] = tt
   closing_low at depth (b ∷ rest) =
       elim (eqb_tells b 40) [
-        | inl left ↦ rw left.0 (later at (closing (at + 1) (suc depth) rest) (closing_low (at + 1) (suc depth) rest))
+        | inl left ↦ rw left.0 (later at (closing_place (at + 1) (suc depth) rest) (closing_low (at + 1) (suc depth) rest))
         | inr other ↦ rw other.0 (elim (eqb_tells b 41) [
           | inl right ↦ rw right.0 (elim (eqb_tells depth 0) [
             | inl none ↦ rw none.0 (omega arith)
-            | inr some ↦ rw some.0 (later at (closing (at + 1) (depth - 1) rest) (closing_low (at + 1) (depth - 1) rest))
+            | inr some ↦ rw some.0 (later at (closing_place (at + 1) (depth - 1) rest) (closing_low (at + 1) (depth - 1) rest))
           ])
-          | inr plain ↦ rw plain.0 (later at (closing (at + 1) depth rest) (closing_low (at + 1) depth rest))
+          | inr plain ↦ rw plain.0 (later at (closing_place (at + 1) depth rest) (closing_low (at + 1) depth rest))
         ])
       ]
 
@@ -138,8 +139,8 @@ module _ (bytes : List ℕ) where
   abbrev pub Found : ℕ → Token × ℕ → Type 0
   Found at x = Edged x.0 × IsEdge bytes x.1 × (at < x.1)
 
-  behind_stop : (at : ℕ) → StopAt bytes at → IsEdge bytes (at + 1)
-  behind_stop at stop = Behind at refl stop
+  after_stop : (at : ℕ) → StopAt bytes at → IsEdge bytes (at + 1)
+  after_stop at stop = Behind at refl stop
 
   next_stop : (at n : ℕ) (rest : List ℕ) → drop at bytes ≡ rest → is_stop n ≡ true → begins n rest ≡ true → StopAt bytes at
   next_stop at n [] is stop there = absurd (cc there)
@@ -149,26 +150,26 @@ module _ (bytes : List ℕ) where
   sign_found : (at : ℕ) (rest : List ℕ) (two one : Token) (doubled : Bool) → StopAt bytes at → drop (at + 1) bytes ≡ rest → begins 61 rest ≡ doubled → Edged two → Edged one
       → IfSome (sign_at at doubled two one) (Found at)
   sign_found at rest two one true stop is there h k = (h, Behind (at + 1) (omega arith) (next_stop (at + 1) 61 rest is refl there), omega arith)
-  sign_found at rest two one false stop is there h k = (k, behind_stop at stop, omega arith)
+  sign_found at rest two one false stop is there h k = (k, after_stop at stop, omega arith)
 
   pair_found : (at n : ℕ) (rest : List ℕ) (two : Token) (doubled : Bool) → drop (at + 1) bytes ≡ rest → is_stop n ≡ true → begins n rest ≡ doubled → Edged two
       → IfSome (pair_at at doubled two) (Found at)
   pair_found at n rest two true is stop there h = (h, Behind (at + 1) (omega arith) (next_stop (at + 1) n rest is stop there), omega arith)
   pair_found at n rest two false is stop there h = tt
 
-  quoted_found : (at start : ℕ) (end : Option ℕ) → at < start → IsEdge bytes start → IfSome end (StopAt bytes) → IfSome end (λ e. start ≤ e) → IfSome (quoted start end) (Found at)
+  quoted_found : (at start : ℕ) (end : Option ℕ) → at < start → IsEdge bytes start → IfSome end (StopAt bytes) → IfSome end (λ e. start ≤ e) → IfSome (quoted_side start end) (Found at)
   quoted_found at start None ahead edge stop low = tt
-  quoted_found at start (Some end) ahead edge stop low = ((edge, Before stop, low), behind_stop end stop, omega arith)
+  quoted_found at start (Some end) ahead edge stop low = ((edge, Before stop, low), after_stop end stop, omega arith)
 
-  call_found : (at : ℕ) (call : Call) (start : ℕ) (end : Option ℕ) → at < start → IsEdge bytes start → IfSome end (StopAt bytes) → IfSome end (λ e. start ≤ e) → IfSome (closed_call call start end) (Found at)
+  call_found : (at : ℕ) (call : Call) (start : ℕ) (end : Option ℕ) → at < start → IsEdge bytes start → IfSome end (StopAt bytes) → IfSome end (λ e. start ≤ e) → IfSome (call_token call start end) (Found at)
   call_found at call start None ahead edge stop low = tt
-  call_found at call start (Some end) ahead edge stop low = ((edge, Before stop, low), behind_stop end stop, omega arith)
+  call_found at call start (Some end) ahead edge stop low = ((edge, Before stop, low), after_stop end stop, omega arith)
 
   opened_found : (at end left : ℕ) (call : Call) (text behind : List ℕ) (test : Bool) → IsEdge bytes at → IsEdge bytes end → at < end → at < left → drop left bytes ≡ text → drop (left + 1) bytes ≡ behind
       → begins 40 text ≡ test
-      → IfSome (cond test (closed_call call (left + 1) (closing (left + 1) 0 behind)) (Some (t.Side (Bare (record { start = at; end = end })), end))) (Found at)
+      → IfSome (cond test (call_token call (left + 1) (closing_place (left + 1) 0 behind)) (Some (t.Side (Bare (record { start = at; end = end })), end))) (Found at)
   opened_found at end left call text behind true edge end_edge low more is next there =
-      call_found at call (left + 1) (closing (left + 1) 0 behind) (omega arith) (behind_stop left (next_stop left 40 text is refl there)) (closing-stop (left + 1) 0 behind next) (closing_low (left + 1) 0 behind)
+      call_found at call (left + 1) (closing_place (left + 1) 0 behind) (omega arith) (after_stop left (next_stop left 40 text is refl there)) (closing_place-stop (left + 1) 0 behind next) (closing_low (left + 1) 0 behind)
   opened_found at end left call text behind false edge end_edge low more is next there = ((edge, end_edge, omega arith), end_edge, low)
 
   word_found : (at end left : ℕ) (call : Option Call) → IsEdge bytes at → IsEdge bytes end → at < end → at + 1 ≤ left
@@ -195,10 +196,10 @@ module _ (bytes : List ℕ) where
   token_found at b edge room there =
       let rest : List ℕ = drop (at + 1) bytes in
       elim (eqb_tells b 40) [
-        | inl is ↦ rw is.0 (tt, behind_stop at (stop_here at b 40 room there is.1 refl), omega arith)
+        | inl is ↦ rw is.0 (tt, after_stop at (stop_here at b 40 room there is.1 refl), omega arith)
         | inr no40 ↦ rw no40.0 (
             elim (eqb_tells b 41) [
-              | inl is ↦ rw is.0 (tt, behind_stop at (stop_here at b 41 room there is.1 refl), omega arith)
+              | inl is ↦ rw is.0 (tt, after_stop at (stop_here at b 41 room there is.1 refl), omega arith)
               | inr no41 ↦ rw no41.0 (
                   elim (eqb_tells b 33) [
                     | inl is ↦ rw is.0 (sign_found at rest _ _ (begins 61 rest) (stop_here at b 33 room there is.1 refl) refl refl tt tt)
@@ -219,7 +220,7 @@ module _ (bytes : List ℕ) where
                                                   | inl is ↦ rw is.0 (pair_found at 124 rest _ (begins 124 rest) refl refl refl tt)
                                                   | inr no124 ↦ rw no124.0 (
                                                       elim (eqb_tells b 34) [
-                                                        | inl is ↦ rw is.0 (quoted_found at (at + 1) (first_at (λ c. c == 34) (at + 1) rest) (omega arith) (behind_stop at (stop_here at b 34 room there is.1 refl))
+                                                        | inl is ↦ rw is.0 (quoted_found at (at + 1) (first_at (λ c. c == 34) (at + 1) rest) (omega arith) (after_stop at (stop_here at b 34 room there is.1 refl))
                                                             (quote-stop (at + 1) rest refl) (first_low (λ c. c == 34) (at + 1) rest))
                                                         | inr no34 ↦ rw no34.0 (word_edged at b edge room)
                                                       ])
@@ -263,7 +264,7 @@ module _ (bytes : List ℕ) where
       let here : at + 0 ≡ at = omega arith in
       let next : at + 1 ≡ at + 1 + 0 = omega arith in
       walked_on at b rest is (is_blank b) refl (walk (at + 1) 0 rest) (token_before (λ end. walk (at + 1) (end - (at + 1)) rest) (token_at at b rest))
-      (λ stop. walk-edged (at + 1) 0 rest h.2 (subst (IsEdge bytes) next (behind_stop at stop)))
+      (λ stop. walk-edged (at + 1) 0 rest h.2 (subst (IsEdge bytes) next (after_stop at stop)))
       (before_edged at rest (token_at at b rest)
       (subst (λ l. IfSome (token_at at b l) (Found at)) h.2 (token_found at b (subst (IsEdge bytes) here edge) h.0 h.1))
       (λ skipped more. walk-edged (at + 1) skipped rest h.2 more))

@@ -3,7 +3,7 @@ use Rattle.std.proofs.Common.{◌≤◌, ℕ, List, IfSome, All, refl, sym, subs
 use Rattle.std.specs.Str.{IsUtf8}
 use Rattle.std.proofs.lemmas.List.Elements.{All-weaker}
 use Rattle.mk_ref.specs.Outside.{outside}
-use Rattle.mk_ref.specs.Laws.{OutsideStandsInPlace}
+use Rattle.mk_ref.specs.Laws.{OutsideKeepsPlaces}
 use Rattle.mk_text.specs.declared.splitting.Span.{Span}
 use Rattle.mk_text.specs.Words.{IsSpanOf}
 use Rattle.cond_grammar.specs.declared.tokens.Side.TheVariants.{Quoted, Bare}
@@ -13,9 +13,10 @@ use Rattle.cond_grammar.specs.Tokens.{tokens_of}
 use Rattle.cond_grammar.specs.Trees.{OrTree, or_tokens}
 use Rattle.cond_grammar.specs.Placed.{IsTokenIn}
 use Rattle.cond_grammar.specs.Conditions.{IsConditionOf}
+use Rattle.cond_grammar.proofs.Pieces.{walk-tokens}
 use Rattle.cond_grammar.proofs.Edges.{IsEdge, AtStart, Edged, edge-cuts, walk-edged}
 
-module _ (law : OutsideStandsInPlace) (text : List ℕ) (utf8 : IsUtf8 text) where
+module _ (law : OutsideKeepsPlaces) (text : List ℕ) (utf8 : IsUtf8 text) where
   span_in : (span : Span) → IsEdge (outside text) span.start × IsEdge (outside text) span.end × (span.start ≤ span.end) → IsSpanOf text span
   span_in span h = record { ordered = h.2; starts = edge-cuts law text utf8 span.start h.0; ends = edge-cuts law text utf8 span.end h.1 }
 
@@ -30,6 +31,7 @@ module _ (law : OutsideStandsInPlace) (text : List ℕ) (utf8 : IsUtf8 text) whe
 
   pub places-in : (tree : OrTree) → IsConditionOf text tree → All (IsTokenIn text) (or_tokens tree)
   places-in tree condition =
-      let edged : IfSome (tokens_of (outside text)) (All (Edged (outside text))) = walk-edged (outside text) 0 0 (outside text) refl (AtStart (omega arith)) in
+      let edged : IfSome (tokens_of (outside text)) (All (Edged (outside text))) =
+      subst (λ o. IfSome o (All (Edged (outside text)))) (walk-tokens (outside text)) (walk-edged (outside text) 0 0 (outside text) refl (AtStart (omega arith))) in
       let all : All (Edged (outside text)) condition.tokens = subst (λ o. IfSome o (All (Edged (outside text)))) condition.cut edged in
       subst (All (IsTokenIn text)) (sym condition.read.in_order) (tokens_in condition.tokens all)

@@ -1,4 +1,5 @@
 pub mod Scans
+pub mod Pieces
 pub mod Chains
 pub mod Sound
 pub mod Levels

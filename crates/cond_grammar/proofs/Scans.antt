@@ -5,7 +5,8 @@ use Rattle.cond_grammar.specs.declared.tokens.Call.{Call}
 use Rattle.cond_grammar.specs.declared.tokens.Side.TheVariants.{Bare}
 use Rattle.cond_grammar.specs.declared.tokens.Token.{Token}
 use Rattle.cond_grammar.specs.declared.tokens.Token.TheVariants as t
-use Rattle.cond_grammar.specs.Tokens.{is_stop, begins, first_or_end, closing, call_of, closed_call, blanks_end, word_token, word_at, token_at, token_before, walk}
+use Rattle.cond_grammar.specs.Tokens.{is_stop, call_of}
+use Rattle.cond_grammar.specs.Scanning.{begins, first_or_end, closing_place, call_token, blanks_end, word_token, word_at, token_at, token_before, walk}
 
 pub drop-next : (bytes : List ℕ) (at : ℕ) → at < length bytes → drop at bytes ≡ get_or bytes at 0 ∷ drop (at + 1) bytes
 drop-next bytes at room = drop-cons bytes at 0 room ∙ ap (λ n. get_or bytes at 0 ∷ drop n bytes) (sym (add-one at))
@@ -29,15 +30,15 @@ dropped bytes at n low = drop-drop (n - at) at bytes ∙ ap (λ k. drop k bytes)
 abbrev pub placed : List ℕ → ℕ → ℕ → ℕ → Option Call → Option (Token × ℕ)
 placed bytes at end left None = Some (t.Side (Bare (record { start = at; end = end })), end)
 placed bytes at end left (Some call) =
-    if begins 40 (drop left bytes) then closed_call call (left + 1) (closing (left + 1) 0 (drop (left + 1) bytes))
+    if begins 40 (drop left bytes) then call_token call (left + 1) (closing_place (left + 1) 0 (drop (left + 1) bytes))
     else Some (t.Side (Bare (record { start = at; end = end })), end)
 
 placed_here : (bytes : List ℕ) (at end left : ℕ) (call : Option Call) → at + 1 ≤ left → word_token at (drop (at + 1) bytes) end left call ≡ placed bytes at end left call
 placed_here bytes at end left None low = refl
 placed_here bytes at end left (Some call) low =
-    ap (λ l. cond (begins 40 l) (closed_call call (left + 1) (closing (left + 1) 0 (drop (left + 1 - (at + 1)) (drop (at + 1) bytes)))) (Some (t.Side (Bare (record { start = at; end = end })), end)))
+    ap (λ l. cond (begins 40 l) (call_token call (left + 1) (closing_place (left + 1) 0 (drop (left + 1 - (at + 1)) (drop (at + 1) bytes)))) (Some (t.Side (Bare (record { start = at; end = end })), end)))
     (dropped bytes (at + 1) left low)
-    ∙ ap (λ l. cond (begins 40 (drop left bytes)) (closed_call call (left + 1) (closing (left + 1) 0 l)) (Some (t.Side (Bare (record { start = at; end = end })), end)))
+    ∙ ap (λ l. cond (begins 40 (drop left bytes)) (call_token call (left + 1) (closing_place (left + 1) 0 l)) (Some (t.Side (Bare (record { start = at; end = end })), end)))
     (dropped bytes (at + 1) (left + 1) (omega arith))
 
 taken : (bytes : List ℕ) (at end : ℕ) → at < length bytes → at + 1 ≤ end → get_or bytes at 0 ∷ take (end - (at + 1)) (drop (at + 1) bytes) ≡ take (end - at) (drop at bytes)
@@ -60,16 +61,16 @@ word-is bytes at end left call room end_is left_is call_is =
 pub placed-bare : (bytes : List ℕ) (at end left : ℕ) (call : Call) → false ≡ begins 40 (drop left bytes)
     → Some (t.Side (Bare (record { start = at; end = end })), end) ≡ placed bytes at end left (Some call)
 placed-bare bytes at end left call is =
-    ap (λ v. cond v (closed_call call (left + 1) (closing (left + 1) 0 (drop (left + 1) bytes))) (Some (t.Side (Bare (record { start = at; end = end })), end))) is
+    ap (λ v. cond v (call_token call (left + 1) (closing_place (left + 1) 0 (drop (left + 1) bytes))) (Some (t.Side (Bare (record { start = at; end = end })), end))) is
 
-pub placed-call : (bytes : List ℕ) (at end left : ℕ) (call : Call) (close : Option ℕ) → true ≡ begins 40 (drop left bytes) → close ≡ closing (left + 1) 0 (drop (left + 1) bytes)
-    → closed_call call (left + 1) close ≡ placed bytes at end left (Some call)
+pub placed-call : (bytes : List ℕ) (at end left : ℕ) (call : Call) (close : Option ℕ) → true ≡ begins 40 (drop left bytes) → close ≡ closing_place (left + 1) 0 (drop (left + 1) bytes)
+    → call_token call (left + 1) close ≡ placed bytes at end left (Some call)
 placed-call bytes at end left call close is close_is =
-    ap (closed_call call (left + 1)) close_is
-    ∙ ap (λ v. cond v (closed_call call (left + 1) (closing (left + 1) 0 (drop (left + 1) bytes))) (Some (t.Side (Bare (record { start = at; end = end })), end))) is
+    ap (call_token call (left + 1)) close_is
+    ∙ ap (λ v. cond v (call_token call (left + 1) (closing_place (left + 1) 0 (drop (left + 1) bytes))) (Some (t.Side (Bare (record { start = at; end = end })), end))) is
 
 -- steps of the walk
-walk_passes : (at skipped : ℕ) (text : List ℕ) → walk at skipped text ≡ walk (at + skipped) 0 (drop skipped text)
+pub walk_passes : (at skipped : ℕ) (text : List ℕ) → walk at skipped text ≡ walk (at + skipped) 0 (drop skipped text)
 unfolding walk
 walk_passes at zero [] = refl
 walk_passes at (suc skipped) [] = refl

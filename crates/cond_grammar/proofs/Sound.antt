@@ -4,7 +4,7 @@ use Rattle.cond_grammar.specs.declared.tokens.Side.{Side}
 use Rattle.cond_grammar.specs.declared.tokens.Token.{Token}
 use Rattle.cond_grammar.specs.declared.tokens.Token.TheVariants as t
 use Rattle.cond_grammar.specs.Trees.{OrTree, OrOf, AndTree, AndOf, NotTree, or_tokens, later_and_tokens, and_tokens, later_not_tokens, not_tokens, or_depth, later_and_depth, and_depth, later_not_depth, not_depth}
-use Rattle.cond_grammar.specs.Reading.{Reader, behind_or, behind_and, behind_right, behind_comparison, operand_on, signed, operands_by, operands, later_nots, later_ands, chain_on, and_by, or_by, compared, closed, grouped, turned, inside_of, read_not, read_and}
+use Rattle.cond_grammar.specs.Reading.{Reader, after_or, after_and, after_right, first_comparison, operand_on, operands_after, operands_by, operands, later_nots, later_ands, chain_on, and_by, or_by, side_term, close_group, group, negate, inside_of, read_not, read_and}
 use Rattle.cond_grammar.proofs.Chains.{Shrinks, TakesSome}
 
 -- tokens taken off the front and those left are all of them
@@ -19,17 +19,17 @@ IsSound written deep limit read = (tokens : List Token) → IfSome (read tokens)
 abbrev pub IsSign : Token → (List Token → Option (List Token)) → Type 0
 IsSign token sign = (tokens : List Token) → IfSome (sign tokens) (λ rest. tokens ≡ token ∷ rest)
 
-pub or-sign : IsSign t.Or behind_or
+pub or-sign : IsSign t.Or after_or
 or-sign [] = tt
 or-sign (t.Or ∷ rest) = refl
 or-sign (token ∷ rest) = tt
 
-pub and-sign : IsSign t.And behind_and
+pub and-sign : IsSign t.And after_and
 and-sign [] = tt
 and-sign (t.And ∷ rest) = refl
 and-sign (token ∷ rest) = tt
 
-pub right-sign : IsSign t.Right behind_right
+pub right-sign : IsSign t.Right after_right
 right-sign [] = tt
 right-sign (t.Right ∷ rest) = refl
 right-sign (token ∷ rest) = tt
@@ -77,7 +77,7 @@ module _ {A : Type 0} (token : Token) (sign : List Token → Option (List Token)
 
   signed_sound : (more : Reader (List A)) → IsSound (joined token written) (deepest deep) limit more → (tokens : List Token) (behind : Option (List Token))
       → IfSome behind (λ rest. tokens ≡ token ∷ rest)
-      → IfSome (signed (λ rest. operand_on more (read rest)) tokens behind) (Takes (joined token written) (deepest deep) limit tokens)
+      → IfSome (operands_after (λ rest. operand_on more (read rest)) tokens behind) (Takes (joined token written) (deepest deep) limit tokens)
   signed_sound more more_sound tokens None is = record { whole = refl; not_deep = omega arith }
   signed_sound more more_sound tokens (Some behind) is = operand_sound more more_sound tokens behind is (read behind) (sound behind)
 
@@ -128,16 +128,16 @@ ands_deep (x ∷ more) = ap (max (and_depth x)) (ands_deep more)
 
 pub and-sound : (limit : ℕ) (read : Reader NotTree) → IsSound not_tokens not_depth limit read → IsSound and_tokens and_depth limit (and_by read)
 and-sound limit read sound tokens =
-    chain-sound t.And behind_and and-sign not_tokens not_depth limit read sound (λ first more. AndOf first (later_nots more)) and_tokens and_depth
+    chain-sound t.And after_and and-sign not_tokens not_depth limit read sound (λ first more. AndOf first (later_nots more)) and_tokens and_depth
     (λ x more. ap (λ l. not_tokens x ++ l) (nots_written more)) (λ x more. ap (max (not_depth x)) (nots_deep more)) tokens
 
 pub or-sound : (limit : ℕ) (read : Reader NotTree) → IsSound not_tokens not_depth limit read → IsSound or_tokens or_depth limit (or_by read)
 or-sound limit read sound tokens =
-    chain-sound t.Or behind_or or-sign and_tokens and_depth limit (and_by read) (and-sound limit read sound) (λ first more. OrOf first (later_ands more)) or_tokens or_depth
+    chain-sound t.Or after_or or-sign and_tokens and_depth limit (and_by read) (and-sound limit read sound) (λ first more. OrOf first (later_ands more)) or_tokens or_depth
     (λ x more. ap (λ l. and_tokens x ++ l) (ands_written more)) (λ x more. ap (max (and_depth x)) (ands_deep more)) tokens
 
 sided_sound : (limit : ℕ) (left : Side) (rest : List Token)
-    → IfSome (compared left rest (behind_comparison rest)) (Takes not_tokens not_depth limit (t.Side left ∷ rest))
+    → IfSome (side_term left rest (first_comparison rest)) (Takes not_tokens not_depth limit (t.Side left ∷ rest))
 sided_sound limit left [] = record { whole = refl; not_deep = omega arith }
 sided_sound limit left (t.Compare comparison ∷ []) = tt
 sided_sound limit left (t.Compare comparison ∷ t.Side right ∷ rest) = record { whole = refl; not_deep = omega arith }
@@ -145,12 +145,12 @@ sided_sound limit left (t.Compare comparison ∷ token ∷ rest) = tt
 sided_sound limit left (token ∷ rest) = record { whole = refl; not_deep = omega arith }
 
 turned_sound : (limit : ℕ) (tokens : List Token) (x : Option (NotTree × List Token)) → IfSome x (Takes not_tokens not_depth limit tokens)
-    → IfSome (turned x) (Takes not_tokens not_depth (suc limit) (t.Not ∷ tokens))
+    → IfSome (negate x) (Takes not_tokens not_depth (suc limit) (t.Not ∷ tokens))
 turned_sound limit tokens None h = tt
 turned_sound limit tokens (Some x) h = record { whole = ap (λ l. t.Not ∷ l) h.whole; not_deep = omega (arith, h.not_deep) }
 
 closed_sound : (limit : ℕ) (tokens : List Token) (x : OrTree × List Token) (behind : Option (List Token)) → Takes or_tokens or_depth limit tokens x
-    → IfSome behind (λ rest. x.1 ≡ t.Right ∷ rest) → IfSome (closed x.0 behind) (Takes not_tokens not_depth (suc limit) (t.Left ∷ tokens))
+    → IfSome behind (λ rest. x.1 ≡ t.Right ∷ rest) → IfSome (close_group x.0 behind) (Takes not_tokens not_depth (suc limit) (t.Left ∷ tokens))
 closed_sound limit tokens x None h is = tt
 closed_sound limit tokens x (Some rest) h is = record {
   whole = ap (λ l. t.Left ∷ l) (append_assoc (or_tokens x.0) (t.Right ∷ []) rest ∙ ap (λ l. or_tokens x.0 ++ l) (sym is) ∙ h.whole);
@@ -158,9 +158,9 @@ closed_sound limit tokens x (Some rest) h is = record {
 }
 
 grouped_sound : (limit : ℕ) (tokens : List Token) (x : Option (OrTree × List Token)) → IfSome x (Takes or_tokens or_depth limit tokens)
-    → IfSome (grouped x) (Takes not_tokens not_depth (suc limit) (t.Left ∷ tokens))
+    → IfSome (group x) (Takes not_tokens not_depth (suc limit) (t.Left ∷ tokens))
 grouped_sound limit tokens None h = tt
-grouped_sound limit tokens (Some x) h = closed_sound limit tokens x (behind_right x.1) h (right-sign x.1)
+grouped_sound limit tokens (Some x) h = closed_sound limit tokens x (after_right x.1) h (right-sign x.1)
 
 pub not-sound : (levels : ℕ) → IsSound not_tokens not_depth levels (read_not levels)
 unfolding inside_of
@@ -174,11 +174,11 @@ not-sound levels (t.Side side ∷ rest) = sided_sound levels side rest
 not-sound levels (token ∷ rest) = tt
 
 -- so each sign takes some, and each reading leaves no more than was there
-pub and-takes : TakesSome behind_and
-and-takes = takes t.And behind_and and-sign
+pub and-takes : TakesSome after_and
+and-takes = takes t.And after_and and-sign
 
-pub or-takes : TakesSome behind_or
-or-takes = takes t.Or behind_or or-sign
+pub or-takes : TakesSome after_or
+or-takes = takes t.Or after_or or-sign
 
 pub not-shrinks : (levels : ℕ) → Shrinks (read_not levels)
 not-shrinks levels = shrinks not_tokens not_depth levels (read_not levels) (not-sound levels)

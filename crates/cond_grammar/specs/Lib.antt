@@ -1,4 +1,5 @@
 pub mod Tokens
+pub mod Scanning
 pub mod Trees
 pub mod Reading
 pub mod Views

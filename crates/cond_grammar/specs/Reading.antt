@@ -13,30 +13,30 @@ abbrev pub Reader : Type 0 → Type 0
 Reader A = List Token → Option (A × List Token)
 
 -- the tokens after a sign that comes first
-abbrev pub behind_or : List Token → Option (List Token)
-behind_or [] = None
-behind_or (t.Or ∷ rest) = Some rest
-behind_or (token ∷ rest) = None
+abbrev pub after_or : List Token → Option (List Token)
+after_or [] = None
+after_or (t.Or ∷ rest) = Some rest
+after_or (token ∷ rest) = None
 
-abbrev pub behind_and : List Token → Option (List Token)
-behind_and [] = None
-behind_and (t.And ∷ rest) = Some rest
-behind_and (token ∷ rest) = None
+abbrev pub after_and : List Token → Option (List Token)
+after_and [] = None
+after_and (t.And ∷ rest) = Some rest
+after_and (token ∷ rest) = None
 
-abbrev pub behind_right : List Token → Option (List Token)
-behind_right [] = None
-behind_right (t.Right ∷ rest) = Some rest
-behind_right (token ∷ rest) = None
+abbrev pub after_right : List Token → Option (List Token)
+after_right [] = None
+after_right (t.Right ∷ rest) = Some rest
+after_right (token ∷ rest) = None
 
-abbrev pub behind_side : Reader Side
-behind_side [] = None
-behind_side (t.Side side ∷ rest) = Some (side, rest)
-behind_side (token ∷ rest) = None
+abbrev pub first_side : Reader Side
+first_side [] = None
+first_side (t.Side side ∷ rest) = Some (side, rest)
+first_side (token ∷ rest) = None
 
-abbrev pub behind_comparison : Reader Comparison
-behind_comparison [] = None
-behind_comparison (t.Compare comparison ∷ rest) = Some (comparison, rest)
-behind_comparison (token ∷ rest) = None
+abbrev pub first_comparison : Reader Comparison
+first_comparison [] = None
+first_comparison (t.Compare comparison ∷ rest) = Some (comparison, rest)
+first_comparison (token ∷ rest) = None
 
 -- one operand, and those that `more` reads after it
 abbrev pub operand_on : {A : Type 0} → Reader (List A) → Option (A × List Token) → Option (List A × List Token)
@@ -44,14 +44,15 @@ operand_on more None = None
 operand_on more (Some (first, rest)) = option_map (λ later. (first ∷ later.0, later.1)) (more rest)
 
 -- what `read` makes of what follows a sign; if there is no sign, nothing is read
-abbrev pub signed : {A : Type 0} → Reader (List A) → List Token → Option (List Token) → Option (List A × List Token)
-signed read tokens None = Some ([], tokens)
-signed read tokens (Some behind) = read behind
+abbrev pub operands_after : {A : Type 0} → Reader (List A) → List Token → Option (List Token) → Option (List A × List Token)
+operands_after read tokens None = Some ([], tokens)
+operands_after read tokens (Some behind) = read behind
 
 -- Operands, each after a sign, as many as there are. The number bounds how many are read.
 unfoldable pub operands_by : {A : Type 0} → (List Token → Option (List Token)) → Reader A → ℕ → Reader (List A)
 operands_by sign read zero tokens = None
-operands_by sign read (suc fuel) tokens = signed (λ behind. operand_on (operands_by sign read fuel) (read behind)) tokens (sign tokens)
+operands_by sign read (suc fuel) tokens =
+    operands_after (λ behind. operand_on (operands_by sign read fuel) (read behind)) tokens (sign tokens)
 
 -- the same with no bound: there are fewer operands than tokens
 unfoldable pub operands : {A : Type 0} → (List Token → Option (List Token)) → Reader A → Reader (List A)
@@ -73,40 +74,40 @@ chain_on made more (Some (first, rest)) = option_map (λ later. (made first late
 
 -- a conjunction and a condition, if `read` reads the terms
 abbrev pub and_by : Reader NotTree → Reader AndTree
-and_by read tokens = chain_on (λ first more. AndOf first (later_nots more)) (operands behind_and read) (read tokens)
+and_by read tokens = chain_on (λ first more. AndOf first (later_nots more)) (operands after_and read) (read tokens)
 
 abbrev pub or_by : Reader NotTree → Reader OrTree
-or_by read tokens = chain_on (λ first more. OrOf first (later_ands more)) (operands behind_or (and_by read)) (and_by read tokens)
+or_by read tokens = chain_on (λ first more. OrOf first (later_ands more)) (operands after_or (and_by read)) (and_by read tokens)
 
 -- a side, and what it is compared with, if anything
 abbrev pub right_of : Side → Comparison → Option (Side × List Token) → Option (NotTree × List Token)
 right_of left comparison None = None
 right_of left comparison (Some (right, rest)) = Some (Compared left comparison right, rest)
 
-abbrev pub compared : Side → List Token → Option (Comparison × List Token) → Option (NotTree × List Token)
-compared left tokens None = Some (Alone left, tokens)
-compared left tokens (Some (comparison, rest)) = right_of left comparison (behind_side rest)
+abbrev pub side_term : Side → List Token → Option (Comparison × List Token) → Option (NotTree × List Token)
+side_term left tokens None = Some (Alone left, tokens)
+side_term left tokens (Some (comparison, rest)) = right_of left comparison (first_side rest)
 
 -- a condition whose parenthesis closes
-abbrev pub closed : OrTree → Option (List Token) → Option (NotTree × List Token)
-closed or None = None
-closed or (Some rest) = Some (Grouped or, rest)
+abbrev pub close_group : OrTree → Option (List Token) → Option (NotTree × List Token)
+close_group or None = None
+close_group or (Some rest) = Some (Grouped or, rest)
 
-abbrev pub grouped : Option (OrTree × List Token) → Option (NotTree × List Token)
-grouped None = None
-grouped (Some (or, rest)) = closed or (behind_right rest)
+abbrev pub group : Option (OrTree × List Token) → Option (NotTree × List Token)
+group None = None
+group (Some (or, rest)) = close_group or (after_right rest)
 
 -- a term negated
-abbrev pub turned : Option (NotTree × List Token) → Option (NotTree × List Token)
-turned read = option_map (λ x. (Negated x.0, x.1)) read
+abbrev pub negate : Option (NotTree × List Token) → Option (NotTree × List Token)
+negate read = option_map (λ x. (Negated x.0, x.1)) read
 
 -- a term; `inner` reads the terms one level deeper
 abbrev pub not_with : Reader NotTree → Reader NotTree
 not_with inner [] = None
-not_with inner (t.Not ∷ rest) = turned (inner rest)
-not_with inner (t.Left ∷ rest) = grouped (or_by inner rest)
+not_with inner (t.Not ∷ rest) = negate (inner rest)
+not_with inner (t.Left ∷ rest) = group (or_by inner rest)
 not_with inner (t.Call call argument ∷ rest) = Some (Called call argument, rest)
-not_with inner (t.Side side ∷ rest) = compared side rest (behind_comparison rest)
+not_with inner (t.Side side ∷ rest) = side_term side rest (first_comparison rest)
 not_with inner (token ∷ rest) = None
 
 -- The term that tokens begin with, itself inside a `!` or parentheses. At most this many of these, that one
@@ -120,11 +121,11 @@ abbrev pub read_not : ℕ → Reader NotTree
 read_not levels tokens = not_with (inside_of levels) tokens
 
 -- what follows a `!`, and what follows a parenthesis
-abbrev pub negated_below : ℕ → Reader NotTree
-negated_below levels tokens = turned (inside_of levels tokens)
+abbrev pub negation_below : ℕ → Reader NotTree
+negation_below levels tokens = negate (inside_of levels tokens)
 
-abbrev pub grouped_below : ℕ → Reader NotTree
-grouped_below levels tokens = grouped (or_by (inside_of levels) tokens)
+abbrev pub group_below : ℕ → Reader NotTree
+group_below levels tokens = group (or_by (inside_of levels) tokens)
 
 abbrev pub read_and : ℕ → Reader AndTree
 read_and levels = and_by (read_not levels)

@@ -1,7 +1,10 @@
--- The tokens of a condition.
-use Rattle.std.specs.Prelude.{ℕ, zero, suc, ◌+◌, ◌-◌, ◌==◌, ◌||◌, Bool, false, List, [], ◌∷◌, drop, take, codes}
+-- The tokens of a condition. A text is cut into pieces from the left: each is the longest that the text begins
+-- with there. All but blanks are tokens, which have their places in the text.
+use Rattle.std.specs.Prelude.{ℕ, zero, suc, ◌+◌, ◌-◌, ◌==◌, ◌||◌, ◌&&◌, Bool, true, false, List, [], ◌∷◌, ◌++◌, length, drop, codes}
 use Rattle.std.specs.Prelude.{Option, Some, None, option_map, not, if◌then◌else◌}
+use Rattle.std.specs.Option.{option_or}
 use Rattle.std.specs.Str.{bytes_eq}
+use Rattle.mk_text.specs.declared.splitting.Span.{Span}
 use Rattle.mk_text.specs.Blanks.{is_blank}
 use Rattle.cond_grammar.specs.declared.tokens.Comparison.TheVariants as o
 use Rattle.cond_grammar.specs.declared.tokens.Call.{Call}
@@ -10,39 +13,70 @@ use Rattle.cond_grammar.specs.declared.tokens.Side.TheVariants.{Quoted, Bare}
 use Rattle.cond_grammar.specs.declared.tokens.Token.{Token}
 use Rattle.cond_grammar.specs.declared.tokens.Token.TheVariants as t
 
--- a byte that ends a side: a blank, or one of `( ) ! = < > & | "`
+-- a piece of a text: its bytes, those whose place its token has between others; and its token by that place,
+-- if it has one
+pub record Piece : Type 0 where
+  pub before : List ℕ
+  pub inside : List ℕ
+  pub after : List ℕ
+  pub tokens : Span → List Token
+
+-- all its bytes
+abbrev pub spelling : Piece → List ℕ
+spelling piece = piece.before ++ piece.inside ++ piece.after
+
+-- a blank, which is no token
+abbrev pub blank_piece : ℕ → Piece
+blank_piece b = record { before = b ∷ []; inside = []; after = []; tokens = λ place. [] }
+
+-- a sign
+abbrev pub sign_piece : List ℕ → Token → Piece
+sign_piece bytes token = record { before = bytes; inside = []; after = []; tokens = λ place. token ∷ [] }
+
+-- a text between double quotes (34), as a side
+abbrev pub quoted_piece : List ℕ → Piece
+quoted_piece text = record { before = 34 ∷ []; inside = text; after = 34 ∷ []; tokens = λ place. t.Side (Quoted place) ∷ [] }
+
+-- a word, as a side
+abbrev pub word_piece : List ℕ → Piece
+word_piece word = record { before = []; inside = word; after = []; tokens = λ place. t.Side (Bare place) ∷ [] }
+
+-- a call: its word, any blanks, and its argument between parentheses (40, 41)
+abbrev pub call_piece : Call → List ℕ → List ℕ → List ℕ → Piece
+call_piece call word blanks argument =
+    record { before = word ++ blanks ++ 40 ∷ []; inside = argument; after = 41 ∷ []; tokens = λ place. t.Call call place ∷ [] }
+
+-- the signs by their bytes; if one begins another, the longer comes first
+abbrev pub signs : List (List ℕ × Token)
+signs =
+    (codes "||", t.Or) ∷ (codes "&&", t.And) ∷ (codes "==", t.Compare o.Equal) ∷ (codes "!=", t.Compare o.Unequal)
+    ∷ (codes "<=", t.Compare o.AtMost) ∷ (codes ">=", t.Compare o.AtLeast) ∷ (codes "<", t.Compare o.Less)
+    ∷ (codes ">", t.Compare o.Greater) ∷ (codes "!", t.Not) ∷ (codes "(", t.Left) ∷ (codes ")", t.Right) ∷ []
+
+-- whether a text begins with these bytes
+abbrev pub begins_with : List ℕ → List ℕ → Bool
+begins_with [] text = true
+begins_with (b ∷ bytes) [] = false
+begins_with (b ∷ bytes) (c ∷ text) = c == b && begins_with bytes text
+
+-- the first of these signs that a text begins with
+abbrev pub first_sign : List (List ℕ × Token) → List ℕ → Option Piece
+first_sign [] text = None
+first_sign (sign ∷ more) text = if begins_with sign.0 text then Some (sign_piece sign.0 sign.1) else first_sign more text
+
+-- a byte that ends a word: a blank, or one of `( ) ! = < > & | "`
 abbrev pub is_stop : ℕ → Bool
 is_stop b = is_blank b || b == 40 || b == 41 || b == 33 || b == 61 || b == 60 || b == 62 || b == 38 || b == 124 || b == 34
 
--- whether a text begins with a byte
-abbrev pub begins : ℕ → List ℕ → Bool
-begins byte [] = false
-begins byte (b ∷ rest) = b == byte
+-- a text cut before its first byte with a property; if there is none, nothing comes after the cut
+abbrev pub cut_before : (ℕ → Bool) → List ℕ → List ℕ × List ℕ
+cut_before p [] = ([], [])
+cut_before p (b ∷ rest) = if p b then ([], b ∷ rest) else (let cut = cut_before p rest in (b ∷ cut.0, cut.1))
 
--- the place of the first byte with a property, in a text that begins at a place
-abbrev pub first_at : (ℕ → Bool) → ℕ → List ℕ → Option ℕ
-first_at p at [] = None
-first_at p at (b ∷ rest) = if p b then Some at else first_at p (at + 1) rest
-
--- that place, or the end of the text
-abbrev pub first_or_end : (ℕ → Bool) → ℕ → List ℕ → ℕ
-first_or_end p at [] = at
-first_or_end p at (b ∷ rest) = if p b then at else first_or_end p (at + 1) rest
-
--- The place of the parenthesis that closes an earlier one, in the text after that one. The text begins at a
--- place, and this many others are open there.
-abbrev pub closing : ℕ → ℕ → List ℕ → Option ℕ
-closing at depth [] = None
-closing at depth (b ∷ rest) =
-    if b == 40 then closing (at + 1) (suc depth) rest
-    else if b == 41 then (if depth == 0 then Some at else closing (at + 1) (depth - 1) rest)
-    else closing (at + 1) depth rest
-
--- a quoted side: its text begins at this place, after the first double quote (34), and goes up to the next
--- one
-abbrev pub quoted : ℕ → Option ℕ → Option (Token × ℕ)
-quoted start None = None
-quoted start (Some end) = Some (t.Side (Quoted (record { start = start; end = end })), end + 1)
+-- a text up to the next double quote, which has to come
+abbrev pub quoted_up_to : List ℕ → List ℕ → Option Piece
+quoted_up_to text [] = None
+quoted_up_to text (quote ∷ rest) = Some (quoted_piece text)
 
 -- the call with this word
 abbrev pub call_of : List ℕ → Option Call
@@ -54,66 +88,65 @@ call_of word =
     else if bytes_eq word (codes "target") then Some Target
     else None
 
--- a call whose argument begins at a place and goes up to the parenthesis that closes it
-abbrev pub closed_call : Call → ℕ → Option ℕ → Option (Token × ℕ)
-closed_call call start None = None
-closed_call call start (Some end) = Some (t.Call call (record { start = start; end = end }), end + 1)
+-- the text up to the parenthesis that closes an earlier one; this many others are open
+abbrev pub before_closing : ℕ → List ℕ → Option (List ℕ)
+before_closing depth [] = None
+before_closing depth (b ∷ rest) =
+    if b == 40 then option_map (λ text. b ∷ text) (before_closing (suc depth) rest)
+    else if b == 41 then (if depth == 0 then Some [] else option_map (λ text. b ∷ text) (before_closing (depth - 1) rest))
+    else option_map (λ text. b ∷ text) (before_closing depth rest)
 
--- the end of the blanks at the front of a text that begins at a place
-abbrev pub blanks_end : ℕ → List ℕ → ℕ
-blanks_end at text = first_or_end (λ b. not (is_blank b)) at text
+-- A call's word, if blanks and then this text follow it. With a parenthesis next it is a call, whose argument
+-- goes up to the parenthesis that closes this one.
+abbrev pub call_or_word : Call → List ℕ → List ℕ → List ℕ → Option Piece
+call_or_word call word blanks [] = Some (word_piece word)
+call_or_word call word blanks (b ∷ rest) =
+    if b == 40 then option_map (call_piece call word blanks) (before_closing 0 rest) else Some (word_piece word)
 
--- A side that isn't quoted, from one place up to another. If it is a call's word and there is a parenthesis
--- (40) at the third place, it is a call. `rest` follows its first byte.
-abbrev pub word_token : ℕ → List ℕ → ℕ → ℕ → Option Call → Option (Token × ℕ)
-word_token at rest end left None = Some (t.Side (Bare (record { start = at; end = end })), end)
-word_token at rest end left (Some call) =
-    if begins 40 (drop (left - (at + 1)) rest) then closed_call call (left + 1) (closing (left + 1) 0 (drop (left + 1 - (at + 1)) rest))
-    else Some (t.Side (Bare (record { start = at; end = end })), end)
+-- a word that this text follows, or a call, if it is the word of one
+abbrev pub word_or_call : List ℕ → List ℕ → Option Call → Option Piece
+word_or_call word rest None = Some (word_piece word)
+word_or_call word rest (Some call) = let cut = cut_before (λ b. not (is_blank b)) rest in call_or_word call word cut.0 cut.1
 
--- the same, of the longest run of bytes that don't end a side; the first is `b`
-abbrev pub word_at : ℕ → ℕ → List ℕ → Option (Token × ℕ)
-word_at at b rest =
-    let end = first_or_end is_stop (at + 1) rest in
-    word_token at rest end (blanks_end end (drop (end - (at + 1)) rest)) (call_of (b ∷ take (end - (at + 1)) rest))
+-- the same if the word isn't empty
+abbrev pub some_word : List ℕ → List ℕ → Option Piece
+some_word [] rest = None
+some_word (b ∷ word) rest = word_or_call (b ∷ word) rest (call_of (b ∷ word))
 
--- a sign of two bytes, or of one if the second isn't there
-abbrev pub sign_at : ℕ → Bool → Token → Token → Option (Token × ℕ)
-sign_at at doubled two one = if doubled then Some (two, at + 2) else Some (one, at + 1)
+-- The piece that a text begins with, if there is one: a blank; a text in quotes; a sign; or a word, up to a
+-- byte that ends it.
+unfoldable pub first_piece : List ℕ → Option Piece
+first_piece [] = None
+first_piece (b ∷ rest) =
+    if is_blank b then Some (blank_piece b)
+    else if b == 34 then (let cut = cut_before (λ c. c == 34) rest in quoted_up_to cut.0 cut.1)
+    else option_or (first_sign signs (b ∷ rest)) (let cut = cut_before is_stop (b ∷ rest) in some_word cut.0 cut.1)
 
--- a sign that has two bytes; none if the second isn't there
-abbrev pub pair_at : ℕ → Bool → Token → Option (Token × ℕ)
-pair_at at doubled two = if doubled then Some (two, at + 2) else None
+-- a piece before those that `more` gives after it
+abbrev pub piece_before : (Piece → Option (List Piece)) → Option Piece → Option (List Piece)
+piece_before more None = None
+piece_before more (Some piece) = option_map (λ pieces. piece ∷ pieces) (more piece)
 
--- The token that begins with byte `b` at a place, and the place after it; none if there is no token. `b`
--- isn't a blank, and `rest` follows it. References are covered by dollars in the text.
-unfoldable pub token_at : ℕ → ℕ → List ℕ → Option (Token × ℕ)
-token_at at b rest =
-    if b == 40 then Some (t.Left, at + 1)
-    else if b == 41 then Some (t.Right, at + 1)
-    else if b == 33 then sign_at at (begins 61 rest) (t.Compare o.Unequal) t.Not
-    else if b == 60 then sign_at at (begins 61 rest) (t.Compare o.AtMost) (t.Compare o.Less)
-    else if b == 62 then sign_at at (begins 61 rest) (t.Compare o.AtLeast) (t.Compare o.Greater)
-    else if b == 61 then pair_at at (begins 61 rest) (t.Compare o.Equal)
-    else if b == 38 then pair_at at (begins 38 rest) t.And
-    else if b == 124 then pair_at at (begins 124 rest) t.Or
-    else if b == 34 then quoted (at + 1) (first_at (λ c. c == 34) (at + 1) rest)
-    else word_at at b rest
+-- the pieces of a text, if it can be cut into pieces; the number bounds how many there are
+unfoldable pub pieces_by : ℕ → List ℕ → Option (List Piece)
+pieces_by zero text = None
+pieces_by (suc bound) [] = Some []
+pieces_by (suc bound) (b ∷ rest) =
+    piece_before (λ piece. pieces_by bound (drop (length (spelling piece)) (b ∷ rest))) (first_piece (b ∷ rest))
 
--- a token before those that `more` gives from the place after it on
-abbrev pub token_before : (ℕ → Option (List Token)) → Option (Token × ℕ) → Option (List Token)
-token_before more None = None
-token_before more (Some (token, end)) = option_map (λ tokens. token ∷ tokens) (more end)
+-- the same with no bound: a text has no more pieces than bytes
+abbrev pub pieces_of : List ℕ → Option (List Piece)
+pieces_of text = pieces_by (suc (length text)) text
 
--- The tokens of a text that begins at a place, from its byte of this number on. Blanks are passed over, and
--- so are the bytes of a token after its first.
-unfoldable pub walk : ℕ → ℕ → List ℕ → Option (List Token)
-walk at skipped [] = Some []
-walk at (suc skipped) (b ∷ rest) = walk (at + 1) skipped rest
-walk at zero (b ∷ rest) =
-    if is_blank b then walk (at + 1) 0 rest
-    else token_before (λ end. walk (at + 1) (end - (at + 1)) rest) (token_at at b rest)
+-- the place of what is inside a piece, if this many bytes come before the piece
+abbrev pub place_inside : ℕ → Piece → Span
+place_inside at piece = record { start = at + length piece.before; end = at + length piece.before + length piece.inside }
+
+-- the tokens of pieces, with their places; this many bytes come before the first
+unfoldable pub tokens_at : ℕ → List Piece → List Token
+tokens_at at [] = []
+tokens_at at (piece ∷ pieces) = piece.tokens (place_inside at piece) ++ tokens_at (at + length (spelling piece)) pieces
 
 -- the tokens of a text in which dollars cover the references
 abbrev pub tokens_of : List ℕ → Option (List Token)
-tokens_of text = walk 0 0 text
+tokens_of text = option_map (tokens_at 0) (pieces_of text)

@@ -81,12 +81,12 @@ tree-side side =
     ∙ fold-roll-Term NotTree OrTree AndTree term_step condition_step conjunction_step (Term-F.Side side)
 
 -- the tokens that a reference points to
-abbrev pub left_behind : Option (Bor (List Token)) → Option (List Token)
-left_behind left = option_map (λ rest. rest.now) left
+abbrev pub tokens_left : Option (Bor (List Token)) → Option (List Token)
+tokens_left left = option_map (λ rest. rest.now) left
 
 -- what was read, and the tokens left
-abbrev pub found : {A B : Type 0} → (A → B) → Option (A × Bor (List Token)) → Option (B × List Token)
-found shown read = option_map (λ x. (shown x.0, x.1.now)) read
+abbrev pub shown_read : {A B : Type 0} → (A → B) → Option (A × Bor (List Token)) → Option (B × List Token)
+shown_read shown read = option_map (λ x. (shown x.0, x.1.now)) read
 
-abbrev pub read_behind : {A : Type 0} → Option (A × Bor (List Token)) → Option (A × List Token)
-read_behind read = found (λ x. x) read
+abbrev pub read_as_it_is : {A : Type 0} → Option (A × Bor (List Token)) → Option (A × List Token)
+read_as_it_is read = shown_read (λ x. x) read

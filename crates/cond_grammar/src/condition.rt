@@ -10,7 +10,7 @@ ghost use Rattle.cond_grammar.specs.Conditions.{IsConditionOf, IsFaultOf, tree_i
 use crate::nodes::Condition;
 use crate::reading::read;
 use crate::scanning::tokens;
-use mk_ref::{PiecesFault, outside, outside_stands_in_place, pieces};
+use mk_ref::{PiecesFault, outside, outside_keeps_places, pieces};
 use std::alloc::{AllocError, Global};
 use thiserror::Error;
 
@@ -62,7 +62,7 @@ pub fn read_condition(alloc: Global, text: &str) -> Result<Condition, ConditionE
         (or_tokens (condition_tree condition))) }
     ensures fault { IfErr result (IsFaultOf text.now) }
 {
-    outside_stands_in_place();
+    outside_keeps_places();
     if !ends_each_reference(alloc, text)? {
         return Err(ConditionError::Unclosed);
     }

@@ -1,9 +1,9 @@
 //! Tokens read into their tree.
 ghost use Rattle.std.specs.Prelude.{◌≡◌, map, option_map, IfOk};
-ghost use Rattle.cond_grammar.specs.Reading.{behind_or, behind_and, behind_right, behind_side, behind_comparison};
-ghost use Rattle.cond_grammar.specs.Reading.{compared, negated_below, grouped_below, operands, read_not, read_and};
+ghost use Rattle.cond_grammar.specs.Reading.{after_or, after_and, after_right, first_side, first_comparison};
+ghost use Rattle.cond_grammar.specs.Reading.{side_term, negation_below, group_below, operands, read_not, read_and};
 ghost use Rattle.cond_grammar.specs.Reading.{read_or, tree_of};
-ghost use Rattle.cond_grammar.specs.Views.{condition_tree, conjunction_tree, term_tree, left_behind, read_behind, found};
+ghost use Rattle.cond_grammar.specs.Views.{condition_tree, conjunction_tree, term_tree, tokens_left, read_as_it_is, shown_read};
 
 use crate::nodes::{Condition, Conjunction, Term};
 use crate::tokens::{Comparison, Side, Token};
@@ -13,8 +13,8 @@ use std::alloc::{AllocError, Global};
 type Read<'t, T> = Option<(T, &'t [Token])>;
 
 /// The tokens after a `||` that comes first.
-fn behind_or(tokens: &[Token]) -> Option<&[Token]>
-    ensures { left_behind result ≡ behind_or tokens.now }
+fn after_or(tokens: &[Token]) -> Option<&[Token]>
+    ensures { tokens_left result ≡ after_or tokens.now }
 {
     match tokens.split_first() {
         Some((Token::Or, rest)) => Some(rest),
@@ -23,8 +23,8 @@ fn behind_or(tokens: &[Token]) -> Option<&[Token]>
 }
 
 /// The tokens after a `&&` that comes first.
-fn behind_and(tokens: &[Token]) -> Option<&[Token]>
-    ensures { left_behind result ≡ behind_and tokens.now }
+fn after_and(tokens: &[Token]) -> Option<&[Token]>
+    ensures { tokens_left result ≡ after_and tokens.now }
 {
     match tokens.split_first() {
         Some((Token::And, rest)) => Some(rest),
@@ -33,8 +33,8 @@ fn behind_and(tokens: &[Token]) -> Option<&[Token]>
 }
 
 /// The tokens after a `)` that comes first.
-fn behind_right(tokens: &[Token]) -> Option<&[Token]>
-    ensures { left_behind result ≡ behind_right tokens.now }
+fn after_right(tokens: &[Token]) -> Option<&[Token]>
+    ensures { tokens_left result ≡ after_right tokens.now }
 {
     match tokens.split_first() {
         Some((Token::Right, rest)) => Some(rest),
@@ -43,8 +43,8 @@ fn behind_right(tokens: &[Token]) -> Option<&[Token]>
 }
 
 /// The side that comes first, and the tokens after it.
-fn behind_side(tokens: &[Token]) -> Read<'_, Side>
-    ensures { read_behind result ≡ behind_side tokens.now }
+fn first_side(tokens: &[Token]) -> Read<'_, Side>
+    ensures { read_as_it_is result ≡ first_side tokens.now }
 {
     match tokens.split_first() {
         Some((Token::Side(side), rest)) => Some((*side, rest)),
@@ -53,8 +53,8 @@ fn behind_side(tokens: &[Token]) -> Read<'_, Side>
 }
 
 /// The sign of a comparison that comes first, and the tokens after it.
-fn behind_comparison(tokens: &[Token]) -> Read<'_, Comparison>
-    ensures { read_behind result ≡ behind_comparison tokens.now }
+fn first_comparison(tokens: &[Token]) -> Read<'_, Comparison>
+    ensures { read_as_it_is result ≡ first_comparison tokens.now }
 {
     match tokens.split_first() {
         Some((Token::Compare(comparison), rest)) => Some((*comparison, rest)),
@@ -69,7 +69,7 @@ fn read_or(
     tokens: &[Token],
     levels: usize,
 ) -> Result<Read<'_, Condition>, AllocError>
-    ensures { IfOk result (λ read. found condition_tree read ≡ read_or levels tokens.now) }
+    ensures { IfOk result (λ read. shown_read condition_tree read ≡ read_or levels tokens.now) }
 {
     let Some((first, rest)) = read_and(alloc, tokens, levels)? else {
         return Ok(None);
@@ -87,12 +87,12 @@ fn later_ands(
     tokens: &[Token],
     levels: usize,
 ) -> Result<Read<'_, Vec<Conjunction>>, AllocError>
-    ensures { IfOk result (λ read. found (λ more. map conjunction_tree more.items) read
-        ≡ operands behind_or (read_and levels) tokens.now) }
+    ensures { IfOk result (λ read. shown_read (λ more. map conjunction_tree more.items) read
+        ≡ operands after_or (read_and levels) tokens.now) }
 {
     let mut more = Vec::new(alloc);
     let mut rest = tokens;
-    while let Some(behind) = behind_or(rest) {
+    while let Some(behind) = after_or(rest) {
         let Some((next, left)) = read_and(alloc, behind, levels)? else {
             return Ok(None);
         };
@@ -109,7 +109,7 @@ fn read_and(
     tokens: &[Token],
     levels: usize,
 ) -> Result<Read<'_, Conjunction>, AllocError>
-    ensures { IfOk result (λ read. found conjunction_tree read ≡ read_and levels tokens.now) }
+    ensures { IfOk result (λ read. shown_read conjunction_tree read ≡ read_and levels tokens.now) }
 {
     let Some((first, rest)) = read_not(alloc, tokens, levels)? else {
         return Ok(None);
@@ -127,12 +127,12 @@ fn later_nots(
     tokens: &[Token],
     levels: usize,
 ) -> Result<Read<'_, Vec<Term>>, AllocError>
-    ensures { IfOk result (λ read. found (λ more. map term_tree more.items) read
-        ≡ operands behind_and (read_not levels) tokens.now) }
+    ensures { IfOk result (λ read. shown_read (λ more. map term_tree more.items) read
+        ≡ operands after_and (read_not levels) tokens.now) }
 {
     let mut more = Vec::new(alloc);
     let mut rest = tokens;
-    while let Some(behind) = behind_and(rest) {
+    while let Some(behind) = after_and(rest) {
         let Some((next, left)) = read_not(alloc, behind, levels)? else {
             return Ok(None);
         };
@@ -145,21 +145,21 @@ fn later_nots(
 /// The term that tokens begin with.
 #[cycle(reading)]
 fn read_not(alloc: Global, tokens: &[Token], levels: usize) -> Result<Read<'_, Term>, AllocError>
-    ensures { IfOk result (λ read. found term_tree read ≡ read_not levels tokens.now) }
+    ensures { IfOk result (λ read. shown_read term_tree read ≡ read_not levels tokens.now) }
 {
     match tokens.split_first() {
-        Some((Token::Not, rest)) => negated(alloc, rest, levels),
-        Some((Token::Left, rest)) => grouped(alloc, rest, levels),
+        Some((Token::Not, rest)) => negation(alloc, rest, levels),
+        Some((Token::Left, rest)) => group(alloc, rest, levels),
         Some((Token::Call(call, argument), rest)) => Ok(Some((Term::Call(*call, *argument), rest))),
-        Some((Token::Side(side), rest)) => Ok(sided(*side, rest)),
+        Some((Token::Side(side), rest)) => Ok(side_term(*side, rest)),
         _ => Ok(None),
     }
 }
 
 /// The term after a `!`, negated.
 #[cycle(reading)]
-fn negated(alloc: Global, tokens: &[Token], levels: usize) -> Result<Read<'_, Term>, AllocError>
-    ensures { IfOk result (λ read. found term_tree read ≡ negated_below levels tokens.now) }
+fn negation(alloc: Global, tokens: &[Token], levels: usize) -> Result<Read<'_, Term>, AllocError>
+    ensures { IfOk result (λ read. shown_read term_tree read ≡ negation_below levels tokens.now) }
 {
     if levels == 0 {
         return Ok(None);
@@ -172,8 +172,8 @@ fn negated(alloc: Global, tokens: &[Token], levels: usize) -> Result<Read<'_, Te
 
 /// The condition after a parenthesis, as a group, if the parenthesis closes.
 #[cycle(reading)]
-fn grouped(alloc: Global, tokens: &[Token], levels: usize) -> Result<Read<'_, Term>, AllocError>
-    ensures { IfOk result (λ read. found term_tree read ≡ grouped_below levels tokens.now) }
+fn group(alloc: Global, tokens: &[Token], levels: usize) -> Result<Read<'_, Term>, AllocError>
+    ensures { IfOk result (λ read. shown_read term_tree read ≡ group_below levels tokens.now) }
 {
     if levels == 0 {
         return Ok(None);
@@ -181,20 +181,20 @@ fn grouped(alloc: Global, tokens: &[Token], levels: usize) -> Result<Read<'_, Te
     let Some((condition, rest)) = read_or(alloc, tokens, levels - 1)? else {
         return Ok(None);
     };
-    match behind_right(rest) {
+    match after_right(rest) {
         Some(left) => Ok(Some((Term::Group(Box::new(alloc, condition)?), left))),
         None => Ok(None),
     }
 }
 
 /// The side before tokens: compared with the side after a sign that they begin with, or alone.
-fn sided(left: Side, tokens: &[Token]) -> Read<'_, Term>
-    ensures { found term_tree result ≡ compared left tokens.now (behind_comparison tokens.now) }
+fn side_term(left: Side, tokens: &[Token]) -> Read<'_, Term>
+    ensures { shown_read term_tree result ≡ side_term left tokens.now (first_comparison tokens.now) }
 {
-    let Some((comparison, rest)) = behind_comparison(tokens) else {
+    let Some((comparison, rest)) = first_comparison(tokens) else {
         return Some((Term::Side(left), tokens));
     };
-    match behind_side(rest) {
+    match first_side(rest) {
         Some((right, behind)) => Some((Term::Compare(left, comparison, right), behind)),
         None => None,
     }

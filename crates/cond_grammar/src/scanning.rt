@@ -1,8 +1,9 @@
 //! Conditions cut into tokens.
 ghost use Rattle.std.specs.Prelude.{◌≡◌, ◌==◌, ◌<◌, ◌≤◌, ◌+◌, ℕ, Bool, List, length, drop, option_map, unwrap_or};
 ghost use Rattle.std.specs.Prelude.{not, None, Some, slice_index, true, false, IfOk, IfSome};
-ghost use Rattle.cond_grammar.specs.Tokens.{is_stop, begins, first_at, first_or_end, closing, call_of, blanks_end};
-ghost use Rattle.cond_grammar.specs.Tokens.{word_at, quoted, sign_at, pair_at, token_at, tokens_of};
+ghost use Rattle.cond_grammar.specs.Tokens.{is_stop, call_of, tokens_of};
+ghost use Rattle.cond_grammar.specs.Scanning.{begins, first_at, first_or_end, closing_place, blanks_end};
+ghost use Rattle.cond_grammar.specs.Scanning.{word_at, quoted_side, sign_at, pair_at, token_at};
 
 use crate::tokens::{Call, Comparison, Side, Token};
 use mk_text::{Span, is_blank};
@@ -34,7 +35,7 @@ pub(crate) fn tokens(alloc: Global, bytes: &[u8]) -> Result<Option<Vec<Token>>, 
 }
 
 /// The token that begins at `at`, where there is no blank, and the place after it.
-#[tactic(auto, unfolding(crate::specs::Tokens::token_at))]
+#[tactic(auto, unfolding(crate::specs::Scanning::token_at))]
 fn token_at(bytes: &[u8], at: usize) -> Option<(Token, usize)>
     requires { at < length bytes.now }
     ensures token { result ≡ token_at at (slice_index bytes.now at) (drop (at + 1) bytes.now) }
@@ -59,13 +60,13 @@ fn token_at(bytes: &[u8], at: usize) -> Option<(Token, usize)>
         b'=' => pair(bytes, at, b'=', Token::Compare(Comparison::Equal)),
         b'&' => pair(bytes, at, b'&', Token::And),
         b'|' => pair(bytes, at, b'|', Token::Or),
-        b'"' => quoted(bytes, at + 1),
+        b'"' => quoted_side(bytes, at + 1),
         _ => word_at(bytes, at),
     }
 }
 
 /// Whether this byte is at a place.
-fn stands_at(bytes: &[u8], at: usize, byte: u8) -> bool
+fn is_at(bytes: &[u8], at: usize, byte: u8) -> bool
     requires { at ≤ length bytes.now }
     ensures value { result ≡ begins byte (drop at bytes.now) }
     ensures within { result ≡ true → at < length bytes.now }
@@ -79,7 +80,7 @@ fn sign(bytes: &[u8], at: usize, with_equals: Token, alone: Token) -> Option<(To
     ensures token { result ≡ sign_at at (begins 61 (drop (at + 1) bytes.now)) with_equals alone }
     ensures within { IfSome result (λ found. (at < found.1) × (found.1 ≤ length bytes.now)) }
 {
-    if stands_at(bytes, at + 1, b'=') {
+    if is_at(bytes, at + 1, b'=') {
         Some((with_equals, at + 2))
     } else {
         Some((alone, at + 1))
@@ -92,7 +93,7 @@ fn pair(bytes: &[u8], at: usize, second: u8, token: Token) -> Option<(Token, usi
     ensures token { result ≡ pair_at at (begins second (drop (at + 1) bytes.now)) token }
     ensures within { IfSome result (λ found. (at < found.1) × (found.1 ≤ length bytes.now)) }
 {
-    if stands_at(bytes, at + 1, second) {
+    if is_at(bytes, at + 1, second) {
         Some((token, at + 2))
     } else {
         None
@@ -100,9 +101,9 @@ fn pair(bytes: &[u8], at: usize, second: u8, token: Token) -> Option<(Token, usi
 }
 
 /// The quoted side whose text begins at `start`, and the place after it; `None` if no quote closes it.
-fn quoted(bytes: &[u8], start: usize) -> Option<(Token, usize)>
+fn quoted_side(bytes: &[u8], start: usize) -> Option<(Token, usize)>
     requires { start ≤ length bytes.now }
-    ensures token { result ≡ quoted start (first_at (λ b. b == 34) start (drop start bytes.now)) }
+    ensures token { result ≡ quoted_side start (first_at (λ b. b == 34) start (drop start bytes.now)) }
     ensures within { IfSome result (λ found. (start < found.1) × (found.1 ≤ length bytes.now)) }
 {
     for end in start..bytes.len() {
@@ -126,10 +127,10 @@ fn word_at(bytes: &[u8], at: usize) -> Option<(Token, usize)>
         return word;
     };
     let left = blanks_end(bytes, end);
-    if !stands_at(bytes, left, b'(') {
+    if !is_at(bytes, left, b'(') {
         return word;
     }
-    match closing(bytes, left + 1) {
+    match closing_place(bytes, left + 1) {
         Some(close) => {
             let argument = Span {
                 start: left + 1,
@@ -205,9 +206,9 @@ fn call_of(word: &[u8]) -> Option<Call>
 }
 
 /// The place of the parenthesis that closes the one directly before `start`.
-fn closing(bytes: &[u8], start: usize) -> Option<usize>
+fn closing_place(bytes: &[u8], start: usize) -> Option<usize>
     requires { start ≤ length bytes.now }
-    ensures place { result ≡ closing start 0 (drop start bytes.now) }
+    ensures place { result ≡ closing_place start 0 (drop start bytes.now) }
     ensures within { IfSome result (λ at. (start ≤ at) × (at < length bytes.now)) }
 {
     let mut depth: usize = 0;

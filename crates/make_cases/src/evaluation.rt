@@ -1,9 +1,9 @@
 //! Makefiles evaluated, and values of their variables.
 use crate::files::given_name;
-use crate::variables::{text_of_variable, told_fault};
+use crate::variables::{fault_answer, text_of_variable};
 use crate::world::World;
 use case_lines::{Answer, Trouble, as_text, one_text};
-use mk_base::Stop;
+use mk_base::{PureStop, Stop};
 use mk_eval::{Evaluated, Failed, Kind, evaluate, value};
 use mk_paths::Name;
 use std::alloc::Global;
@@ -63,8 +63,8 @@ fn add_value(
             answer.word("undefined");
             Ok(answer)
         }
-        Err(Stop::Fault(failed)) => failure(alloc, &failed),
-        Err(_) => Err(Trouble::Memory),
+        Err(PureStop::Fault(failed)) => failure(alloc, &failed),
+        Err(PureStop::Memory) => Err(Trouble::Memory),
     }
 }
 
@@ -147,7 +147,7 @@ fn evaluated_file(
 
 /// A fault, with what was spent up to there.
 pub fn failure(alloc: Global, failed: &Failed) -> Result<Answer, Trouble> {
-    let mut answer = told_fault(alloc, &failed.fault)?;
+    let mut answer = fault_answer(alloc, &failed.fault)?;
     add_cost(&mut answer, failed.cost);
     Ok(answer)
 }

@@ -14,14 +14,14 @@ pub fn name_of(alloc: Global, given: &[Vec<u8>]) -> Result<Answer, Trouble> {
         _ => return Err(Trouble::NoCase),
     };
     match read {
-        Ok(name) => Ok(name_told(alloc, name)),
+        Ok(name) => Ok(name_answer(alloc, name)),
         Err(NameFault::BadName) => Ok(Answer::of_word(alloc, "BadName")),
         Err(NameFault::Above) => Ok(Answer::of_word(alloc, "Above")),
         Err(NameFault::Memory) => Err(Trouble::Memory),
     }
 }
 
-fn name_told(alloc: Global, name: Name) -> Answer {
+fn name_answer(alloc: Global, name: Name) -> Answer {
     let mut answer = Answer::of_text(alloc, name.as_str());
     if name.into_text().as_bytes().is_empty() {
         answer.word("lost");
@@ -41,7 +41,7 @@ pub fn directory_of(alloc: Global, given: &[Vec<u8>]) -> Result<Answer, Trouble>
 /// `search path TEXT`: its trees, or `BadPath`.
 pub fn trees_of(alloc: Global, given: &[Vec<u8>]) -> Result<Answer, Trouble> {
     match SearchPath::read(alloc, one_text(given)?) {
-        Ok(path) => Ok(trees_told(alloc, &path)),
+        Ok(path) => Ok(trees_answer(alloc, &path)),
         Err(PathFault::BadPath) => Ok(Answer::of_word(alloc, "BadPath")),
         Err(PathFault::Memory) => Err(Trouble::Memory),
     }
@@ -52,11 +52,11 @@ pub fn standard_trees(alloc: Global) -> Result<Answer, Trouble> {
     let settings = Settings {
         path: SearchPath::standard(alloc)?,
     };
-    Ok(trees_told(alloc, &settings.path))
+    Ok(trees_answer(alloc, &settings.path))
 }
 
 /// The trees of a search path.
-pub fn trees_told(alloc: Global, path: &SearchPath) -> Answer {
+pub fn trees_answer(alloc: Global, path: &SearchPath) -> Answer {
     let mut answer = Answer::new(alloc);
     for tree in path.trees() {
         answer.text(tree.as_bytes());
@@ -113,7 +113,7 @@ pub fn read(alloc: Global, world: &mut MemoryFiles, given: &[Vec<u8>]) -> Result
     let seen = look_read::<MemoryFiles, FaultKind>(world, &name).map_err(|_| Trouble::Memory)?;
     Ok(match (read, seen) {
         (Some(read), Some(seen)) if is_there == Some(true) => {
-            two_told(alloc, read.as_slice(), seen.as_slice())
+            two_answer(alloc, read.as_slice(), seen.as_slice())
         },
         (None, None) if is_there == Some(false) => Answer::of_word(alloc, "absent"),
         _ => Answer::of_word(alloc, "both"),
@@ -132,7 +132,7 @@ fn is_there(world: &mut MemoryFiles, name: &Name) -> Result<Option<bool>, Troubl
 }
 
 /// The bytes of a content, and those of the other one if they aren't the same.
-pub fn two_told(alloc: Global, one: &[u8], other: &[u8]) -> Answer {
+pub fn two_answer(alloc: Global, one: &[u8], other: &[u8]) -> Answer {
     let mut answer = Answer::new(alloc);
     answer.text(one);
     if one != other {
@@ -152,7 +152,7 @@ fn asked(count: &[u8]) -> Result<Budget, Trouble> {
 
 /// `ask has NAME after N`: after N questions were counted, `there` or `absent`, or the kind of the fault,
 /// and how many questions are counted then.
-pub fn ask_has_told(
+pub fn ask_has_answer(
     alloc: Global,
     world: &mut MemoryFiles,
     given: &[Vec<u8>],
@@ -172,7 +172,7 @@ pub fn ask_has_told(
 }
 
 /// `ask read NAME after N`: the same of a file's bytes.
-pub fn ask_read_told(
+pub fn ask_read_answer(
     alloc: Global,
     world: &mut MemoryFiles,
     given: &[Vec<u8>],

@@ -10,6 +10,6 @@ mod variables;
 mod world;
 
 pub use evaluation::{add_cost, evaluated, failure, makefile};
-pub use files::{given_name, given_path, trees_told, two_told};
+pub use files::{given_name, given_path, trees_answer, two_answer};
 pub use setup::Setup;
 pub use world::World;

@@ -3,13 +3,13 @@ ghost use Rattle.std.specs.Prelude.{◌<◌, length, IfOk};
 ghost use Rattle.mk_loop.specs.Scopes.{turns_in};
 
 use case_lines::{Answer, Trouble, as_number, as_text};
-use mk_base::{Budget, FaultKind, Stop, UNITS};
+use mk_base::{Budget, FaultKind, PureStop, Stop, UNITS};
 use mk_env::Env;
 use mk_loop::{Iterations, LoopScope, put_words, read_header};
 use std::alloc::Global;
 
 /// A line with words put in. `None` if there are none to put in.
-type Put = Result<Option<String>, Stop<FaultKind>>;
+type Put = Result<Option<String>, PureStop<FaultKind>>;
 
 /// `turns of HEADER on LINE`: the line with the words of each turn put in, with the units spent; of a fault
 /// its kind. A number after `within` is the limit of the budget.
@@ -30,7 +30,7 @@ pub fn turns_of(alloc: Global, variables: &Env, given: &[Vec<u8>]) -> Result<Ans
                 add_put(&mut answer, put);
             }
         }
-        Err(stop) => answer.stop(stop),
+        Err(stop) => answer.stop(Stop::from(stop)),
     }
     answer.number(budget.spent());
     Ok(answer)
@@ -40,14 +40,14 @@ fn add_put(answer: &mut Answer, put: Put) {
     match put {
         Ok(Some(text)) => answer.text(text.as_bytes()),
         Ok(None) => answer.word("unchanged"),
-        Err(stop) => answer.stop(stop),
+        Err(stop) => answer.stop(Stop::from(stop)),
     }
 }
 
 /// `put words into LINE of HEADER..`: the line with words put in, or `unchanged`; and the units spent. Of a
 /// fault its kind. The words are those of the first turn of each of these loops, the innermost last. A
 /// number after `within` is the limit of the budget.
-pub fn put_words_told(
+pub fn put_words_answer(
     alloc: Global,
     variables: &Env,
     limited: bool,

@@ -1,5 +1,5 @@
 //! What lines without `=>` set up, and what the layers of makefiles give over it.
-use crate::truth::truth_told;
+use crate::truth::truth_answer;
 use crate::world::World;
 use crate::{evaluation, files, loops, variables};
 use case_lines::{Answer, Trouble, as_text};
@@ -89,13 +89,13 @@ impl Setup {
             }
             "modify on" | "modify on within" => variables::modified(alloc, variables, given),
             "truth" | "truth within after" => {
-                truth_told(alloc, variables, &mut self.world.files, given)
+                truth_answer(alloc, variables, &mut self.world.files, given)
             }
             "turns of on" | "turns of on within" => loops::turns_of(alloc, variables, given),
             "put words into" | "put words into of" => {
-                loops::put_words_told(alloc, variables, false, given)
+                loops::put_words_answer(alloc, variables, false, given)
             }
-            "put words within into of" => loops::put_words_told(alloc, variables, true, given),
+            "put words within into of" => loops::put_words_answer(alloc, variables, true, given),
             "get" => variables::text_of_variable(alloc, variables, given),
             "get from copy" => variables::text_of_variable(alloc, &self.copy, given),
             _ => self.answer_of_files(call, given),
@@ -106,8 +106,8 @@ impl Setup {
         let alloc = self.alloc;
         let files = &mut self.world.files;
         match call {
-            "ask has after" => files::ask_has_told(alloc, files, given),
-            "ask read after" => files::ask_read_told(alloc, files, given),
+            "ask has after" => files::ask_has_answer(alloc, files, given),
+            "ask read after" => files::ask_read_answer(alloc, files, given),
             "name" | "name under" => files::name_of(alloc, given),
             "directory of" => files::directory_of(alloc, given),
             "search path" => files::trees_of(alloc, given),

@@ -13,7 +13,7 @@ const MAKEFILE: &str = "/ports/a/b/Makefile";
 /// `truth TEXT`: whether the condition holds under its directive, or the kind of its fault; then the units
 /// spent and the questions counted. `truth TEXT within LIMIT after N`: the same with so many units, after
 /// so many questions were counted.
-pub fn truth_told(
+pub fn truth_answer(
     alloc: Global,
     variables: &Env,
     world: &mut MemoryFiles,

@@ -1,6 +1,6 @@
 //! Budgets, faults, variables and expansion.
 use case_lines::{Answer, Trouble, as_number, as_text, one_text};
-use mk_base::{Budget, Fault, FaultKind, Stop, UNITS};
+use mk_base::{Budget, Fault, FaultKind, PureStop, Stop, UNITS};
 use mk_env::{Env, expand, expand_inside, expand_now, expand_variable, modify};
 use std::alloc::Global;
 
@@ -70,14 +70,14 @@ pub fn blamed(alloc: Global, given: &[Vec<u8>]) -> Result<Answer, Trouble> {
     };
     let stop = Stop::Fault(FaultKind::Reference);
     match stop.blame(alloc, as_text(name)?, as_number(line)?) {
-        Stop::Fault(fault) => told_fault(alloc, &fault),
+        Stop::Fault(fault) => fault_answer(alloc, &fault),
         Stop::Store => Ok(Answer::of_word(alloc, "Store")),
         Stop::Memory => Err(Trouble::Memory),
     }
 }
 
 /// A fault as `KIND at NAME:LINE`.
-pub fn told_fault(alloc: Global, fault: &Fault) -> Result<Answer, Trouble> {
+pub fn fault_answer(alloc: Global, fault: &Fault) -> Result<Answer, Trouble> {
     let kind = fault.kind();
     let name = fault.name();
     let line = fault.line();
@@ -106,7 +106,7 @@ pub fn expansion(
         "inside" | "inside within" => expand_inside(alloc, variables, text, &mut budget),
         _ => expand(alloc, variables, text, &mut budget),
     };
-    Ok(told_expansion(alloc, outcome, &budget))
+    Ok(expansion_answer(alloc, outcome, &budget))
 }
 
 /// `modify MODIFIERS on TEXT`: what they make of a text that is given, in the form of `expand`. A number
@@ -120,18 +120,18 @@ pub fn modified(alloc: Global, variables: &Env, given: &[Vec<u8>]) -> Result<Ans
     let mut budget = Budget::new(limit);
     let (text, modifiers) = (as_text(text)?, as_text(modifiers)?);
     let outcome = modify(alloc, variables, text, modifiers, &mut budget);
-    Ok(told_expansion(alloc, outcome, &budget))
+    Ok(expansion_answer(alloc, outcome, &budget))
 }
 
-fn told_expansion(
+fn expansion_answer(
     alloc: Global,
-    outcome: Result<String, Stop<FaultKind>>,
+    outcome: Result<String, PureStop<FaultKind>>,
     budget: &Budget,
 ) -> Answer {
     let mut answer = Answer::new(alloc);
     match outcome {
         Ok(text) => answer.text(text.as_bytes()),
-        Err(stop) => answer.stop(stop),
+        Err(stop) => answer.stop(Stop::from(stop)),
     }
     answer.number(budget.spent());
     answer

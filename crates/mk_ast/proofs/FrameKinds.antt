@@ -6,7 +6,7 @@ use Rattle.std.proofs.lemmas.Bool.{eqb-true}
 use Rattle.mk_text.specs.Blanks.{skip_blanks, trim_blanks}
 use Rattle.mk_ref.specs.Outside.{outside}
 use Rattle.mk_text.specs.Lines.{LogicalLine}
-use Rattle.mk_ast.specs.Kinds.{TextLineKind, CommandLine, BlankLine, AssignmentLine, is_blank_line, is_command, directive_in, directive_behind, is_mark, is_word, in_front, operator_of, operator_start, assignment_at, assignment_in, kind_among, plain_kind, line_kind}
+use Rattle.mk_ast.specs.Kinds.{TextLineKind, CommandLine, BlankLine, AssignmentLine, is_blank_line, is_command, directive_in, directive_after_dot, is_mark, is_word, in_front, operator_of, operator_start, assignment_at, assignment_in, kind_among, plain_kind, line_kind}
 use Rattle.mk_ast.specs.Parts.{Part, PlainPart, part_by, part_of}
 
 -- a kind that frames no block
@@ -24,9 +24,9 @@ none-at text at =
     elim (is_word name && not (list_any is_mark (take start (outside text)))) as (λ b. IfFramesNone (cond b (Some (AssignmentLine (operator_of (in_front text at)) name (skip_blanks (drop (at + 1) text)))) None))
     [ true ↦ λ line. refl | false ↦ tt ]
 
-none-behind : (text : List ℕ) (at : Option ℕ) → IfFramesNone (option_and_then (assignment_at text) at)
-none-behind text None = tt
-none-behind text (Some at) = none-at text at
+none-after : (text : List ℕ) (at : Option ℕ) → IfFramesNone (option_and_then (assignment_at text) at)
+none-after text None = tt
+none-after text (Some at) = none-at text at
 
 none-among : (assignment : Option TextLineKind) (mark : Bool) → IfFramesNone assignment → FramesNone (kind_among assignment mark)
 none-among (Some kind) mark is = is
@@ -38,7 +38,7 @@ unfolding plain_kind
 none-plain text =
     elim (is_blank_line text) as (λ b. FramesNone (cond b BlankLine (kind_among (assignment_in text) (list_any is_mark (outside text))))) [
       | true ↦ λ line. refl
-      | false ↦ none-among (assignment_in text) (list_any is_mark (outside text)) (none-behind text (position (λ b. b == 61) (outside text)))
+      | false ↦ none-among (assignment_in text) (list_any is_mark (outside text)) (none-after text (position (λ b. b == 61) (outside text)))
     ]
 
 -- the part of a line by its directive
@@ -54,7 +54,7 @@ no-directive : (line : LogicalLine) (text : List ℕ) → (is_command text ≡ t
 no-directive line [] is = refl
 no-directive line (b ∷ rest) is =
     let tab : b ≡ 9 = eqb-true b 9 is in
-    subst (λ c. PlainPart line ≡ part_among line (cond (c == 46) (directive_behind (skip_blanks rest)) None)) (sym tab) refl
+    subst (λ c. PlainPart line ≡ part_among line (cond (c == 46) (directive_after_dot (skip_blanks rest)) None)) (sym tab) refl
 
 by-kind : (line : LogicalLine) (text : List ℕ) → part_by line (line_kind text) ≡ part_among line (directive_in text)
 unfolding line_kind

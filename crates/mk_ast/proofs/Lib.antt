@@ -1,8 +1,9 @@
 pub mod Runs
 pub mod Equals
 pub mod BlockParts
-pub mod HeldParts
-pub mod HeldDepths
+pub mod Effects
+pub mod StateParts
+pub mod StateDepths
 pub mod PartRuns
 pub mod KeptLines
 pub mod ReadLaws

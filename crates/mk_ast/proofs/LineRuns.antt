@@ -1,35 +1,31 @@
 -- Reading lines one after another.
-use Rattle.std.proofs.Common.{◌≡◌, ℕ, List, [], ◌∷◌, length, Option, Some, None, Result, Ok, Err, refl, sym, ap, ◌∙◌, arith}
+use Rattle.std.proofs.Common.{◌≡◌, ℕ, List, [], ◌∷◌, Option, Some, None, Result, Ok, Err, refl, sym, ap, ◌∙◌}
 use Rattle.mk_text.specs.Lines.{LogicalLine}
 use Rattle.mk_ast.specs.declared.parsing.ParseError.{ParseError}
 use Rattle.mk_ast.specs.declared.parsing.ParseError.TheVariants as errors
 use Rattle.mk_ast.specs.Parts.{part_of}
-use Rattle.mk_ast.specs.Blocks.{Held, step, held_on, read_on, finished}
+use Rattle.mk_ast.specs.Blocks.{ReadingState, step, go_on_from, read_on, whole_reading}
 use Rattle.mk_ast.specs.Parsing.{Answers, with_kind}
 use Rattle.mk_ast.specs.ReaderViews.{Steps}
 
-pub read-end : (limit : ℕ) (held : Held) → read_on limit held [] ≡ Ok held
+pub read-end : (limit : ℕ) (held : ReadingState) → read_on limit held [] ≡ Ok held
 unfolding read_on
 read-end limit held = refl
 
-read-line : (limit : ℕ) (held : Held) (line : LogicalLine) (lines : List LogicalLine) (next : Option Held) → step limit held (part_of line) ≡ next
-    → read_on limit held (line ∷ lines) ≡ held_on (λ held'. read_on limit held' lines) line.line next
+read-line : (limit : ℕ) (held : ReadingState) (line : LogicalLine) (lines : List LogicalLine) (next : Option ReadingState) → step limit held (part_of line) ≡ next
+    → read_on limit held (line ∷ lines) ≡ go_on_from (λ held'. read_on limit held' lines) line.line next
 unfolding read_on
-read-line limit held line lines next is = ap (held_on (λ held'. read_on limit held' lines) line.line) is
+read-line limit held line lines next is = ap (go_on_from (λ held'. read_on limit held' lines) line.line) is
 
 -- a line that can stand there
-pub read-next : (limit : ℕ) (held next : Held) (line : LogicalLine) (lines : List LogicalLine) → step limit held (part_of line) ≡ Some next
+pub read-next : (limit : ℕ) (held next : ReadingState) (line : LogicalLine) (lines : List LogicalLine) → step limit held (part_of line) ≡ Some next
     → read_on limit held (line ∷ lines) ≡ read_on limit next lines
 read-next limit held next line lines is = read-line limit held line lines (Some next) is
 
 -- a line that stands wrong
-pub read-wrong : (limit : ℕ) (held : Held) (line : LogicalLine) (lines : List LogicalLine) (error : ParseError) (reading : Result Held ℕ)
+pub read-wrong : (limit : ℕ) (held : ReadingState) (line : LogicalLine) (lines : List LogicalLine) (error : ParseError) (reading : Result ReadingState ℕ)
     → reading ≡ read_on limit held (line ∷ lines) → Steps (Err error) line.line (step limit held (part_of line))
-    → Answers (Err error) (λ answer. answer ≡ with_kind (finished reading))
+    → Answers (Err error) (λ answer. answer ≡ with_kind (whole_reading reading))
 read-wrong limit held line lines (errors.Fault fault) reading is stops =
-    ap Err stops.1 ∙ ap (λ r. with_kind (finished r)) (let stop : Err line.line ≡ reading = sym (is ∙ read-line limit held line lines None stops.0) in stop)
+    ap Err stops.1 ∙ ap (λ r. with_kind (whole_reading r)) (let stop : Err line.line ≡ reading = sym (is ∙ read-line limit held line lines None stops.0) in stop)
 read-wrong limit held line lines errors.Memory reading is stops = tt
-
-pub empty-of : {X : Type 0} (xs : List X) → length xs ≡ 0 → xs ≡ []
-empty-of [] is = refl
-empty-of (x ∷ xs) is = absurd (omega arith)

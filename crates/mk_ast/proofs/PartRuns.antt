@@ -5,71 +5,71 @@ use Rattle.std.proofs.lemmas.Bool.{cond_below}
 use Rattle.mk_text.specs.Lines.{LogicalLine}
 use Rattle.mk_ast.specs.Parts.{Part, IfPart, ElifPart, ElsePart, EndifPart, ForPart, EndforPart, PlainPart}
 use Rattle.mk_ast.specs.Trees.{Tree, LineTree, ChoiceTree, LoopTree, Block, EmptyBlock, MoreBlock, Branches, NoBranches, ElifBranch, ElseBranch, tree_parts, block_parts, branch_parts, tree_depth, block_depth, branch_depth}
-use Rattle.mk_ast.specs.Blocks.{add, branches_from, Stage, InIf, InElif, InElse, InFor, Open, Held, begin, step}
-use Rattle.mk_ast.proofs.HeldParts.{held_parts, StepParts, parts-step}
-use Rattle.mk_ast.proofs.HeldDepths.{IsWithin, IfWithin, within-step}
+use Rattle.mk_ast.specs.Blocks.{add, branches_from, Stage, InIf, InElif, InElse, InFor, Open, ReadingState, begin, step}
+use Rattle.mk_ast.proofs.StateParts.{state_parts, StepParts, parts-step}
+use Rattle.mk_ast.proofs.StateDepths.{IsWithin, IfWithin, within-step}
 
 -- the steps of some parts, one after another
-unfoldable pub run : ℕ → Held → List Part → Option Held
+unfoldable pub run : ℕ → ReadingState → List Part → Option ReadingState
 run limit held [] = Some held
 run limit held (part ∷ parts) = option_and_then (λ next. run limit next parts) (step limit held part)
 
-pub run-nil : (limit : ℕ) (held : Held) → run limit held [] ≡ Some held
+pub run-nil : (limit : ℕ) (held : ReadingState) → run limit held [] ≡ Some held
 unfolding run
 run-nil limit held = refl
 
-pub run-cons : (limit : ℕ) (held : Held) (part : Part) (parts : List Part)
+pub run-cons : (limit : ℕ) (held : ReadingState) (part : Part) (parts : List Part)
     → run limit held (part ∷ parts) ≡ option_and_then (λ next. run limit next parts) (step limit held part)
 unfolding run
 run-cons limit held part parts = refl
 
 -- a step that can be taken
-pub run-step : (limit : ℕ) (held next : Held) (part : Part) (parts : List Part) → step limit held part ≡ Some next
+pub run-step : (limit : ℕ) (held next : ReadingState) (part : Part) (parts : List Part) → step limit held part ≡ Some next
     → run limit held (part ∷ parts) ≡ run limit next parts
 run-step limit held next part parts is = run-cons limit held part parts ∙ ap (option_and_then (λ n. run limit n parts)) is
 
-then-run : (limit : ℕ) (first : Option Held) (parts more : List Part)
-    → ((held : Held) → run limit held (parts ++ more) ≡ option_and_then (λ n. run limit n more) (run limit held parts))
+then-run : (limit : ℕ) (first : Option ReadingState) (parts more : List Part)
+    → ((held : ReadingState) → run limit held (parts ++ more) ≡ option_and_then (λ n. run limit n more) (run limit held parts))
     → option_and_then (λ n. run limit n (parts ++ more)) first ≡ option_and_then (λ n. run limit n more) (option_and_then (λ n. run limit n parts) first)
 then-run limit None parts more each = refl
 then-run limit (Some held) parts more each = each held
 
-pub run-append : (limit : ℕ) (parts more : List Part) (held : Held)
+pub run-append : (limit : ℕ) (parts more : List Part) (held : ReadingState)
     → run limit held (parts ++ more) ≡ option_and_then (λ n. run limit n more) (run limit held parts)
 unfolding run
 run-append limit [] more held = refl
 run-append limit (part ∷ parts) more held = then-run limit (step limit held part) parts more (run-append limit parts more)
 
 -- what is held is made of these parts, and isn't too deep
-pub record IsHeld (limit : ℕ) (parts : List Part) (held : Held) : Type 0 where
-  pub made_of : held_parts held ≡ parts
+pub record IsStateAfter (limit : ℕ) (parts : List Part) (held : ReadingState) : Type 0 where
+  pub made_of : state_parts held ≡ parts
   pub within : IsWithin limit held
 
-abbrev pub IfHeld : ℕ → List Part → Option Held → Type 0
-IfHeld limit parts None = Unit {0}
-IfHeld limit parts (Some held) = IsHeld limit parts held
+abbrev pub IfStateAfter : ℕ → List Part → Option ReadingState → Type 0
+IfStateAfter limit parts None = Unit {0}
+IfStateAfter limit parts (Some held) = IsStateAfter limit parts held
 
-held-both : (limit : ℕ) (before : List Part) (part : Part) (parts : List Part) (result : Option Held) → before ≡ parts
-    → StepParts before part result → IfWithin limit result → IfHeld limit (parts ++ part ∷ []) result
-held-both limit before part parts None same made within = tt
-held-both limit before part parts (Some held) same made within = record { made_of = made ∙ ap (λ l. l ++ part ∷ []) same; within = within }
+state-both : (limit : ℕ) (before : List Part) (part : Part) (parts : List Part) (result : Option ReadingState) → before ≡ parts
+    → StepParts before part result → IfWithin limit result → IfStateAfter limit (parts ++ part ∷ []) result
+state-both limit before part parts None same made within = tt
+state-both limit before part parts (Some held) same made within = record { made_of = made ∙ ap (λ l. l ++ part ∷ []) same; within = within }
 
-pub held-step : (limit : ℕ) (parts : List Part) (held : Held) (part : Part) → IsHeld limit parts held → IfHeld limit (parts ++ part ∷ []) (step limit held part)
-held-step limit parts held part is =
-    held-both limit (held_parts held) part parts (step limit held part) is.made_of (parts-step limit held part) (within-step limit held part is.within)
+pub state-step : (limit : ℕ) (parts : List Part) (held : ReadingState) (part : Part) → IsStateAfter limit parts held → IfStateAfter limit (parts ++ part ∷ []) (step limit held part)
+state-step limit parts held part is =
+    state-both limit (state_parts held) part parts (step limit held part) is.made_of (parts-step limit held part) (within-step limit held part is.within)
 
-held-then : (limit : ℕ) (whole front more : List Part) (first : Option Held) → IfHeld limit front first
-    → ((held : Held) → IsHeld limit front held → IfHeld limit whole (run limit held more))
-    → IfHeld limit whole (option_and_then (λ n. run limit n more) first)
-held-then limit whole front more None is each = tt
-held-then limit whole front more (Some held) is each = each held is
+state-then : (limit : ℕ) (whole front more : List Part) (first : Option ReadingState) → IfStateAfter limit front first
+    → ((held : ReadingState) → IsStateAfter limit front held → IfStateAfter limit whole (run limit held more))
+    → IfStateAfter limit whole (option_and_then (λ n. run limit n more) first)
+state-then limit whole front more None is each = tt
+state-then limit whole front more (Some held) is each = each held is
 
-pub held-run : (limit : ℕ) (more parts : List Part) (held : Held) → IsHeld limit parts held → IfHeld limit (parts ++ more) (run limit held more)
+pub state-run : (limit : ℕ) (more parts : List Part) (held : ReadingState) → IsStateAfter limit parts held → IfStateAfter limit (parts ++ more) (run limit held more)
 unfolding run
-held-run limit [] parts held is = rw (append-nil parts) is
-held-run limit (part ∷ more) parts held is =
-    held-then limit (parts ++ part ∷ more) (parts ++ part ∷ []) more (step limit held part) (held-step limit parts held part is)
-    (λ next has. subst (λ l. IfHeld limit l (run limit next more)) (append_assoc parts (part ∷ []) more) (held-run limit more (parts ++ part ∷ []) next has))
+state-run limit [] parts held is = rw (append-nil parts) is
+state-run limit (part ∷ more) parts held is =
+    state-then limit (parts ++ part ∷ more) (parts ++ part ∷ []) more (step limit held part) (state-step limit parts held part is)
+    (λ next has. subst (λ l. IfStateAfter limit l (run limit next more)) (append_assoc parts (part ∷ []) more) (state-run limit more (parts ++ part ∷ []) next has))
 
 -- a block with another behind it
 abbrev pub join : Block → Block → Block
@@ -90,15 +90,15 @@ from-append [] line block end = refl
 from-append (branch ∷ later) line block end = ap (ElifBranch branch.0 branch.1) (from-append later line block end)
 
 -- what is held, from its parts
-abbrev pub held_as : Block → List Open → Held
-held_as current stack = record { current = current; stack = stack }
+abbrev pub state_as : Block → List Open → ReadingState
+state_as current stack = record { current = current; stack = stack }
 
 abbrev pub open_as : Block → LogicalLine → Stage → Open
 open_as before head stage = record { before = before; head = head; stage = stage }
 
-begins : (limit : ℕ) (held : Held) (line : LogicalLine) (stage : Stage) → length held.stack < limit
-    → begin limit held line stage ≡ Some (held_as EmptyBlock (open_as held.current line stage ∷ held.stack))
-begins limit held line stage room = sym (cond_below (length held.stack) limit (Some (held_as EmptyBlock (open_as held.current line stage ∷ held.stack))) None room)
+begins : (limit : ℕ) (held : ReadingState) (line : LogicalLine) (stage : Stage) → length held.stack < limit
+    → begin limit held line stage ≡ Some (state_as EmptyBlock (open_as held.current line stage ∷ held.stack))
+begins limit held line stage room = sym (cond_below (length held.stack) limit (Some (state_as EmptyBlock (open_as held.current line stage ∷ held.stack))) None room)
 
 -- parts of a choice and of a loop, with more behind them
 choice_parts : (first end : Part) (body branches rest : List Part) → ((first ∷ body ++ branches) ++ end ∷ []) ++ rest ≡ first ∷ (body ++ (branches ++ end ∷ rest))
@@ -111,83 +111,83 @@ loop_parts first end body rest = ap (λ l. first ∷ l) (append_assoc body (end 
 mutual
   unfolding step
 
-  pub run-tree : (tree : Tree) (limit : ℕ) (held : Held) (rest : List Part) → tree_depth tree + length held.stack ≤ limit
-      → run limit held (tree_parts tree ++ rest) ≡ run limit (held_as (add held.current tree) held.stack) rest
-  run-tree (LineTree line) limit held rest fits = run-step limit held (held_as (add held.current (LineTree line)) held.stack) (PlainPart line) rest refl
+  pub run-tree : (tree : Tree) (limit : ℕ) (held : ReadingState) (rest : List Part) → tree_depth tree + length held.stack ≤ limit
+      → run limit held (tree_parts tree ++ rest) ≡ run limit (state_as (add held.current tree) held.stack) rest
+  run-tree (LineTree line) limit held rest fits = run-step limit held (state_as (add held.current (LineTree line)) held.stack) (PlainPart line) rest refl
   run-tree (ChoiceTree line block branches) limit held rest fits =
       let room : length held.stack < limit = omega arith in
       let inner : block_depth block + suc (length held.stack) ≤ limit = omega arith in
       let later : branch_depth branches + suc (length held.stack) ≤ limit = omega arith in
       let opened = open_as held.current line InIf ∷ held.stack in
       ap (run limit held) (choice_parts (IfPart line) EndifPart (block_parts block) (branch_parts branches) rest)
-      ∙ run-step limit held (held_as EmptyBlock opened) (IfPart line) _ (begins limit held line InIf room)
-      ∙ run-block block limit (held_as EmptyBlock opened) (branch_parts branches ++ EndifPart ∷ rest) inner
+      ∙ run-step limit held (state_as EmptyBlock opened) (IfPart line) _ (begins limit held line InIf room)
+      ∙ run-block block limit (state_as EmptyBlock opened) (branch_parts branches ++ EndifPart ∷ rest) inner
       ∙ run-first branches limit held.current line block held.stack rest later
   run-tree (LoopTree line block) limit held rest fits =
       let room : length held.stack < limit = omega arith in
       let inner : block_depth block + suc (length held.stack) ≤ limit = omega arith in
       let opened = open_as held.current line InFor ∷ held.stack in
       ap (run limit held) (loop_parts (ForPart line) EndforPart (block_parts block) rest)
-      ∙ run-step limit held (held_as EmptyBlock opened) (ForPart line) _ (begins limit held line InFor room)
-      ∙ run-block block limit (held_as EmptyBlock opened) (EndforPart ∷ rest) inner
-      ∙ run-step limit (held_as block opened) (held_as (add held.current (LoopTree line block)) held.stack) EndforPart rest refl
+      ∙ run-step limit held (state_as EmptyBlock opened) (ForPart line) _ (begins limit held line InFor room)
+      ∙ run-block block limit (state_as EmptyBlock opened) (EndforPart ∷ rest) inner
+      ∙ run-step limit (state_as block opened) (state_as (add held.current (LoopTree line block)) held.stack) EndforPart rest refl
 
-  pub run-block : (block : Block) (limit : ℕ) (held : Held) (rest : List Part) → block_depth block + length held.stack ≤ limit
-      → run limit held (block_parts block ++ rest) ≡ run limit (held_as (join held.current block) held.stack) rest
-  run-block EmptyBlock limit held rest fits = ap (λ b. run limit (held_as b held.stack) rest) (sym (join-empty held.current))
+  pub run-block : (block : Block) (limit : ℕ) (held : ReadingState) (rest : List Part) → block_depth block + length held.stack ≤ limit
+      → run limit held (block_parts block ++ rest) ≡ run limit (state_as (join held.current block) held.stack) rest
+  run-block EmptyBlock limit held rest fits = ap (λ b. run limit (state_as b held.stack) rest) (sym (join-empty held.current))
   run-block (MoreBlock tree block) limit held rest fits =
       let one : tree_depth tree + length held.stack ≤ limit = omega arith in
       let more : block_depth block + length held.stack ≤ limit = omega arith in
       ap (run limit held) (append_assoc (tree_parts tree) (block_parts block) rest)
       ∙ run-tree tree limit held (block_parts block ++ rest) one
-      ∙ run-block block limit (held_as (add held.current tree) held.stack) rest more
-      ∙ ap (λ b. run limit (held_as b held.stack) rest) (join-add held.current tree block)
+      ∙ run-block block limit (state_as (add held.current tree) held.stack) rest more
+      ∙ ap (λ b. run limit (state_as b held.stack) rest) (join-add held.current tree block)
 
   -- the branches behind the first
   run-first : (branches : Branches) (limit : ℕ) (before : Block) (head : LogicalLine) (current : Block) (stack : List Open) (rest : List Part)
       → branch_depth branches + suc (length stack) ≤ limit
-      → run limit (held_as current (open_as before head InIf ∷ stack)) (branch_parts branches ++ EndifPart ∷ rest)
-      ≡ run limit (held_as (add before (ChoiceTree head current branches)) stack) rest
+      → run limit (state_as current (open_as before head InIf ∷ stack)) (branch_parts branches ++ EndifPart ∷ rest)
+      ≡ run limit (state_as (add before (ChoiceTree head current branches)) stack) rest
   run-first NoBranches limit before head current stack rest fits =
-      run-step limit (held_as current (open_as before head InIf ∷ stack)) (held_as (add before (ChoiceTree head current NoBranches)) stack) EndifPart rest refl
+      run-step limit (state_as current (open_as before head InIf ∷ stack)) (state_as (add before (ChoiceTree head current NoBranches)) stack) EndifPart rest refl
   run-first (ElifBranch line block branches) limit before head current stack rest fits =
       let inner : block_depth block + suc (length stack) ≤ limit = omega arith in
       let later : branch_depth branches + suc (length stack) ≤ limit = omega arith in
       let opened = open_as before head (InElif current [] line) ∷ stack in
-      ap (λ l. run limit (held_as current (open_as before head InIf ∷ stack)) (ElifPart line ∷ l)) (append_assoc (block_parts block) (branch_parts branches) (EndifPart ∷ rest))
-      ∙ run-step limit (held_as current (open_as before head InIf ∷ stack)) (held_as EmptyBlock opened) (ElifPart line) _ refl
-      ∙ run-block block limit (held_as EmptyBlock opened) (branch_parts branches ++ EndifPart ∷ rest) inner
+      ap (λ l. run limit (state_as current (open_as before head InIf ∷ stack)) (ElifPart line ∷ l)) (append_assoc (block_parts block) (branch_parts branches) (EndifPart ∷ rest))
+      ∙ run-step limit (state_as current (open_as before head InIf ∷ stack)) (state_as EmptyBlock opened) (ElifPart line) _ refl
+      ∙ run-block block limit (state_as EmptyBlock opened) (branch_parts branches ++ EndifPart ∷ rest) inner
       ∙ run-later branches limit before head current [] line block stack rest later
   run-first (ElseBranch block) limit before head current stack rest fits =
       let opened = open_as before head (InElse current []) ∷ stack in
-      run-step limit (held_as current (open_as before head InIf ∷ stack)) (held_as EmptyBlock opened) ElsePart _ refl
-      ∙ run-block block limit (held_as EmptyBlock opened) (EndifPart ∷ rest) fits
-      ∙ run-step limit (held_as block opened) (held_as (add before (ChoiceTree head current (ElseBranch block))) stack) EndifPart rest refl
+      run-step limit (state_as current (open_as before head InIf ∷ stack)) (state_as EmptyBlock opened) ElsePart _ refl
+      ∙ run-block block limit (state_as EmptyBlock opened) (EndifPart ∷ rest) fits
+      ∙ run-step limit (state_as block opened) (state_as (add before (ChoiceTree head current (ElseBranch block))) stack) EndifPart rest refl
 
   -- the branches behind one of `.elif`
   run-later : (branches : Branches) (limit : ℕ) (before : Block) (head : LogicalLine) (first : Block) (listed : List (LogicalLine × Block)) (last : LogicalLine) (current : Block) (stack : List Open) (rest : List Part)
       → branch_depth branches + suc (length stack) ≤ limit
-      → run limit (held_as current (open_as before head (InElif first listed last) ∷ stack)) (branch_parts branches ++ EndifPart ∷ rest)
-      ≡ run limit (held_as (add before (ChoiceTree head first (branches_from listed (ElifBranch last current branches)))) stack) rest
+      → run limit (state_as current (open_as before head (InElif first listed last) ∷ stack)) (branch_parts branches ++ EndifPart ∷ rest)
+      ≡ run limit (state_as (add before (ChoiceTree head first (branches_from listed (ElifBranch last current branches)))) stack) rest
   run-later NoBranches limit before head first listed last current stack rest fits =
-      run-step limit (held_as current (open_as before head (InElif first listed last) ∷ stack)) (held_as (add before (ChoiceTree head first (branches_from (listed ++ (last, current) ∷ []) NoBranches))) stack) EndifPart rest refl
-      ∙ ap (λ b. run limit (held_as (add before (ChoiceTree head first b)) stack) rest) (from-append listed last current NoBranches)
+      run-step limit (state_as current (open_as before head (InElif first listed last) ∷ stack)) (state_as (add before (ChoiceTree head first (branches_from (listed ++ (last, current) ∷ []) NoBranches))) stack) EndifPart rest refl
+      ∙ ap (λ b. run limit (state_as (add before (ChoiceTree head first b)) stack) rest) (from-append listed last current NoBranches)
   run-later (ElifBranch line block branches) limit before head first listed last current stack rest fits =
       let inner : block_depth block + suc (length stack) ≤ limit = omega arith in
       let later : branch_depth branches + suc (length stack) ≤ limit = omega arith in
       let all = listed ++ (last, current) ∷ [] in
-      let held = held_as current (open_as before head (InElif first listed last) ∷ stack) in
+      let held = state_as current (open_as before head (InElif first listed last) ∷ stack) in
       let opened = open_as before head (InElif first all line) ∷ stack in
       ap (λ l. run limit held (ElifPart line ∷ l)) (append_assoc (block_parts block) (branch_parts branches) (EndifPart ∷ rest))
-      ∙ run-step limit held (held_as EmptyBlock opened) (ElifPart line) _ refl
-      ∙ run-block block limit (held_as EmptyBlock opened) (branch_parts branches ++ EndifPart ∷ rest) inner
+      ∙ run-step limit held (state_as EmptyBlock opened) (ElifPart line) _ refl
+      ∙ run-block block limit (state_as EmptyBlock opened) (branch_parts branches ++ EndifPart ∷ rest) inner
       ∙ run-later branches limit before head first all line block stack rest later
-      ∙ ap (λ b. run limit (held_as (add before (ChoiceTree head first b)) stack) rest) (from-append listed last current (ElifBranch line block branches))
+      ∙ ap (λ b. run limit (state_as (add before (ChoiceTree head first b)) stack) rest) (from-append listed last current (ElifBranch line block branches))
   run-later (ElseBranch block) limit before head first listed last current stack rest fits =
       let all = listed ++ (last, current) ∷ [] in
-      let held = held_as current (open_as before head (InElif first listed last) ∷ stack) in
+      let held = state_as current (open_as before head (InElif first listed last) ∷ stack) in
       let opened = open_as before head (InElse first all) ∷ stack in
-      run-step limit held (held_as EmptyBlock opened) ElsePart _ refl
-      ∙ run-block block limit (held_as EmptyBlock opened) (EndifPart ∷ rest) fits
-      ∙ run-step limit (held_as block opened) (held_as (add before (ChoiceTree head first (branches_from all (ElseBranch block)))) stack) EndifPart rest refl
-      ∙ ap (λ b. run limit (held_as (add before (ChoiceTree head first b)) stack) rest) (from-append listed last current (ElseBranch block))
+      run-step limit held (state_as EmptyBlock opened) ElsePart _ refl
+      ∙ run-block block limit (state_as EmptyBlock opened) (EndifPart ∷ rest) fits
+      ∙ run-step limit (state_as block opened) (state_as (add before (ChoiceTree head first (branches_from all (ElseBranch block)))) stack) EndifPart rest refl
+      ∙ ap (λ b. run limit (state_as (add before (ChoiceTree head first b)) stack) rest) (from-append listed last current (ElseBranch block))

@@ -6,38 +6,38 @@ use Rattle.mk_text.specs.Lines.{LogicalLine}
 use Rattle.mk_ast.specs.Parts.{Part, IfPart, EndifPart, ForPart, EndforPart, part_of}
 use Rattle.mk_ast.specs.Trees.{Tree, Block, tree_parts, block_parts, block_depth, IsReadAs}
 use Rattle.mk_ast.specs.Reading.{parts_of, CanGoOn, IsUnclosed, Reads}
-use Rattle.mk_ast.specs.Blocks.{add, Stage, InIf, InElif, InElse, InFor, Open, Held, Ends, part_effect, apply_effect, go_on, step, held_on, read_on, closed, finished, nothing_held, blocks_of}
-use Rattle.mk_ast.proofs.HeldParts.{stage_parts, stack_parts, parts-part_effect, TurnParts}
+use Rattle.mk_ast.specs.Blocks.{add, Stage, InIf, InElif, InElse, InFor, Open, ReadingState, Ends, part_effect, apply_effect, go_on, step, go_on_from, read_on, whole_block, whole_reading, start_state, blocks_of}
+use Rattle.mk_ast.proofs.StateParts.{stage_parts, stack_parts, parts-part_effect, EffectParts}
 use Rattle.mk_ast.proofs.KeptLines.{kept, kept-of}
-use Rattle.mk_ast.proofs.PartRuns.{run, run-nil, run-cons, run-step, run-append, IsHeld, IfHeld, held-run, held_as, run-block}
+use Rattle.mk_ast.proofs.PartRuns.{run, run-nil, run-cons, run-step, run-append, IsStateAfter, IfStateAfter, state-run, state_as, run-block}
 
 -- nothing is held of no parts
-starts : (limit : ℕ) → IsHeld limit [] nothing_held
+starts : (limit : ℕ) → IsStateAfter limit [] start_state
 starts limit = record { made_of = refl; within = record { current = omega arith; below = tt } }
 
 -- what is held behind some parts is theirs
-pub held-of : (limit : ℕ) (parts : List Part) (held : Held) → run limit nothing_held parts ≡ Some held → IsHeld limit parts held
-held-of limit parts held is = subst (IfHeld limit parts) is (held-run limit parts [] nothing_held (starts limit))
+pub state-of : (limit : ℕ) (parts : List Part) (held : ReadingState) → run limit start_state parts ≡ Some held → IsStateAfter limit parts held
+state-of limit parts held is = subst (IfStateAfter limit parts) is (state-run limit parts [] start_state (starts limit))
 
 -- where no block is open, that is a block
-pub whole : (limit : ℕ) (parts : List Part) (block : Block) → run limit nothing_held parts ≡ Some (held_as block []) → IsReadAs limit parts block
+pub whole : (limit : ℕ) (parts : List Part) (block : Block) → run limit start_state parts ≡ Some (state_as block []) → IsReadAs limit parts block
 whole limit parts block is =
-    let has = held-of limit parts (held_as block []) is in
+    let has = state-of limit parts (state_as block []) is in
     let depth = has.within.current in
     record { in_order = has.made_of; not_deep = omega arith }
 
 -- and a block's parts leave that block
-pub read-run : (limit : ℕ) (parts : List Part) (block : Block) → IsReadAs limit parts block → run limit nothing_held parts ≡ Some (held_as block [])
+pub read-run : (limit : ℕ) (parts : List Part) (block : Block) → IsReadAs limit parts block → run limit start_state parts ≡ Some (state_as block [])
 read-run limit parts block is =
     let fits : block_depth block + 0 ≤ limit = omega (arith, is.not_deep) in
-    ap (run limit nothing_held) (sym is.in_order ∙ sym (append-nil (block_parts block)))
-    ∙ run-block block limit nothing_held [] fits ∙ run-nil limit (held_as block [])
+    ap (run limit start_state) (sym is.in_order ∙ sym (append-nil (block_parts block)))
+    ∙ run-block block limit start_state [] fits ∙ run-nil limit (state_as block [])
 
 -- parts that begin some makefile can all be read
-pub goes : (limit : ℕ) (parts : List Part) → CanGoOn limit parts → (held : Held) × (run limit nothing_held parts ≡ Some held)
+pub goes : (limit : ℕ) (parts : List Part) → CanGoOn limit parts → (held : ReadingState) × (run limit start_state parts ≡ Some held)
 goes limit parts can =
-    option_and_then_some {P = (held : Held) × (run limit nothing_held parts ≡ Some held)} (λ n. run limit n can.0) (run limit nothing_held parts) (held_as can.1 [])
-    (sym (run-append limit parts can.0 nothing_held) ∙ read-run limit (parts ++ can.0) can.1 can.2)
+    option_and_then_some {P = (held : ReadingState) × (run limit start_state parts ≡ Some held)} (λ n. run limit n can.0) (run limit start_state parts) (state_as can.1 [])
+    (sym (run-append limit parts can.0 start_state) ∙ read-run limit (parts ++ can.0) can.1 can.2)
     (λ held is after. (held, is))
 
 -- the part that closes a block
@@ -53,7 +53,7 @@ closes head (InElif first later last) block = (_, refl)
 closes head (InElse first later) block = (_, refl)
 closes head InFor block = (_, refl)
 
-step-closer : (limit : ℕ) (stage : Stage) (block : Block) (stack : List Open) → step limit (held_as block stack) (closer stage) ≡ go_on stack block (closer stage)
+step-closer : (limit : ℕ) (stage : Stage) (block : Block) (stack : List Open) → step limit (state_as block stack) (closer stage) ≡ go_on stack block (closer stage)
 unfolding step
 step-closer limit InIf block stack = refl
 step-closer limit (InElif first later last) block stack = refl
@@ -66,53 +66,53 @@ closers [] = []
 closers (innermost ∷ stack) = closer innermost.stage ∷ closers stack
 
 -- all open blocks can be closed
-run-closers : (limit : ℕ) (stack : List Open) (block : Block) → (end : Block) × (run limit (held_as block stack) (closers stack) ≡ Some (held_as end []))
-run-closers limit [] block = (block, run-nil limit (held_as block []))
+run-closers : (limit : ℕ) (stack : List Open) (block : Block) → (end : Block) × (run limit (state_as block stack) (closers stack) ≡ Some (state_as end []))
+run-closers limit [] block = (block, run-nil limit (state_as block []))
 run-closers limit (innermost ∷ stack) block =
     let one = closes innermost.head innermost.stage block in
     let next = add innermost.before one.0 in
     let rest = run-closers limit stack next in (
       rest.0,
-      run-step limit (held_as block (innermost ∷ stack)) (held_as next stack) (closer innermost.stage) (closers stack)
+      run-step limit (state_as block (innermost ∷ stack)) (state_as next stack) (closer innermost.stage) (closers stack)
           (step-closer limit innermost.stage block (innermost ∷ stack) ∙ ap (apply_effect innermost stack) one.1)
           ∙ rest.1,
     )
 
 -- parts that can all be read begin some makefile
-pub can-go-on : (limit : ℕ) (parts : List Part) (held : Held) → run limit nothing_held parts ≡ Some held → CanGoOn limit parts
+pub can-go-on : (limit : ℕ) (parts : List Part) (held : ReadingState) → run limit start_state parts ≡ Some held → CanGoOn limit parts
 can-go-on limit parts held is =
     let end = run-closers limit held.stack held.current in (
       closers held.stack,
       end.0,
       whole limit (parts ++ closers held.stack) end.0
-          (run-append limit parts (closers held.stack) nothing_held ∙ ap (option_and_then (λ n. run limit n (closers held.stack))) is ∙ end.1),
+          (run-append limit parts (closers held.stack) start_state ∙ ap (option_and_then (λ n. run limit n (closers held.stack))) is ∙ end.1),
     )
 
 -- one part more
-pub run-more : (limit : ℕ) (parts : List Part) (part : Part) (held : Held) → run limit nothing_held parts ≡ Some held
-    → run limit nothing_held (parts ++ part ∷ []) ≡ option_and_then (λ n. run limit n []) (step limit held part)
+pub run-more : (limit : ℕ) (parts : List Part) (part : Part) (held : ReadingState) → run limit start_state parts ≡ Some held
+    → run limit start_state (parts ++ part ∷ []) ≡ option_and_then (λ n. run limit n []) (step limit held part)
 run-more limit parts part held is =
-    run-append limit parts (part ∷ []) nothing_held ∙ ap (option_and_then (λ n. run limit n (part ∷ []))) is ∙ run-cons limit held part []
+    run-append limit parts (part ∷ []) start_state ∙ ap (option_and_then (λ n. run limit n (part ∷ []))) is ∙ run-cons limit held part []
 
 -- where a reading of lines stops
-pub record Stops (limit : ℕ) (from : Held) (lines : List LogicalLine) (number : ℕ) : Type 0 where
+pub record Stops (limit : ℕ) (from : ReadingState) (lines : List LogicalLine) (number : ℕ) : Type 0 where
   pub front : List LogicalLine
   pub line : LogicalLine
   pub rest : List LogicalLine
   pub cut : lines ≡ front ++ line ∷ rest
   pub number_is : number ≡ line.line
-  pub held : Held
+  pub held : ReadingState
   pub reads : run limit from (parts_of front) ≡ Some held
   pub wrong : step limit held (part_of line) ≡ None
 
-abbrev pub ReadSays : ℕ → Held → List LogicalLine → Result Held ℕ → Type 0
+abbrev pub ReadSays : ℕ → ReadingState → List LogicalLine → Result ReadingState ℕ → Type 0
 ReadSays limit from lines (Ok held) = run limit from (parts_of lines) ≡ Some held
 ReadSays limit from lines (Err number) = Stops limit from lines number
 
-says-behind : (limit : ℕ) (from next : Held) (line : LogicalLine) (lines : List LogicalLine) (result : Result Held ℕ) → step limit from (part_of line) ≡ Some next
+says-after : (limit : ℕ) (from next : ReadingState) (line : LogicalLine) (lines : List LogicalLine) (result : Result ReadingState ℕ) → step limit from (part_of line) ≡ Some next
     → ReadSays limit next lines result → ReadSays limit from (line ∷ lines) result
-says-behind limit from next line lines (Ok held) is says = run-step limit from next (part_of line) (parts_of lines) is ∙ says
-says-behind limit from next line lines (Err number) is says = record {
+says-after limit from next line lines (Ok held) is says = run-step limit from next (part_of line) (parts_of lines) is ∙ says
+says-after limit from next line lines (Err number) is says = record {
   front = line ∷ says.front;
   line = says.line;
   rest = says.rest;
@@ -123,13 +123,13 @@ says-behind limit from next line lines (Err number) is says = record {
   wrong = says.wrong;
 }
 
-says-on : (limit : ℕ) (from : Held) (line : LogicalLine) (lines : List LogicalLine) (first : Option Held) → step limit from (part_of line) ≡ first
-    → ((next : Held) → ReadSays limit next lines (read_on limit next lines))
-    → ReadSays limit from (line ∷ lines) (held_on (λ next. read_on limit next lines) line.line first)
+says-on : (limit : ℕ) (from : ReadingState) (line : LogicalLine) (lines : List LogicalLine) (first : Option ReadingState) → step limit from (part_of line) ≡ first
+    → ((next : ReadingState) → ReadSays limit next lines (read_on limit next lines))
+    → ReadSays limit from (line ∷ lines) (go_on_from (λ next. read_on limit next lines) line.line first)
 says-on limit from line lines None is each = record { front = []; line = line; rest = lines; cut = refl; number_is = refl; held = from; reads = run-nil limit from; wrong = is }
-says-on limit from line lines (Some next) is each = says-behind limit from next line lines (read_on limit next lines) is (each next)
+says-on limit from line lines (Some next) is each = says-after limit from next line lines (read_on limit next lines) is (each next)
 
-pub read-says : (limit : ℕ) (lines : List LogicalLine) (from : Held) → ReadSays limit from lines (read_on limit from lines)
+pub read-says : (limit : ℕ) (lines : List LogicalLine) (from : ReadingState) → ReadSays limit from lines (read_on limit from lines)
 unfolding read_on
 read-says limit [] from = run-nil limit from
 read-says limit (line ∷ lines) from = says-on limit from line lines (step limit from (part_of line)) refl (read-says limit lines)
@@ -189,9 +189,9 @@ begun head InFor = record { first = ForPart head; more = []; parts = refl; keeps
 
 -- an open block is unclosed
 unclosed : (limit : ℕ) (lines : List LogicalLine) (block : Block) (innermost : Open) (stack : List Open)
-    → run limit nothing_held (parts_of lines) ≡ Some (held_as block (innermost ∷ stack)) → IsUnclosed limit lines innermost.head.line
+    → run limit start_state (parts_of lines) ≡ Some (state_as block (innermost ∷ stack)) → IsUnclosed limit lines innermost.head.line
 unclosed limit lines block innermost stack is =
-    let has = held-of limit (parts_of lines) (held_as block (innermost ∷ stack)) is in
+    let has = state-of limit (parts_of lines) (state_as block (innermost ∷ stack)) is in
     let below = stack_parts stack ++ block_parts innermost.before in
     let stage = stage_parts innermost.head innermost.stage in
     let starts' = begun innermost.head innermost.stage in
@@ -202,7 +202,7 @@ unclosed limit lines block innermost stack is =
     let same : innermost.head ≡ at.line = sym (starts'.keeps at.line) ∙ ap (kept at.line) (sym at.line_part) ∙ kept-of at.line in
     let one = closes innermost.head innermost.stage block in
     let parts : tree_parts one.0 ≡ stage ++ block_parts block ++ closer innermost.stage ∷ [] =
-    subst (TurnParts innermost.head innermost.stage block (closer innermost.stage)) one.1 (parts-part_effect innermost.head innermost.stage block (closer innermost.stage)) in
+    subst (EffectParts innermost.head innermost.stage block (closer innermost.stage)) one.1 (parts-part_effect innermost.head innermost.stage block (closer innermost.stage)) in
     let these : parts_of (at.line ∷ at.rest) ≡ stage ++ block_parts block =
     ap (λ p. p ∷ parts_of at.rest) at.line_part ∙ ap (λ l. starts'.first ∷ l) at.rest_parts ∙ ap (λ l. l ++ block_parts block) (sym starts'.parts) in
     record {
@@ -211,21 +211,21 @@ unclosed limit lines block innermost stack is =
       rest = at.rest;
       cut = at.whole;
       number_is = ap (λ l. l.line) same;
-      goes_on = can-go-on limit (parts_of lines) (held_as block (innermost ∷ stack)) is;
+      goes_on = can-go-on limit (parts_of lines) (state_as block (innermost ∷ stack)) is;
       last = closer innermost.stage;
       tree = one.0;
       closed = parts ∙ ap (λ l. l ++ closer innermost.stage ∷ []) (sym these);
     }
 
 reads-closed : (limit : ℕ) (lines : List LogicalLine) (block : Block) (stack : List Open)
-    → run limit nothing_held (parts_of lines) ≡ Some (held_as block stack) → Reads limit lines (closed block stack)
+    → run limit start_state (parts_of lines) ≡ Some (state_as block stack) → Reads limit lines (whole_block block stack)
 reads-closed limit lines block [] is = whole limit (parts_of lines) block is
 reads-closed limit lines block (innermost ∷ stack) is = inr (unclosed limit lines block innermost stack is)
 
 some-none : {A : Type 0} (x : A) → Some x ≡ None → ⊥
 some-none x is = cc
 
-reads-finished : (limit : ℕ) (lines : List LogicalLine) (result : Result Held ℕ) → ReadSays limit nothing_held lines result → Reads limit lines (finished result)
+reads-finished : (limit : ℕ) (lines : List LogicalLine) (result : Result ReadingState ℕ) → ReadSays limit start_state lines result → Reads limit lines (whole_reading result)
 reads-finished limit lines (Ok held) says = reads-closed limit lines held.current held.stack says
 reads-finished limit lines (Err number) says = inl (record {
   front = says.front;
@@ -240,4 +240,4 @@ reads-finished limit lines (Err number) says = inl (record {
 })
 
 pub blocks-read : (limit : ℕ) (lines : List LogicalLine) → Reads limit lines (blocks_of limit lines)
-blocks-read limit lines = reads-finished limit lines (read_on limit nothing_held lines) (read-says limit lines nothing_held)
+blocks-read limit lines = reads-finished limit lines (read_on limit start_state lines) (read-says limit lines start_state)

@@ -66,15 +66,15 @@ directive_named word =
     else None
 
 -- the directive whose word is the longest run of ASCII letters that a text begins with, and what follows it
-abbrev pub directive_behind : List ℕ → Option TextLineKind
-directive_behind text =
+abbrev pub directive_after_dot : List ℕ → Option TextLineKind
+directive_after_dot text =
     let end = prefix_len is_ascii_alphabetic text in
     option_map (λ word. DirectiveLine word (drop end text)) (directive_named (take end text))
 
 -- the directive that a line is: it follows a dot (46), which begins the line, and any blanks
 abbrev pub directive_in : List ℕ → Option TextLineKind
 directive_in [] = None
-directive_in (b ∷ rest) = if b == 46 then directive_behind (skip_blanks rest) else None
+directive_in (b ∷ rest) = if b == 46 then directive_after_dot (skip_blanks rest) else None
 
 -- the marks that make a dependency if they are outside references: `:` (58) and `!` (33)
 abbrev pub is_mark : ℕ → Bool

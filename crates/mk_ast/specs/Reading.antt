@@ -15,7 +15,7 @@ CanGoOn limit parts = (more : List Part) × (block : Block) × IsReadAs limit (p
 
 -- the line of this number is the first that is out of place: what comes before it begins some makefile, and
 -- with this line added it no longer does
-pub record StandsWrong (limit : ℕ) (lines : List LogicalLine) (number : ℕ) : Type 0 where
+pub record IsOutOfPlace (limit : ℕ) (lines : List LogicalLine) (number : ℕ) : Type 0 where
   pub front : List LogicalLine
   pub line : LogicalLine
   pub rest : List LogicalLine
@@ -41,4 +41,4 @@ pub record IsUnclosed (limit : ℕ) (lines : List LogicalLine) (number : ℕ) : 
 -- blocks are at fault.
 abbrev pub Reads : ℕ → List LogicalLine → Result Block ℕ → Type 0
 Reads limit lines (Ok block) = IsReadAs limit (parts_of lines) block
-Reads limit lines (Err number) = StandsWrong limit lines number ⊎ IsUnclosed limit lines number
+Reads limit lines (Err number) = IsOutOfPlace limit lines number ⊎ IsUnclosed limit lines number

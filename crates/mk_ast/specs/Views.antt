@@ -1,21 +1,17 @@
 -- The tree that the code's nodes are.
-use Rattle.std.specs.Prelude.{List, [], ◌∷◌, Option, Some, None, option_map, map}
+use Rattle.std.specs.Prelude.{List, [], ◌∷◌, option_map, map}
 use Rattle.mk_text.specs.Lines.{LogicalLine}
 use Rattle.mk_ast.specs.declared.nodes.Node.{Node, Node-F, fold-Node}
 use Rattle.mk_ast.specs.declared.nodes.Branch.{Branch, Branch-F, fold-Branch}
 use Rattle.mk_ast.specs.declared.nodes.Makefile.{Makefile}
-use Rattle.mk_ast.specs.Trees.{Tree, LineTree, ChoiceTree, LoopTree, Block, EmptyBlock, MoreBlock, Branches, NoBranches, ElseBranch}
+use Rattle.mk_ast.specs.Trees.{Tree, LineTree, ChoiceTree, LoopTree, Block, EmptyBlock, MoreBlock}
 use Rattle.mk_ast.specs.Blocks.{branches_from}
+pub use Rattle.mk_ast.specs.Blocks.{last_branch}
 
 -- trees that follow one another
 abbrev pub block_from : List Tree → Block
 block_from [] = EmptyBlock
 block_from (tree ∷ trees) = MoreBlock tree (block_from trees)
-
--- the branch of an `.else`, if there is one
-abbrev pub last_branch : Option Block → Branches
-last_branch None = NoBranches
-last_branch (Some block) = ElseBranch block
 
 -- one level, with each node inside already seen as its tree and each branch as its line and block
 abbrev pub branch_step : Branch-F Tree (LogicalLine × Block) → LogicalLine × Block

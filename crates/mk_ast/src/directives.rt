@@ -2,7 +2,7 @@
 ghost use Rattle.std.specs.Prelude.{◌≡◌, option_map};
 ghost use Rattle.std.specs.List.{prefix_len};
 ghost use Rattle.std.specs.Char.{is_ascii_alphabetic};
-ghost use Rattle.mk_ast.specs.Kinds.{shown_kind, directive_in, directive_behind, directive_named};
+ghost use Rattle.mk_ast.specs.Kinds.{shown_kind, directive_in, directive_after_dot, directive_named};
 
 use crate::kinds::{Directive, LineKind};
 use mk_text::skip_blanks;
@@ -13,14 +13,14 @@ pub(crate) fn directive_in(text: &str) -> Option<LineKind<'_>>
     ensures { option_map shown_kind result ≡ directive_in text.now }
 {
     match text.strip_prefix('.') {
-        Some(behind) => directive_behind(skip_blanks(behind)),
+        Some(behind) => directive_after_dot(skip_blanks(behind)),
         None => None,
     }
 }
 
 /// The directive whose word begins this text, if there is one.
-fn directive_behind(text: &str) -> Option<LineKind<'_>>
-    ensures { option_map shown_kind result ≡ directive_behind text.now }
+fn directive_after_dot(text: &str) -> Option<LineKind<'_>>
+    ensures { option_map shown_kind result ≡ directive_after_dot text.now }
 {
     let end = letters(text.as_bytes());
     match directive_named(&text[..end]) {

@@ -9,21 +9,28 @@ use crate::directives::directive_in;
 use crate::kinds::{Directive, LineKind};
 use mk_text::Logical;
 
-/// A part of a block's frame, or any other line.
+/// A part that divides or closes the block that it is in.
 #[derive(Debug, Clone, Copy, PartialEq, Eq)]
-pub(crate) enum FramePart {
-    /// A form of `.if`, which opens a choice.
-    If,
+pub(crate) enum InnerPart {
     /// A form of `.elif`.
     Elif,
     /// `.else`
     Else,
     /// `.endif`, which closes a choice.
     Endif,
-    /// `.for`, which opens a loop.
-    For,
     /// `.endfor`, which closes a loop.
     Endfor,
+}
+
+/// A part of a block's frame, or any other line.
+#[derive(Debug, Clone, Copy, PartialEq, Eq)]
+pub(crate) enum FramePart {
+    /// A form of `.if`, which opens a choice.
+    If,
+    /// `.for`, which opens a loop.
+    For,
+    /// A part inside a block.
+    Inner(InnerPart),
     /// Any other line.
     Plain,
 }
@@ -62,11 +69,11 @@ fn part_with(word: Directive) -> FramePart
         | Directive::Elifdef
         | Directive::Elifndef
         | Directive::Elifmake
-        | Directive::Elifnmake => FramePart::Elif,
-        Directive::Else => FramePart::Else,
-        Directive::Endif => FramePart::Endif,
+        | Directive::Elifnmake => FramePart::Inner(InnerPart::Elif),
+        Directive::Else => FramePart::Inner(InnerPart::Else),
+        Directive::Endif => FramePart::Inner(InnerPart::Endif),
         Directive::For => FramePart::For,
-        Directive::Endfor => FramePart::Endfor,
+        Directive::Endfor => FramePart::Inner(InnerPart::Endfor),
         Directive::Include | Directive::Sinclude | Directive::Undef => FramePart::Plain,
     }
 }

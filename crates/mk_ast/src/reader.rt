@@ -1,38 +1,41 @@
 //! The lines of a makefile put into blocks, one after another.
-ghost use Rattle.std.specs.Prelude.{◌≡◌, Some};
-ghost use Rattle.mk_ast.specs.Parts.{ElifPart, ElsePart, EndifPart, EndforPart, part_of};
-ghost use Rattle.mk_ast.specs.FrameParts.{shown_part};
+ghost use Rattle.std.specs.Prelude.{◌≡◌, List, map, Some, option_map, IfOk};
+ghost use Rattle.mk_ast.specs.Parts.{part_of};
+ghost use Rattle.mk_ast.specs.FrameParts.{inner_part, shown_part};
 ghost use Rattle.mk_ast.specs.declared.parsing.ParseError.TheVariants as errors;
-ghost use Rattle.mk_ast.specs.Trees.{LineTree};
-ghost use Rattle.mk_ast.specs.Blocks.{add, part_effect, apply_effect, go_on, begin, step, closed, nothing_held};
-ghost use Rattle.mk_ast.specs.Views.{block_of};
+ghost use Rattle.mk_ast.specs.Trees.{LineTree, ChoiceTree};
+ghost use Rattle.mk_ast.specs.Blocks.{Open, add, branches_from, last_branch, content_of, part_effect, go_on, begin, step};
+ghost use Rattle.mk_ast.specs.Blocks.{whole_block, start_state};
+ghost use Rattle.mk_ast.specs.Views.{block_of, branch_of, tree_of};
 ghost use Rattle.mk_ast.specs.Parsing.{Answers, block_fault, with_kind};
-ghost use Rattle.mk_ast.specs.ReaderViews.{open_of, held_of, stage_of, Steps, GoesOnTo, EndsIn};
+ghost use Rattle.mk_ast.specs.ReaderViews.{open_of, state_of, stage_of, shown_content, state_after, Steps, HasEffect};
 
 use crate::nodes::{BLOCKS, Block, Branch, Makefile, Node};
 use crate::parsing::{ParseError, ParseFault};
-use crate::parts::{FramePart, part_of};
+use crate::parts::{FramePart, InnerPart, part_of};
 use mk_base::FaultKind;
 use mk_text::Logical;
-use std::alloc::Global;
+use std::alloc::{AllocError, Global};
 use std::rc::Rc;
+
+/// The branches of a choice that have ended.
+#[derive(Debug, Drop)]
+struct EndedBranches {
+    /// That of its `.if`.
+    first: Block,
+    /// Those of its `.elif`, in order.
+    later: Vec<Branch>,
+}
 
 /// How far an open block is read.
 #[derive(Debug, Drop)]
 enum Progress {
     /// After its `.if`.
     If,
-    /// After a later `.elif`.
-    Elif {
-        first: Block,
-        later: Vec<Branch>,
-        last: Logical,
-    },
-    /// After its `.else`.
-    Else {
-        first: Block,
-        later: Vec<Branch>,
-    },
+    /// After an `.elif`, with the branches before it and its line.
+    Elif(EndedBranches, Logical),
+    /// After its `.else`, with the branches before it.
+    Else(EndedBranches),
     /// After its `.for`.
     For,
 }
@@ -66,153 +69,110 @@ fn wrong(line: u64) -> ParseError
     })
 }
 
-impl OpenBlock {
-    /// The block after an `.elif` at this line; `body` is what comes before that line.
-    fn elif(self, alloc: Global, body: Block, line: Logical) -> Result<OpenBlock, ParseError>
-        ensures { GoesOnTo result line.line (λ stack. apply_effect (open_of self) stack
-            (part_effect self.head (stage_of self.progress) (block_of body.value.items)
-            (ElifPart line))) }
-    {
-        let OpenBlock {
-            before,
-            head,
-            progress,
-        } = self;
-        let progress = match progress {
-            Progress::If => Progress::Elif {
-                first: body,
-                later: Vec::new(alloc),
-                last: line,
-            },
-            Progress::Elif {
-                first,
-                mut later,
-                last,
-            } => {
-                later.push(Branch { head: last, body })?;
-                Progress::Elif {
-                    first,
-                    later,
-                    last: line,
-                }
-            }
-            Progress::Else { first: _, later: _ } | Progress::For => {
-                return Err(wrong(line.line()));
-            }
-        };
-        Ok(OpenBlock {
-            before,
-            head,
-            progress,
-        })
-    }
+/// What an open block is if it ends.
+#[derive(Debug, Drop)]
+enum Content {
+    /// A choice: its branches, and that of its `.else`, if it has one.
+    Choice(EndedBranches, Option<Block>),
+    /// A loop, with its body.
+    Loop(Block),
+}
 
-    /// The block after an `.else` at the line of this number; `body` is what comes before that line.
-    fn otherwise(self, alloc: Global, body: Block, number: u64) -> Result<OpenBlock, ParseError>
-        ensures { GoesOnTo result number (λ stack. apply_effect (open_of self) stack
-            (part_effect self.head (stage_of self.progress) (block_of body.value.items) ElsePart)) }
-    {
-        let OpenBlock {
-            before,
-            head,
-            progress,
-        } = self;
-        let progress = match progress {
-            Progress::If => Progress::Else {
-                first: body,
-                later: Vec::new(alloc),
-            },
-            Progress::Elif {
-                first,
-                mut later,
-                last,
-            } => {
-                later.push(Branch { head: last, body })?;
-                Progress::Else { first, later }
-            }
-            Progress::Else { first: _, later: _ } | Progress::For => return Err(wrong(number)),
-        };
-        Ok(OpenBlock {
-            before,
-            head,
-            progress,
-        })
-    }
+/// What a part makes of the innermost open block.
+#[derive(Debug, Drop)]
+enum PartEffect {
+    /// It is read further.
+    GoesOn(OpenBlock),
+    /// It ends. The block around it has these nodes then.
+    Ends(Vec<Node>),
+}
 
-    /// What the block around it holds once an `.endif` at the line of this number closes it.
-    fn endif(self, alloc: Global, body: Block, number: u64) -> Result<Vec<Node>, ParseError>
-        ensures { EndsIn result number (λ stack. apply_effect (open_of self) stack
-            (part_effect self.head (stage_of self.progress)
-            (block_of body.value.items) EndifPart)) }
+impl Progress {
+    /// What the block is if it ends; `body` is what follows its last part.
+    fn content(self, alloc: Global, body: Block) -> Result<Content, AllocError>
+        ensures { IfOk result (λ content. shown_content content
+            ≡ content_of (stage_of self) (block_of body.value.items)) }
     {
-        let OpenBlock {
-            mut before,
-            head,
-            progress,
-        } = self;
-        let choice = match progress {
-            Progress::If => Node::Choice {
-                head,
-                body,
-                branches: Vec::new(alloc),
-                otherwise: None,
-            },
-            Progress::Elif {
-                first,
-                mut later,
-                last,
-            } => {
-                later.push(Branch { head: last, body })?;
-                Node::Choice {
-                    head,
-                    body: first,
-                    branches: later,
-                    otherwise: None,
-                }
+        match self {
+            Progress::If => {
+                let later = Vec::new(alloc);
+                Ok(Content::Choice(EndedBranches { first: body, later }, None))
             }
-            Progress::Else { first, later } => Node::Choice {
-                head,
-                body: first,
-                branches: later,
-                otherwise: Some(body),
-            },
-            Progress::For => return Err(wrong(number)),
-        };
-        before.push(choice)?;
-        Ok(before)
-    }
-
-    /// What the block around it holds once an `.endfor` at the line of this number closes it.
-    fn endfor(self, body: Block, number: u64) -> Result<Vec<Node>, ParseError>
-        ensures { EndsIn result number (λ stack. apply_effect (open_of self) stack
-            (part_effect self.head (stage_of self.progress)
-            (block_of body.value.items) EndforPart)) }
-    {
-        let OpenBlock {
-            mut before,
-            head,
-            progress,
-        } = self;
-        match progress {
-            Progress::For => {
-                before.push(Node::Loop { head, body })?;
-                Ok(before)
+            Progress::Elif(mut ended, last) => {
+                ended.later.push(Branch { head: last, body })?;
+                Ok(Content::Choice(ended, None))
             }
-            Progress::If
-            | Progress::Elif {
-                first: _,
-                later: _,
-                last: _,
-            }
-            | Progress::Else { first: _, later: _ } => Err(wrong(number)),
+            Progress::Else(ended) => Ok(Content::Choice(ended, Some(body))),
+            Progress::For => Ok(Content::Loop(body)),
         }
     }
+}
+
+impl OpenBlock {
+    /// What a part at this line makes of the block; `body` is what follows the part before it.
+    fn after(
+        self,
+        alloc: Global,
+        body: Block,
+        part: InnerPart,
+        line: Logical,
+    ) -> Result<PartEffect, ParseError>
+        ensures { HasEffect result line.line (open_of self)
+            (part_effect self.head (stage_of self.progress) (block_of body.value.items)
+            (inner_part part line)) }
+    {
+        let OpenBlock {
+            before,
+            head,
+            progress,
+        } = self;
+        let progress = match (part, progress.content(alloc, body)?) {
+            (InnerPart::Elif, Content::Choice(ended, None)) => Progress::Elif(ended, line),
+            (InnerPart::Else, Content::Choice(ended, None)) => Progress::Else(ended),
+            (InnerPart::Endif, Content::Choice(ended, otherwise)) => {
+                return Ok(ending(before, choice(head, ended, otherwise))?);
+            }
+            (InnerPart::Endfor, Content::Loop(body)) => {
+                return Ok(ending(before, Node::Loop { head, body })?);
+            }
+            _ => return Err(wrong(line.line())),
+        };
+        Ok(PartEffect::GoesOn(OpenBlock {
+            before,
+            head,
+            progress,
+        }))
+    }
+}
+
+/// A choice with this first line, these branches, and that of its `.else`, if it has one.
+fn choice(head: Logical, ended: EndedBranches, otherwise: Option<Block>) -> Node
+    ensures { tree_of result ≡ ChoiceTree head (block_of ended.first.value.items)
+        (branches_from (map branch_of ended.later.items)
+        (last_branch (option_map (λ block. block_of block.value.items) otherwise))) }
+{
+    Node::Choice {
+        head,
+        body: ended.first,
+        branches: ended.later,
+        otherwise,
+    }
+}
+
+/// The effect of a part that ends a block as this node, after those before it.
+fn ending(before: Vec<Node>, node: Node) -> Result<PartEffect, AllocError>
+    ensures { IfOk result (λ effect. (stack : List Open) → state_after effect stack
+        ≡ record { current = add (block_of before.items) (tree_of node); stack = stack }) }
+{
+    let mut nodes = before;
+    nodes.push(node)?;
+    Ok(PartEffect::Ends(nodes))
 }
 
 impl Reader {
     /// Nothing is read yet.
     pub(crate) fn new(alloc: Global) -> Reader
-        ensures { held_of result ≡ nothing_held }
+        ensures { state_of result ≡ start_state }
     {
         Reader {
             current: Vec::new(alloc),
@@ -223,16 +183,13 @@ impl Reader {
     /// The reader after one more line.
     #[tactic(auto, unfolding(crate::specs::Blocks::step))]
     pub(crate) fn step(self, alloc: Global, line: Logical) -> Result<Reader, ParseError>
-        ensures { Steps result line.line (step BLOCKS (held_of self) (part_of line)) }
+        ensures { Steps result line.line (step BLOCKS (state_of self) (part_of line)) }
     {
         match part_of(&line) {
             FramePart::Plain => self.add(line),
             FramePart::If => self.begin(alloc, line, Progress::If),
             FramePart::For => self.begin(alloc, line, Progress::For),
-            FramePart::Elif => self.elif(alloc, line),
-            FramePart::Else => self.otherwise(alloc, line.line()),
-            FramePart::Endif => self.endif(alloc, line.line()),
-            FramePart::Endfor => self.endfor(alloc, line.line()),
+            FramePart::Inner(part) => self.go_on(alloc, part, line),
         }
     }
 
@@ -240,8 +197,8 @@ impl Reader {
     fn add(self, line: Logical) -> Result<Reader, ParseError>
         ensures { Steps result line.line
             (Some (record {
-              current = add (held_of self).current (LineTree line);
-              stack = (held_of self).stack;
+              current = add (state_of self).current (LineTree line);
+              stack = (state_of self).stack;
             })) }
     {
         let Reader { mut current, stack } = self;
@@ -251,7 +208,7 @@ impl Reader {
 
     /// The reader after a line that opens a block.
     fn begin(self, alloc: Global, head: Logical, progress: Progress) -> Result<Reader, ParseError>
-        ensures { Steps result head.line (begin BLOCKS (held_of self) head (stage_of progress)) }
+        ensures { Steps result head.line (begin BLOCKS (state_of self) head (stage_of progress)) }
     {
         let Reader { current, mut stack } = self;
         if stack.len() >= BLOCKS {
@@ -268,67 +225,31 @@ impl Reader {
         })
     }
 
-    /// The reader after an `.elif`.
-    fn elif(self, alloc: Global, line: Logical) -> Result<Reader, ParseError>
+    /// The reader after a part that divides or closes the innermost open block.
+    fn go_on(self, alloc: Global, part: InnerPart, line: Logical) -> Result<Reader, ParseError>
         ensures { Steps result line.line
-            (go_on (held_of self).stack (held_of self).current (ElifPart line)) }
+            (go_on (state_of self).stack (state_of self).current (inner_part part line)) }
     {
         let Reader { current, mut stack } = self;
         let Some(innermost) = stack.pop() else {
             return Err(wrong(line.line()));
         };
-        stack.push(innermost.elif(alloc, Rc::new(alloc, current)?, line)?)?;
-        Ok(Reader {
-            current: Vec::new(alloc),
-            stack,
-        })
-    }
-
-    /// The reader after an `.else` at the line of this number.
-    fn otherwise(self, alloc: Global, number: u64) -> Result<Reader, ParseError>
-        ensures { Steps result number (go_on (held_of self).stack (held_of self).current ElsePart) }
-    {
-        let Reader { current, mut stack } = self;
-        let Some(innermost) = stack.pop() else {
-            return Err(wrong(number));
-        };
-        stack.push(innermost.otherwise(alloc, Rc::new(alloc, current)?, number)?)?;
-        Ok(Reader {
-            current: Vec::new(alloc),
-            stack,
-        })
-    }
-
-    /// The reader after an `.endif` at the line of this number.
-    fn endif(self, alloc: Global, number: u64) -> Result<Reader, ParseError>
-        ensures { Steps result number (go_on (held_of self).stack
-            (held_of self).current EndifPart) }
-    {
-        let Reader { current, mut stack } = self;
-        let Some(innermost) = stack.pop() else {
-            return Err(wrong(number));
-        };
-        let current = innermost.endif(alloc, Rc::new(alloc, current)?, number)?;
-        Ok(Reader { current, stack })
-    }
-
-    /// The reader after an `.endfor` at the line of this number.
-    fn endfor(self, alloc: Global, number: u64) -> Result<Reader, ParseError>
-        ensures { Steps result number (go_on (held_of self).stack
-            (held_of self).current EndforPart) }
-    {
-        let Reader { current, mut stack } = self;
-        let Some(innermost) = stack.pop() else {
-            return Err(wrong(number));
-        };
-        let current = innermost.endfor(Rc::new(alloc, current)?, number)?;
-        Ok(Reader { current, stack })
+        match innermost.after(alloc, Rc::new(alloc, current)?, part, line)? {
+            PartEffect::GoesOn(next) => {
+                stack.push(next)?;
+                Ok(Reader {
+                    current: Vec::new(alloc),
+                    stack,
+                })
+            }
+            PartEffect::Ends(current) => Ok(Reader { current, stack }),
+        }
     }
 
     /// The tree of all that is read.
     pub(crate) fn finish(self, alloc: Global) -> Result<Makefile, ParseError>
         ensures { Answers result (λ answer. answer
-            ≡ with_kind (closed (held_of self).current (held_of self).stack)) }
+            ≡ with_kind (whole_block (state_of self).current (state_of self).stack)) }
     {
         let Reader { current, mut stack } = self;
         match stack.pop() {

@@ -1,4 +1,6 @@
 use Rattle.std.specs.Prelude.{◌≡◌, Result, Ok, Err}
+use Rattle.mk_base.specs.declared.stopping.PureStop.{PureStop}
+use Rattle.mk_base.specs.declared.stopping.PureStop.TheVariants as pure
 use Rattle.mk_base.specs.declared.stopping.Stop.{Stop}
 use Rattle.mk_base.specs.declared.stopping.Stop.TheVariants as stops
 
@@ -26,9 +28,24 @@ StopsAt-whole (stops.Fault fault) state part whole passes at = passes (fault, st
 StopsAt-whole stops.Store state part whole passes at = tt
 StopsAt-whole stops.Memory state part whole passes at = tt
 
--- The files were not at fault: the store refused nothing.
-abbrev pub NeverStore : {R F : Type 0} → Result R (Stop F) → Type 0
-NeverStore (Ok x) = Unit {0}
-NeverStore (Err (stops.Fault fault)) = Unit {0}
-NeverStore (Err stops.Store) = ⊥
-NeverStore (Err stops.Memory) = Unit {0}
+-- The same for work that looks at no file: it stopped at this fault. If memory ran out, nothing is said.
+abbrev pub StopsPurelyAt : {A F M : Type 0} → PureStop F → M → Result (A × M) (F × M) → Type 0
+StopsPurelyAt (pure.Fault fault) state outcome = outcome ≡ Err (fault, state)
+StopsPurelyAt pure.Memory state outcome = Unit {0}
+
+-- What such a function answered, seen by view, and the state that it left are those of the definition.
+abbrev pub GivesPurely : {R A F M : Type 0} → (R → A) → Result R (PureStop F) → M → Result (A × M) (F × M) → Type 0
+GivesPurely view (Ok x) state outcome = outcome ≡ Ok (view x, state)
+GivesPurely view (Err stop) state outcome = StopsPurelyAt stop state outcome
+
+-- If each fault of a part is a fault of the whole, then a stop of the part is a stop of the whole.
+pub StopsPurelyAt-whole : {A B F M : Type 0} (stop : PureStop F) (state : M) (part : Result (A × M) (F × M))
+    (whole : Result (B × M) (F × M)) → ((end : F × M) → part ≡ Err end → whole ≡ Err end) → StopsPurelyAt stop state part
+    → StopsPurelyAt stop state whole
+StopsPurelyAt-whole (pure.Fault fault) state part whole passes at = passes (fault, state) at
+StopsPurelyAt-whole pure.Memory state part whole passes at = tt
+
+-- the stop of work that looks at no file, as a stop of any work
+abbrev pub stop_of_pure : {F : Type 0} → PureStop F → Stop F
+stop_of_pure (pure.Fault fault) = stops.Fault fault
+stop_of_pure pure.Memory = stops.Memory

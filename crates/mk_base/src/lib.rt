@@ -1,5 +1,5 @@
 //! What every crate of the make language shares: the kinds of fault, a fault with its place, the
-//! budget of an evaluation, and the one type by which work stops.
+//! budget of an evaluation, and the types by which work stops.
 #![tactic(auto)]
 
 mod faults;
@@ -10,4 +10,4 @@ mod stopping;
 pub use faults::{Fault, FaultKind};
 pub use laws::budget_limits;
 pub use metering::{Budget, QUESTIONS, UNITS};
-pub use stopping::Stop;
+pub use stopping::{PureStop, Stop};

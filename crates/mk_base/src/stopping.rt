@@ -1,14 +1,69 @@
 ghost use Rattle.std.specs.Prelude.{◌≡◌};
+ghost use Rattle.mk_base.specs.declared.stopping.PureStop.TheVariants as pure;
 ghost use Rattle.mk_base.specs.declared.stopping.Stop.TheVariants as stops;
-ghost use Rattle.mk_base.specs.Blame.{IsBlamed};
+ghost use Rattle.mk_base.specs.Blame.{IsBlamed, IsBlamedPurely};
+ghost use Rattle.mk_base.specs.Stopping.{stop_of_pure};
 
 use super::{Fault, FaultKind};
 use std::alloc::{AllocError, AllocFailed, Global};
 use std::fmt::Display;
 use thiserror::Error;
 
-/// Why work on a makefile ended without its value. A fault of the makefile is a result like any other.
-/// If the store refused or memory ran out, the work can be done again.
+/// Why work on a makefile that looks at no file ended without its value. A fault of the makefile is a
+/// result like any other. If memory ran out, the work can be done again.
+#[derive(Debug, Drop, Error)]
+#[error_bound(F: Display)]
+pub enum PureStop<F> {
+    /// The makefile is at fault.
+    #[error("{0}")]
+    Fault(F),
+    /// Memory ran out.
+    #[error("out of memory")]
+    Memory,
+}
+
+impl<F> From<AllocError> for PureStop<F> {
+    ghost from_gives = { λ _ stop. stop ≡ pure.Memory };
+
+    fn from(_error: AllocError) -> PureStop<F> {
+        PureStop::Memory
+    }
+}
+
+impl<F, T: Drop> From<AllocFailed<T>> for PureStop<F> {
+    ghost from_gives = { λ _ stop. stop ≡ pure.Memory };
+
+    fn from(_error: AllocFailed<T>) -> PureStop<F> {
+        PureStop::Memory
+    }
+}
+
+impl From<FaultKind> for PureStop<FaultKind> {
+    ghost from_gives = { λ kind stop. stop ≡ pure.Fault kind };
+
+    fn from(kind: FaultKind) -> PureStop<FaultKind> {
+        PureStop::Fault(kind)
+    }
+}
+
+impl PureStop<FaultKind> {
+    /// The same stop. If it is a fault, the file's name and the line where it arose are added. If
+    /// memory for the name runs out, the result is `Memory` instead.
+    pub fn blame(self, alloc: Global, name: &str, line: u64) -> PureStop<Fault>
+        ensures { IsBlamedPurely name.now line self result }
+    {
+        match self {
+            PureStop::Fault(kind) => match Fault::new(alloc, kind, name, line) {
+                Ok(fault) => PureStop::Fault(fault),
+                Err(_error) => PureStop::Memory,
+            },
+            PureStop::Memory => PureStop::Memory,
+        }
+    }
+}
+
+/// Why work on a makefile that may look at files ended without its value. A fault of the makefile is a
+/// result like any other. If the store refused or memory ran out, the work can be done again.
 #[derive(Debug, Drop, Error)]
 #[error_bound(F: Display)]
 pub enum Stop<F> {
@@ -39,6 +94,17 @@ impl<F, T: Drop> From<AllocFailed<T>> for Stop<F> {
     }
 }
 
+impl<F> From<PureStop<F>> for Stop<F> {
+    ghost from_gives = { λ pure stop. stop ≡ stop_of_pure pure };
+
+    fn from(stop: PureStop<F>) -> Stop<F> {
+        match stop {
+            PureStop::Fault(fault) => Stop::Fault(fault),
+            PureStop::Memory => Stop::Memory,
+        }
+    }
+}
+
 impl From<FaultKind> for Stop<FaultKind> {
     ghost from_gives = { λ kind stop. stop ≡ stops.Fault kind };
 
@@ -54,10 +120,7 @@ impl Stop<FaultKind> {
         ensures { IsBlamed name.now line self result }
     {
         match self {
-            Stop::Fault(kind) => match Fault::new(alloc, kind, name, line) {
-                Ok(fault) => Stop::Fault(fault),
-                Err(_error) => Stop::Memory,
-            },
+            Stop::Fault(kind) => Stop::from(PureStop::Fault(kind).blame(alloc, name, line)),
             Stop::Store => Stop::Store,
             Stop::Memory => Stop::Memory,
         }

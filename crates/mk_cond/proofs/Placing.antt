@@ -35,8 +35,8 @@ back P xs ys all = λ k d low. subst P (get_or-append-add xs ys k d) (all (lengt
 pub part-All : (P : Token → Type 0) (part all : List Token) → IsPart part all → All P all → All P part
 part-All P part all h each = front P part h.behind (back P h.before (part ++ h.behind) (subst (All P) h.is each))
 
-behind_more : (front part all : List Token) → IsPart part all → IsPart part (front ++ all)
-behind_more front part all h = record { before = front ++ h.before; behind = h.behind; is = ap (λ l. front ++ l) h.is ∙ sym (append_assoc front h.before (part ++ h.behind)) }
+after_more : (front part all : List Token) → IsPart part all → IsPart part (front ++ all)
+after_more front part all h = record { before = front ++ h.before; behind = h.behind; is = ap (λ l. front ++ l) h.is ∙ sym (append_assoc front h.before (part ++ h.behind)) }
 
 first_part : (part rest : List Token) → IsPart part (part ++ rest)
 first_part part rest = record { before = []; behind = rest; is = refl }
@@ -50,15 +50,15 @@ one_of_ands : (items : List Conjunction) (i : ℕ) (item : Conjunction) → i < 
 one_of_ands [] i item within is = absurd (omega arith)
 one_of_ands (and ∷ items) zero item within is =
     subst (λ x. IsPart (and_tokens (conjunction_tree x)) (later_and_tokens (later_ands (map conjunction_tree (and ∷ items))))) (sym is)
-    (behind_more (t.Or ∷ []) (and_tokens (conjunction_tree and)) _ (first_part (and_tokens (conjunction_tree and)) (later_and_tokens (later_ands (map conjunction_tree items)))))
+    (after_more (t.Or ∷ []) (and_tokens (conjunction_tree and)) _ (first_part (and_tokens (conjunction_tree and)) (later_and_tokens (later_ands (map conjunction_tree items)))))
 one_of_ands (and ∷ items) (suc i) item within is =
-    behind_more (t.Or ∷ and_tokens (conjunction_tree and)) (and_tokens (conjunction_tree item)) (later_and_tokens (later_ands (map conjunction_tree items))) (one_of_ands items i item (omega arith) is)
+    after_more (t.Or ∷ and_tokens (conjunction_tree and)) (and_tokens (conjunction_tree item)) (later_and_tokens (later_ands (map conjunction_tree items))) (one_of_ands items i item (omega arith) is)
 
 pub later-and : (condition : Condition) (items : List Conjunction) (i : ℕ) (item : Conjunction) → items ≡ (out-Condition condition).more.items → i < length items → item ≡ get_or items i item
     → IsPart (and_tokens (conjunction_tree item)) (or_tokens (condition_tree condition))
 later-and condition items i item same within is =
     subst (λ tree. IsPart (and_tokens (conjunction_tree item)) (or_tokens tree)) (sym (tree-condition condition))
-    (behind_more (and_tokens (conjunction_tree (out-Condition condition).first)) (and_tokens (conjunction_tree item)) _
+    (after_more (and_tokens (conjunction_tree (out-Condition condition).first)) (and_tokens (conjunction_tree item)) _
     (subst (λ more. IsPart (and_tokens (conjunction_tree item)) (later_and_tokens (later_ands (map conjunction_tree more)))) same (one_of_ands items i item within is)))
 
 -- a term of a conjunction
@@ -70,15 +70,15 @@ one_of_nots : (items : List Term) (i : ℕ) (item : Term) → i < length items �
 one_of_nots [] i item within is = absurd (omega arith)
 one_of_nots (term ∷ items) zero item within is =
     subst (λ x. IsPart (not_tokens (term_tree x)) (later_not_tokens (later_nots (map term_tree (term ∷ items))))) (sym is)
-    (behind_more (t.And ∷ []) (not_tokens (term_tree term)) _ (first_part (not_tokens (term_tree term)) (later_not_tokens (later_nots (map term_tree items)))))
+    (after_more (t.And ∷ []) (not_tokens (term_tree term)) _ (first_part (not_tokens (term_tree term)) (later_not_tokens (later_nots (map term_tree items)))))
 one_of_nots (term ∷ items) (suc i) item within is =
-    behind_more (t.And ∷ not_tokens (term_tree term)) (not_tokens (term_tree item)) (later_not_tokens (later_nots (map term_tree items))) (one_of_nots items i item (omega arith) is)
+    after_more (t.And ∷ not_tokens (term_tree term)) (not_tokens (term_tree item)) (later_not_tokens (later_nots (map term_tree items))) (one_of_nots items i item (omega arith) is)
 
 pub later-not : (conjunction : Conjunction) (items : List Term) (i : ℕ) (item : Term) → items ≡ (out-Conjunction conjunction).more.items → i < length items → item ≡ get_or items i item
     → IsPart (not_tokens (term_tree item)) (and_tokens (conjunction_tree conjunction))
 later-not conjunction items i item same within is =
     subst (λ tree. IsPart (not_tokens (term_tree item)) (and_tokens tree)) (sym (tree-conjunction conjunction))
-    (behind_more (not_tokens (term_tree (out-Conjunction conjunction).first)) (not_tokens (term_tree item)) _
+    (after_more (not_tokens (term_tree (out-Conjunction conjunction).first)) (not_tokens (term_tree item)) _
     (subst (λ more. IsPart (not_tokens (term_tree item)) (later_not_tokens (later_nots (map term_tree more)))) same (one_of_nots items i item within is)))
 
 -- what stands in a term

@@ -12,10 +12,10 @@ use Rattle.mk_cond.specs.declared.forms.Form.{Form}
 abbrev pub form_named : List ℕ → Option Form
 form_named word =
     if bytes_eq word (codes "if") || bytes_eq word (codes "ifdef") || bytes_eq word (codes "elif")
-    || bytes_eq word (codes "elifdef") then Some (record { word = Defined; turned = false })
-    else if bytes_eq word (codes "ifndef") || bytes_eq word (codes "elifndef") then Some (record { word = Defined; turned = true })
-    else if bytes_eq word (codes "ifmake") || bytes_eq word (codes "elifmake") then Some (record { word = Make; turned = false })
-    else if bytes_eq word (codes "ifnmake") || bytes_eq word (codes "elifnmake") then Some (record { word = Make; turned = true })
+    || bytes_eq word (codes "elifdef") then Some (record { word = Defined; negated = false })
+    else if bytes_eq word (codes "ifndef") || bytes_eq word (codes "elifndef") then Some (record { word = Defined; negated = true })
+    else if bytes_eq word (codes "ifmake") || bytes_eq word (codes "elifmake") then Some (record { word = Make; negated = false })
+    else if bytes_eq word (codes "ifnmake") || bytes_eq word (codes "elifnmake") then Some (record { word = Make; negated = true })
     else None
 
 -- the form of a directive and its condition, if the blank at this place ends the directive's word

@@ -47,7 +47,7 @@ among setting files =
       files = files;
       makefile = setting.makefile.now;
       text = setting.text.now;
-      word = setting.word;
+      word = setting.form.word;
     }
 
 -- `defined(N)`: N, expanded, is the name of a variable

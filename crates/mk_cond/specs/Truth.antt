@@ -30,13 +30,16 @@ tree_read text (b ∷ left) = fail kinds.Reference
 unfoldable pub condition_truth : Surroundings → Work Account FaultKind Bool
 condition_truth s a = (tree_read s.text (left_of s.text) >>= or_truth s) a
 
--- the same under a directive, which may negate it
-abbrev pub directive_truth : Variables → FileMap → List ℕ → Option (Form × List ℕ) → Work Account FaultKind Bool
-directive_truth variables files makefile None = fail kinds.Condition
-directive_truth variables files makefile (Some (form, text)) =
-    condition_truth (record { variables = variables; files = files; makefile = makefile; text = text; word = form.word })
-    >>= λ held. give (if form.turned then not held else held)
+-- the same under a directive of this form, which may negate it
+abbrev pub directive_truth : Form → Surroundings → Work Account FaultKind Bool
+directive_truth form s = condition_truth s >>= λ held. give (if form.negated then not held else held)
+
+-- the same of a form and a condition, if there are any, in the makefile of this name
+abbrev pub parts_truth : Variables → FileMap → List ℕ → Option (Form × List ℕ) → Work Account FaultKind Bool
+parts_truth variables files makefile None = fail kinds.Condition
+parts_truth variables files makefile (Some (form, text)) =
+    directive_truth form (record { variables = variables; files = files; makefile = makefile; text = text; word = form.word })
 
 -- the truth of a text that is a directive's word, a blank and a condition, in the makefile of this name
 abbrev pub truth : Variables → FileMap → List ℕ → List ℕ → Work Account FaultKind Bool
-truth variables files makefile text = directive_truth variables files makefile (parted text)
+truth variables files makefile text = parts_truth variables files makefile (parted text)

@@ -1,15 +1,13 @@
 //! Calls in conditions.
-ghost use Rattle.std.specs.Prelude.{◌≡◌, IfOk, IfErr};
 ghost use Rattle.mk_base.specs.Meter.{IsLater};
-ghost use Rattle.mk_base.specs.Stopping.{Gives, NeverStore};
-ghost use Rattle.mk_files.specs.Asking.{account};
-ghost use Rattle.mk_files.specs.Looking.{AfterQuestions, LeavesAtStop};
+ghost use Rattle.mk_base.specs.Stopping.{GivesPurely};
+ghost use Rattle.mk_files.specs.Working.{DoesWork};
 ghost use Rattle.mk_cond.specs.Leaves as leaves;
 ghost use Rattle.mk_cond.specs.Leaves.{among};
 
 use crate::setting::Setting;
 use cond_grammar::Call;
-use mk_base::{Budget, FaultKind, Stop};
+use mk_base::{Budget, FaultKind, PureStop, Stop};
 use mk_env::{Env, expand, expand_inside};
 use mk_files::ask_has;
 use mk_paths::{Name, NameFault, Names};
@@ -26,16 +24,13 @@ pub(crate) fn call_truth<F: Names>(
     files: &mut F,
     budget: &mut Budget,
 ) -> Result<bool, Stop<FaultKind>>
-    ensures gives { Gives (λ held. held) result (account budget.new (F.view files.new))
-        (leaves.called (among setting.entry (F.view files.old).files) call argument.now
-        (account budget.old (F.view files.old))) }
-    ensures asked { IfOk result (λ held. AfterQuestions (F.view files.old) (F.view files.new)) }
-    ensures stops { IfErr result (LeavesAtStop F.fails_with (F.view files.old) (F.view files.new)) }
-    ensures later { IsLater budget.old budget.new }
+    ensures { DoesWork F.fails_with (λ held. held) result
+        (leaves.called (among setting.entry (F.view files.old).files) call argument.now)
+        (budget.old, F.view files.old) (budget.new, F.view files.new) }
 {
     match call {
-        Call::Defined => is_defined(alloc, setting.variables, argument, budget),
-        Call::Empty => is_empty(alloc, setting.variables, argument, budget),
+        Call::Defined => Ok(is_defined(alloc, setting.variables, argument, budget)?),
+        Call::Empty => Ok(is_empty(alloc, setting.variables, argument, budget)?),
         Call::Exists => exists(alloc, setting, argument, files, budget),
         Call::Make | Call::Target => Ok(false),
     }
@@ -47,10 +42,9 @@ fn is_defined(
     variables: &Env,
     argument: &str,
     budget: &mut Budget,
-) -> Result<bool, Stop<FaultKind>>
-    ensures store { NeverStore result }
+) -> Result<bool, PureStop<FaultKind>>
     ensures later { IsLater budget.old budget.new }
-    ensures gives { Gives (λ held. held) result budget.new
+    ensures gives { GivesPurely (λ held. held) result budget.new
         (leaves.is_defined variables.now argument.now budget.old) }
 {
     let name = expand(alloc, variables, argument, budget)?;
@@ -63,10 +57,9 @@ fn is_empty(
     variables: &Env,
     argument: &str,
     budget: &mut Budget,
-) -> Result<bool, Stop<FaultKind>>
-    ensures store { NeverStore result }
+) -> Result<bool, PureStop<FaultKind>>
     ensures later { IsLater budget.old budget.new }
-    ensures gives { Gives (λ held. held) result budget.new
+    ensures gives { GivesPurely (λ held. held) result budget.new
         (leaves.is_empty variables.now argument.now budget.old) }
 {
     let value = expand_inside(alloc, variables, argument, budget)?;
@@ -81,12 +74,9 @@ fn exists<F: Names>(
     files: &mut F,
     budget: &mut Budget,
 ) -> Result<bool, Stop<FaultKind>>
-    ensures gives { Gives (λ held. held) result (account budget.new (F.view files.new))
-        (leaves.exists (among setting.entry (F.view files.old).files) argument.now
-        (account budget.old (F.view files.old))) }
-    ensures asked { IfOk result (λ held. AfterQuestions (F.view files.old) (F.view files.new)) }
-    ensures stops { IfErr result (LeavesAtStop F.fails_with (F.view files.old) (F.view files.new)) }
-    ensures later { IsLater budget.old budget.new }
+    ensures { DoesWork F.fails_with (λ held. held) result
+        (leaves.exists (among setting.entry (F.view files.old).files) argument.now)
+        (budget.old, F.view files.old) (budget.new, F.view files.new) }
 {
     let file = expand(alloc, setting.variables, argument, budget)?;
     match Name::under(alloc, setting.makefile.directory(), file.as_str()) {

@@ -1,13 +1,13 @@
 //! Comparisons in conditions.
 ghost use Rattle.std.specs.Prelude.{◌≡◌};
 ghost use Rattle.mk_base.specs.Meter.{IsLater, Meter};
-ghost use Rattle.mk_base.specs.Stopping.{Gives, GivesOnly, NeverStore};
+ghost use Rattle.mk_base.specs.Stopping.{GivesPurely};
 ghost use Rattle.cond_grammar.specs.Placed.{IsSideIn};
 ghost use Rattle.mk_cond.specs.Leaves as leaves;
 
 use crate::numbers::{number_of, numbers_compare};
 use cond_grammar::{Comparison, Side};
-use mk_base::{Budget, FaultKind, Stop};
+use mk_base::{Budget, FaultKind, PureStop};
 use mk_env::{Env, expand};
 use std::alloc::Global;
 
@@ -21,12 +21,11 @@ pub(crate) fn compared(
     comparison: Comparison,
     other: Side,
     budget: &mut Budget,
-) -> Result<bool, Stop<FaultKind>>
+) -> Result<bool, PureStop<FaultKind>>
     requires one_in { IsSideIn text.now one }
     requires other_in { IsSideIn text.now other }
-    ensures store { NeverStore result }
     ensures later { IsLater budget.old budget.new }
-    ensures gives { Gives (λ held. held) result budget.new
+    ensures gives { GivesPurely (λ held. held) result budget.new
         (leaves.compared variables.now text.now one comparison other budget.old) }
 {
     let left = expand(alloc, variables, side_source(text, one), budget)?;
@@ -40,7 +39,7 @@ pub(crate) fn compared(
         right,
     ) {
         Some(held) => Ok(held),
-        None => Err(Stop::Fault(FaultKind::Condition)),
+        None => Err(PureStop::Fault(FaultKind::Condition)),
     }
 }
 

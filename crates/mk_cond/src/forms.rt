@@ -7,13 +7,13 @@ ghost use Rattle.mk_cond.specs.Forms.{form_named, parted, shown_parts};
 use cond_grammar::Call;
 use mk_text::is_blank;
 
-/// What a directive makes of its condition.
+/// What a directive makes of its condition (make(1), "CONDITIONALS").
 #[derive(Debug, Clone, Copy, PartialEq, Eq)]
-pub(crate) struct Form {
+pub struct Form {
     /// What a lone word of the condition asks.
-    pub(crate) word: Call,
+    pub word: Call,
     /// Whether the truth of the whole is negated.
-    pub(crate) turned: bool,
+    pub negated: bool,
 }
 
 /// The form of the directive that a text begins with, and the condition after the blank that ends the
@@ -61,8 +61,8 @@ fn form_named(word: &str) -> Option<Form>
     }
 }
 
-fn form_of(word: Call, turned: bool) -> Form
-    ensures { result ≡ record { word = word; turned = turned } }
+fn form_of(word: Call, negated: bool) -> Form
+    ensures { result ≡ record { word = word; negated = negated } }
 {
-    Form { word, turned }
+    Form { word, negated }
 }

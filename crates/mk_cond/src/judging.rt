@@ -1,9 +1,6 @@
 //! The truth of a condition under its directive.
-ghost use Rattle.std.specs.Prelude.{◌≡◌, All, Some, IfOk, IfErr, if◌then◌else◌, not};
-ghost use Rattle.mk_base.specs.Meter.{IsLater};
-ghost use Rattle.mk_base.specs.Stopping.{Gives};
-ghost use Rattle.mk_files.specs.Asking.{account};
-ghost use Rattle.mk_files.specs.Looking.{AfterQuestions, LeavesAtStop};
+ghost use Rattle.std.specs.Prelude.{Some};
+ghost use Rattle.mk_files.specs.Working.{DoesWork};
 ghost use Rattle.mk_cond.specs.Leaves.{among};
 ghost use Rattle.mk_cond.specs.Truth as meaning;
 
@@ -55,12 +52,9 @@ pub fn truth<F: Names>(
     files: &mut F,
     budget: &mut Budget,
 ) -> Result<bool, Stop<FaultKind>>
-    ensures gives { Gives (λ held. held) result (account budget.new (F.view files.new))
-        (meaning.truth variables.now (F.view files.old).files makefile.now text.now
-        (account budget.old (F.view files.old))) }
-    ensures asked { IfOk result (λ held. AfterQuestions (F.view files.old) (F.view files.new)) }
-    ensures stops { IfErr result (LeavesAtStop F.fails_with (F.view files.old) (F.view files.new)) }
-    ensures later { IsLater budget.old budget.new }
+    ensures { DoesWork F.fails_with (λ held. held) result
+        (meaning.truth variables.now (F.view files.old).files makefile.now text.now)
+        (budget.old, F.view files.old) (budget.new, F.view files.new) }
 {
     let Some((form, condition)) = parted(text) else {
         return Err(Stop::Fault(FaultKind::Condition));
@@ -68,11 +62,27 @@ pub fn truth<F: Names>(
     let setting = Setting {
         variables,
         makefile,
+        form,
         text: condition,
-        word: form.word,
     };
+    directive_truth(alloc, setting, files, budget)
+}
+
+/// Whether the condition in this setting holds under its directive: that is `truth` of a text with the
+/// condition after a directive's word of the setting's form. The errors are those of `truth`.
+pub fn directive_truth<F: Names>(
+    alloc: Global,
+    setting: Setting<'_>,
+    files: &mut F,
+    budget: &mut Budget,
+) -> Result<bool, Stop<FaultKind>>
+    ensures { DoesWork F.fails_with (λ held. held) result
+        (meaning.directive_truth setting.entry.form
+        (among setting.entry (F.view files.old).files))
+        (budget.old, F.view files.old) (budget.new, F.view files.new) }
+{
     let held = text_truth(alloc, setting, files, budget)?;
-    Ok(if form.turned { !held } else { held })
+    Ok(if setting.form.negated { !held } else { held })
 }
 
 /// Whether the condition in the setting's text holds.
@@ -83,12 +93,9 @@ fn text_truth<F: Names>(
     files: &mut F,
     budget: &mut Budget,
 ) -> Result<bool, Stop<FaultKind>>
-    ensures gives { Gives (λ held. held) result (account budget.new (F.view files.new))
-        (meaning.condition_truth (among setting.entry (F.view files.old).files)
-        (account budget.old (F.view files.old))) }
-    ensures asked { IfOk result (λ held. AfterQuestions (F.view files.old) (F.view files.new)) }
-    ensures stops { IfErr result (LeavesAtStop F.fails_with (F.view files.old) (F.view files.new)) }
-    ensures later { IsLater budget.old budget.new }
+    ensures { DoesWork F.fails_with (λ held. held) result
+        (meaning.condition_truth (among setting.entry (F.view files.old).files))
+        (budget.old, F.view files.old) (budget.new, F.view files.new) }
 {
     conditions_are_read();
     match read_condition(alloc, setting.text) {

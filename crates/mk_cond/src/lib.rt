@@ -10,4 +10,6 @@ mod setting;
 mod sides;
 mod trees;
 
-pub use judging::truth;
+pub use forms::Form;
+pub use judging::{directive_truth, truth};
+pub use setting::Setting;

@@ -1,18 +1,18 @@
 //! The surroundings of conditions.
 
-use cond_grammar::Call;
+use crate::forms::Form;
 use mk_env::Env;
 use mk_paths::Name;
 
-/// The surroundings of a condition.
+/// A condition in its surroundings.
 #[derive(Clone, Copy)]
-pub(crate) struct Setting<'a> {
+pub struct Setting<'a> {
     /// The variables, with what their names mean.
-    pub(crate) variables: &'a Env,
+    pub variables: &'a Env,
     /// The makefile; files are looked for under its directory.
-    pub(crate) makefile: &'a Name,
+    pub makefile: &'a Name,
+    /// What the directive makes of the condition.
+    pub form: Form,
     /// The text of the condition.
-    pub(crate) text: &'a str,
-    /// What a lone word asks.
-    pub(crate) word: Call,
+    pub text: &'a str,
 }

@@ -1,10 +1,9 @@
 //! Sides of conditions that are alone, without a comparison.
-ghost use Rattle.std.specs.Prelude.{◌≡◌, IfOk, IfErr};
+ghost use Rattle.std.specs.Prelude.{◌≡◌, IfOk};
 ghost use Rattle.mk_base.specs.Meter.{IsLater};
-ghost use Rattle.mk_base.specs.Stopping.{Gives, NeverStore};
+ghost use Rattle.mk_base.specs.Stopping.{GivesPurely};
 ghost use Rattle.std.specs.List.{list_any};
-ghost use Rattle.mk_files.specs.Asking.{account};
-ghost use Rattle.mk_files.specs.Looking.{AfterQuestions, LeavesAtStop};
+ghost use Rattle.mk_files.specs.Working.{DoesWork};
 ghost use Rattle.cond_grammar.specs.Placed.{IsSideIn};
 ghost use Rattle.mk_cond.specs.Leaves as leaves;
 ghost use Rattle.mk_cond.specs.Leaves.{among, is_reference_piece};
@@ -13,7 +12,7 @@ use crate::calls::call_truth;
 use crate::numbers::{isnt_zero, number_of};
 use crate::setting::Setting;
 use cond_grammar::Side;
-use mk_base::{Budget, FaultKind, Stop};
+use mk_base::{Budget, FaultKind, PureStop, Stop};
 use mk_env::{Env, expand};
 use mk_paths::Names;
 use mk_ref::{Piece, PiecesFault, pieces};
@@ -28,15 +27,14 @@ pub(crate) fn side_truth<F: Names>(
     budget: &mut Budget,
 ) -> Result<bool, Stop<FaultKind>>
     requires { IsSideIn setting.text.now side }
-    ensures gives { Gives (λ held. held) result (account budget.new (F.view files.new))
-        (leaves.alone (among setting.entry (F.view files.old).files) side
-        (account budget.old (F.view files.old))) }
-    ensures asked { IfOk result (λ held. AfterQuestions (F.view files.old) (F.view files.new)) }
-    ensures stops { IfErr result (LeavesAtStop F.fails_with (F.view files.old) (F.view files.new)) }
-    ensures later { IsLater budget.old budget.new }
+    ensures { DoesWork F.fails_with (λ held. held) result
+        (leaves.alone (among setting.entry (F.view files.old).files) side)
+        (budget.old, F.view files.old) (budget.new, F.view files.new) }
 {
     match side {
-        Side::Quoted(span) => has_text(alloc, setting.variables, span.of(setting.text), budget),
+        Side::Quoted(span) => {
+            Ok(has_text(alloc, setting.variables, span.of(setting.text), budget)?)
+        }
         Side::Bare(span) => word_truth(alloc, setting, span.of(setting.text), files, budget),
     }
 }
@@ -49,18 +47,15 @@ fn word_truth<F: Names>(
     files: &mut F,
     budget: &mut Budget,
 ) -> Result<bool, Stop<FaultKind>>
-    ensures gives { Gives (λ held. held) result (account budget.new (F.view files.new))
-        (leaves.bare (among setting.entry (F.view files.old).files) word.now
-        (account budget.old (F.view files.old))) }
-    ensures asked { IfOk result (λ held. AfterQuestions (F.view files.old) (F.view files.new)) }
-    ensures stops { IfErr result (LeavesAtStop F.fails_with (F.view files.old) (F.view files.new)) }
-    ensures later { IsLater budget.old budget.new }
+    ensures { DoesWork F.fails_with (λ held. held) result
+        (leaves.bare (among setting.entry (F.view files.old).files) word.now)
+        (budget.old, F.view files.old) (budget.new, F.view files.new) }
 {
     if has_reference(alloc, word)? {
-        return has_true(alloc, setting.variables, word, budget);
+        return Ok(has_true(alloc, setting.variables, word, budget)?);
     }
     match number_of(word.as_bytes()) {
-        None => call_truth(alloc, setting, setting.word, word, files, budget),
+        None => call_truth(alloc, setting, setting.form.word, word, files, budget),
         number => Ok(isnt_zero(number)),
     }
 }
@@ -71,10 +66,9 @@ fn has_text(
     variables: &Env,
     source: &str,
     budget: &mut Budget,
-) -> Result<bool, Stop<FaultKind>>
-    ensures store { NeverStore result }
+) -> Result<bool, PureStop<FaultKind>>
     ensures later { IsLater budget.old budget.new }
-    ensures gives { Gives (λ held. held) result budget.new
+    ensures gives { GivesPurely (λ held. held) result budget.new
         (leaves.has_text variables.now source.now budget.old) }
 {
     let found = expand(alloc, variables, source, budget)?;
@@ -87,10 +81,9 @@ fn has_true(
     variables: &Env,
     source: &str,
     budget: &mut Budget,
-) -> Result<bool, Stop<FaultKind>>
-    ensures store { NeverStore result }
+) -> Result<bool, PureStop<FaultKind>>
     ensures later { IsLater budget.old budget.new }
-    ensures gives { Gives (λ held. held) result budget.new
+    ensures gives { GivesPurely (λ held. held) result budget.new
         (leaves.has_true variables.now source.now budget.old) }
 {
     let found = expand(alloc, variables, source, budget)?;

@@ -1,9 +1,6 @@
 //! The truth of the tree of a condition.
-ghost use Rattle.std.specs.Prelude.{All, IfOk, IfErr};
-ghost use Rattle.mk_base.specs.Meter.{IsLater};
-ghost use Rattle.mk_base.specs.Stopping.{Gives};
-ghost use Rattle.mk_files.specs.Asking.{account};
-ghost use Rattle.mk_files.specs.Looking.{AfterQuestions, LeavesAtStop};
+ghost use Rattle.std.specs.Prelude.{All};
+ghost use Rattle.mk_files.specs.Working.{DoesWork};
 ghost use Rattle.cond_grammar.specs.Placed.{IsTokenIn};
 ghost use Rattle.cond_grammar.specs.Trees.{or_tokens, and_tokens, not_tokens};
 ghost use Rattle.cond_grammar.specs.Views.{condition_tree, conjunction_tree, term_tree};
@@ -29,12 +26,9 @@ pub(crate) fn condition_truth<F: Names>(
     budget: &mut Budget,
 ) -> Result<bool, Stop<FaultKind>>
     requires { All (IsTokenIn setting.text.now) (or_tokens (condition_tree condition.now)) }
-    ensures gives { Gives (λ held. held) result (account budget.new (F.view files.new))
-        (or_truth (among setting.entry (F.view files.old).files) (condition_tree condition.now)
-        (account budget.old (F.view files.old))) }
-    ensures asked { IfOk result (λ held. AfterQuestions (F.view files.old) (F.view files.new)) }
-    ensures stops { IfErr result (LeavesAtStop F.fails_with (F.view files.old) (F.view files.new)) }
-    ensures later { IsLater budget.old budget.new }
+    ensures { DoesWork F.fails_with (λ held. held) result
+        (or_truth (among setting.entry (F.view files.old).files) (condition_tree condition.now))
+        (budget.old, F.view files.old) (budget.new, F.view files.new) }
 {
     let mut held = conjunction_truth(alloc, setting, &condition.first, files, budget)?;
     for conjunction in &condition.more {
@@ -56,12 +50,10 @@ fn conjunction_truth<F: Names>(
     budget: &mut Budget,
 ) -> Result<bool, Stop<FaultKind>>
     requires { All (IsTokenIn setting.text.now) (and_tokens (conjunction_tree conjunction.now)) }
-    ensures gives { Gives (λ held. held) result (account budget.new (F.view files.new))
-        (and_truth (among setting.entry (F.view files.old).files)
-        (conjunction_tree conjunction.now) (account budget.old (F.view files.old))) }
-    ensures asked { IfOk result (λ held. AfterQuestions (F.view files.old) (F.view files.new)) }
-    ensures stops { IfErr result (LeavesAtStop F.fails_with (F.view files.old) (F.view files.new)) }
-    ensures later { IsLater budget.old budget.new }
+    ensures { DoesWork F.fails_with (λ held. held) result
+        (and_truth (among setting.entry (F.view files.old).files) (conjunction_tree
+        conjunction.now))
+        (budget.old, F.view files.old) (budget.new, F.view files.new) }
 {
     let mut held = term_truth(alloc, setting, &conjunction.first, files, budget)?;
     for term in &conjunction.more {
@@ -83,12 +75,9 @@ fn term_truth<F: Names>(
     budget: &mut Budget,
 ) -> Result<bool, Stop<FaultKind>>
     requires { All (IsTokenIn setting.text.now) (not_tokens (term_tree term.now)) }
-    ensures gives { Gives (λ held. held) result (account budget.new (F.view files.new))
-        (not_truth (among setting.entry (F.view files.old).files) (term_tree term.now)
-        (account budget.old (F.view files.old))) }
-    ensures asked { IfOk result (λ held. AfterQuestions (F.view files.old) (F.view files.new)) }
-    ensures stops { IfErr result (LeavesAtStop F.fails_with (F.view files.old) (F.view files.new)) }
-    ensures later { IsLater budget.old budget.new }
+    ensures { DoesWork F.fails_with (λ held. held) result
+        (not_truth (among setting.entry (F.view files.old).files) (term_tree term.now))
+        (budget.old, F.view files.old) (budget.new, F.view files.new) }
 {
     match term {
         Term::Not(turned) => {
@@ -104,7 +93,7 @@ fn term_truth<F: Names>(
             files,
             budget,
         ),
-        Term::Compare(one, comparison, other) => compared(
+        Term::Compare(one, comparison, other) => Ok(compared(
             alloc,
             setting.variables,
             setting.text,
@@ -112,7 +101,7 @@ fn term_truth<F: Names>(
             *comparison,
             *other,
             budget,
-        ),
+        )?),
         Term::Side(side) => side_truth(alloc, setting, *side, files, budget),
     }
 }

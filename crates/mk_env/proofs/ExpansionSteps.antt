@@ -3,13 +3,13 @@ use Rattle.std.proofs.Common.{◌≡◌, ◌≢◌, ◌<◌, ◌≤◌, ◌-◌,
 use Rattle.std.specs.Prelude.{◌==◌}
 use Rattle.std.specs.List.{list_any}
 use Rattle.std.proofs.lemmas.Bool.{lt-ltb, le-ltb, cases_lt}
-use Rattle.mk_base.specs.declared.stopping.Stop.{Stop}
-use Rattle.mk_base.specs.declared.stopping.Stop.TheVariants as stops
+use Rattle.mk_base.specs.declared.stopping.PureStop.{PureStop}
+use Rattle.mk_base.specs.declared.stopping.PureStop.TheVariants as pure
 use Rattle.mk_base.specs.declared.faults.FaultKind.{FaultKind}
 use Rattle.mk_base.specs.declared.faults.FaultKind.TheVariants as kinds
 use Rattle.mk_base.specs.Meter.{Meter, pay}
 use Rattle.mk_base.specs.Outcome.{after, each, give, fail}
-use Rattle.mk_base.specs.Stopping.{StopsAt, Gives}
+use Rattle.mk_base.specs.Stopping.{StopsPurelyAt, GivesPurely}
 use Rattle.mk_ref.specs.Units.{units_of, left_of}
 use Rattle.mk_ref.specs.Units.{Byte as TextByte}
 use Rattle.mk_ref.proofs.PlainTexts.{cut-plain}
@@ -39,16 +39,15 @@ unfolding text_meaning
 text_meaning-unclosed references text m some = left-over references (left_of text) (pieces_of (units_of text)) m some
 
 -- a text that isn't cut stops there
-pub text_meaning-uncut : (references : References) (text : List ℕ) (stop : Stop FaultKind) (m : Meter) → IsUncut text stop → StopsAt stop m (text_meaning references text m)
-text_meaning-uncut references text (stops.Fault kind) m uncut =
+pub text_meaning-uncut : (references : References) (text : List ℕ) (stop : PureStop FaultKind) (m : Meter) → IsUncut text stop → StopsPurelyAt stop m (text_meaning references text m)
+text_meaning-uncut references text (pure.Fault kind) m uncut =
     text_meaning-unclosed references text m uncut.1 ∙ ap (λ found. Err (found, m)) (sym uncut.0)
-text_meaning-uncut references text stops.Store m uncut = absurd uncut
-text_meaning-uncut references text stops.Memory m uncut = tt
+text_meaning-uncut references text pure.Memory m uncut = tt
 
-bounded-small : (text : List ℕ) (m : Meter) → length text ≤ TEXT_LIMIT → bounded text m ≡ Ok (text, m)
+pub bounded-small : (text : List ℕ) (m : Meter) → length text ≤ TEXT_LIMIT → bounded text m ≡ Ok (text, m)
 bounded-small text m small = ap (λ test. if test then fail kinds.Length m else give text m) (le-ltb TEXT_LIMIT (length text) small)
 
-bounded-long : (text : List ℕ) (m : Meter) → TEXT_LIMIT < length text → bounded text m ≡ Err (kinds.Length, m)
+pub bounded-long : (text : List ℕ) (m : Meter) → TEXT_LIMIT < length text → bounded text m ≡ Err (kinds.Length, m)
 bounded-long text m long = ap (λ test. if test then fail kinds.Length m else give text m) (lt-ltb TEXT_LIMIT (length text) long)
 
 longer : (text : List ℕ) (b : ℕ) (bytes : List ℕ) → TEXT_LIMIT < length (text ++ b ∷ []) → TEXT_LIMIT < length (text ++ b ∷ bytes)
@@ -114,14 +113,13 @@ reference-unbegun undefined_gives zero variables active written name modifiers m
 reference-unbegun undefined_gives (suc levels) variables active written name modifiers m stop stops =
     ap (λ end. after end (λ _ m'. after (text_meaning (reference kept.Empty levels variables active) name m') (by_name undefined_gives (reference kept.Empty levels variables) variables active written modifiers))) stops
 
-stops-long : (text : List ℕ) (m : Meter) (stop : Stop FaultKind) (outcome : Result (List ℕ × Meter) (FaultKind × Meter)) → IsTooLong text stop → outcome ≡ bounded text m → StopsAt stop m outcome
-stops-long text m (stops.Fault kind) outcome long is = is ∙ bounded-long text m long.1 ∙ ap (λ found. Err (found, m)) (sym long.0)
-stops-long text m stops.Store outcome long is = absurd long
-stops-long text m stops.Memory outcome long is = tt
+stops-long : (text : List ℕ) (m : Meter) (stop : PureStop FaultKind) (outcome : Result (List ℕ × Meter) (FaultKind × Meter)) → IsTooLong text stop → outcome ≡ bounded text m → StopsPurelyAt stop m outcome
+stops-long text m (pure.Fault kind) outcome long is = is ∙ bounded-long text m long.1 ∙ ap (λ found. Err (found, m)) (sym long.0)
+stops-long text m pure.Memory outcome long is = tt
 
 -- a text that was added, or was too long, was joined on
-pub Gives-joined : (result : Result (Unit {0}) (Stop FaultKind)) (whole made : List ℕ) (m : Meter) (outcome : Result (List ℕ × Meter) (FaultKind × Meter))
-    → IfOk result (λ _. (length whole ≤ TEXT_LIMIT) × (made ≡ whole)) → IfErr result (IsTooLong whole) → outcome ≡ bounded whole m → Gives (λ _. made) result m outcome
+pub Gives-joined : (result : Result (Unit {0}) (PureStop FaultKind)) (whole made : List ℕ) (m : Meter) (outcome : Result (List ℕ × Meter) (FaultKind × Meter))
+    → IfOk result (λ _. (length whole ≤ TEXT_LIMIT) × (made ≡ whole)) → IfErr result (IsTooLong whole) → outcome ≡ bounded whole m → GivesPurely (λ _. made) result m outcome
 Gives-joined (Ok unit) whole made m outcome ok err is = is ∙ bounded-small whole m ok.0 ∙ ap (λ text. Ok (text, m)) (sym ok.1)
 Gives-joined (Err stop) whole made m outcome ok err is = stops-long whole m stop outcome err is
 

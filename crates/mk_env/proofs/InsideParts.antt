@@ -1,15 +1,15 @@
 -- The name and the modifiers of a reference's inside, by the place of its first colon.
-use Rattle.std.proofs.Common.{◌≡◌, ◌==◌, ℕ, ◌+◌, ◌<◌, ◌≤◌, Bool, true, false, not, cond, if◌then◌else◌, List, [], ◌∷◌, ◌++◌, length, take, drop, Option, Some, None, option_map, refl, sym, ap, inl, inr, ◌∙◌, arith, append_assoc, append-nil, length-append, eqb-true, get_or, subst, nat_eq}
+use Rattle.std.proofs.Common.{◌≡◌, ◌==◌, ℕ, ◌+◌, ◌<◌, ◌≤◌, Bool, true, false, not, cond, if◌then◌else◌, List, [], ◌∷◌, ◌++◌, length, take, drop, Option, Some, None, option_map, refl, sym, ap, ◌∙◌, arith, append-nil, length-append, eqb-true, get_or, subst, nat_eq}
 use Rattle.std.specs.List.{flat_map, position, prefix_len}
-use Rattle.std.proofs.lemmas.Bool.Decides.{eqb_tells}
 use Rattle.std.proofs.lemmas.Grind.{common_steps}
-use Rattle.mk_ref.specs.Units.{TextUnit, Byte, EscapedDollar, Reference, sources, before_colon, behind_colon, units_of, left_of}
+use Rattle.mk_ref.specs.Units.{TextUnit, Byte, EscapedDollar, Reference, sources, before_colon, following_colon, units_of, left_of}
 use Rattle.mk_ref.specs.Laws.{with_colon}
 use Rattle.mk_ref.specs.Outside.{dollars, covered, outside}
 use Rattle.mk_ref.proofs.UnitSteps.{units-text}
 use Rattle.mk_ref.proofs.Covering.{length-outside, outside-at}
 use Rattle.std.proofs.Math.Seq.{take-append_seam, drop-append-add}
 use Rattle.std.proofs.lemmas.List.Quantifiers.{position-Some}
+use Rattle.mk_ref.specs.UnitFacts.{around_colon}
 
 -- a byte is no colon
 abbrev pub is_other : ℕ → Bool
@@ -30,23 +30,11 @@ other-units (EscapedDollar ∷ units) = let rest = other-units units in omega (a
 other-units (Reference written name modifiers ∷ units) =
     other-dollars written (flat_map covered units) ∙ ap (λ n. length written + n) (other-units units) ∙ sym (length-append written (sources (before_colon units)))
 
--- the name and the modifiers of an inside, put together with the colon, are what its units are written as
-around : (units : List TextUnit) → sources (before_colon units) ++ with_colon (option_map sources (behind_colon units)) ≡ sources units
-around [] = refl
-around (Byte b ∷ units) =
-    elim (eqb_tells b 58) [
-      | inl colon ↦ rw colon.0 (ap (λ n. n ∷ sources units) (sym colon.1))
-      | inr other ↦ rw other.0 (ap (λ l. b ∷ l) (around units))
-    ]
-around (EscapedDollar ∷ units) = ap (λ l. 36 ∷ 36 ∷ l) (around units)
-around (Reference written name modifiers ∷ units) =
-    append_assoc written (sources (before_colon units)) (with_colon (option_map sources (behind_colon units))) ∙ ap (λ l. written ++ l) (around units)
-
 whole-text : (text : List ℕ) → left_of text ≡ [] → sources (units_of text) ≡ text
 whole-text text whole = sym (append-nil (sources (units_of text))) ∙ ap (λ l. sources (units_of text) ++ l) (sym whole) ∙ units-text text
 
-around-text : (text : List ℕ) → left_of text ≡ [] → sources (before_colon (units_of text)) ++ with_colon (option_map sources (behind_colon (units_of text))) ≡ text
-around-text text whole = around (units_of text) ∙ whole-text text whole
+around-text : (text : List ℕ) → left_of text ≡ [] → sources (before_colon (units_of text)) ++ with_colon (option_map sources (following_colon (units_of text))) ≡ text
+around-text text whole = around_colon (units_of text) ∙ whole-text text whole
 
 other-text : (text : List ℕ) → left_of text ≡ [] → prefix_len is_other (outside text) ≡ length (sources (before_colon (units_of text)))
 unfolding outside
@@ -86,7 +74,7 @@ pub record IsColon (text : List ℕ) (at : ℕ) : Type 0 where
   pub within : at < length text
   pub colon : get_or text at 0 ≡ 58
   pub name_is : take at text ≡ sources (before_colon (units_of text))
-  pub modifiers_are : Some (drop (at + 1) text) ≡ option_map sources (behind_colon (units_of text))
+  pub modifiers_are : Some (drop (at + 1) text) ≡ option_map sources (following_colon (units_of text))
 
 pub first-colon : (text : List ℕ) (at : ℕ) → left_of text ≡ [] → position (λ b. nat_eq b 58) (outside text) ≡ Some at → IsColon text at
 first-colon text at whole is =
@@ -95,7 +83,7 @@ first-colon text at whole is =
     let name = sources (before_colon (units_of text)) in
     let place : length name ≡ at = sym (other-text text whole) ∙ first-place (outside text) at is in
     let inside : length name < length text = omega (arith, found.0, length-outside text, place) in
-    let parts = cut-at name (option_map sources (behind_colon (units_of text))) text (around-text text whole) inside in
+    let parts = cut-at name (option_map sources (following_colon (units_of text))) text (around-text text whole) inside in
     record {
       within = omega (arith, found.0, length-outside text);
       colon = sym (outside-at text at (λ dollar. omega (arith, dollar, colon))) ∙ colon;
@@ -104,8 +92,8 @@ first-colon text at whole is =
     }
 
 -- where no colon stands outside references, the whole inside is the name
-pub no-colon : (text : List ℕ) → left_of text ≡ [] → position (λ b. nat_eq b 58) (outside text) ≡ None → IsNameAlone (sources (before_colon (units_of text))) (option_map sources (behind_colon (units_of text))) text
+pub no-colon : (text : List ℕ) → left_of text ≡ [] → position (λ b. nat_eq b 58) (outside text) ≡ None → IsNameAlone (sources (before_colon (units_of text))) (option_map sources (following_colon (units_of text))) text
 no-colon text whole is =
     let name = sources (before_colon (units_of text)) in
     let none = no-place (outside text) is in
-    alone name (option_map sources (behind_colon (units_of text))) text (around-text text whole) (omega (arith, none, other-text text whole, length-outside text))
+    alone name (option_map sources (following_colon (units_of text))) text (around-text text whole) (omega (arith, none, other-text text whole, length-outside text))

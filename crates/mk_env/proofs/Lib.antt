@@ -1,5 +1,5 @@
 pub mod TextMap
-pub mod Leftovers
 pub mod Walks
 pub mod ExpansionSteps
 pub mod InsideParts
+pub mod PlainSubstitution

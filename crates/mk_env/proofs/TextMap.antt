@@ -11,8 +11,8 @@ use Rattle.std.specs.Map.{lookup}
 use Rattle.std.specs.String.{string_cmp}
 use Rattle.std.specs.Str.{bytes_eq}
 use Rattle.std.proofs.lemmas.Map.Text.{btree_map_updates_text, is_eq-slice_cmp}
-use Rattle.std.proofs.lemmas.Slice.Eq.{bytes_eq-Decides}
-use Rattle.std.specs.Bool.{one_answer}
+use Rattle.general_facts.specs.Maps.{same_map}
+use Rattle.general_facts.specs.Texts.{bytes_eq-sym}
 use Rattle.mk_env.specs.Texts.{Variables, bytes_of, texts_of, appended}
 
 -- the text that a key in the order of bytes has among these entries
@@ -29,18 +29,9 @@ get-texts_of (e ∷ es) q =
       | false ↦ get-texts_of es q
     ]
 
-bytes_eq_sym : (xs ys : List ℕ) → bytes_eq xs ys ≡ bytes_eq ys xs
-bytes_eq_sym xs ys =
-    one_answer (bytes_eq xs ys) (bytes_eq ys xs) (bytes_eq-Decides xs ys)
-    (λ e. sym ((bytes_eq-Decides ys xs).0 e), λ e. (bytes_eq-Decides ys xs).1 (sym e))
-
 option_map-cond : (b : Bool) (x o : Option (String Global)) → option_map string_bytes (cond b x o) ≡ cond b (option_map string_bytes x) (option_map string_bytes o)
 option_map-cond true x o = refl
 option_map-cond false x o = refl
-
--- two maps that answer alike are one
-alike : (m n : Variables) → ((q : List ℕ) → finite.get m q ≡ finite.get n q) → m ≡ n
-alike m n same = finite.same_map nat_list_cmp_total (finite.slice_cmp-IsAntisymmetric finite.nat_cmp-IsAntisymmetric) m n same
 
 -- what stands for a map of texts, after one name was given a text or lost it
 get-changed : (old new : tree.BTreeMap (String Global) (String Global)) (name : List ℕ) (text : Option (String Global)) → tree.UpdatesBy string_cmp (λ key. slice_cmp nat_cmp name (string_bytes key)) old new text
@@ -49,13 +40,13 @@ get-changed old new name text updates q =
     get-texts_of new.entries q ∙
     ap (option_map string_bytes) (btree_map_updates_text name old new text updates q) ∙
     option_map-cond (bytes_eq name q) text (tree.get_by_text old q) ∙
-    ap (λ b. cond b (option_map string_bytes text) (text_at old.entries q)) (bytes_eq_sym name q ∙ sym (is_eq-slice_cmp q name)) ∙
+    ap (λ b. cond b (option_map string_bytes text) (text_at old.entries q)) (bytes_eq-sym name q ∙ sym (is_eq-slice_cmp q name)) ∙
     ap (cond (is_eq (slice_cmp nat_cmp q name)) (option_map string_bytes text)) (sym (get-texts_of old.entries q))
 
 -- a map of texts in which one name was given another text stands for the map of bytes with that change
 pub texts_of-put : (old new : tree.BTreeMap (String Global) (String Global)) (name : List ℕ) (text : String Global) → tree.UpdatesBy string_cmp (λ key. slice_cmp nat_cmp name (string_bytes key)) old new (Some text) → texts_of new.entries ≡ finite.insert (texts_of old.entries) name (string_bytes text)
 texts_of-put old new name text updates =
-    alike _ _ (λ q. get-changed old new name (Some text) updates q ∙ sym (finite.get-insert nat_list_cmp_total (texts_of old.entries) name (string_bytes text) q))
+    same_map _ _ (λ q. get-changed old new name (Some text) updates q ∙ sym (finite.get-insert nat_list_cmp_total (texts_of old.entries) name (string_bytes text) q))
 
 -- the same where the name is a text
 pub texts_of-insert : (old new : tree.BTreeMap (String Global) (String Global)) (name text : String Global) → tree.Updates string_cmp old new name (Some text) → texts_of new.entries ≡ finite.insert (texts_of old.entries) (string_bytes name) (string_bytes text)
@@ -64,12 +55,12 @@ texts_of-insert old new name text updates = texts_of-put old new (string_bytes n
 -- the same where one name was taken away
 pub texts_of_removed : (old new : tree.BTreeMap (String Global) (String Global)) (view : Variables) (name : List ℕ) → texts_of old.entries ≡ view → tree.UpdatesBy string_cmp (λ key. slice_cmp nat_cmp name (string_bytes key)) old new None → texts_of new.entries ≡ finite.remove view name
 texts_of_removed old new view name is updates =
-    alike _ _ (λ q. get-changed old new name None updates q ∙ sym (finite.get-remove nat_list_cmp_total (texts_of old.entries) name q)) ∙ ap (λ held. finite.remove held name) is
+    same_map _ _ (λ q. get-changed old new name None updates q ∙ sym (finite.get-remove nat_list_cmp_total (texts_of old.entries) name q)) ∙ ap (λ held. finite.remove held name) is
 
 -- to give a name the text that it has changes nothing
 pub insert-held : (m : Variables) (name text : List ℕ) → finite.get m name ≡ Some text → finite.insert m name text ≡ m
 insert-held m name text held =
-    alike _ _ (λ q.
+    same_map _ _ (λ q.
     finite.get-insert nat_list_cmp_total m name text q ∙
     elim (slice_cmp nat_cmp q name) as (λ order. slice_cmp nat_cmp q name ≡ order → cond (is_eq order) (Some text) (finite.get m q) ≡ finite.get m q) [
       | Less ↦ λ is. refl

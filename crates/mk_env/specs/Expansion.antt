@@ -10,7 +10,7 @@ use Rattle.mk_base.specs.declared.faults.FaultKind.TheVariants as kinds
 use Rattle.mk_base.specs.Meter.{Meter, pay}
 use Rattle.mk_base.specs.Outcome.{Work, give, fail, each, ◌>>=◌}
 use Rattle.mk_text.specs.Words.{words_of}
-use Rattle.mk_ref.specs.Units.{TextUnit, sources, before_colon, behind_colon, units_of, left_of}
+use Rattle.mk_ref.specs.Units.{TextUnit, sources, before_colon, following_colon, units_of, left_of}
 use Rattle.mk_ref.specs.Pieces.{TextPiece, LiteralPiece, EscapedDollarPiece, ReferencePiece, pieces_of}
 use Rattle.mk_text.specs.declared.limits.TheConstants.{TEXT_LIMIT}
 use Rattle.mk_mods.specs.Actions.{Symbol, Byte, Whole, Reference, Action, Match, Exclude, Substitute, Change}
@@ -162,7 +162,7 @@ variable variables name = pay >>= λ _. named (reference kept.Empty 31 variables
 -- name is the units before the first colon outside references. Its modifiers are the units after that colon.
 -- If a reference inside it doesn't end, that is a fault before anything is paid.
 abbrev pub by_inside : References → List ℕ → List TextUnit → List ℕ → Work Meter FaultKind (List ℕ)
-by_inside references text units [] = references text (sources (before_colon units)) (option_map sources (behind_colon units))
+by_inside references text units [] = references text (sources (before_colon units)) (option_map sources (following_colon units))
 by_inside references text units (b ∷ left) = fail kinds.Reference
 
 -- What a reference with this inside means, if it isn't inside another reference. A mark that would close it

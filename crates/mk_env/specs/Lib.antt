@@ -2,3 +2,4 @@ pub mod Texts
 pub mod Expansion
 pub mod ActiveNames
 pub mod Refusals
+pub mod Laws

@@ -1,7 +1,7 @@
 //! Texts with their references expanded.
 ghost use Rattle.std.specs.Prelude.{◌≡◌, string_bytes};
 ghost use Rattle.mk_base.specs.Meter.{IsLater};
-ghost use Rattle.mk_base.specs.Stopping.{Gives, NeverStore};
+ghost use Rattle.mk_base.specs.Stopping.{GivesPurely};
 ghost use Rattle.mk_env.specs.Expansion as meaning;
 
 use crate::Env;
@@ -9,7 +9,7 @@ use crate::insides::mention_of;
 use crate::reading::read_modifiers;
 use crate::references::{apply_modifiers, expand_named, expand_reference, expand_text};
 use crate::scope::{Active, ExpansionScope, Undefined};
-use mk_base::{Budget, FaultKind, Stop};
+use mk_base::{Budget, FaultKind, PureStop};
 use std::alloc::Global;
 
 /// How many references may be nested, over values, names and modifiers.
@@ -38,10 +38,9 @@ pub fn expand(
     variables: &Env,
     text: &str,
     budget: &mut Budget,
-) -> Result<String, Stop<FaultKind>>
-    ensures store { NeverStore result }
+) -> Result<String, PureStop<FaultKind>>
     ensures later { IsLater budget.old budget.new }
-    ensures gives { Gives string_bytes result budget.new
+    ensures gives { GivesPurely string_bytes result budget.new
         (meaning.expand variables.now text.now budget.old) }
 {
     let scope = ExpansionScope {
@@ -61,10 +60,9 @@ pub fn expand_now(
     variables: &Env,
     text: &str,
     budget: &mut Budget,
-) -> Result<String, Stop<FaultKind>>
-    ensures store { NeverStore result }
+) -> Result<String, PureStop<FaultKind>>
     ensures later { IsLater budget.old budget.new }
-    ensures gives { Gives string_bytes result budget.new
+    ensures gives { GivesPurely string_bytes result budget.new
         (meaning.expand_now variables.now text.now budget.old) }
 {
     let scope = ExpansionScope {
@@ -83,10 +81,9 @@ pub fn expand_variable(
     variables: &Env,
     name: &str,
     budget: &mut Budget,
-) -> Result<String, Stop<FaultKind>>
-    ensures store { NeverStore result }
+) -> Result<String, PureStop<FaultKind>>
     ensures later { IsLater budget.old budget.new }
-    ensures gives { Gives string_bytes result budget.new
+    ensures gives { GivesPurely string_bytes result budget.new
         (meaning.variable variables.now name.now budget.old) }
 {
     budget.pay()?;
@@ -110,10 +107,9 @@ pub fn expand_inside(
     variables: &Env,
     inside: &str,
     budget: &mut Budget,
-) -> Result<String, Stop<FaultKind>>
-    ensures store { NeverStore result }
+) -> Result<String, PureStop<FaultKind>>
     ensures later { IsLater budget.old budget.new }
-    ensures gives { Gives string_bytes result budget.new
+    ensures gives { GivesPurely string_bytes result budget.new
         (meaning.inside variables.now inside.now budget.old) }
 {
     let mention = mention_of(alloc, inside)?;
@@ -138,10 +134,9 @@ pub fn modify(
     text: &str,
     modifiers: &str,
     budget: &mut Budget,
-) -> Result<String, Stop<FaultKind>>
-    ensures store { NeverStore result }
+) -> Result<String, PureStop<FaultKind>>
     ensures later { IsLater budget.old budget.new }
-    ensures gives { Gives string_bytes result budget.new
+    ensures gives { GivesPurely string_bytes result budget.new
         (meaning.modified_by variables.now modifiers.now text.now budget.old) }
 {
     let modifiers = read_modifiers(alloc, Some(modifiers))?;

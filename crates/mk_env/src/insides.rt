@@ -1,23 +1,26 @@
 //! References that are given by what is inside them.
 ghost use Rattle.std.specs.Prelude.{◌≡◌, ◌==◌, ◌<◌, ◌+◌, [], length, take, drop, option_map, slice_index, IfOk, IfErr, Some};
 ghost use Rattle.std.specs.List.{position};
-ghost use Rattle.mk_ref.specs.Units.{sources, before_colon, behind_colon, units_of, left_of};
+ghost use Rattle.mk_ref.specs.Units.{sources, before_colon, following_colon, units_of, left_of};
 ghost use Rattle.mk_ref.specs.Outside.{outside};
 ghost use Rattle.mk_env.specs.Refusals.{IsUncut};
 
 use crate::reading::{Mention, cut};
-use mk_base::{FaultKind, Stop};
+use mk_base::{FaultKind, PureStop};
 use mk_ref::outside;
 use std::alloc::Global;
 
 /// The reference that has this inside. A reference in it that doesn't end is a fault.
-pub(crate) fn mention_of<'a>(alloc: Global, inside: &'a str) -> Result<Mention<'a>, Stop<FaultKind>>
+pub(crate) fn mention_of<'a>(
+    alloc: Global,
+    inside: &'a str,
+) -> Result<Mention<'a>, PureStop<FaultKind>>
     ensures whole { IfOk result (λ found. left_of inside.now ≡ []) }
     ensures written { IfOk result (λ found. found.written.now ≡ inside.now) }
     ensures name { IfOk result (λ found. found.name.now
         ≡ sources (before_colon (units_of inside.now))) }
     ensures modifiers { IfOk result (λ found. option_map (λ t. t.now) found.modifiers
-        ≡ option_map sources (behind_colon (units_of inside.now))) }
+        ≡ option_map sources (following_colon (units_of inside.now))) }
     ensures err { IfErr result (IsUncut inside.now) }
 {
     let _pieces = cut(alloc, inside)?;
@@ -33,7 +36,7 @@ fn parted<'a>(inside: &'a str, plain: &[u8]) -> Mention<'a>
     ensures written { result.written.now ≡ inside.now }
     ensures name { result.name.now ≡ sources (before_colon (units_of inside.now)) }
     ensures modifiers { option_map (λ t. t.now) result.modifiers
-        ≡ option_map sources (behind_colon (units_of inside.now)) }
+        ≡ option_map sources (following_colon (units_of inside.now)) }
 {
     match first_colon(plain) {
         Some(at) => parted_at(inside, at),

@@ -2,34 +2,33 @@
 ghost use Rattle.std.specs.Prelude.{◌≡◌, ◌==◌, ◌≤◌, ◌++◌, string_bytes, length, IfOk, IfErr};
 ghost use Rattle.std.specs.List.{list_any};
 ghost use Rattle.mk_base.specs.Meter.{Meter};
-ghost use Rattle.mk_base.specs.Stopping.{Gives, NeverStore};
+ghost use Rattle.mk_base.specs.Stopping.{GivesPurely};
 ghost use Rattle.mk_env.specs.Expansion.{bounded};
 ghost use Rattle.mk_env.specs.Refusals.{IsTooLong};
 
-use mk_base::{FaultKind, Stop};
+use mk_base::{FaultKind, PureStop};
 use mk_text::{TEXT_LIMIT, TextFault, add_text};
 use std::alloc::Global;
 
 /// Adds the text to the end. It is a fault if the whole is then too long.
-pub(crate) fn push_bounded(joined: &mut String, text: &str) -> Result<(), Stop<FaultKind>>
+pub(crate) fn push_bounded(joined: &mut String, text: &str) -> Result<(), PureStop<FaultKind>>
     ensures ok { IfOk result (λ _. (length (string_bytes joined.old ++ text.now) ≤ TEXT_LIMIT)
         × (string_bytes joined.new ≡ string_bytes joined.old ++ text.now)) }
     ensures err { IfErr result (IsTooLong (string_bytes joined.old ++ text.now)) }
 {
     match add_text(joined, text) {
         Ok(()) => Ok(()),
-        Err(TextFault::Length) => Err(Stop::Fault(FaultKind::Length)),
-        Err(TextFault::Memory) => Err(Stop::Memory),
+        Err(TextFault::Length) => Err(PureStop::Fault(FaultKind::Length)),
+        Err(TextFault::Memory) => Err(PureStop::Memory),
     }
 }
 
 /// A copy of the text. It is a fault if the text is too long.
-pub(crate) fn copy_bounded(alloc: Global, text: &str) -> Result<String, Stop<FaultKind>>
-    ensures store { NeverStore result }
-    ensures gives { (m : Meter) → Gives string_bytes result m (bounded text.now m) }
+pub(crate) fn copy_bounded(alloc: Global, text: &str) -> Result<String, PureStop<FaultKind>>
+    ensures gives { (m : Meter) → GivesPurely string_bytes result m (bounded text.now m) }
 {
     if text.len() > TEXT_LIMIT {
-        return Err(Stop::Fault(FaultKind::Length));
+        return Err(PureStop::Fault(FaultKind::Length));
     }
     Ok(String::from_str(alloc, text)?)
 }

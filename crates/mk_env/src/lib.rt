@@ -4,10 +4,12 @@
 mod expansion;
 mod insides;
 mod joining;
+mod laws;
 mod reading;
 mod references;
 mod scope;
 mod variables;
 
 pub use expansion::{REFERENCE_LEVELS, expand, expand_inside, expand_now, expand_variable, modify};
+pub use laws::plain_substitution_is_applied;
 pub use variables::Env;

@@ -11,7 +11,7 @@ ghost use Rattle.mk_mods.specs.Substituted.{substituted};
 ghost use Rattle.mk_env.specs.Expansion.{actions_of};
 ghost use Rattle.mk_env.specs.Refusals.{IsUncut, IsUnread, IsUnmade};
 
-use mk_base::{FaultKind, Stop};
+use mk_base::{FaultKind, PureStop};
 use mk_mods::{Modifier, Mods, ModsFault, Substitution, apply, substitute};
 use mk_ref::{Piece, PiecesFault, Reference, pieces};
 use mk_text::TextFault;
@@ -55,7 +55,7 @@ pub(crate) fn as_written(alloc: Global, mention: Mention<'_>) -> Result<String, 
 }
 
 /// The pieces of a text. A reference that doesn't end is a fault.
-pub(crate) fn cut(alloc: Global, text: &str) -> Result<Vec<Piece>, Stop<FaultKind>>
+pub(crate) fn cut(alloc: Global, text: &str) -> Result<Vec<Piece>, PureStop<FaultKind>>
     ensures pieces { IfOk result (λ found. map (shown text.now) found.items
         ≡ pieces_of (units_of text.now)) }
     ensures whole { IfOk result (λ found. left_of text.now ≡ []) }
@@ -64,8 +64,8 @@ pub(crate) fn cut(alloc: Global, text: &str) -> Result<Vec<Piece>, Stop<FaultKin
 {
     match pieces(alloc, text) {
         Ok(found) => Ok(found),
-        Err(PiecesFault::Unclosed { at: _ }) => Err(Stop::Fault(FaultKind::Reference)),
-        Err(PiecesFault::Memory) => Err(Stop::Memory),
+        Err(PiecesFault::Unclosed { at: _ }) => Err(PureStop::Fault(FaultKind::Reference)),
+        Err(PiecesFault::Memory) => Err(PureStop::Memory),
     }
 }
 
@@ -74,7 +74,7 @@ pub(crate) fn cut(alloc: Global, text: &str) -> Result<Vec<Piece>, Stop<FaultKin
 pub(crate) fn read_modifiers(
     alloc: Global,
     text: Option<&str>,
-) -> Result<Vec<Modifier>, Stop<FaultKind>>
+) -> Result<Vec<Modifier>, PureStop<FaultKind>>
     ensures ok { IfOk result (λ found. actions_of (option_map (λ t. t.now) text.entry)
         ≡ Some (map action_of found.items)) }
     ensures err { IfErr result (IsUnread (actions_of (option_map (λ t. t.now) text.entry))) }
@@ -84,8 +84,8 @@ pub(crate) fn read_modifiers(
     };
     match Mods::read(alloc, text) {
         Ok(mods) => Ok(mods.modifiers),
-        Err(ModsFault::BadMod) => Err(Stop::Fault(FaultKind::Modifier)),
-        Err(ModsFault::Memory) => Err(Stop::Memory),
+        Err(ModsFault::BadMod) => Err(PureStop::Fault(FaultKind::Modifier)),
+        Err(ModsFault::Memory) => Err(PureStop::Memory),
     }
 }
 
@@ -94,7 +94,7 @@ pub(crate) fn apply_expanded(
     alloc: Global,
     modifier: &Modifier,
     value: &str,
-) -> Result<String, Stop<FaultKind>>
+) -> Result<String, PureStop<FaultKind>>
     requires { IsExpanded (action_of modifier.now) }
     ensures ok { IfOk result (λ made. applied (action_of modifier.now) value.now
         ≡ Some (string_bytes made)) }
@@ -102,8 +102,8 @@ pub(crate) fn apply_expanded(
 {
     match apply(alloc, modifier, value) {
         Ok(made) => Ok(made),
-        Err(TextFault::Length) => Err(Stop::Fault(FaultKind::Length)),
-        Err(TextFault::Memory) => Err(Stop::Memory),
+        Err(TextFault::Length) => Err(PureStop::Fault(FaultKind::Length)),
+        Err(TextFault::Memory) => Err(PureStop::Memory),
     }
 }
 
@@ -114,7 +114,7 @@ pub(crate) fn apply_substitution(
     old: &str,
     new: &str,
     value: &str,
-) -> Result<String, Stop<FaultKind>>
+) -> Result<String, PureStop<FaultKind>>
     ensures ok { IfOk result (λ made. within_limit
         (joined (substituted (replacement_of substitution.now) old.now new.now
         (words_of value.now))) ≡ Some (string_bytes made)) }
@@ -124,7 +124,7 @@ pub(crate) fn apply_substitution(
 {
     match substitute(alloc, substitution, old, new, value) {
         Ok(made) => Ok(made),
-        Err(TextFault::Length) => Err(Stop::Fault(FaultKind::Length)),
-        Err(TextFault::Memory) => Err(Stop::Memory),
+        Err(TextFault::Length) => Err(PureStop::Fault(FaultKind::Length)),
+        Err(TextFault::Memory) => Err(PureStop::Memory),
     }
 }

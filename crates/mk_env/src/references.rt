@@ -4,7 +4,7 @@ ghost use Rattle.std.specs.List.{flat_map};
 ghost use Rattle.std.specs.FinMap as finite;
 ghost use Rattle.mk_base.specs.Outcome.{each};
 ghost use Rattle.mk_base.specs.Meter.{Meter, IsLater};
-ghost use Rattle.mk_base.specs.Stopping.{Gives, NeverStore};
+ghost use Rattle.mk_base.specs.Stopping.{GivesPurely};
 ghost use Rattle.mk_ref.specs.Places.{shown, IsPieceIn};
 ghost use Rattle.mk_mods.specs.Actions.{action_of, symbols_of};
 ghost use Rattle.mk_env.specs.declared.scope.Undefined.TheVariants as kept;
@@ -16,7 +16,7 @@ use crate::reading::{
     Mention, apply_expanded, apply_substitution, as_written, cut, mentioned, read_modifiers,
 };
 use crate::scope::{Active, ExpansionScope};
-use mk_base::{Budget, FaultKind, Stop};
+use mk_base::{Budget, FaultKind, PureStop};
 use mk_mods::{Modifier, Part};
 use mk_ref::Piece;
 use mk_text::TEXT_LIMIT;
@@ -29,10 +29,9 @@ pub(crate) fn expand_text(
     scope: ExpansionScope<'_>,
     text: &str,
     budget: &mut Budget,
-) -> Result<String, Stop<FaultKind>>
-    ensures store { NeverStore result }
+) -> Result<String, PureStop<FaultKind>>
     ensures later { IsLater budget.old budget.new }
-    ensures gives { Gives string_bytes result budget.new
+    ensures gives { GivesPurely string_bytes result budget.new
         (meaning.text_meaning (references_in scope.entry) text.now budget.old) }
 {
     // Without a dollar the text is its one literal.
@@ -55,11 +54,10 @@ fn join_piece(
     text: &str,
     piece: &Piece,
     budget: &mut Budget,
-) -> Result<(), Stop<FaultKind>>
+) -> Result<(), PureStop<FaultKind>>
     requires { IsPieceIn text.now piece.now }
-    ensures store { NeverStore result }
     ensures later { IsLater budget.old budget.new }
-    ensures gives { Gives (λ _. string_bytes joined.new) result budget.new
+    ensures gives { GivesPurely (λ _. string_bytes joined.new) result budget.new
         (meaning.join_piece (references_in scope.entry) (string_bytes joined.old)
         (shown text.now piece.now) budget.old) }
 {
@@ -81,10 +79,9 @@ pub(crate) fn expand_reference(
     scope: ExpansionScope<'_>,
     mention: Mention<'_>,
     budget: &mut Budget,
-) -> Result<String, Stop<FaultKind>>
-    ensures store { NeverStore result }
+) -> Result<String, PureStop<FaultKind>>
     ensures later { IsLater budget.old budget.new }
-    ensures gives { Gives string_bytes result budget.new
+    ensures gives { GivesPurely string_bytes result budget.new
         (references_in scope.entry mention.entry.written.now mention.entry.name.now
         (option_map (λ t. t.now) mention.entry.modifiers) budget.old) }
 {
@@ -99,16 +96,18 @@ pub(crate) fn expand_reference(
 
 /// Spends the unit of a reference, and checks that it isn't nested too deep.
 #[tactic(auto, unfolding(crate::specs::Expansion::begin))]
-fn begin_reference(scope: ExpansionScope<'_>, budget: &mut Budget) -> Result<(), Stop<FaultKind>>
-    ensures store { NeverStore result }
+fn begin_reference(
+    scope: ExpansionScope<'_>,
+    budget: &mut Budget,
+) -> Result<(), PureStop<FaultKind>>
     ensures later { IsLater budget.old budget.new }
     ensures inside { IfOk result (λ _. scope.entry.levels ≢ 0) }
-    ensures gives { Gives (λ _. tt) result budget.new
+    ensures gives { GivesPurely (λ _. tt) result budget.new
         (meaning.begin scope.entry.levels budget.old) }
 {
     budget.pay()?;
     if scope.levels == 0 {
-        return Err(Stop::Fault(FaultKind::Depth));
+        return Err(PureStop::Fault(FaultKind::Depth));
     }
     Ok(())
 }
@@ -121,11 +120,10 @@ fn expand_by_name(
     mention: Mention<'_>,
     name: &str,
     budget: &mut Budget,
-) -> Result<String, Stop<FaultKind>>
+) -> Result<String, PureStop<FaultKind>>
     requires { scope.levels ≢ 0 }
-    ensures store { NeverStore result }
     ensures later { IsLater budget.old budget.new }
-    ensures gives { Gives string_bytes result budget.new
+    ensures gives { GivesPurely string_bytes result budget.new
         (meaning.by_name scope.entry.undefined
         (meaning.reference kept.Empty
         (scope.entry.levels - 1) scope.entry.variables.now) scope.entry.variables.now
@@ -146,11 +144,10 @@ pub(crate) fn expand_named(
     name: &str,
     modifiers: Option<&str>,
     budget: &mut Budget,
-) -> Result<String, Stop<FaultKind>>
+) -> Result<String, PureStop<FaultKind>>
     requires { scope.undefined ≡ kept.Empty }
-    ensures store { NeverStore result }
     ensures later { IsLater budget.old budget.new }
-    ensures gives { Gives string_bytes result budget.new
+    ensures gives { GivesPurely string_bytes result budget.new
         (meaning.named
         (meaning.reference kept.Empty scope.entry.levels scope.entry.variables.now)
         scope.entry.variables.now (names_of scope.entry.active) name.now
@@ -167,15 +164,14 @@ fn modifiers_for(
     scope: ExpansionScope<'_>,
     name: &str,
     modifiers: Option<&str>,
-) -> Result<Vec<Modifier>, Stop<FaultKind>>
-    ensures store { NeverStore result }
+) -> Result<Vec<Modifier>, PureStop<FaultKind>>
     ensures gives { (m : Meter)
-        → Gives (λ found. map action_of found.items) result m
+        → GivesPurely (λ found. map action_of found.items) result m
         (meaning.modifiers_for (names_of scope.entry.active) name.now
         (option_map (λ t. t.now) modifiers.entry) m) }
 {
     if scope.active.contains(name) {
-        return Err(Stop::Fault(FaultKind::Recursive));
+        return Err(PureStop::Fault(FaultKind::Recursive));
     }
     read_modifiers(alloc, modifiers)
 }
@@ -187,11 +183,10 @@ fn expand_value(
     scope: ExpansionScope<'_>,
     name: &str,
     budget: &mut Budget,
-) -> Result<String, Stop<FaultKind>>
+) -> Result<String, PureStop<FaultKind>>
     requires { scope.undefined ≡ kept.Empty }
-    ensures store { NeverStore result }
     ensures later { IsLater budget.old budget.new }
-    ensures gives { Gives string_bytes result budget.new
+    ensures gives { GivesPurely string_bytes result budget.new
         (meaning.value_meaning
         (meaning.reference kept.Empty scope.entry.levels scope.entry.variables.now
         (name.now ∷ names_of scope.entry.active))
@@ -217,10 +212,9 @@ pub(crate) fn apply_modifiers(
     value: String,
     modifiers: &[Modifier],
     budget: &mut Budget,
-) -> Result<String, Stop<FaultKind>>
-    ensures store { NeverStore result }
+) -> Result<String, PureStop<FaultKind>>
     ensures later { IsLater budget.old budget.new }
-    ensures gives { Gives string_bytes result budget.new
+    ensures gives { GivesPurely string_bytes result budget.new
         (each (meaning.modified (references_in scope.entry)) (string_bytes value)
         (map action_of modifiers.now) budget.old) }
 {
@@ -239,10 +233,9 @@ fn apply_modifier(
     value: &str,
     modifier: &Modifier,
     budget: &mut Budget,
-) -> Result<String, Stop<FaultKind>>
-    ensures store { NeverStore result }
+) -> Result<String, PureStop<FaultKind>>
     ensures later { IsLater budget.old budget.new }
-    ensures gives { Gives string_bytes result budget.new
+    ensures gives { GivesPurely string_bytes result budget.new
         (meaning.modified (references_in scope.entry) value.now
         (action_of modifier.now) budget.old) }
 {
@@ -272,10 +265,9 @@ fn expand_parts(
     parts: &[Part],
     old: &str,
     budget: &mut Budget,
-) -> Result<String, Stop<FaultKind>>
-    ensures store { NeverStore result }
+) -> Result<String, PureStop<FaultKind>>
     ensures later { IsLater budget.old budget.new }
-    ensures gives { Gives string_bytes result budget.new
+    ensures gives { GivesPurely string_bytes result budget.new
         (meaning.symbols_meaning (references_in scope.entry) old.now
         (flat_map symbols_of parts.now) budget.old) }
 {
@@ -295,12 +287,11 @@ fn join_part(
     part: &Part,
     old: &str,
     budget: &mut Budget,
-) -> Result<(), Stop<FaultKind>>
+) -> Result<(), PureStop<FaultKind>>
     requires small { length (string_bytes joined.old) ≤ TEXT_LIMIT }
     ensures small { IfOk result (λ _. length (string_bytes joined.new) ≤ TEXT_LIMIT) }
-    ensures store { NeverStore result }
     ensures later { IsLater budget.old budget.new }
-    ensures gives { Gives (λ _. string_bytes joined.new) result budget.new
+    ensures gives { GivesPurely (λ _. string_bytes joined.new) result budget.new
         (each (meaning.join_symbol (references_in scope.entry) old.now) (string_bytes joined.old)
         (symbols_of part.now) budget.old) }
 {

@@ -16,8 +16,8 @@ use Rattle.mk_files.specs.Asking.{Account, account, beside}
 use Rattle.mk_files.specs.Looking.{AfterQuestions, LeavesAtStop}
 use Rattle.mk_eval.specs.Telling.{FailsWith, LeavesAsked, with_cost}
 use Rattle.mk_eval.specs.declared.outcome.Failed.{Failed}
-use Rattle.mk_eval.specs.declared.standing.EvalState.{EvalState}
-use Rattle.mk_eval.specs.Meaning.{evaluation, evaluated, fresh, means, asked}
+use Rattle.mk_eval.specs.declared.state.EvalState.{EvalState}
+use Rattle.mk_eval.specs.Meaning.{evaluation, evaluated, fresh, means, questions_asked}
 use Rattle.mk_eval.specs.Sharing.{Agrees, cost_of, questions_of, IsTheSameWhereAnswered}
 use Rattle.mk_eval.proofs.Shared.{Shared, with_questions}
 use Rattle.mk_eval.proofs.SharedEvaluation.{shared-evaluation}
@@ -54,34 +54,34 @@ module _ (files other : FileMap) (settings : Settings) (name : List ℕ) (flavor
       ∙ evaluated-beside (with_questions log (both.asks (full UNITS))) (with_questions None (both.asks (full UNITS))) (both.ends (full UNITS))
       ∙ sym (ap evaluated (both.is (full UNITS) None))
 
-  asked-is : (limit : ℕ) → asked (files, settings) name flavors limit ≡ both.asks (full limit)
+  asked-is : (limit : ℕ) → questions_asked (files, settings) name flavors limit ≡ both.asks (full limit)
   asked-is limit =
       ap (λ (end : Result (EvalState × Account) (FaultAt × Account)). unwrap_or (left end).log []) (both.is (full limit) (Some []))
       ∙ ap (λ log. unwrap_or log []) (log-beside (Some ([] ++ both.asks (full limit))) (both.ends (full limit)))
 
   -- under the whole budget the same is asked as under one of what is spent
-  asked-whole : both.asks (full UNITS) ≡ asked (files, settings) name flavors spending
+  asked-whole : both.asks (full UNITS) ≡ questions_asked (files, settings) name flavors spending
   asked-whole =
       let few : spending ≤ UNITS = both.steady.within (full UNITS) (omega arith) in
       sym (both.same (full UNITS) spending few (omega arith)) ∙ sym (asked-is spending)
 
   -- what is left of a log
   log-left : (log : Option (List Question)) (end : Result (EvalState × Account) (FaultAt × Account)) → evaluation (files, settings) name flavors (fresh UNITS log) ≡ end
-      → (left end).log ≡ with_questions log (asked (files, settings) name flavors (left end).meter.spent)
+      → (left end).log ≡ with_questions log (questions_asked (files, settings) name flavors (left end).meter.spent)
   log-left log end is =
       let whole = sym is ∙ both.is (full UNITS) log in
       let left_by = with_questions log (both.asks (full UNITS)) in
       let spends : (left end).meter.spent ≡ spending = ap (λ (end : Result (EvalState × Account) (FaultAt × Account)). (left end).meter.spent) whole ∙ ap (λ (m : Meter). m.spent) (meter-beside left_by (both.ends (full UNITS))) in
       ap (λ (end : Result (EvalState × Account) (FaultAt × Account)). (left end).log) whole
       ∙ log-beside left_by (both.ends (full UNITS))
-      ∙ ap (with_questions log) (asked-whole ∙ ap (asked (files, settings) name flavors) (sym spends))
+      ∙ ap (with_questions log) (asked-whole ∙ ap (questions_asked (files, settings) name flavors) (sym spends))
 
   cost-is : cost_of (means (files, settings) name flavors) ≡ spending
   cost-is = ap (λ end. cost_of (evaluated end)) (both.is (full UNITS) None) ∙ cost-beside (with_questions None (both.asks (full UNITS))) (both.ends (full UNITS))
 
   module _ (agrees : Agrees other (questions_of files settings name flavors)) where
     ends-alike : evaluation (other, settings) name flavors (fresh UNITS None) ≡ evaluation (files, settings) name flavors (fresh UNITS None)
-    ends-alike = both.shared (full UNITS) None (subst (Agrees other) (ap (asked (files, settings) name flavors) cost-is ∙ sym asked-whole) agrees)
+    ends-alike = both.shared (full UNITS) None (subst (Agrees other) (ap (questions_asked (files, settings) name flavors) cost-is ∙ sym asked-whole) agrees)
 
     means-alike : means (other, settings) name flavors ≡ means (files, settings) name flavors
     means-alike = ap evaluated ends-alike
@@ -90,13 +90,13 @@ module _ (files other : FileMap) (settings : Settings) (name : List ℕ) (flavor
     abbrev cost : ℕ
     cost = cost_of (means (files, settings) name flavors)
 
-    asked-alike : asked (other, settings) name flavors cost ≡ asked (files, settings) name flavors cost
+    asked-alike : questions_asked (other, settings) name flavors cost ≡ questions_asked (files, settings) name flavors cost
     asked-alike =
         ap (λ (end : Result (EvalState × Account) (FaultAt × Account)). unwrap_or (left end).log [])
         (both.shared (full cost) (Some []) (subst (Agrees other) (asked-is cost) agrees))
 
     questions-alike : questions_of other settings name flavors ≡ questions_of files settings name flavors
-    questions-alike = ap (λ known. asked (other, settings) name flavors (cost_of known)) means-alike ∙ asked-alike
+    questions-alike = ap (λ known. questions_asked (other, settings) name flavors (cost_of known)) means-alike ∙ asked-alike
 
 pub same-where-answered : IsTheSameWhereAnswered
 same-where-answered files other settings name flavors agrees = (means-alike files other settings name flavors agrees, questions-alike files other settings name flavors agrees)
@@ -115,11 +115,11 @@ module _ (settings : Settings) (name : List ℕ) (flavors : Option (List (List �
 
   -- what it leaves of the files
   pub files-ended : (begun : Meter) (spent : ℕ) (end : Result (EvalState × Account) (FaultAt × Account)) → begun ≡ full UNITS → evaluation (old.files, settings) name flavors (account begun old) ≡ end
-      → (left end).log ≡ new.log → (left end).meter.spent ≡ spent → AfterQuestions old new → new ≡ noted old (asked (old.files, settings) name flavors spent)
+      → (left end).log ≡ new.log → (left end).meter.spent ≡ spent → AfterQuestions old new → new ≡ noted old (questions_asked (old.files, settings) name flavors spent)
   files-ended begun spent end is ends log cost asks =
-      noted-by old new (asked (old.files, settings) name flavors spent) asks
+      noted-by old new (questions_asked (old.files, settings) name flavors spent) asks
       (sym log ∙ log-left old.files old.files settings name flavors old.log end (ap (λ m. evaluation (old.files, settings) name flavors (record { meter = m; log = old.log })) (sym is) ∙ ends)
-      ∙ ap (λ spent. with_questions old.log (asked (old.files, settings) name flavors spent)) cost)
+      ∙ ap (λ spent. with_questions old.log (questions_asked (old.files, settings) name flavors spent)) cost)
 
   module _ (begun end : Meter) (spent : ℕ) (is : begun ≡ full UNITS) (cost : spent ≡ end.spent) where
     pub fails-with : (stop : Stop FaultAt) (told : Stop Failed) → told ≡ with_cost spent stop → StopsAt stop (account end new) (evaluation (old.files, settings) name flavors (account begun old))
@@ -130,7 +130,7 @@ module _ (settings : Settings) (name : List ℕ) (flavors : Option (List (List �
     fails-with stops.Memory told same ends = rw same tt
 
     pub leaves-at : (may : FilesFault → Type 0) (stop : Stop FaultAt) (told : Stop Failed) → told ≡ with_cost spent stop → StopsAt stop (account end new) (evaluation (old.files, settings) name flavors (account begun old))
-        → LeavesAtStop may old new stop → LeavesAsked may old new (asked (old.files, settings) name flavors) (Err told)
+        → LeavesAtStop may old new stop → LeavesAsked may old new (questions_asked (old.files, settings) name flavors) (Err told)
     leaves-at may (stops.Fault fault) told same ends leaves =
         rw same (files-ended begun spent (Err (fault, account end new)) is ends refl (sym cost) leaves)
     leaves-at may stops.Store told same ends leaves = rw same leaves

@@ -1,7 +1,7 @@
 -- Work that may ask about files, in two worlds: what it asks, and how it ends, depends on its meter alone, what it asks joins the log behind
 -- what is there, and where the other world gives the same answers the other work is the same.
 use Rattle.std.proofs.Common.{◌≡◌, ◌≤◌, ◌∙◌, ◌++◌, ℕ, Bool, true, false, List, [], ◌∷◌, Option, Some, None, option_map, Result, Ok, Err, if◌then◌else◌, refl, sym, ap, subst, arith, append-nil, append_assoc}
-use Rattle.mk_base.specs.Meter.{Meter, question}
+use Rattle.mk_base.specs.Meter.{Meter}
 use Rattle.mk_base.specs.Outcome.{Work, give, fail, after, each, tell, left, ◌>>=◌}
 use Rattle.mk_paths.specs.World.{FileMap}
 use Rattle.std.specs.FinMap.{get, contains_key}
@@ -27,9 +27,9 @@ pub agrees-front : (files : FileMap) (first second : List Question) → Agrees f
 agrees-front files [] second agrees = tt
 agrees-front files (one ∷ first) second agrees = (agrees.0, agrees-front files first second agrees.1)
 
-pub agrees-behind : (files : FileMap) (first second : List Question) → Agrees files (first ++ second) → Agrees files second
-agrees-behind files [] second agrees = agrees
-agrees-behind files (one ∷ first) second agrees = agrees-behind files first second agrees.1
+pub agrees-after : (files : FileMap) (first second : List Question) → Agrees files (first ++ second) → Agrees files second
+agrees-after files [] second agrees = agrees
+agrees-after files (one ∷ first) second agrees = agrees-after files first second agrees.1
 
 -- work among some files, and the same work among other files
 pub record Shared {A F : Type 0} (other : FileMap) (work again : Work Account F A) : Type 0 where
@@ -121,7 +121,7 @@ module _ {A B F : Type 0} (other : FileMap) (work again : Work Account F A) (nex
   both_shared m log agrees =
       let here = with_questions log (first.asks m) in
       ap (λ r. after r onward) (first.shared m log (agrees-front other (first.asks m) (behind (first.ends m)) agrees) ∙ first.is m log)
-      ∙ follows here (first.ends m) (agrees-behind other (first.asks m) (behind (first.ends m)) agrees)
+      ∙ follows here (first.ends m) (agrees-after other (first.asks m) (behind (first.ends m)) agrees)
       ∙ ap (λ r. after r next) (sym (first.is m log))
 
   pub shared-bind : Shared other (work >>= next) (again >>= onward)

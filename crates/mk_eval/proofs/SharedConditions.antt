@@ -15,11 +15,10 @@ use Rattle.cond_grammar.specs.declared.tokens.Side.{Side}
 use Rattle.cond_grammar.specs.declared.tokens.Side.TheVariants.{Quoted, Bare}
 use Rattle.cond_grammar.specs.Trees.{OrTree, OrOf, LaterAnds, NoAnds, MoreAnds, AndTree, AndOf, LaterNots, NoNots, MoreNots, NotTree, Negated, Grouped, Called, Compared, Alone}
 use Rattle.cond_grammar.specs.Conditions.{tree_in}
-use Rattle.mk_cond.specs.Forms.{parted}
 use Rattle.mk_cond.specs.Numbers.{number_of}
 use Rattle.mk_cond.specs.Leaves.{Surroundings, is_there, called, known, compared, has_reference, lone, bare, alone}
 use Rattle.mk_cond.specs.Truths.{or_truth, later_ands_truth, and_truth, later_nots_truth, not_truth}
-use Rattle.mk_cond.specs.Truth.{readable, tree_read, condition_truth, directive_truth, truth}
+use Rattle.mk_cond.specs.Truth.{readable, tree_read, condition_truth, parts_truth}
 use Rattle.mk_eval.proofs.Steady as steady
 use Rattle.mk_eval.proofs.Steady.{Steady, steady-give, steady-fail}
 use Rattle.mk_eval.proofs.SteadyTexts.{steady-expand, steady-inside}
@@ -98,10 +97,7 @@ unfolding condition_truth
 shared-condition other s = bind (shared-tree_read other s.text (left_of s.text)) (shared-or other s)
 
 module _ (files other : FileMap) (variables : Variables) (makefile : List ℕ) where
-  shared-directive : (parts : Option (_ × List ℕ)) → Shared other (directive_truth variables files makefile parts) (directive_truth variables other makefile parts)
-  shared-directive None = shared-fail other kinds.Condition
-  shared-directive (Some (form, text)) =
+  pub shared-parts : (parts : Option (_ × List ℕ)) → Shared other (parts_truth variables files makefile parts) (parts_truth variables other makefile parts)
+  shared-parts None = shared-fail other kinds.Condition
+  shared-parts (Some (form, text)) =
       bind (shared-condition other (record { variables = variables; files = files; makefile = makefile; text = text; word = form.word })) (λ held. shared-give other _)
-
-  pub shared-truth : (text : List ℕ) → Shared other (truth variables files makefile text) (truth variables other makefile text)
-  shared-truth text = shared-directive (parted text)

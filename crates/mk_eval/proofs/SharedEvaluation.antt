@@ -1,5 +1,5 @@
 -- What an evaluation asks, and how it ends, depends on its meter alone, and is shared by every world that answers the same.
-use Rattle.std.proofs.Common.{ℕ, suc, zero, Bool, true, List, Option, Some, None, Result, Ok, Err, codes}
+use Rattle.std.proofs.Common.{ℕ, suc, zero, Bool, true, List, Option, Some, None, option_map, Result, Ok, Err, codes}
 use Rattle.mk_base.specs.declared.faults.FaultKind.TheVariants as kinds
 use Rattle.mk_base.specs.FaultAt.{FaultAt}
 use Rattle.mk_text.specs.Lines.{LogicalLine}
@@ -13,16 +13,16 @@ use Rattle.mk_paths.specs.declared.file_name.NameFault.{NameFault}
 use Rattle.mk_paths.specs.World.{FileMap}
 use Rattle.mk_paths.specs.declared.search_path.Settings.{Settings}
 use Rattle.mk_files.specs.Asking.{Account}
-use Rattle.mk_eval.specs.declared.standing.EvalState.{EvalState}
+use Rattle.mk_eval.specs.declared.state.EvalState.{EvalState}
 use Rattle.mk_eval.specs.Lines.{Loops, Request, inside_turn}
-use Rattle.mk_eval.specs.Heads.{judge, condition_text}
+use Rattle.mk_eval.specs.Heads.{judge, form_in}
 use Rattle.mk_eval.specs.Includes.{Form, OwnFile, PortFile, SubdirFile, SystemFile, NoForm, form_of, Place, Opened, deep_enough, named, found, open_named, open_own, open_shared, open_port, first_port, open_form, open_request}
 use Rattle.mk_eval.specs.Execution.{LineWorks, execute_tree, execute, execute_branches}
 use Rattle.mk_eval.specs.Meaning.{at, Entering, enter, open_line, works_at, execute_read, nothing_entered, file_meaning, makefile_meaning, opening, evaluation}
 use Rattle.mk_eval.proofs.Steady.{steady-pay}
 use Rattle.mk_eval.proofs.SteadyLoops.{steady-perform, steady-head_text, steady-turns}
 use Rattle.mk_eval.proofs.Shared.{Shared, shared-quietly, shared-give, shared-fail, shared-tell, shared-ask_read, shared-look_read, bind, either, over}
-use Rattle.mk_eval.proofs.SharedConditions.{shared-truth}
+use Rattle.mk_eval.proofs.SharedConditions.{shared-parts}
 
 module _ (other : FileMap) where
   shared-deep_enough : (levels : ℕ) → Shared other (deep_enough levels) (deep_enough levels)
@@ -33,45 +33,45 @@ module _ (other : FileMap) where
   shared-named (Ok name) = shared-give other name
   shared-named (Err fault) = shared-fail other kinds.Include
 
-  shared-found : (standing : EvalState) (optional : Bool) (name : List ℕ) (bytes : Option (List ℕ)) → Shared other (found standing optional name bytes) (found standing optional name bytes)
-  shared-found standing optional name (Some bytes) = shared-give other _
-  shared-found standing optional name None = either optional (shared-give other _) (shared-fail other kinds.Include)
+  shared-found : (state : EvalState) (optional : Bool) (name : List ℕ) (bytes : Option (List ℕ)) → Shared other (found state optional name bytes) (found state optional name bytes)
+  shared-found state optional name (Some bytes) = shared-give other _
+  shared-found state optional name None = either optional (shared-give other _) (shared-fail other kinds.Include)
 
 -- the same place among other files
 abbrev among : FileMap → Place → Place
 among other place = record place { files = other }
 
 module _ (files other : FileMap) where
-  shared-open_named : (standing : EvalState) (optional : Bool) (name : List ℕ) → Shared other (open_named files standing optional name) (open_named other standing optional name)
-  shared-open_named standing optional name = bind (shared-ask_read files other name) (shared-found other standing optional name)
+  shared-open_named : (state : EvalState) (optional : Bool) (name : List ℕ) → Shared other (open_named files state optional name) (open_named other state optional name)
+  shared-open_named state optional name = bind (shared-ask_read files other name) (shared-found other state optional name)
 
-shared-open_shared : (other : FileMap) (place : Place) (standing : EvalState) (name : Result (List ℕ) NameFault) → Shared other (open_shared place standing name) (open_shared (among other place) standing name)
-shared-open_shared other place standing (Err fault) = shared-give other _
-shared-open_shared other place standing (Ok name) = bind (shared-deep_enough other place.levels) (λ _. shared-open_named place.files other standing true name)
+shared-open_shared : (other : FileMap) (place : Place) (state : EvalState) (name : Result (List ℕ) NameFault) → Shared other (open_shared place state name) (open_shared (among other place) state name)
+shared-open_shared other place state (Err fault) = shared-give other _
+shared-open_shared other place state (Ok name) = bind (shared-deep_enough other place.levels) (λ _. shared-open_named place.files other state true name)
 
-shared-open_port : (other : FileMap) (place : Place) (standing : EvalState) → Shared other (open_port place standing) (open_port (among other place) standing)
-shared-open_port other place standing =
-    either standing.shared_asked (shared-give other _) (shared-open_shared other place (first_port standing) (resolved (name_under (directory_of place.makefile) (codes "../Makefile.inc"))))
+shared-open_port : (other : FileMap) (place : Place) (state : EvalState) → Shared other (open_port place state) (open_port (among other place) state)
+shared-open_port other place state =
+    either state.shared_asked (shared-give other _) (shared-open_shared other place (first_port state) (resolved (name_under (directory_of place.makefile) (codes "../Makefile.inc"))))
 
-module _ (other : FileMap) (place : Place) (standing : EvalState) where
-  shared-open_own : (optional : Bool) (file : List ℕ) → Shared other (open_own place standing optional file) (open_own (among other place) standing optional file)
+module _ (other : FileMap) (place : Place) (state : EvalState) where
+  shared-open_own : (optional : Bool) (file : List ℕ) → Shared other (open_own place state optional file) (open_own (among other place) state optional file)
   shared-open_own optional file =
-      bind (shared-deep_enough other place.levels) (λ _. bind (shared-named other (resolved (name_under (directory_of place.file) file))) (shared-open_named place.files other standing optional))
+      bind (shared-deep_enough other place.levels) (λ _. bind (shared-named other (resolved (name_under (directory_of place.file) file))) (shared-open_named place.files other state optional))
 
-  shared-open_form : (optional : Bool) (form : Form) → Shared other (open_form place standing optional form) (open_form (among other place) standing optional form)
+  shared-open_form : (optional : Bool) (form : Form) → Shared other (open_form place state optional form) (open_form (among other place) state optional form)
   shared-open_form optional (OwnFile file) = shared-open_own optional file
-  shared-open_form optional PortFile = shared-open_port other place standing
+  shared-open_form optional PortFile = shared-open_port other place state
   shared-open_form optional SubdirFile = shared-give other _
   shared-open_form optional SystemFile = shared-give other _
   shared-open_form optional NoForm = shared-fail other kinds.Include
 
-  shared-open_request : (request : Option Request) → Shared other (open_request place standing request) (open_request (among other place) standing request)
+  shared-open_request : (request : Option Request) → Shared other (open_request place state request) (open_request (among other place) state request)
   shared-open_request None = shared-give other _
   shared-open_request (Some request) = shared-open_form request.optional (form_of request.text)
 
 -- what a file does that is included, among these files and among others
 pub record EntersShared (other : FileMap) (entering again : Entering) : Type 0 where
-  pub all : (name bytes : List ℕ) (standing : EvalState) → Shared other (entering name bytes standing) (again name bytes standing)
+  pub all : (name bytes : List ℕ) (state : EvalState) → Shared other (entering name bytes state) (again name bytes state)
 
 -- what lines do, among these files and among others
 pub record AreShared {S : Type 0} (other : FileMap) (works again : LineWorks Account FaultAt S) : Type 0 where
@@ -99,40 +99,40 @@ module _ {S : Type 0} (other : FileMap) (works again : LineWorks Account FaultAt
 
 shared-judge : (files other : FileMap) (makefile : List ℕ) (variables : Variables) (loops : Loops) (line : List ℕ) → Shared other (judge files makefile variables loops line) (judge other makefile variables loops line)
 shared-judge files other makefile variables loops line =
-    bind (shared-quietly other (steady-head_text variables loops (line_kind line))) (λ text. shared-truth files other variables makefile (condition_text (line_kind line) text))
+    bind (shared-quietly other (steady-head_text variables loops (line_kind line))) (λ text. shared-parts files other variables makefile (option_map (λ form. (form, text)) (form_in (line_kind line))))
 
 module _ (other : FileMap) (entering again : Entering) (enters : EntersShared other entering again) where
   shared-enter : (opened : Opened) → Shared other (enter entering opened) (enter again opened)
-  shared-enter (standing, None) = shared-give other standing
-  shared-enter (standing, Some file) = enters.all file.0 file.1 standing
+  shared-enter (state, None) = shared-give other state
+  shared-enter (state, Some file) = enters.all file.0 file.1 state
 
-  shared-open_line : (place : Place) (loops : Loops) (line : LogicalLine) (standing : EvalState) → Shared other (open_line place loops line standing) (open_line (among other place) loops line standing)
-  shared-open_line place loops line standing =
-      bind (shared-quietly other (steady-perform standing.variables loops line.text)) (λ done. shared-open_request other place (record standing { variables = done.0 }) done.1)
+  shared-open_line : (place : Place) (loops : Loops) (line : LogicalLine) (state : EvalState) → Shared other (open_line place loops line state) (open_line (among other place) loops line state)
+  shared-open_line place loops line state =
+      bind (shared-quietly other (steady-perform state.variables loops line.text)) (λ done. shared-open_request other place (record state { variables = done.0 }) done.1)
 
   works-shared : (place : Place) → AreShared other (works_at entering place) (works_at again (among other place))
   works-shared place = record {
-    performs = λ loops line standing. bind (shared-tell (at place.file line.line) (shared-open_line place loops line standing)) shared-enter;
-    holds = λ loops line standing. shared-tell (at place.file line.line) (shared-judge place.files other place.makefile standing.variables loops line.text);
-    turns = λ loops line standing. shared-tell (at place.file line.line) (shared-quietly other (steady-turns standing.variables loops line.text));
+    performs = λ loops line state. bind (shared-tell (at place.file line.line) (shared-open_line place loops line state)) shared-enter;
+    holds = λ loops line state. shared-tell (at place.file line.line) (shared-judge place.files other place.makefile state.variables loops line.text);
+    turns = λ loops line state. shared-tell (at place.file line.line) (shared-quietly other (steady-turns state.variables loops line.text));
     begins = λ line. shared-tell (at place.file line.line) (shared-quietly other steady-pay);
   }
 
-  shared-read : (place : Place) (found : Result Block ParseFault) (standing : EvalState) → Shared other (execute_read entering place found standing) (execute_read again (among other place) found standing)
-  shared-read place (Ok block) standing = shared-block other (works_at entering place) (works_at again (among other place)) (works-shared place) block None standing
-  shared-read place (Err fault) standing = shared-fail other _
+  shared-read : (place : Place) (found : Result Block ParseFault) (state : EvalState) → Shared other (execute_read entering place found state) (execute_read again (among other place) found state)
+  shared-read place (Ok block) state = shared-block other (works_at entering place) (works_at again (among other place)) (works-shared place) block None state
+  shared-read place (Err fault) state = shared-fail other _
 
 nothing-shared : (other : FileMap) → EntersShared other nothing_entered nothing_entered
-nothing-shared other = record { all = λ name bytes standing. shared-give other standing }
+nothing-shared other = record { all = λ name bytes state. shared-give other state }
 
 file-shared : (files other : FileMap) (makefile : List ℕ) (levels : ℕ) → EntersShared other (file_meaning files makefile levels) (file_meaning other makefile levels)
 unfolding file_meaning
 file-shared files other makefile zero = record {
-  all = λ name bytes standing. shared-read other nothing_entered nothing_entered (nothing-shared other) (record { files = files; makefile = makefile; file = name; levels = zero }) (parsed bytes) standing;
+  all = λ name bytes state. shared-read other nothing_entered nothing_entered (nothing-shared other) (record { files = files; makefile = makefile; file = name; levels = zero }) (parsed bytes) state;
 }
 file-shared files other makefile (suc levels) = record {
-  all = λ name bytes standing. shared-read other (file_meaning files makefile levels) (file_meaning other makefile levels) (file-shared files other makefile levels)
-      (record { files = files; makefile = makefile; file = name; levels = suc levels }) (parsed bytes) standing;
+  all = λ name bytes state. shared-read other (file_meaning files makefile levels) (file_meaning other makefile levels) (file-shared files other makefile levels)
+      (record { files = files; makefile = makefile; file = name; levels = suc levels }) (parsed bytes) state;
 }
 
 module _ (files other : FileMap) (settings : Settings) (name : List ℕ) (flavors : Option (List (List ℕ))) where

@@ -1,5 +1,5 @@
 -- How the code's steps go over nodes, branches and turns, and what they leave of the files.
-use Rattle.std.proofs.Common.{◌≡◌, ◌<◌, ◌+◌, ◌∙◌, ℕ, suc, zero, Bool, true, false, List, [], ◌∷◌, map, drop, length, get_or, Option, unwrap_or, Result, Ok, Err, IfOk, IfErr, if◌then◌else◌, refl, sym, ap, subst, arith}
+use Rattle.std.proofs.Common.{◌≡◌, ◌<◌, ◌+◌, ◌∙◌, ℕ, suc, zero, Bool, true, false, List, [], ◌∷◌, map, drop, length, get_or, Option, unwrap_or, Result, Ok, Err, if◌then◌else◌, refl, sym, ap, subst, arith}
 use Rattle.std.proofs.lemmas.List.{drop_more, drop_all}
 use Rattle.mk_base.specs.declared.faults.FaultKind.{FaultKind}
 use Rattle.mk_base.specs.declared.stopping.Stop.{Stop}
@@ -16,10 +16,8 @@ use Rattle.mk_ast.specs.Parsing.{parsed}
 use Rattle.mk_ast.specs.Views.{block_of, tree_of, branch_of, node_step, branch_step}
 use Rattle.mk_env.specs.Texts.{Variables}
 use Rattle.mk_paths.specs.World.{FileMap}
-use Rattle.mk_paths.specs.FilesView.{FilesView, Question}
-use Rattle.mk_paths.specs.declared.asking.FilesFault.{FilesFault}
+use Rattle.mk_paths.specs.FilesView.{Question}
 use Rattle.mk_files.specs.Asking.{Account, beside}
-use Rattle.mk_files.specs.Looking.{AfterQuestions, AfterQuestions-on, LeavesAtStop, LeavesAtStop-on}
 use Rattle.mk_loop.specs.LoopWords.{LoopWords}
 use Rattle.mk_loop.specs.Header.{header}
 use Rattle.mk_loop.specs.declared.scopes.LoopScope.{LoopScope, Outside, Iteration'}
@@ -29,20 +27,11 @@ use Rattle.mk_eval.specs.Execution.{LineWorks, execute, execute_tree, execute_br
 use Rattle.mk_eval.specs.Meaning.{file_meaning, execute_read}
 use Rattle.mk_eval.specs.Running.{entering_at}
 use Rattle.mk_eval.specs.Views.{loops_of}
-use Rattle.mk_eval.specs.declared.standing.EvalState.{EvalState}
+use Rattle.mk_eval.specs.declared.state.EvalState.{EvalState}
 
 -- work that ends as other work
 pub Gives-same : {R A F M : Type 0} (view : R → A) (result : Result R (Stop F)) (state : M) (whole part : Result (A × M) (F × M)) → whole ≡ part → Gives view result state part → Gives view result state whole
 Gives-same view result state whole part same gives = subst (λ outcome. Gives view result state outcome) (sym same) gives
-
--- questions, and then those of more work
-pub AskedOn : {R F : Type 0} (result : Result R (Stop F)) (old middle new : FilesView) → AfterQuestions old middle → IfOk result (λ _. AfterQuestions middle new) → IfOk result (λ _. AfterQuestions old new)
-AskedOn (Ok x) old middle new first second = AfterQuestions-on old middle new first second
-AskedOn (Err stop) old middle new first second = tt
-
-pub LeavesOn : {R F : Type 0} (may : FilesFault → Type 0) (result : Result R (Stop F)) (old middle new : FilesView) → AfterQuestions old middle → IfErr result (LeavesAtStop may middle new) → IfErr result (LeavesAtStop may old new)
-LeavesOn may (Ok x) old middle new first second = tt
-LeavesOn may (Err stop) old middle new first second = LeavesAtStop-on may old middle new stop first second
 
 pub tree-branch : (branch : Branch) → branch_of branch ≡ ((out-Branch branch).head, block_of (out-Branch branch).body.value.items)
 tree-branch branch = fold_out-Branch Tree (LogicalLine × Block) node_step branch_step branch
@@ -97,12 +86,12 @@ module _ {M F S : Type 0} (works : LineWorks M F S) (loops : Loops) where
   branches-end items last i s m all = ap (λ rest. execute_branches works (branches_from (map branch_of rest) last) loops s m) (drop_all i items (omega arith))
 
 -- a file, whatever may be included in it
-pub file_meaning-is : (files : FileMap) (makefile : List ℕ) (levels : ℕ) (name bytes : List ℕ) (standing : EvalState) (a : Account)
-    → file_meaning files makefile levels name bytes standing a
-    ≡ execute_read (entering_at files makefile levels) (record { files = files; makefile = makefile; file = name; levels = levels }) (parsed bytes) standing a
+pub file_meaning-is : (files : FileMap) (makefile : List ℕ) (levels : ℕ) (name bytes : List ℕ) (state : EvalState) (a : Account)
+    → file_meaning files makefile levels name bytes state a
+    ≡ execute_read (entering_at files makefile levels) (record { files = files; makefile = makefile; file = name; levels = levels }) (parsed bytes) state a
 unfolding file_meaning
-file_meaning-is files makefile zero name bytes standing a = refl
-file_meaning-is files makefile (suc levels) name bytes standing a = refl
+file_meaning-is files makefile zero name bytes state a = refl
+file_meaning-is files makefile (suc levels) name bytes state a = refl
 
 -- the words of the loops round a line, if there are any
 pub scope-words : (scope : LoopScope) → unwrap_or (loops_of scope) [] ≡ words_in scope

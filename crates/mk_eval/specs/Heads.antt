@@ -1,6 +1,6 @@
 -- The lines that begin blocks and their branches (make(1), "CONDITIONALS" and "FOR LOOPS"). Each costs a
 -- unit before anything else.
-use Rattle.std.specs.Prelude.{ℕ, Bool, List, [], ◌∷◌, ◌++◌, codes}
+use Rattle.std.specs.Prelude.{ℕ, Bool, true, false, List, Option, Some, None, option_map}
 use Rattle.mk_base.specs.declared.faults.FaultKind.{FaultKind}
 use Rattle.mk_base.specs.declared.faults.FaultKind.TheVariants as kinds
 use Rattle.mk_base.specs.Meter.{Meter, pay}
@@ -11,30 +11,31 @@ use Rattle.mk_ast.specs.Kinds.{TextLineKind, DirectiveLine, line_kind}
 use Rattle.mk_env.specs.Texts.{Variables}
 use Rattle.mk_paths.specs.World.{FileMap}
 use Rattle.mk_files.specs.Asking.{Account, quietly}
-use Rattle.mk_cond.specs.Truth.{truth}
+use Rattle.mk_cond.specs.declared.forms.Form.{Form}
+use Rattle.mk_cond.specs.Truth.{parts_truth}
+use Rattle.cond_grammar.specs.declared.tokens.Call.TheVariants.{Defined, Make}
 use Rattle.mk_loop.specs.LoopWords.{LoopWords}
 use Rattle.mk_loop.specs.Header.{header}
 use Rattle.mk_eval.specs.Lines.{Loops, put_in}
 
--- the word of a directive
-abbrev pub spelled : Directive → List ℕ
-spelled words.If = codes "if"
-spelled words.Ifdef = codes "ifdef"
-spelled words.Ifndef = codes "ifndef"
-spelled words.Ifmake = codes "ifmake"
-spelled words.Ifnmake = codes "ifnmake"
-spelled words.Elif = codes "elif"
-spelled words.Elifdef = codes "elifdef"
-spelled words.Elifndef = codes "elifndef"
-spelled words.Elifmake = codes "elifmake"
-spelled words.Elifnmake = codes "elifnmake"
-spelled words.Else = codes "else"
-spelled words.Endif = codes "endif"
-spelled words.For = codes "for"
-spelled words.Endfor = codes "endfor"
-spelled words.Include = codes "include"
-spelled words.Sinclude = codes "sinclude"
-spelled words.Undef = codes "undef"
+-- what a directive makes of its condition; None if it has none
+abbrev pub form_of : Directive → Option Form
+form_of words.If = Some (record { word = Defined; negated = false })
+form_of words.Ifdef = Some (record { word = Defined; negated = false })
+form_of words.Ifndef = Some (record { word = Defined; negated = true })
+form_of words.Ifmake = Some (record { word = Make; negated = false })
+form_of words.Ifnmake = Some (record { word = Make; negated = true })
+form_of words.Elif = Some (record { word = Defined; negated = false })
+form_of words.Elifdef = Some (record { word = Defined; negated = false })
+form_of words.Elifndef = Some (record { word = Defined; negated = true })
+form_of words.Elifmake = Some (record { word = Make; negated = false })
+form_of words.Elifnmake = Some (record { word = Make; negated = true })
+form_of word = None
+
+-- the same of the directive that a line of this kind is
+abbrev pub form_in : TextLineKind → Option Form
+form_in (DirectiveLine word rest) = form_of word
+form_in kind = None
 
 -- what follows the word of the line that begins a block, with the words of the loops around it put in; no
 -- other line begins one
@@ -42,15 +43,11 @@ abbrev pub head_text : Variables → Loops → TextLineKind → Work Meter Fault
 head_text variables loops (DirectiveLine word rest) = pay >>= λ _. put_in variables loops rest
 head_text variables loops kind = fail kinds.Block
 
--- the word of a directive and the condition after it, as a text
-abbrev pub condition_text : TextLineKind → List ℕ → List ℕ
-condition_text (DirectiveLine word rest) text = spelled word ++ 32 ∷ text
-condition_text kind text = []
-
 -- whether the condition of a line holds, in the makefile of this name
 abbrev pub judge : FileMap → List ℕ → Variables → Loops → List ℕ → Work Account FaultKind Bool
 judge files makefile variables loops line =
-    quietly (head_text variables loops (line_kind line)) >>= λ text. truth variables files makefile (condition_text (line_kind line) text)
+    quietly (head_text variables loops (line_kind line))
+    >>= λ text. parts_truth variables files makefile (option_map (λ form. (form, text)) (form_in (line_kind line)))
 
 -- the iterations of the loop that begins with a line
 abbrev pub turns : Variables → Loops → List ℕ → Work Meter FaultKind (List LoopWords)

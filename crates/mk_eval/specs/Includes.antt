@@ -14,7 +14,7 @@ use Rattle.mk_paths.specs.World.{FileMap}
 use Rattle.mk_files.specs.Asking.{Account, ask_read}
 use Rattle.mk_eval.specs.declared.outcome.Kind.{Kind}
 use Rattle.mk_eval.specs.declared.outcome.Kind.TheVariants as roles
-use Rattle.mk_eval.specs.declared.standing.EvalState.{EvalState}
+use Rattle.mk_eval.specs.declared.state.EvalState.{EvalState}
 use Rattle.mk_eval.specs.Lines.{Request}
 
 -- what the text of an include names, once expanded: a file, `"f"`; one of the two system files that say what
@@ -83,22 +83,22 @@ named (Err fault) = fail kinds.Include
 
 -- a file that was asked for: if it is missing, that is a fault, unless it may be missing
 abbrev pub found : EvalState → Bool → List ℕ → Option (List ℕ) → Work Account FaultKind Opened
-found standing optional name (Some bytes) = give (standing, Some (name, bytes))
-found standing optional name None = if optional then give (standing, None) else fail kinds.Include
+found state optional name (Some bytes) = give (state, Some (name, bytes))
+found state optional name None = if optional then give (state, None) else fail kinds.Include
 
 -- the file of a name, which may be missing or may not
 abbrev pub open_named : FileMap → EvalState → Bool → List ℕ → Work Account FaultKind Opened
-open_named files standing optional name = ask_read files name >>= found standing optional name
+open_named files state optional name = ask_read files name >>= found state optional name
 
 -- the same if files may still include one another
 abbrev pub open_inside : Place → EvalState → Bool → List ℕ → Work Account FaultKind Opened
-open_inside place standing optional name = deep_enough place.levels >>= λ _. open_named place.files standing optional name
+open_inside place state optional name = deep_enough place.levels >>= λ _. open_named place.files state optional name
 
 -- a file under the directory of the including file, or with an absolute name
 abbrev pub open_own : Place → EvalState → Bool → List ℕ → Work Account FaultKind Opened
-open_own place standing optional file =
+open_own place state optional file =
     deep_enough place.levels >>= λ _. named (resolved (name_under (directory_of place.file) file))
-    >>= open_named place.files standing optional
+    >>= open_named place.files state optional
 
 -- what a makefile is stays what it was first said to be
 abbrev pub first_said : Kind → Kind → Kind
@@ -107,34 +107,34 @@ first_said before kind = before
 
 -- the state with this said of the makefile
 abbrev pub with_kind : EvalState → Kind → EvalState
-with_kind standing kind = record standing { kind = first_said standing.kind kind }
+with_kind state kind = record state { kind = first_said state.kind kind }
 
 -- the file beside a makefile's directory that ports share, if it is there; if the text is no file
 -- name, it isn't
 abbrev pub open_shared : Place → EvalState → Result (List ℕ) NameFault → Work Account FaultKind Opened
-open_shared place standing (Err fault) = give (standing, None)
-open_shared place standing (Ok name) = open_inside place standing true name
+open_shared place state (Err fault) = give (state, None)
+open_shared place state (Ok name) = open_inside place state true name
 
 -- the state after the first `<bsd.port.mk>`
 abbrev pub first_port : EvalState → EvalState
-first_port standing = record (with_kind standing roles.Port) { shared_asked = true }
+first_port state = record (with_kind state roles.Port) { shared_asked = true }
 
 -- `<bsd.port.mk>`: the makefile is a port's; the first one includes `../Makefile.inc` of the
 -- makefile's directory
 abbrev pub open_port : Place → EvalState → Work Account FaultKind Opened
-open_port place standing =
-    if standing.shared_asked then give (with_kind standing roles.Port, None)
-    else open_shared place (first_port standing) (resolved (name_under (directory_of place.makefile) (codes "../Makefile.inc")))
+open_port place state =
+    if state.shared_asked then give (with_kind state roles.Port, None)
+    else open_shared place (first_port state) (resolved (name_under (directory_of place.makefile) (codes "../Makefile.inc")))
 
 -- what is opened by an include of a form
 abbrev pub open_form : Place → EvalState → Bool → Form → Work Account FaultKind Opened
-open_form place standing optional (OwnFile file) = open_own place standing optional file
-open_form place standing optional PortFile = open_port place standing
-open_form place standing optional SubdirFile = give (with_kind standing roles.List, None)
-open_form place standing optional SystemFile = give (standing, None)
-open_form place standing optional NoForm = fail kinds.Include
+open_form place state optional (OwnFile file) = open_own place state optional file
+open_form place state optional PortFile = open_port place state
+open_form place state optional SubdirFile = give (with_kind state roles.List, None)
+open_form place state optional SystemFile = give (state, None)
+open_form place state optional NoForm = fail kinds.Include
 
 -- what a line opens, if it asks for a file
 abbrev pub open_request : Place → EvalState → Option Request → Work Account FaultKind Opened
-open_request place standing None = give (standing, None)
-open_request place standing (Some request) = open_form place standing request.optional (form_of request.text)
+open_request place state None = give (state, None)
+open_request place state (Some request) = open_form place state request.optional (form_of request.text)

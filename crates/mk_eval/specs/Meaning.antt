@@ -26,15 +26,15 @@ use Rattle.mk_eval.specs.Start.{start}
 use Rattle.mk_eval.specs.declared.outcome.Kind.TheVariants as roles
 use Rattle.mk_eval.specs.declared.outcome.Evaluated.{Evaluated}
 use Rattle.mk_eval.specs.declared.outcome.Failed.{Failed}
-use Rattle.mk_eval.specs.declared.standing.EvalState.{EvalState}
+use Rattle.mk_eval.specs.declared.state.EvalState.{EvalState}
 
 -- a fault at a line of a file
 abbrev pub at : List ℕ → ℕ → FaultKind → FaultAt
 at name line kind = fault_at kind name line
 
 -- work on a line of a file: its faults are given with their place
-abbrev pub told_at : {A : Type 0} → Place → LogicalLine → Work Account FaultKind A → Work Account FaultAt A
-told_at place line work a = tell (at place.file line.line) (work a)
+abbrev pub blamed_at : {A : Type 0} → Place → LogicalLine → Work Account FaultKind A → Work Account FaultAt A
+blamed_at place line work a = tell (at place.file line.line) (work a)
 
 -- what a file with this name and these bytes does
 abbrev pub Entering : Type 0
@@ -42,41 +42,41 @@ Entering = List ℕ → List ℕ → EvalState → Work Account FaultAt EvalStat
 
 -- the state after the file that a line opened, if any, is executed
 abbrev pub enter : Entering → Opened → Work Account FaultAt EvalState
-enter entering (standing, None) = give standing
-enter entering (standing, Some file) = entering file.0 file.1 standing
+enter entering (state, None) = give state
+enter entering (state, Some file) = entering file.0 file.1 state
 
 -- what a line opens, after it has done what it does by itself
 abbrev pub open_line : Place → Loops → LogicalLine → EvalState → Work Account FaultKind Opened
-open_line place loops line standing =
-    quietly (perform standing.variables loops line.text) >>= λ done. open_request place (record standing { variables = done.0 }) done.1
+open_line place loops line state =
+    quietly (perform state.variables loops line.text) >>= λ done. open_request place (record state { variables = done.0 }) done.1
 
 -- what the lines of a file do
 abbrev pub works_at : Entering → Place → LineWorks Account FaultAt EvalState
 works_at entering place = record {
-  performs = λ loops line standing. told_at place line (open_line place loops line standing) >>= enter entering;
-  holds = λ loops line standing. told_at place line (judge place.files place.makefile standing.variables loops line.text);
-  turns = λ loops line standing. told_at place line (quietly (turns standing.variables loops line.text));
-  begins = λ line. told_at place line (quietly pay);
+  performs = λ loops line state. blamed_at place line (open_line place loops line state) >>= enter entering;
+  holds = λ loops line state. blamed_at place line (judge place.files place.makefile state.variables loops line.text);
+  turns = λ loops line state. blamed_at place line (quietly (turns state.variables loops line.text));
+  begins = λ line. blamed_at place line (quietly pay);
 }
 
 -- what a file that was read does, outside any loop; if it can't be read, that is a fault before any
 -- line is executed
 abbrev pub execute_read : Entering → Place → Result Block ParseFault → EvalState → Work Account FaultAt EvalState
-execute_read entering place (Ok block) standing = execute (works_at entering place) block None standing
-execute_read entering place (Err fault) standing = fail (fault_at fault.kind place.file fault.line)
+execute_read entering place (Ok block) state = execute (works_at entering place) block None state
+execute_read entering place (Err fault) state = fail (fault_at fault.kind place.file fault.line)
 
 -- if no more files may include one another, none is entered
 abbrev pub nothing_entered : Entering
-nothing_entered name bytes standing = give standing
+nothing_entered name bytes state = give state
 
 -- What a file with this name and these bytes does in the evaluation of a makefile, if files may still
 -- include one another this many levels deep.
 unfoldable pub file_meaning : FileMap → List ℕ → ℕ → Entering
-file_meaning files makefile zero name bytes standing a =
-    execute_read nothing_entered (record { files = files; makefile = makefile; file = name; levels = zero }) (parsed bytes) standing a
-file_meaning files makefile (suc levels) name bytes standing a =
+file_meaning files makefile zero name bytes state a =
+    execute_read nothing_entered (record { files = files; makefile = makefile; file = name; levels = zero }) (parsed bytes) state a
+file_meaning files makefile (suc levels) name bytes state a =
     execute_read (file_meaning files makefile levels)
-    (record { files = files; makefile = makefile; file = name; levels = suc levels }) (parsed bytes) standing a
+    (record { files = files; makefile = makefile; file = name; levels = suc levels }) (parsed bytes) state a
 
 -- the state with which an evaluation begins
 abbrev pub opening : World → List ℕ → Option (List (List ℕ)) → EvalState
@@ -106,8 +106,8 @@ means world name flavors = evaluated (evaluation world name flavors (fresh UNITS
 
 -- The names that its evaluation reads or asks about, in a budget of this many units, in order, each with its
 -- answer. That is what the evaluation leaves in a log that was empty.
-abbrev pub asked : World → List ℕ → Option (List (List ℕ)) → ℕ → List Question
-asked world name flavors limit = unwrap_or (left (evaluation world name flavors (fresh limit (Some [])))).log []
+abbrev pub questions_asked : World → List ℕ → Option (List (List ℕ)) → ℕ → List Question
+questions_asked world name flavors limit = unwrap_or (left (evaluation world name flavors (fresh limit (Some [])))).log []
 
 -- the end of an expansion with its cost, in units
 abbrev pub valued : Result (List ℕ × Meter) (FaultAt × Meter) → Result (Option Expanded) Failed

@@ -8,7 +8,7 @@ use Rattle.mk_eval.specs.Execution.{LineWorks}
 use Rattle.mk_eval.specs.Meaning.{Entering, works_at, nothing_entered, file_meaning}
 use Rattle.mk_eval.specs.Views.{place_of}
 use Rattle.mk_eval.specs.declared.including.ExecutedFile.{ExecutedFile}
-use Rattle.mk_eval.specs.declared.standing.EvalState.{EvalState}
+use Rattle.mk_eval.specs.declared.state.EvalState.{EvalState}
 
 -- what an included file does, if files may still include one another this many levels deep
 abbrev pub entering_at : FileMap → List ℕ → ℕ → Entering

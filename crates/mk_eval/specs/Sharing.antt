@@ -6,7 +6,7 @@ use Rattle.mk_paths.specs.FilesView.{Question, IsReply}
 use Rattle.mk_paths.specs.declared.search_path.Settings.{Settings}
 use Rattle.mk_eval.specs.declared.outcome.Evaluated.{Evaluated}
 use Rattle.mk_eval.specs.declared.outcome.Failed.{Failed}
-use Rattle.mk_eval.specs.Meaning.{means, asked}
+use Rattle.mk_eval.specs.Meaning.{means, questions_asked}
 
 -- among these files, each question has the answer that is given with it, even if that says that a
 -- file isn't there
@@ -21,7 +21,7 @@ cost_of (Err failed) = failed.cost
 
 -- what an evaluation asks, in a budget of what it costs
 abbrev pub questions_of : FileMap → Settings → List ℕ → Option (List (List ℕ)) → List Question
-questions_of files settings name flavors = asked (files, settings) name flavors (cost_of (means (files, settings) name flavors))
+questions_of files settings name flavors = questions_asked (files, settings) name flavors (cost_of (means (files, settings) name flavors))
 
 -- Take any world with the same settings that gives the answers that an evaluation got. In it that makefile
 -- means the same: kind, variables and cost, or the fault with its place and the cost. The world is asked the

@@ -1,4 +1,6 @@
 use Rattle.std.specs.Prelude.{◌≡◌, ◌⊎◌, ℕ, List, Result, Ok, Err}
+use Rattle.mk_base.specs.declared.stopping.PureStop.{PureStop}
+use Rattle.mk_base.specs.declared.stopping.PureStop.TheVariants as pure
 use Rattle.mk_base.specs.declared.stopping.Stop.{Stop}
 use Rattle.mk_base.specs.declared.stopping.Stop.TheVariants as stops
 use Rattle.mk_base.specs.FaultAt.{FaultAt}
@@ -19,6 +21,20 @@ FailsWith stops.Memory meaning = Unit {0}
 abbrev pub Tells : {R A F : Type 0} → (R → A) → Result R (Stop F) → Result A F → Type 0
 Tells view (Ok x) meaning = meaning ≡ Ok (view x)
 Tells view (Err stop) meaning = FailsWith stop meaning
+
+-- The same for work that looks at no file.
+abbrev pub FailsPurelyWith : {A F : Type 0} → PureStop F → Result A F → Type 0
+FailsPurelyWith (pure.Fault fault) meaning = meaning ≡ Err fault
+FailsPurelyWith pure.Memory meaning = Unit {0}
+
+abbrev pub TellsPurely : {R A F : Type 0} → (R → A) → Result R (PureStop F) → Result A F → Type 0
+TellsPurely view (Ok x) meaning = meaning ≡ Ok (view x)
+TellsPurely view (Err stop) meaning = FailsPurelyWith stop meaning
+
+-- the stop of work that looks at no file; a fault gets the units that were spent
+abbrev pub with_units : ℕ → PureStop FaultAt → PureStop Failed
+with_units cost (pure.Fault fault) = pure.Fault (record { fault = fault; cost = cost })
+with_units cost pure.Memory = pure.Memory
 
 -- the stop; a fault gets the units that were spent
 abbrev pub with_cost : ℕ → Stop FaultAt → Stop Failed

@@ -1,20 +1,21 @@
-ghost use Rattle.std.specs.Prelude.{◌≡◌, OnOk, IfOk, IfErr, option_map, string_bytes, map};
+ghost use Rattle.std.specs.Prelude.{};
 ghost use Rattle.mk_base.specs.Meter.{full, IsLater};
+ghost use Rattle.mk_paths.specs.FilesView.{world_of};
 ghost use Rattle.mk_files.specs.Asking.{account};
-ghost use Rattle.mk_files.specs.Looking.{AfterQuestions, LeavesAtStop};
-ghost use Rattle.mk_base.specs.Stopping.{Gives, NeverStore};
+ghost use Rattle.mk_files.specs.Working.{Asks};
+ghost use Rattle.mk_base.specs.Stopping.{Gives};
 ghost use Rattle.mk_eval.specs.Meaning as meaning;
-ghost use Rattle.mk_eval.specs.Meaning.{means, asked, value_of};
-ghost use Rattle.mk_eval.specs.Telling.{Tells, LeavesAsked};
+ghost use Rattle.mk_eval.specs.Meaning.{means, questions_asked, value_of};
+ghost use Rattle.mk_eval.specs.Telling.{Tells, TellsPurely, LeavesAsked};
 ghost use Rattle.mk_eval.specs.Views.{flavors_in};
 
 use crate::including::ExecutedFile;
-use crate::outcome::{Evaluated, Failed, Kind, Valued, with_cost};
+use crate::outcome::{Evaluated, Failed, Kind, Valued, with_cost, with_units};
 use crate::parses::{Anew, Parses};
 use crate::running::execute_file;
-use crate::standing::EvalState;
 use crate::starting::start;
-use mk_base::{Budget, Fault, FaultKind, Stop, UNITS};
+use crate::state::EvalState;
+use mk_base::{Budget, Fault, FaultKind, PureStop, Stop, UNITS};
 use mk_env::expand_variable;
 use mk_files::{Files, look_read};
 use mk_paths::{Name, Settings};
@@ -63,9 +64,9 @@ pub fn evaluate<F: Files>(
     flavors: Option<&[String]>,
 ) -> Result<Evaluated, Stop<Failed>>
     ensures means { Tells (λ x. x) result
-        (means ((F.view files.old).files, settings.now) name.now (flavors_in flavors.entry)) }
+        (means (world_of (F.view files.old) settings.now) name.now (flavors_in flavors.entry)) }
     ensures files { LeavesAsked F.fails_with (F.view files.old) (F.view files.new)
-        (asked ((F.view files.old).files, settings.now) name.now
+        (questions_asked (world_of (F.view files.old) settings.now) name.now
         (flavors_in flavors.entry)) result }
 {
     let mut budget = Budget::new(UNITS);
@@ -79,9 +80,9 @@ pub fn evaluate<F: Files>(
         files,
         &mut budget,
     ) {
-        Ok(standing) => Ok(Evaluated {
-            kind: standing.kind,
-            env: standing.variables,
+        Ok(state) => Ok(Evaluated {
+            kind: state.kind,
+            env: state.variables,
             cost: budget.spent(),
         }),
         Err(stop) => Err(with_cost(stop, budget.spent())),
@@ -99,17 +100,16 @@ fn run<F: Files, P: Parses>(
     files: &mut F,
     budget: &mut Budget,
 ) -> Result<EvalState, Stop<Fault>>
-    ensures gives { Gives (λ standing. standing) result (account budget.new (F.view files.new))
-        (meaning.evaluation ((F.view files.old).files, settings.now) name.now
+    ensures gives { Gives (λ state. state) result (account budget.new (F.view files.new))
+        (meaning.evaluation (world_of (F.view files.old) settings.now) name.now
         (flavors_in flavors.entry) (account budget.old (F.view files.old))) }
-    ensures asked { IfOk result (λ _. AfterQuestions (F.view files.old) (F.view files.new)) }
-    ensures stops { IfErr result (LeavesAtStop F.fails_with (F.view files.old) (F.view files.new)) }
+    ensures asks { Asks F.fails_with result (F.view files.old) (F.view files.new) }
     ensures later { IsLater budget.old budget.new }
 {
     let Some(content) = look_read(files, name)? else {
         return Err(Stop::Fault(FaultKind::Include).blame(alloc, name.as_str(), 0));
     };
-    let mut standing = EvalState {
+    let mut state = EvalState {
         variables: start(alloc, settings, name, flavors)?,
         kind: Kind::Other,
         shared_asked: false,
@@ -119,8 +119,8 @@ fn run<F: Files, P: Parses>(
         file: name,
         levels: INCLUDES,
     };
-    execute_file(alloc, here, &content, &mut standing, parses, files, budget)?;
-    Ok(standing)
+    execute_file(alloc, here, &content, &mut state, parses, files, budget)?;
+    Ok(state)
 }
 
 /// The value of a variable after the evaluation of the named makefile, in a budget of 50,000 units of
@@ -133,9 +133,8 @@ pub fn value(
     evaluated: &Evaluated,
     name: &Name,
     variable: &str,
-) -> Result<Option<Valued>, Stop<Failed>>
-    ensures means { Tells (λ x. x) result (value_of evaluated.now.env name.now variable.now) }
-    ensures store { NeverStore result }
+) -> Result<Option<Valued>, PureStop<Failed>>
+    ensures means { TellsPurely (λ x. x) result (value_of evaluated.now.env name.now variable.now) }
 {
     if !evaluated.env.defined(variable) {
         return Ok(None);
@@ -145,7 +144,7 @@ pub fn value(
         Ok(text) => Ok(Some(Valued::new(text, budget.spent()))),
         Err(stop) => {
             let stop = stop.blame(alloc, name.as_str(), 0);
-            Err(with_cost(stop, budget.spent()))
+            Err(with_units(stop, budget.spent()))
         }
     }
 }

@@ -1,7 +1,7 @@
 //! What the lines of a makefile do to its variables.
 ghost use Rattle.std.specs.Prelude.{◌≡◌, OnOk, OnErr, IfOk};
 ghost use Rattle.mk_base.specs.Meter.{Meter, IsLater};
-ghost use Rattle.mk_base.specs.Stopping.{Gives, NeverStore};
+ghost use Rattle.mk_base.specs.Stopping.{Gives, GivesPurely};
 ghost use Rattle.mk_text.specs.Words.{words_of};
 ghost use Rattle.mk_ast.specs.declared.kinds.Operator.TheVariants as operators;
 ghost use Rattle.mk_ast.specs.Kinds.{shown_kind};
@@ -12,7 +12,7 @@ ghost use Rattle.mk_eval.specs.Views.{loops_of};
 
 use crate::requests::Request;
 use mk_ast::{Directive, LineKind, Operator, is_word, line_kind, plain_kind};
-use mk_base::{Budget, FaultKind, Stop};
+use mk_base::{Budget, FaultKind, PureStop};
 use mk_env::{Env, expand, expand_now};
 use mk_loop::{LoopScope, put_words};
 use mk_text::{TEXT_LIMIT, words};
@@ -37,11 +37,10 @@ pub fn perform(
     scope: LoopScope<'_>,
     text: &str,
     budget: &mut Budget,
-) -> Result<Option<Request>, Stop<FaultKind>>
-    ensures gives { Gives (λ request. (variables.new, request)) result budget.new
+) -> Result<Option<Request>, PureStop<FaultKind>>
+    ensures gives { GivesPurely (λ request. (variables.new, request)) result budget.new
         (lines.perform variables.old (loops_of scope.entry) text.now budget.old) }
     ensures err { OnErr result (variables.new ≡ variables.old) }
-    ensures store { NeverStore result }
     ensures later { IsLater budget.old budget.new }
     ensures paid { IfOk result (Requests budget.old budget.new) }
 {
@@ -61,12 +60,11 @@ fn execute_in(
     text: &str,
     kind: LineKind<'_>,
     budget: &mut Budget,
-) -> Result<Option<Request>, Stop<FaultKind>>
-    ensures gives { Gives (λ request. (variables.new, request)) result budget.new
+) -> Result<Option<Request>, PureStop<FaultKind>>
+    ensures gives { GivesPurely (λ request. (variables.new, request)) result budget.new
         (lines.execute_in variables.old (loops_of scope.entry) text.now
         (shown_kind kind.entry) budget.old) }
     ensures err { OnErr result (variables.new ≡ variables.old) }
-    ensures store { NeverStore result }
     ensures later { IsLater budget.old budget.new }
 {
     if let LoopScope::Outside = scope {
@@ -105,11 +103,10 @@ fn execute_kind(
     variables: &mut Env,
     kind: LineKind<'_>,
     budget: &mut Budget,
-) -> Result<Option<Request>, Stop<FaultKind>>
-    ensures gives { Gives (λ request. (variables.new, request)) result budget.new
+) -> Result<Option<Request>, PureStop<FaultKind>>
+    ensures gives { GivesPurely (λ request. (variables.new, request)) result budget.new
         (lines.execute_kind variables.old (shown_kind kind.entry) budget.old) }
     ensures err { OnErr result (variables.new ≡ variables.old) }
-    ensures store { NeverStore result }
     ensures later { IsLater budget.old budget.new }
 {
     match kind {
@@ -122,12 +119,12 @@ fn execute_kind(
         } => {
             let name = expand(alloc, variables, name, budget)?;
             if !is_word(name.as_str()) {
-                return Err(Stop::Fault(FaultKind::Line));
+                return Err(PureStop::Fault(FaultKind::Line));
             }
             assign(alloc, variables, operator, name.as_str(), value, budget)?;
             Ok(None)
         }
-        LineKind::Bad => Err(Stop::Fault(FaultKind::Line)),
+        LineKind::Bad => Err(PureStop::Fault(FaultKind::Line)),
     }
 }
 
@@ -139,11 +136,10 @@ fn assign(
     name: &str,
     text: &str,
     budget: &mut Budget,
-) -> Result<(), Stop<FaultKind>>
-    ensures gives { Gives (λ _. variables.new) result budget.new
+) -> Result<(), PureStop<FaultKind>>
+    ensures gives { GivesPurely (λ _. variables.new) result budget.new
         (lines.assign variables.old operator name.now text.now budget.old) }
     ensures err { OnErr result (variables.new ≡ variables.old) }
-    ensures store { NeverStore result }
     ensures later { IsLater budget.old budget.new }
 {
     match operator {
@@ -154,53 +150,50 @@ fn assign(
             let found = expand_now(alloc, variables, text, budget)?;
             store(variables, name, found.as_str())
         }
-        Operator::Shell => Err(Stop::Fault(FaultKind::Shell)),
+        Operator::Shell => Err(PureStop::Fault(FaultKind::Shell)),
     }
 }
 
 /// Gives the variable this text. It is a fault if the text is too long.
-fn store(variables: &mut Env, name: &str, text: &str) -> Result<(), Stop<FaultKind>>
+fn store(variables: &mut Env, name: &str, text: &str) -> Result<(), PureStop<FaultKind>>
     ensures gives { (m : Meter)
-        → Gives (λ _. variables.new) result m (lines.store variables.old name.now text.now m) }
+        → GivesPurely (λ _. variables.new) result m (lines.store variables.old name.now text.now m) }
     ensures err { OnErr result (variables.new ≡ variables.old) }
-    ensures store { NeverStore result }
 {
     if text.len() > TEXT_LIMIT {
-        return Err(Stop::Fault(FaultKind::Length));
+        return Err(PureStop::Fault(FaultKind::Length));
     }
     variables.set(name, text)?;
     Ok(())
 }
 
 /// Gives the variable this text if it has none. It is a fault if that text is too long.
-fn store_default(variables: &mut Env, name: &str, text: &str) -> Result<(), Stop<FaultKind>>
+fn store_default(variables: &mut Env, name: &str, text: &str) -> Result<(), PureStop<FaultKind>>
     ensures gives { (m : Meter)
-        → Gives (λ _. variables.new) result m
+        → GivesPurely (λ _. variables.new) result m
         (lines.assign variables.old operators.Default name.now text.now m) }
     ensures err { OnErr result (variables.new ≡ variables.old) }
-    ensures store { NeverStore result }
 {
     if text.len() > TEXT_LIMIT && !variables.defined(name) {
-        return Err(Stop::Fault(FaultKind::Length));
+        return Err(PureStop::Fault(FaultKind::Length));
     }
     variables.default(name, text)?;
     Ok(())
 }
 
 /// Adds the text to the end of the variable's text. It is a fault if the whole is too long.
-fn append(variables: &mut Env, name: &str, text: &str) -> Result<(), Stop<FaultKind>>
+fn append(variables: &mut Env, name: &str, text: &str) -> Result<(), PureStop<FaultKind>>
     ensures gives { (m : Meter)
-        → Gives (λ _. variables.new) result m
+        → GivesPurely (λ _. variables.new) result m
         (lines.assign variables.old operators.Append name.now text.now m) }
     ensures err { OnErr result (variables.new ≡ variables.old) }
-    ensures store { NeverStore result }
 {
     let before = match variables.get(name) {
         Some(before) => before.len() + 1,
         None => 0,
     };
     if before + text.len() > TEXT_LIMIT {
-        return Err(Stop::Fault(FaultKind::Length));
+        return Err(PureStop::Fault(FaultKind::Length));
     }
     variables.append(name, text)?;
     Ok(())
@@ -213,11 +206,10 @@ fn direct(
     word: Directive,
     text: &str,
     budget: &mut Budget,
-) -> Result<Option<Request>, Stop<FaultKind>>
-    ensures gives { Gives (λ request. (variables.new, request)) result budget.new
+) -> Result<Option<Request>, PureStop<FaultKind>>
+    ensures gives { GivesPurely (λ request. (variables.new, request)) result budget.new
         (lines.direct variables.old word text.now budget.old) }
     ensures err { OnErr result (variables.new ≡ variables.old) }
-    ensures store { NeverStore result }
     ensures later { IsLater budget.old budget.new }
 {
     match word {
@@ -234,7 +226,7 @@ fn direct(
             let found = expand(alloc, variables, text, budget)?;
             Ok(Some(Request::new(found, true)))
         }
-        _ => Err(Stop::Fault(FaultKind::Line)),
+        _ => Err(PureStop::Fault(FaultKind::Line)),
     }
 }
 

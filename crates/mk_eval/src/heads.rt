@@ -1,46 +1,53 @@
 //! The lines that begin blocks and their branches.
-ghost use Rattle.std.specs.Prelude.{◌≡◌, ◌∷◌, ◌++◌, IfOk, IfErr, string_bytes};
+ghost use Rattle.std.specs.Prelude.{◌≡◌, IfOk, string_bytes};
 ghost use Rattle.mk_base.specs.Meter.{IsLater};
-ghost use Rattle.mk_base.specs.Stopping.{Gives, NeverStore};
+ghost use Rattle.mk_base.specs.Stopping.{Gives, GivesPurely};
 ghost use Rattle.mk_ast.specs.Kinds.{shown_kind, line_kind};
 ghost use Rattle.mk_loop.specs.Places.{text_of};
 ghost use Rattle.mk_files.specs.Asking.{account};
-ghost use Rattle.mk_files.specs.Looking.{AfterQuestions, LeavesAtStop};
+ghost use Rattle.mk_files.specs.Working.{Asks};
 ghost use Rattle.mk_eval.specs.Heads as heads;
 ghost use Rattle.mk_eval.specs.Lines as lines;
 ghost use Rattle.mk_eval.specs.Running.{Pays};
 ghost use Rattle.mk_eval.specs.Views.{loops_of};
 
+use cond_grammar::Call;
 use mk_ast::{Directive, LineKind, line_kind};
-use mk_base::{Budget, FaultKind, Stop};
-use mk_cond::truth;
+use mk_base::{Budget, FaultKind, PureStop, Stop};
+use mk_cond::{Form, Setting, directive_truth};
 use mk_env::Env;
 use mk_loop::{LoopScope, put_words};
 use mk_paths::{Name, Names};
 use std::alloc::{AllocError, Global};
 
-/// The word of a directive.
-fn spelled(word: Directive) -> &'static str
-    ensures { result.now ≡ heads.spelled word }
+/// What the directive makes of its condition; `None` if it has none.
+fn form_of(word: Directive) -> Option<Form>
+    ensures { result ≡ heads.form_of word }
 {
     match word {
-        Directive::If => "if",
-        Directive::Ifdef => "ifdef",
-        Directive::Ifndef => "ifndef",
-        Directive::Ifmake => "ifmake",
-        Directive::Ifnmake => "ifnmake",
-        Directive::Elif => "elif",
-        Directive::Elifdef => "elifdef",
-        Directive::Elifndef => "elifndef",
-        Directive::Elifmake => "elifmake",
-        Directive::Elifnmake => "elifnmake",
-        Directive::Else => "else",
-        Directive::Endif => "endif",
-        Directive::For => "for",
-        Directive::Endfor => "endfor",
-        Directive::Include => "include",
-        Directive::Sinclude => "sinclude",
-        Directive::Undef => "undef",
+        Directive::If | Directive::Ifdef | Directive::Elif | Directive::Elifdef => {
+            Some(form(Call::Defined, false))
+        }
+        Directive::Ifndef | Directive::Elifndef => Some(form(Call::Defined, true)),
+        Directive::Ifmake | Directive::Elifmake => Some(form(Call::Make, false)),
+        Directive::Ifnmake | Directive::Elifnmake => Some(form(Call::Make, true)),
+        _ => None,
+    }
+}
+
+fn form(word: Call, negated: bool) -> Form
+    ensures { result ≡ record { word = word; negated = negated } }
+{
+    Form { word, negated }
+}
+
+/// The same of the directive that a line of this kind is.
+fn form_in(kind: LineKind<'_>) -> Option<Form>
+    ensures { result ≡ heads.form_in (shown_kind kind.entry) }
+{
+    match kind {
+        LineKind::Directive { word, rest: _ } => form_of(word),
+        _ => None,
     }
 }
 
@@ -51,10 +58,9 @@ fn put_in(
     scope: LoopScope<'_>,
     text: &str,
     budget: &mut Budget,
-) -> Result<Option<String>, Stop<FaultKind>>
-    ensures gives { Gives (text_of text.now) result budget.new
+) -> Result<Option<String>, PureStop<FaultKind>>
+    ensures gives { GivesPurely (text_of text.now) result budget.new
         (lines.put_in variables.now (loops_of scope.entry) text.now budget.old) }
-    ensures store { NeverStore result }
     ensures later { IsLater budget.old budget.new }
 {
     match scope {
@@ -71,35 +77,20 @@ fn head_text(
     scope: LoopScope<'_>,
     kind: LineKind<'_>,
     budget: &mut Budget,
-) -> Result<String, Stop<FaultKind>>
-    ensures gives { Gives string_bytes result budget.new
+) -> Result<String, PureStop<FaultKind>>
+    ensures gives { GivesPurely string_bytes result budget.new
         (heads.head_text variables.now (loops_of scope.entry) (shown_kind kind.entry) budget.old) }
-    ensures store { NeverStore result }
     ensures later { IsLater budget.old budget.new }
     ensures paid { IfOk result (λ _. Pays budget.old budget.new) }
 {
     let LineKind::Directive { word: _, rest } = kind else {
-        return Err(Stop::Fault(FaultKind::Block)); // no other line begins a block
+        return Err(PureStop::Fault(FaultKind::Block)); // no other line begins a block
     };
     budget.pay()?;
     match put_in(alloc, variables, scope, rest, budget)? {
         Some(put) => Ok(put),
         None => Ok(String::from_str(alloc, rest)?),
     }
-}
-
-/// The word of the line of this kind and a condition after it, as a text.
-fn condition_text(alloc: Global, kind: LineKind<'_>, text: &str) -> Result<String, AllocError>
-    ensures { IfOk result (λ made. string_bytes made
-        ≡ heads.condition_text (shown_kind kind.entry) text.now) }
-{
-    let mut made = String::new(alloc);
-    if let LineKind::Directive { word, rest: _ } = kind {
-        made.push_str(spelled(word))?;
-        made.push_str(" ")?;
-        made.push_str(text)?;
-    }
-    Ok(made)
 }
 
 /// Whether the condition of this line, a form of `.if` or `.elif`, holds in the named makefile. It costs
@@ -114,24 +105,24 @@ pub(crate) fn judge<F: Names>(
     budget: &mut Budget,
 ) -> Result<bool, Stop<FaultKind>>
     ensures gives { Gives (λ held. held) result (account budget.new (F.view files.new))
-        (heads.judge (F.view files.old).files makefile.now variables.now
-        (loops_of scope.entry) line.now (account budget.old (F.view files.old))) }
-    ensures asked { IfOk result (λ held. AfterQuestions (F.view files.old) (F.view files.new)) }
-    ensures stops { IfErr result (LeavesAtStop F.fails_with (F.view files.old) (F.view files.new)) }
+        (heads.judge (F.view files.old).files makefile.now variables.now (loops_of scope.entry)
+        line.now (account budget.old (F.view files.old))) }
+    ensures asks { Asks F.fails_with result (F.view files.old) (F.view files.new) }
     ensures later { IsLater budget.old budget.new }
     ensures paid { IfOk result (λ held. Pays budget.old budget.new) }
 {
     let kind = line_kind(alloc, line)?;
     let text = head_text(alloc, variables, scope, kind, budget)?;
-    let condition = condition_text(alloc, kind, text.as_str())?;
-    truth(
-        alloc,
+    let Some(form) = form_in(kind) else {
+        return Err(Stop::Fault(FaultKind::Condition)); // no other line has a condition
+    };
+    let setting = Setting {
         variables,
-        condition.as_str(),
         makefile,
-        files,
-        budget,
-    )
+        form,
+        text: text.as_str(),
+    };
+    directive_truth(alloc, setting, files, budget)
 }
 
 /// The header of the loop that this line begins, with the words of the loops around it put in. It costs
@@ -142,10 +133,9 @@ pub(crate) fn header_text(
     scope: LoopScope<'_>,
     line: &str,
     budget: &mut Budget,
-) -> Result<String, Stop<FaultKind>>
-    ensures gives { Gives string_bytes result budget.new
+) -> Result<String, PureStop<FaultKind>>
+    ensures gives { GivesPurely string_bytes result budget.new
         (heads.head_text variables.now (loops_of scope.entry) (line_kind line.now) budget.old) }
-    ensures store { NeverStore result }
     ensures later { IsLater budget.old budget.new }
     ensures paid { IfOk result (λ _. Pays budget.old budget.new) }
 {

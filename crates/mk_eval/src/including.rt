@@ -1,11 +1,11 @@
 //! The files that lines ask for.
-ghost use Rattle.std.specs.Prelude.{◌≡◌, IfOk, IfErr, option_map};
+ghost use Rattle.std.specs.Prelude.{◌≡◌, IfOk, option_map};
 ghost use Rattle.mk_base.specs.Meter.{IsLater};
 ghost use Rattle.mk_base.specs.Stopping.{Gives};
 ghost use Rattle.mk_paths.specs.FileName.{resolved, name_under, directory_of};
 ghost use Rattle.mk_files.specs.Asking.{account};
-ghost use Rattle.mk_eval.specs.declared.standing.EvalState.{EvalState};
-ghost use Rattle.mk_files.specs.Looking.{AfterQuestions, LeavesAtStop};
+ghost use Rattle.mk_eval.specs.declared.state.EvalState.{EvalState};
+ghost use Rattle.mk_files.specs.Working.{Asks};
 ghost use Rattle.mk_eval.specs.Includes as includes;
 ghost use Rattle.mk_eval.specs.Running.{MayOpen};
 ghost use Rattle.mk_eval.specs.Views.{place_of, file_of};
@@ -13,7 +13,7 @@ ghost use Rattle.mk_eval.specs.Views.{place_of, file_of};
 use crate::forms::{Form, form_of};
 use crate::outcome::Kind;
 use crate::requests::Request;
-use crate::standing::EvalState;
+use crate::state::EvalState;
 use mk_base::{Budget, FaultKind, Stop};
 use mk_files::{Content, Files, ask_read};
 use mk_paths::{Name, NameFault};
@@ -50,26 +50,25 @@ pub(crate) struct Included {
 pub(crate) fn open_request<F: Files>(
     alloc: Global,
     here: ExecutedFile<'_>,
-    standing: &mut EvalState,
+    state: &mut EvalState,
     request: &Request,
     files: &mut F,
     budget: &mut Budget,
 ) -> Result<Option<Included>, Stop<FaultKind>>
-    ensures gives { Gives (λ included. (standing.new, option_map file_of included)) result
+    ensures gives { Gives (λ included. (state.new, option_map file_of included)) result
         (account budget.new (F.view files.new))
-        (includes.open_form (place_of here.entry
-        (F.view files.old).files) standing.old request.now.optional
-        (includes.form_of request.now.text) (account budget.old (F.view files.old))) }
-    ensures asked { IfOk result (λ included. AfterQuestions (F.view files.old) (F.view files.new)) }
-    ensures stops { IfErr result (LeavesAtStop F.fails_with (F.view files.old) (F.view files.new)) }
+        (includes.open_form (place_of here.entry (F.view files.old).files) state.old
+        request.now.optional (includes.form_of request.now.text)
+        (account budget.old (F.view files.old))) }
+    ensures asks { Asks F.fails_with result (F.view files.old) (F.view files.new) }
     ensures later { IsLater budget.old budget.new }
     ensures opens { IfOk result (MayOpen here.entry.levels) }
 {
     match form_of(request.text()) {
         Form::Own(file) => open_own(alloc, here, file, request.optional(), files, budget),
-        Form::Port => open_port(alloc, here, standing, files, budget),
+        Form::Port => open_port(alloc, here, state, files, budget),
         Form::Subdir => {
-            say(standing, Kind::List);
+            say(state, Kind::List);
             Ok(None)
         }
         Form::System => Ok(None),
@@ -86,14 +85,12 @@ fn open_own<F: Files>(
     files: &mut F,
     budget: &mut Budget,
 ) -> Result<Option<Included>, Stop<FaultKind>>
-    ensures gives { (standing : EvalState)
-        → Gives (λ included. (standing, option_map file_of included)) result
+    ensures gives { (state : EvalState)
+        → Gives (λ included. (state, option_map file_of included)) result
         (account budget.new (F.view files.new))
-        (includes.open_own (place_of here.entry
-        (F.view files.old).files) standing optional file.now
+        (includes.open_own (place_of here.entry (F.view files.old).files) state optional file.now
         (account budget.old (F.view files.old))) }
-    ensures asked { IfOk result (λ included. AfterQuestions (F.view files.old) (F.view files.new)) }
-    ensures stops { IfErr result (LeavesAtStop F.fails_with (F.view files.old) (F.view files.new)) }
+    ensures asks { Asks F.fails_with result (F.view files.old) (F.view files.new) }
     ensures later { IsLater budget.old budget.new }
     ensures opens { IfOk result (MayOpen here.entry.levels) }
 {
@@ -114,13 +111,12 @@ fn open_named<F: Files>(
     files: &mut F,
     budget: &mut Budget,
 ) -> Result<Option<Included>, Stop<FaultKind>>
-    ensures gives { (standing : EvalState)
-        → Gives (λ included. (standing, option_map file_of included)) result
+    ensures gives { (state : EvalState)
+        → Gives (λ included. (state, option_map file_of included)) result
         (account budget.new (F.view files.new))
-        (includes.open_named (F.view files.old).files standing optional name
+        (includes.open_named (F.view files.old).files state optional name
         (account budget.old (F.view files.old))) }
-    ensures asked { IfOk result (λ included. AfterQuestions (F.view files.old) (F.view files.new)) }
-    ensures stops { IfErr result (LeavesAtStop F.fails_with (F.view files.old) (F.view files.new)) }
+    ensures asks { Asks F.fails_with result (F.view files.old) (F.view files.new) }
     ensures later { IsLater budget.old budget.new }
 {
     match ask_read(files, &name, budget)? {
@@ -131,44 +127,43 @@ fn open_named<F: Files>(
 }
 
 /// Says what the makefile describes, unless that was said before.
-fn say(standing: &mut EvalState, kind: Kind)
-    ensures { standing.new ≡ includes.with_kind standing.old kind }
+fn say(state: &mut EvalState, kind: Kind)
+    ensures { state.new ≡ includes.with_kind state.old kind }
 {
-    if standing.kind == Kind::Other {
-        standing.kind = kind;
+    if state.kind == Kind::Other {
+        state.kind = kind;
     }
 }
 
 /// Notes that the first `<bsd.port.mk>` is included.
-fn say_first_port(standing: &mut EvalState)
-    ensures { standing.new ≡ includes.first_port standing.old }
+fn say_first_port(state: &mut EvalState)
+    ensures { state.new ≡ includes.first_port state.old }
 {
-    say(standing, Kind::Port);
-    standing.shared_asked = true;
+    say(state, Kind::Port);
+    state.shared_asked = true;
 }
 
 /// The file that `<bsd.port.mk>` opens, if any.
 fn open_port<F: Files>(
     alloc: Global,
     here: ExecutedFile<'_>,
-    standing: &mut EvalState,
+    state: &mut EvalState,
     files: &mut F,
     budget: &mut Budget,
 ) -> Result<Option<Included>, Stop<FaultKind>>
-    ensures gives { Gives (λ included. (standing.new, option_map file_of included)) result
+    ensures gives { Gives (λ included. (state.new, option_map file_of included)) result
         (account budget.new (F.view files.new))
-        (includes.open_port (place_of here.entry (F.view files.old).files) standing.old
+        (includes.open_port (place_of here.entry (F.view files.old).files) state.old
         (account budget.old (F.view files.old))) }
-    ensures asked { IfOk result (λ included. AfterQuestions (F.view files.old) (F.view files.new)) }
-    ensures stops { IfErr result (LeavesAtStop F.fails_with (F.view files.old) (F.view files.new)) }
+    ensures asks { Asks F.fails_with result (F.view files.old) (F.view files.new) }
     ensures later { IsLater budget.old budget.new }
     ensures opens { IfOk result (MayOpen here.entry.levels) }
 {
-    if standing.shared_asked {
-        say(standing, Kind::Port);
+    if state.shared_asked {
+        say(state, Kind::Port);
         return Ok(None);
     }
-    say_first_port(standing);
+    say_first_port(state);
     open_shared(alloc, here, "../Makefile.inc", files, budget)
 }
 
@@ -180,14 +175,13 @@ fn open_shared<F: Files>(
     files: &mut F,
     budget: &mut Budget,
 ) -> Result<Option<Included>, Stop<FaultKind>>
-    ensures gives { (standing : EvalState)
-        → Gives (λ included. (standing, option_map file_of included)) result
+    ensures gives { (state : EvalState)
+        → Gives (λ included. (state, option_map file_of included)) result
         (account budget.new (F.view files.new))
-        (includes.open_shared (place_of here.entry (F.view files.old).files) standing
+        (includes.open_shared (place_of here.entry (F.view files.old).files) state
         (resolved (name_under (directory_of here.entry.makefile.now) file.now))
         (account budget.old (F.view files.old))) }
-    ensures asked { IfOk result (λ included. AfterQuestions (F.view files.old) (F.view files.new)) }
-    ensures stops { IfErr result (LeavesAtStop F.fails_with (F.view files.old) (F.view files.new)) }
+    ensures asks { Asks F.fails_with result (F.view files.old) (F.view files.new) }
     ensures later { IsLater budget.old budget.new }
     ensures opens { IfOk result (MayOpen here.entry.levels) }
 {
@@ -206,14 +200,12 @@ fn open_inside<F: Files>(
     files: &mut F,
     budget: &mut Budget,
 ) -> Result<Option<Included>, Stop<FaultKind>>
-    ensures gives { (standing : EvalState)
-        → Gives (λ included. (standing, option_map file_of included)) result
+    ensures gives { (state : EvalState)
+        → Gives (λ included. (state, option_map file_of included)) result
         (account budget.new (F.view files.new))
-        (includes.open_inside
-        (place_of here.entry (F.view files.old).files) standing optional name
+        (includes.open_inside (place_of here.entry (F.view files.old).files) state optional name
         (account budget.old (F.view files.old))) }
-    ensures asked { IfOk result (λ included. AfterQuestions (F.view files.old) (F.view files.new)) }
-    ensures stops { IfErr result (LeavesAtStop F.fails_with (F.view files.old) (F.view files.new)) }
+    ensures asks { Asks F.fails_with result (F.view files.old) (F.view files.new) }
     ensures later { IsLater budget.old budget.new }
     ensures opens { IfOk result (MayOpen here.entry.levels) }
 {

@@ -12,11 +12,11 @@ mod outcome;
 mod parses;
 mod requests;
 mod running;
-mod standing;
 mod starting;
+mod state;
 
 pub use evaluation::{evaluate, value};
 pub use executing::perform;
 pub use laws::same_where_answered;
-pub use outcome::{Evaluated, Failed, Kind, Valued};
+pub use outcome::{Evaluated, Failed, Kind, Valued, with_units};
 pub use requests::Request;

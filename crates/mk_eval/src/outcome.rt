@@ -1,7 +1,7 @@
 ghost use Rattle.std.specs.Prelude.{◌≡◌, string_bytes};
 ghost use Rattle.mk_eval.specs.Telling as telling;
 
-use mk_base::{Fault, Stop};
+use mk_base::{Fault, PureStop, Stop};
 use mk_env::Env;
 use std::marker::Model;
 use thiserror::Error;
@@ -85,5 +85,15 @@ pub(crate) fn with_cost(stop: Stop<Fault>, cost: u64) -> Stop<Failed>
         Stop::Fault(fault) => Stop::Fault(Failed { fault, cost }),
         Stop::Store => Stop::Store,
         Stop::Memory => Stop::Memory,
+    }
+}
+
+/// The stop of work that looks at no file; a fault gets the units that were spent.
+pub fn with_units(stop: PureStop<Fault>, cost: u64) -> PureStop<Failed>
+    ensures { result ≡ telling.with_units cost stop }
+{
+    match stop {
+        PureStop::Fault(fault) => PureStop::Fault(Failed { fault, cost }),
+        PureStop::Memory => PureStop::Memory,
     }
 }

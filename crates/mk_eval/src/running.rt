@@ -1,13 +1,13 @@
 //! Makefiles executed: blocks, loops and included files.
-ghost use Rattle.std.specs.Prelude.{◌≡◌, ◌∷◌, IfOk, IfErr, None, [], map, option_map, string_bytes};
+ghost use Rattle.std.specs.Prelude.{IfOk, None, map, option_map, string_bytes};
 ghost use Rattle.mk_base.specs.Meter.{IsLater, pay};
 ghost use Rattle.mk_base.specs.Outcome.{tell};
-ghost use Rattle.mk_base.specs.Stopping.{Gives, NeverStore};
+ghost use Rattle.mk_base.specs.Stopping.{Gives, GivesPurely};
 ghost use Rattle.mk_ast.specs.Blocks.{branches_from};
 ghost use Rattle.mk_ast.specs.Trees.{LoopTree};
 ghost use Rattle.mk_ast.specs.Views.{block_of, tree_of, branch_of, last_branch};
 ghost use Rattle.mk_files.specs.Asking.{account};
-ghost use Rattle.mk_files.specs.Looking.{AfterQuestions, LeavesAtStop};
+ghost use Rattle.mk_files.specs.Working.{Asks};
 ghost use Rattle.mk_ast.specs.Kinds.{line_kind};
 ghost use Rattle.mk_loop.specs.Header as headers;
 ghost use Rattle.mk_loop.specs.Scopes.{turns_in};
@@ -23,9 +23,9 @@ use crate::executing::perform;
 use crate::heads::{header_text, judge};
 use crate::including::{ExecutedFile, Included, open_request};
 use crate::parses::Parses;
-use crate::standing::EvalState;
+use crate::state::EvalState;
 use mk_ast::{Block, Branch, Node};
-use mk_base::{Budget, Fault, FaultKind, Stop};
+use mk_base::{Budget, Fault, PureStop, Stop};
 use mk_files::{Content, Files};
 use mk_loop::{Iterations, LoopScope, read_header};
 use mk_paths::{Name, Names};
@@ -38,17 +38,16 @@ pub(crate) fn execute_file<F: Files, P: Parses>(
     alloc: Global,
     here: ExecutedFile<'_>,
     content: &Content,
-    standing: &mut EvalState,
+    state: &mut EvalState,
     parses: &mut P,
     files: &mut F,
     budget: &mut Budget,
 ) -> Result<(), Stop<Fault>>
-    ensures gives { Gives (λ _. standing.new) result (account budget.new (F.view files.new))
+    ensures gives { Gives (λ _. state.new) result (account budget.new (F.view files.new))
         (meaning.file_meaning (F.view files.old).files here.entry.makefile.now
-        here.entry.levels here.entry.file.now content.now standing.old
+        here.entry.levels here.entry.file.now content.now state.old
         (account budget.old (F.view files.old))) }
-    ensures asked { IfOk result (λ _. AfterQuestions (F.view files.old) (F.view files.new)) }
-    ensures stops { IfErr result (LeavesAtStop F.fails_with (F.view files.old) (F.view files.new)) }
+    ensures asks { Asks F.fails_with result (F.view files.old) (F.view files.new) }
     ensures later { IsLater budget.old budget.new }
 {
     match parses.parsed(content)? {
@@ -57,7 +56,7 @@ pub(crate) fn execute_file<F: Files, P: Parses>(
             here,
             LoopScope::Outside,
             makefile.nodes.as_slice(),
-            standing,
+            state,
             parses,
             files,
             budget,
@@ -76,21 +75,19 @@ fn execute_block<F: Files, P: Parses>(
     here: ExecutedFile<'_>,
     scope: LoopScope<'_>,
     nodes: &[Node],
-    standing: &mut EvalState,
+    state: &mut EvalState,
     parses: &mut P,
     files: &mut F,
     budget: &mut Budget,
 ) -> Result<(), Stop<Fault>>
-    ensures gives { Gives (λ _. standing.new) result (account budget.new (F.view files.new))
-        (execution.execute (works_of here.entry (F.view files.old).files)
-        (block_of nodes.now) (loops_of scope.entry) standing.old
-        (account budget.old (F.view files.old))) }
-    ensures asked { IfOk result (λ _. AfterQuestions (F.view files.old) (F.view files.new)) }
-    ensures stops { IfErr result (LeavesAtStop F.fails_with (F.view files.old) (F.view files.new)) }
+    ensures gives { Gives (λ _. state.new) result (account budget.new (F.view files.new))
+        (execution.execute (works_of here.entry (F.view files.old).files) (block_of nodes.now)
+        (loops_of scope.entry) state.old (account budget.old (F.view files.old))) }
+    ensures asks { Asks F.fails_with result (F.view files.old) (F.view files.new) }
     ensures later { IsLater budget.old budget.new }
 {
     for node in nodes {
-        execute_node(alloc, here, scope, node, standing, parses, files, budget)?;
+        execute_node(alloc, here, scope, node, state, parses, files, budget)?;
     }
     Ok(())
 }
@@ -102,43 +99,38 @@ fn execute_node<F: Files, P: Parses>(
     here: ExecutedFile<'_>,
     scope: LoopScope<'_>,
     node: &Node,
-    standing: &mut EvalState,
+    state: &mut EvalState,
     parses: &mut P,
     files: &mut F,
     budget: &mut Budget,
 ) -> Result<(), Stop<Fault>>
-    ensures gives { Gives (λ _. standing.new) result (account budget.new (F.view files.new))
+    ensures gives { Gives (λ _. state.new) result (account budget.new (F.view files.new))
         (execution.execute_tree (works_of here.entry (F.view files.old).files)
-        (tree_of node.now) (loops_of scope.entry) standing.old
+        (tree_of node.now) (loops_of scope.entry) state.old
         (account budget.old (F.view files.old))) }
-    ensures asked { IfOk result (λ _. AfterQuestions (F.view files.old) (F.view files.new)) }
-    ensures stops { IfErr result (LeavesAtStop F.fails_with (F.view files.old) (F.view files.new)) }
+    ensures asks { Asks F.fails_with result (F.view files.old) (F.view files.new) }
     ensures later { IsLater budget.old budget.new }
 {
     match node {
-        Node::Line(line) => {
-            execute_line(alloc, here, scope, line, standing, parses, files, budget)
-        }
+        Node::Line(line) => { execute_line(alloc, here, scope, line, state, parses, files, budget) }
         Node::Choice {
             head,
             body,
             branches,
             otherwise,
         } => {
-            if holds(alloc, here, scope, head, standing, files, budget)? {
+            if holds(alloc, here, scope, head, state, files, budget)? {
                 let body = body.as_slice();
-                return execute_block(alloc, here, scope, body, standing, parses, files, budget);
+                return execute_block(alloc, here, scope, body, state, parses, files, budget);
             }
             let branches = branches.as_slice();
             execute_branches(
-                alloc, here, scope, branches, otherwise, standing, parses, files, budget,
+                alloc, here, scope, branches, otherwise, state, parses, files, budget,
             )
         }
         Node::Loop { head, body } => {
             let body = body.as_slice();
-            execute_loop(
-                alloc, here, scope, head, body, standing, parses, files, budget,
-            )
+            execute_loop(alloc, here, scope, head, body, state, parses, files, budget)
         }
     }
 }
@@ -152,30 +144,30 @@ fn execute_branches<F: Files, P: Parses>(
     scope: LoopScope<'_>,
     branches: &[Branch],
     otherwise: &Option<Block>,
-    standing: &mut EvalState,
+    state: &mut EvalState,
     parses: &mut P,
     files: &mut F,
     budget: &mut Budget,
 ) -> Result<(), Stop<Fault>>
-    ensures gives { Gives (λ _. standing.new) result (account budget.new (F.view files.new))
+    ensures gives { Gives (λ _. state.new) result (account budget.new (F.view files.new))
         (execution.execute_branches (works_of here.entry (F.view files.old).files)
         (branches_from (map branch_of branches.now)
         (last_branch (option_map (λ block. block_of block.value.items) otherwise.now)))
-        (loops_of scope.entry) standing.old (account budget.old (F.view files.old))) }
-    ensures asked { IfOk result (λ _. AfterQuestions (F.view files.old) (F.view files.new)) }
-    ensures stops { IfErr result (LeavesAtStop F.fails_with (F.view files.old) (F.view files.new)) }
+        (loops_of scope.entry) state.old
+        (account budget.old (F.view files.old))) }
+    ensures asks { Asks F.fails_with result (F.view files.old) (F.view files.new) }
     ensures later { IsLater budget.old budget.new }
 {
     for branch in branches {
-        if holds(alloc, here, scope, &branch.head, standing, files, budget)? {
+        if holds(alloc, here, scope, &branch.head, state, files, budget)? {
             let body = branch.body.as_slice();
-            return execute_block(alloc, here, scope, body, standing, parses, files, budget);
+            return execute_block(alloc, here, scope, body, state, parses, files, budget);
         }
     }
     match otherwise {
         Some(body) => {
             let body = body.as_slice();
-            execute_block(alloc, here, scope, body, standing, parses, files, budget)
+            execute_block(alloc, here, scope, body, state, parses, files, budget)
         }
         None => Ok(()),
     }
@@ -188,19 +180,18 @@ fn execute_line<F: Files, P: Parses>(
     here: ExecutedFile<'_>,
     scope: LoopScope<'_>,
     line: &Logical,
-    standing: &mut EvalState,
+    state: &mut EvalState,
     parses: &mut P,
     files: &mut F,
     budget: &mut Budget,
 ) -> Result<(), Stop<Fault>>
-    ensures gives { Gives (λ _. standing.new) result (account budget.new (F.view files.new))
-        ((works_of here.entry (F.view files.old).files).performs
-        (loops_of scope.entry) line.now standing.old (account budget.old (F.view files.old))) }
-    ensures asked { IfOk result (λ _. AfterQuestions (F.view files.old) (F.view files.new)) }
-    ensures stops { IfErr result (LeavesAtStop F.fails_with (F.view files.old) (F.view files.new)) }
+    ensures gives { Gives (λ _. state.new) result (account budget.new (F.view files.new))
+        ((works_of here.entry (F.view files.old).files).performs (loops_of scope.entry) line.now
+        state.old (account budget.old (F.view files.old))) }
+    ensures asks { Asks F.fails_with result (F.view files.old) (F.view files.new) }
     ensures later { IsLater budget.old budget.new }
 {
-    match open_line(alloc, here, scope, line, standing, files, budget)? {
+    match open_line(alloc, here, scope, line, state, files, budget)? {
         None => Ok(()),
         Some(Included { name, content }) => {
             let inside = ExecutedFile {
@@ -208,7 +199,7 @@ fn execute_line<F: Files, P: Parses>(
                 file: &name,
                 levels: here.levels - 1,
             };
-            execute_file(alloc, inside, &content, standing, parses, files, budget)
+            execute_file(alloc, inside, &content, state, parses, files, budget)
         }
     }
 }
@@ -221,26 +212,23 @@ fn execute_loop<F: Files, P: Parses>(
     scope: LoopScope<'_>,
     head: &Logical,
     body: &[Node],
-    standing: &mut EvalState,
+    state: &mut EvalState,
     parses: &mut P,
     files: &mut F,
     budget: &mut Budget,
 ) -> Result<(), Stop<Fault>>
-    ensures gives { Gives (λ _. standing.new) result (account budget.new (F.view files.new))
+    ensures gives { Gives (λ _. state.new) result (account budget.new (F.view files.new))
         (execution.execute_tree (works_of here.entry (F.view files.old).files)
-        (LoopTree head.now (block_of body.now)) (loops_of scope.entry) standing.old
+        (LoopTree head.now (block_of body.now)) (loops_of scope.entry) state.old
         (account budget.old (F.view files.old))) }
-    ensures asked { IfOk result (λ _. AfterQuestions (F.view files.old) (F.view files.new)) }
-    ensures stops { IfErr result (LeavesAtStop F.fails_with (F.view files.old) (F.view files.new)) }
+    ensures asks { Asks F.fails_with result (F.view files.old) (F.view files.new) }
     ensures later { IsLater budget.old budget.new }
 {
-    let header = header_of(alloc, here, scope, head, standing, budget)?;
-    let turns = turns_of(alloc, here, header.as_str(), head, standing, budget)?;
+    let header = header_of(alloc, here, scope, head, state, budget)?;
+    let turns = turns_of(alloc, here, header.as_str(), head, state, budget)?;
     for index in 0..turns.count() {
         let scope = LoopScope::Iteration(turns.turn(index), &scope);
-        execute_turn(
-            alloc, here, scope, head, body, standing, parses, files, budget,
-        )?;
+        execute_turn(alloc, here, scope, head, body, state, parses, files, budget)?;
     }
     Ok(())
 }
@@ -253,23 +241,20 @@ fn execute_turn<F: Files, P: Parses>(
     scope: LoopScope<'_>,
     head: &Logical,
     body: &[Node],
-    standing: &mut EvalState,
+    state: &mut EvalState,
     parses: &mut P,
     files: &mut F,
     budget: &mut Budget,
 ) -> Result<(), Stop<Fault>>
-    ensures gives { Gives (λ _. standing.new) result (account budget.new (F.view files.new))
-        ((execution.turn_in ((works_of here.entry
-        (F.view files.old).files).begins head.now)
-        (execution.execute (works_of here.entry (F.view files.old).files)
-        (block_of body.now)) (loops_of scope.entry) standing.old)
-        (account budget.old (F.view files.old))) }
-    ensures asked { IfOk result (λ _. AfterQuestions (F.view files.old) (F.view files.new)) }
-    ensures stops { IfErr result (LeavesAtStop F.fails_with (F.view files.old) (F.view files.new)) }
+    ensures gives { Gives (λ _. state.new) result (account budget.new (F.view files.new))
+        (execution.turn_in ((works_of here.entry (F.view files.old).files).begins head.now)
+        (execution.execute (works_of here.entry (F.view files.old).files) (block_of body.now))
+        (loops_of scope.entry) state.old (account budget.old (F.view files.old))) }
+    ensures asks { Asks F.fails_with result (F.view files.old) (F.view files.new) }
     ensures later { IsLater budget.old budget.new }
 {
     begin_turn(alloc, here, head, budget)?;
-    execute_block(alloc, here, scope, body, standing, parses, files, budget)
+    execute_block(alloc, here, scope, body, state, parses, files, budget)
 }
 
 /// Does what a line that frames no block says, except executing the file that it opens, if any.
@@ -278,24 +263,23 @@ fn open_line<F: Files>(
     here: ExecutedFile<'_>,
     scope: LoopScope<'_>,
     line: &Logical,
-    standing: &mut EvalState,
+    state: &mut EvalState,
     files: &mut F,
     budget: &mut Budget,
 ) -> Result<Option<Included>, Stop<Fault>>
-    ensures gives { Gives (λ included. (standing.new, option_map file_of included)) result
+    ensures gives { Gives (λ included. (state.new, option_map file_of included)) result
         (account budget.new (F.view files.new))
-        (meaning.told_at (place_of here.entry (F.view files.old).files) line.now
-        (meaning.open_line (place_of here.entry (F.view files.old).files)
-        (loops_of scope.entry) line.now standing.old) (account budget.old (F.view files.old))) }
-    ensures asked { IfOk result (λ _. AfterQuestions (F.view files.old) (F.view files.new)) }
-    ensures stops { IfErr result (LeavesAtStop F.fails_with (F.view files.old) (F.view files.new)) }
+        (meaning.blamed_at (place_of here.entry (F.view files.old).files) line.now
+        (meaning.open_line (place_of here.entry (F.view files.old).files) (loops_of scope.entry)
+        line.now state.old) (account budget.old (F.view files.old))) }
+    ensures asks { Asks F.fails_with result (F.view files.old) (F.view files.new) }
     ensures later { IsLater budget.old budget.new }
     ensures opens { IfOk result (Opens here.entry.levels budget.old budget.new) }
 {
-    let opened = match perform(alloc, &mut standing.variables, scope, line.text(), budget) {
+    let opened = match perform(alloc, &mut state.variables, scope, line.text(), budget) {
         Ok(None) => Ok(None),
-        Ok(Some(request)) => open_request(alloc, here, standing, &request, files, budget),
-        Err(stop) => Err(stop),
+        Ok(Some(request)) => open_request(alloc, here, state, &request, files, budget),
+        Err(stop) => Err(Stop::from(stop)),
     };
     match opened {
         Ok(opened) => Ok(opened),
@@ -309,19 +293,18 @@ fn holds<F: Names>(
     here: ExecutedFile<'_>,
     scope: LoopScope<'_>,
     line: &Logical,
-    standing: &EvalState,
+    state: &EvalState,
     files: &mut F,
     budget: &mut Budget,
 ) -> Result<bool, Stop<Fault>>
     ensures gives { Gives (λ held. held) result (account budget.new (F.view files.new))
-        ((works_of here.entry (F.view files.old).files).holds
-        (loops_of scope.entry) line.now standing.now (account budget.old (F.view files.old))) }
-    ensures asked { IfOk result (λ _. AfterQuestions (F.view files.old) (F.view files.new)) }
-    ensures stops { IfErr result (LeavesAtStop F.fails_with (F.view files.old) (F.view files.new)) }
+        ((works_of here.entry (F.view files.old).files).holds (loops_of scope.entry) line.now
+        state.now (account budget.old (F.view files.old))) }
+    ensures asks { Asks F.fails_with result (F.view files.old) (F.view files.new) }
     ensures later { IsLater budget.old budget.new }
     ensures paid { IfOk result (λ held. Pays budget.old budget.new) }
 {
-    let variables = &standing.variables;
+    let variables = &state.variables;
     match judge(
         alloc,
         here.makefile,
@@ -342,18 +325,17 @@ fn header_of(
     here: ExecutedFile<'_>,
     scope: LoopScope<'_>,
     line: &Logical,
-    standing: &EvalState,
+    state: &EvalState,
     budget: &mut Budget,
-) -> Result<String, Stop<Fault>>
-    ensures gives { Gives string_bytes result budget.new
+) -> Result<String, PureStop<Fault>>
+    ensures gives { GivesPurely string_bytes result budget.new
         (tell (meaning.at here.entry.file.now line.now.line)
-        (heads.head_text standing.now.variables (loops_of scope.entry)
+        (heads.head_text state.now.variables (loops_of scope.entry)
         (line_kind line.now.text) budget.old)) }
-    ensures store { NeverStore result }
     ensures later { IsLater budget.old budget.new }
     ensures paid { IfOk result (λ _. Pays budget.old budget.new) }
 {
-    match header_text(alloc, &standing.variables, scope, line.text(), budget) {
+    match header_text(alloc, &state.variables, scope, line.text(), budget) {
         Ok(header) => Ok(header),
         Err(stop) => Err(stop.blame(alloc, here.file.as_str(), line.line())),
     }
@@ -365,16 +347,15 @@ fn turns_of<'a>(
     here: ExecutedFile<'_>,
     header: &'a str,
     line: &Logical,
-    standing: &EvalState,
+    state: &EvalState,
     budget: &mut Budget,
-) -> Result<Iterations<'a>, Stop<Fault>>
-    ensures gives { Gives turns_in result budget.new
+) -> Result<Iterations<'a>, PureStop<Fault>>
+    ensures gives { GivesPurely turns_in result budget.new
         (tell (meaning.at here.entry.file.now line.now.line)
-        (headers.header standing.now.variables header.now budget.old)) }
-    ensures store { NeverStore result }
+        (headers.header state.now.variables header.now budget.old)) }
     ensures later { IsLater budget.old budget.new }
 {
-    match read_header(alloc, &standing.variables, header, budget) {
+    match read_header(alloc, &state.variables, header, budget) {
         Ok(turns) => Ok(turns),
         Err(stop) => Err(stop.blame(alloc, here.file.as_str(), line.line())),
     }
@@ -386,15 +367,14 @@ fn begin_turn(
     here: ExecutedFile<'_>,
     line: &Logical,
     budget: &mut Budget,
-) -> Result<(), Stop<Fault>>
-    ensures gives { Gives (λ _. tt) result budget.new
+) -> Result<(), PureStop<Fault>>
+    ensures gives { GivesPurely (λ _. tt) result budget.new
         (tell (meaning.at here.entry.file.now line.now.line) (pay budget.old)) }
-    ensures store { NeverStore result }
     ensures later { IsLater budget.old budget.new }
     ensures paid { IfOk result (λ _. Pays budget.old budget.new) }
 {
     match budget.pay() {
         Ok(()) => Ok(()),
-        Err(kind) => Err(Stop::Fault(kind).blame(alloc, here.file.as_str(), line.line())),
+        Err(kind) => Err(PureStop::Fault(kind).blame(alloc, here.file.as_str(), line.line())),
     }
 }

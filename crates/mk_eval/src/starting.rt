@@ -1,5 +1,5 @@
 //! The variables with which an evaluation begins.
-ghost use Rattle.std.specs.Prelude.{◌≡◌, IfOk, OnOk, map, string_bytes, codes};
+ghost use Rattle.std.specs.Prelude.{◌≡◌, IfOk, map, string_bytes, codes};
 ghost use Rattle.text_parts.specs.Order.{in_order};
 ghost use Rattle.mk_eval.specs.Start as starts;
 ghost use Rattle.mk_eval.specs.Views.{flavors_in};

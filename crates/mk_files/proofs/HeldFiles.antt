@@ -8,9 +8,9 @@ use Rattle.std.specs.BTreeMap as tree
 use Rattle.std.specs.Map.{lookup, update}
 use Rattle.std.specs.String.{string_cmp}
 use Rattle.std.specs.Str.{bytes_eq}
-use Rattle.std.specs.Bool.{one_answer}
 use Rattle.std.proofs.lemmas.Map.Text.{btree_map_updates_text, is_eq-slice_cmp}
-use Rattle.std.proofs.lemmas.Slice.Eq.{bytes_eq-Decides}
+use Rattle.general_facts.specs.Maps.{same_map}
+use Rattle.general_facts.specs.Texts.{bytes_eq-sym}
 use Rattle.mk_paths.specs.World.{FileMap}
 use Rattle.mk_files.specs.Holding.{files_of}
 
@@ -29,33 +29,24 @@ get-files_of (e ∷ es) q =
 pub get-view : (m : tree.BTreeMap (String Global) (List ℕ)) (files : FileMap) (q : List ℕ) → files_of m.entries ≡ files → tree.get_by_text m q ≡ finite.get files q
 get-view m files q is = sym (get-files_of m.entries q) ∙ ap (λ held. finite.get held q) is
 
-bytes_eq_sym : (xs ys : List ℕ) → bytes_eq xs ys ≡ bytes_eq ys xs
-bytes_eq_sym xs ys =
-    one_answer (bytes_eq xs ys) (bytes_eq ys xs) (bytes_eq-Decides xs ys)
-    (λ e. sym ((bytes_eq-Decides ys xs).0 e), λ e. (bytes_eq-Decides ys xs).1 (sym e))
-
--- two maps that answer alike are one
-alike : (m n : FileMap) → ((q : List ℕ) → finite.get m q ≡ finite.get n q) → m ≡ n
-alike m n same = finite.same_map nat_list_cmp_total (finite.slice_cmp-IsAntisymmetric finite.nat_cmp-IsAntisymmetric) m n same
-
 -- the answers after one name was given a content, or lost it
 module _ (old new : tree.BTreeMap (String Global) (List ℕ)) (name : List ℕ) (content : Option (List ℕ)) (changed : (q : List ℕ) → tree.get_by_text new q ≡ update bytes_eq (tree.get_by_text old) name content q) where
   answers_after : (q : List ℕ) → finite.get (files_of new.entries) q ≡ cond (eq_by_cmp (slice_cmp nat_cmp) q name) content (finite.get (files_of old.entries) q)
   answers_after q =
       get-files_of new.entries q ∙ changed q
-      ∙ ap (λ b. cond b content (tree.get_by_text old q)) (bytes_eq_sym name q ∙ sym (is_eq-slice_cmp q name))
+      ∙ ap (λ b. cond b content (tree.get_by_text old q)) (bytes_eq-sym name q ∙ sym (is_eq-slice_cmp q name))
       ∙ ap (cond (is_eq (slice_cmp nat_cmp q name)) content) (sym (get-files_of old.entries q))
 
 -- a map of texts in which one key was given a content stands for the map of bytes with that change
 pub files_of-insert : (old new : tree.BTreeMap (String Global) (List ℕ)) (name : String Global) (content : List ℕ) → tree.Updates string_cmp old new name (Some content)
     → files_of new.entries ≡ finite.insert (files_of old.entries) (string_bytes name) content
 files_of-insert old new name content updates =
-    alike _ _ (λ q. answers_after old new (string_bytes name) (Some content) (btree_map_updates_text (string_bytes name) old new (Some content) updates) q
+    same_map _ _ (λ q. answers_after old new (string_bytes name) (Some content) (btree_map_updates_text (string_bytes name) old new (Some content) updates) q
     ∙ sym (finite.get-insert nat_list_cmp_total (files_of old.entries) (string_bytes name) content q))
 
 -- the same where one key was taken away
 pub files_of-remove : (old new : tree.BTreeMap (String Global) (List ℕ)) (name : List ℕ) → tree.UpdatesBy string_cmp (λ key. slice_cmp nat_cmp name (string_bytes key)) old new None
     → files_of new.entries ≡ finite.remove (files_of old.entries) name
 files_of-remove old new name updates =
-    alike _ _ (λ q. answers_after old new name None (btree_map_updates_text name old new None updates) q
+    same_map _ _ (λ q. answers_after old new name None (btree_map_updates_text name old new None updates) q
     ∙ sym (finite.get-remove nat_list_cmp_total (files_of old.entries) name q))

@@ -1,5 +1,5 @@
 -- The names of the files that a map with texts as its keys holds.
-use Rattle.std.proofs.Common.{◌≡◌, ℕ, Bool, true, false, T, ◌&&◌, List, [], ◌∷◌, map, refl, sym, ◌∙◌, ap, subst, Ordering, Less, Equal, Greater, length, arith, string_bytes, String}
+use Rattle.std.proofs.Common.{◌≡◌, ℕ, Bool, true, false, T, ◌&&◌, List, [], ◌∷◌, map, refl, sym, ◌∙◌, ap, subst, Less, length, arith, string_bytes, String}
 use Rattle.std.specs.Ordering.{nat_cmp, is_lt}
 use Rattle.std.specs.Cmp.Lexicographic.{slice_cmp, nat_list_cmp_total}
 use Rattle.std.specs.List.{AllByRecursion}
@@ -8,6 +8,7 @@ use Rattle.std.specs.declared.alloc.Global.{Global}
 use Rattle.std.specs.FinMap as finite
 use Rattle.std.specs.FinMap.Entries.{put, by_order, is_sorted, below_all}
 use Rattle.std.specs.String.{string_cmp}
+use Rattle.general_facts.specs.Bools.{Less_from_is_lt}
 use Rattle.mk_files.specs.Holding.{files_of}
 
 abbrev Entries : Type 0
@@ -25,11 +26,6 @@ second : (a b : Bool) → T (a && b) → T b
 second true b p = p
 second false b p = absurd p
 
-less : (o : Ordering) → T (is_lt o) → o ≡ Less
-less Less p = refl
-less Equal p = absurd p
-less Greater p = absurd p
-
 no_entry : (es : Entries) → length es ≡ 0 → es ≡ []
 no_entry [] e = refl
 no_entry (x ∷ es) e = absurd (omega arith)
@@ -39,7 +35,7 @@ put_front : (e : List ℕ × List ℕ) (es : Entries) → T (is_sorted (slice_cm
 put_front e [] h = refl
 put_front e (f ∷ fs) h =
     ap (λ o. by_order o ((e.0, e.1) ∷ f ∷ fs) ((f.0, e.1) ∷ fs) (f ∷ put (slice_cmp nat_cmp) e.0 e.1 fs))
-    (less (slice_cmp nat_cmp e.0 f.0) (first _ _ (first (below_all (slice_cmp nat_cmp) e.0 (f ∷ fs)) _ h)))
+    (Less_from_is_lt (slice_cmp nat_cmp e.0 f.0) (first _ _ (first (below_all (slice_cmp nat_cmp) e.0 (f ∷ fs)) _ h)))
 
 -- entries in order are those of their map
 entries-from_entries : (es : Entries) → T (is_sorted (slice_cmp nat_cmp) es) → finite.entries (finite.from_entries {R = slice_cmp nat_cmp} es) ≡ es

@@ -1,4 +1,5 @@
 pub mod Holding
 pub mod Asking
 pub mod Looking
+pub mod Working
 pub mod Limits

@@ -1,13 +1,15 @@
 -- Looking at a file.
-use Rattle.std.specs.Prelude.{◌≡◌, ◌⊎◌, List, [], ◌∷◌, ◌++◌, ℕ, Option, Some, None, option_map, Result, Ok, Err, IfErr}
-use Rattle.std.proofs.Common.{sym, ap, ◌∙◌, refl, append-nil, append_assoc, inl, inr}
+use Rattle.std.specs.Prelude.{◌≡◌, ◌⊎◌, List, [], ◌∷◌, ◌++◌, ℕ}
+use Rattle.std.proofs.Common.{ap, ◌∙◌, inl, inr}
 use Rattle.std.specs.FinMap.{get}
+use Rattle.mk_base.specs.declared.stopping.PureStop.{PureStop}
+use Rattle.mk_base.specs.declared.stopping.PureStop.TheVariants as pure
 use Rattle.mk_base.specs.declared.stopping.Stop.{Stop}
 use Rattle.mk_base.specs.declared.stopping.Stop.TheVariants as stops
-use Rattle.mk_base.specs.Stopping.{NeverStore}
+use Rattle.mk_base.specs.Stopping.{stop_of_pure}
 use Rattle.mk_paths.specs.declared.asking.FilesFault.{FilesFault}
 use Rattle.mk_paths.specs.declared.asking.FilesFault.TheVariants as faults
-use Rattle.mk_paths.specs.FilesView.{Contents, Question, FilesView, noted, failed}
+use Rattle.mk_paths.specs.FilesView.{Contents, Question, FilesView, noted, failed, noted-twice, noted-nothing}
 
 -- the view after a look at a file: the question and its answer are in the log, if one is kept
 abbrev pub looked : FilesView → List ℕ → FilesView
@@ -49,21 +51,6 @@ abbrev pub LeavesAtStop : {F : Type 0} → (FilesFault → Type 0) → FilesView
 LeavesAtStop may old new (stops.Fault fault) = AfterQuestions old new
 LeavesAtStop may old new stops.Store = may faults.Store × AfterFailedQuestion old new
 LeavesAtStop may old new stops.Memory = AfterQuestions old new ⊎ (may faults.Memory × AfterFailedQuestion old new)
-
-no_more : (log : Option (List Question)) → log ≡ option_map (λ l. l ++ []) log
-no_more None = refl
-no_more (Some l) = ap Some (sym (append-nil l))
-
-both : (first second : List Question) (log : Option (List Question))
-    → option_map (λ l. l ++ second) (option_map (λ l. l ++ first) log) ≡ option_map (λ l. l ++ (first ++ second)) log
-both first second None = refl
-both first second (Some l) = ap Some (append_assoc l first second)
-
-noted-twice : (world : FilesView) (first second : List Question) → noted (noted world first) second ≡ noted world (first ++ second)
-noted-twice world first second = ap (λ log. record world { log = log }) (both first second world.log)
-
-noted-nothing : (world : FilesView) → world ≡ noted world []
-noted-nothing world = ap (λ log. record world { log = log }) (no_more world.log)
 
 -- nothing was asked
 pub AfterQuestions-nothing : (world : FilesView) → AfterQuestions world world
@@ -115,10 +102,8 @@ LeavesAtStop-one may old new (stops.Fault fault) asks = record { questions = [];
 LeavesAtStop-one may old new stops.Store asks = (asks.0, vain old new asks.1)
 LeavesAtStop-one may old new stops.Memory asks = inr (asks.0, vain old new asks.1)
 
--- work that asks nothing never stops at `Store`
-pub LeavesAtStop-nothing : {R F : Type 0} (may : FilesFault → Type 0) (world : FilesView) (result : Result R (Stop F))
-    → NeverStore result → IfErr result (LeavesAtStop may world world)
-LeavesAtStop-nothing may world (Ok value) own = tt
-LeavesAtStop-nothing may world (Err (stops.Fault fault)) own = AfterQuestions-nothing world
-LeavesAtStop-nothing may world (Err stops.Store) own = absurd own
-LeavesAtStop-nothing may world (Err stops.Memory) own = inl (AfterQuestions-nothing world)
+-- work that looks at no file never stops at `Store`
+pub LeavesAtStop-nothing : {F : Type 0} (may : FilesFault → Type 0) (world : FilesView) (stop : PureStop F)
+    → LeavesAtStop may world world (stop_of_pure stop)
+LeavesAtStop-nothing may world (pure.Fault fault) = AfterQuestions-nothing world
+LeavesAtStop-nothing may world pure.Memory = inl (AfterQuestions-nothing world)

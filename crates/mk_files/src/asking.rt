@@ -9,6 +9,7 @@ ghost use Rattle.mk_files.specs.Asking as asking;
 ghost use Rattle.mk_files.specs.Asking.{account};
 ghost use Rattle.mk_files.specs.Looking as looking;
 ghost use Rattle.mk_files.specs.Looking.{looked, Refuses, AsksAndStops};
+ghost use Rattle.mk_files.specs.Working.{Asks};
 
 use crate::shared::Content;
 use crate::worlds::Files;
@@ -83,6 +84,7 @@ pub fn ask_has<F: Names>(
     ensures noted { IfOk result (λ there. F.view files.new
         ≡ noted (F.view files.old) ((name.now, Presence there) ∷ [])) }
     ensures stops { IfErr result (AsksAndStops F.fails_with (F.view files.old) (F.view files.new)) }
+    ensures asks { Asks F.fails_with result (F.view files.old) (F.view files.new) }
     ensures counted { budget.new ≡ left (question budget.old) }
     ensures later { IsLater budget.old budget.new }
 {
@@ -107,6 +109,7 @@ pub fn ask_read<F: Files>(
         (account budget.old (F.view files.old))) }
     ensures noted { OnOk result (F.view files.new ≡ looked (F.view files.old) name.now) }
     ensures stops { IfErr result (AsksAndStops F.fails_with (F.view files.old) (F.view files.new)) }
+    ensures asks { Asks F.fails_with result (F.view files.old) (F.view files.new) }
     ensures counted { budget.new ≡ left (question budget.old) }
     ensures later { IsLater budget.old budget.new }
 {

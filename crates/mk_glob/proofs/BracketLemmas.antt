@@ -3,6 +3,7 @@ use Rattle.std.proofs.Common.{◌≡◌, ℕ, ◌≤◌, length, Bool, true, fal
 use Rattle.std.proofs.Math.Bool.{or-false}
 use Rattle.std.proofs.lemmas.Bool.{cond-true, cond-false, cases_Bool, both_ways, eqb-true, ne_eqb}
 use Rattle.std.specs.Option.{option_map}
+use Rattle.std.proofs.lemmas.Option.{same_Some}
 use Rattle.mk_glob.specs.declared.signs.PatternSign.{PatternSign}
 use Rattle.mk_glob.specs.declared.signs.PatternSign.TheVariants.{Bare, Plain}
 use Rattle.mk_glob.specs.Signs.{character, is_bare, signs_of}
@@ -51,9 +52,6 @@ begun c low (Some b) = refl
 pub of_body-begins : (c : ℕ) (low : PatternSign) (rest : List PatternSign) → of_body c (low ∷ rest) ≡ after_low c false low rest
 of_body-begins c low rest = begun c low (up_to_close rest)
 
-same_some : {A : Type 0} (a b : A) → Some a ≡ Some b → a ≡ b
-same_some a b e = cc
-
 none_is_none : {A : Type 0} (b : A) → None ≡ Some b → ⊥
 none_is_none b e = cc
 
@@ -63,7 +61,7 @@ second_alone : (low s t : PatternSign) (rest : List PatternSign) (b : Bracketed)
 second_alone low s t rest b free e =
     let P : Bracketed → Type 0 = λ x. members (low ∷ s ∷ x.inside) ≡ alone (character low) ∷ members (s ∷ x.inside) in
     elim (cases_Bool (is_bare 93 t)) [
-      | inl closes ↦ subst P (same_some _ b (sym (cond-true (is_bare 93 t) _ _ closes) ∙ e)) refl
+      | inl closes ↦ subst P (same_Some _ b (sym (cond-true (is_bare 93 t) _ _ closes) ∙ e)) refl
       | inr more ↦
           let inner = map_some (onto_inside t) (up_to_close rest) b (sym (cond-false (is_bare 93 t) _ _ more) ∙ e) in
           subst P (sym inner.2) (elim (cases_Bool (is_bare 45 s)) [
@@ -79,13 +77,13 @@ alone_member low [] b free e = absurd (none_is_none b e)
 alone_member low (s ∷ []) b free e = elim (cases_Bool (is_bare 93 s)) [
   | inl closes ↦
       let P : Bracketed → Type 0 = λ x. members (low ∷ x.inside) ≡ alone (character low) ∷ members x.inside in
-      subst P (same_some _ b (sym (cond-true (is_bare 93 s) _ _ closes) ∙ e)) refl
+      subst P (same_Some _ b (sym (cond-true (is_bare 93 s) _ _ closes) ∙ e)) refl
   | inr more ↦ absurd (none_is_none b (sym (cond-false (is_bare 93 s) _ _ more) ∙ e))
 ]
 alone_member low (s ∷ t ∷ rest) b free e =
     let P : Bracketed → Type 0 = λ x. members (low ∷ x.inside) ≡ alone (character low) ∷ members x.inside in
     elim (cases_Bool (is_bare 93 s)) [
-      | inl closes ↦ subst P (same_some _ b (sym (cond-true (is_bare 93 s) _ _ closes) ∙ e)) refl
+      | inl closes ↦ subst P (same_Some _ b (sym (cond-true (is_bare 93 s) _ _ closes) ∙ e)) refl
       | inr more ↦
           let inner = map_some (onto_inside s) (up_to_close (t ∷ rest)) b (sym (cond-false (is_bare 93 s) _ _ more) ∙ e) in
           subst P (sym inner.2) (second_alone low s t rest inner.0 free inner.1)
@@ -164,15 +162,15 @@ bracketed-from_told c body e = map_none (told_all c) (bracketed body) e
 abbrev found_of : Bool × List PatternSign → Bool
 found_of p = p.0
 
-abbrev behind_of : Bool × List PatternSign → List PatternSign
-behind_of p = p.1
+abbrev after_of : Bool × List PatternSign → List PatternSign
+after_of p = p.1
 
 pub HasMembers-from_told : (c : ℕ) (body : List PatternSign) (found : Bool) (behind : List PatternSign) → of_body c body ≡ Some (found, behind)
     → HasMembers body c found behind
 HasMembers-from_told c body found behind e =
     let at = map_some (told_all c) (bracketed body) (found, behind) e in record {
       inside = at.0.inside;
-      stands = at.1 ∙ ap (λ x. Some record { inside = at.0.inside; behind = x }) (sym (ap behind_of at.2));
+      stands = at.1 ∙ ap (λ x. Some record { inside = at.0.inside; behind = x }) (sym (ap after_of at.2));
       tells = ap found_of at.2;
     }
 

@@ -2,6 +2,7 @@
 use Rattle.std.proofs.Common.{◌≡◌, ℕ, zero, suc, ◌≤◌, Bool, true, false, eqb, List, [], ◌∷◌, ◌++◌, length, refl, ap, sym, ◌∙◌, subst, arith, inl, inr, length-append, append_assoc, Option, Some, None}
 use Rattle.std.proofs.lemmas.Bool.{cond-true, cond-false, cond_both, cases_Bool}
 use Rattle.std.specs.Option.{option_map, unwrap_or}
+use Rattle.std.proofs.lemmas.Option.{same_Some}
 use Rattle.mk_glob.specs.declared.signs.PatternSign.{PatternSign}
 use Rattle.mk_glob.specs.declared.signs.PatternSign.TheVariants.{Bare, Plain}
 use Rattle.mk_glob.specs.Signs.{is_bare}
@@ -26,8 +27,8 @@ pub record EndsIn (whole part : List PatternSign) : Type 0 where
 pub ends_in_itself : (whole : List PatternSign) → EndsIn whole whole
 ends_in_itself whole = record { front = []; joins = refl }
 
-pub ends_behind : (sign : PatternSign) (whole part : List PatternSign) → EndsIn whole part → EndsIn (sign ∷ whole) part
-ends_behind sign whole part ends = record { front = sign ∷ ends.front; joins = ap (λ t. sign ∷ t) ends.joins }
+pub ends_after : (sign : PatternSign) (whole part : List PatternSign) → EndsIn whole part → EndsIn (sign ∷ whole) part
+ends_after sign whole part ends = record { front = sign ∷ ends.front; joins = ap (λ t. sign ∷ t) ends.joins }
 
 pub ends_along : (whole middle part : List PatternSign) → EndsIn whole middle → EndsIn middle part → EndsIn whole part
 ends_along whole middle part first second = record {
@@ -38,20 +39,17 @@ ends_along whole middle part first second = record {
 pub ends_shorter : (whole part : List PatternSign) → EndsIn whole part → length part ≤ length whole
 ends_shorter whole part ends = let n = ap length ends.joins in omega (arith, n, length-append ends.front part)
 
-some_same : {A : Type 0} (a b : A) → Some a ≡ Some b → a ≡ b
-some_same a b e = cc
-
 up_to_close-ends : (signs : List PatternSign) (b : Bracketed) → up_to_close signs ≡ Some b → EndsIn signs b.behind
 up_to_close-ends [] b e = absurd cc
 up_to_close-ends (sign ∷ rest) b e = elim (cases_Bool (is_bare 93 sign)) [
   | inl closes ↦
       let same : Some record { inside = []; behind = rest } ≡ Some b = sym (cond-true (is_bare 93 sign) _ _ closes) ∙ e in
-      let at : rest ≡ b.behind = ap Bracketed.behind (some_same _ b same) in
-      subst (EndsIn (sign ∷ rest)) at (ends_behind sign rest rest (ends_in_itself rest))
+      let at : rest ≡ b.behind = ap Bracketed.behind (same_Some _ b same) in
+      subst (EndsIn (sign ∷ rest)) at (ends_after sign rest rest (ends_in_itself rest))
   | inr more ↦
       let inner = map_some (onto_inside sign) (up_to_close rest) b (sym (cond-false (is_bare 93 sign) _ _ more) ∙ e) in
       let at : inner.0.behind ≡ b.behind = sym (ap Bracketed.behind inner.2) in
-      subst (EndsIn (sign ∷ rest)) at (ends_behind sign rest inner.0.behind (up_to_close-ends rest inner.0 inner.1))
+      subst (EndsIn (sign ∷ rest)) at (ends_after sign rest inner.0.behind (up_to_close-ends rest inner.0 inner.1))
 ]
 
 bracketed-ends : (signs : List PatternSign) (b : Bracketed) → bracketed signs ≡ Some b → EndsIn signs b.behind
@@ -59,7 +57,7 @@ bracketed-ends [] b e = absurd cc
 bracketed-ends (first ∷ rest) b e =
     let inner = map_some (onto_inside first) (up_to_close rest) b e in
     let at : inner.0.behind ≡ b.behind = sym (ap Bracketed.behind inner.2) in
-    subst (EndsIn (first ∷ rest)) at (ends_behind first rest inner.0.behind (up_to_close-ends rest inner.0 inner.1))
+    subst (EndsIn (first ∷ rest)) at (ends_after first rest inner.0.behind (up_to_close-ends rest inner.0 inner.1))
 
 closed-ends : (negated : Bool) (signs : List PatternSign) (f : First) → option_map (closed negated) (bracketed signs) ≡ Some f → EndsIn signs f.behind
 closed-ends negated signs f e =
@@ -70,7 +68,7 @@ closed-ends negated signs f e =
 pub bracket-ends : (signs : List PatternSign) (f : First) → bracket signs ≡ Some f → EndsIn signs f.behind
 bracket-ends [] f e = absurd cc
 bracket-ends (sign ∷ rest) f e = elim (cases_Bool (is_bare 33 sign)) [
-  | inl negates ↦ ends_behind sign rest f.behind (closed-ends true rest f (sym (cond-true (is_bare 33 sign) _ _ negates) ∙ e))
+  | inl negates ↦ ends_after sign rest f.behind (closed-ends true rest f (sym (cond-true (is_bare 33 sign) _ _ negates) ∙ e))
   | inr plain ↦ closed-ends false (sign ∷ rest) f (sym (cond-false (is_bare 33 sign) _ _ plain) ∙ e)
 ]
 
@@ -138,9 +136,9 @@ bracket-none sign rest e = bracket-from_none rest (elim (cases_Bool (is_bare 33 
       bracketed-none sign rest (map_none (closed false) (bracketed (sign ∷ rest)) (sym (cond-false (is_bare 33 sign) _ _ plain) ∙ e))
 ])
 
-bracket-none_behind : (front rest : List PatternSign) → bracket (front ++ rest) ≡ None → bracket rest ≡ None
-bracket-none_behind [] rest e = e
-bracket-none_behind (sign ∷ front) rest e = bracket-none_behind front rest (bracket-none sign (front ++ rest) e)
+bracket-none_after : (front rest : List PatternSign) → bracket (front ++ rest) ≡ None → bracket rest ≡ None
+bracket-none_after [] rest e = e
+bracket-none_after (sign ∷ front) rest e = bracket-none_after front rest (bracket-none sign (front ++ rest) e)
 
 tails_same : (x y : PatternSign) (a b : List PatternSign) → x ∷ a ≡ y ∷ b → a ≡ b
 tails_same x y a b e = cc
@@ -156,10 +154,10 @@ later_end (x ∷ g) b (y ∷ f) t e h = later_end g b f t (tails_same x y (g ++ 
 pub UnclosedWithin-found : (pattern rest : List PatternSign) → EndsIn pattern rest → bracket rest ≡ None → UnclosedWithin pattern (widths rest)
 UnclosedWithin-found pattern rest ends none = λ front part e h.
     let later = later_end ends.front rest front part (sym ends.joins ∙ e) h in
-    bracket-none_behind later.front part (ap bracket (sym later.joins) ∙ none)
+    bracket-none_after later.front part (ap bracket (sym later.joins) ∙ none)
 
-pub UnclosedWithin-behind : (pattern rest : List PatternSign) (n : ℕ) → EndsIn pattern rest → UnclosedWithin pattern n → UnclosedWithin rest n
-UnclosedWithin-behind pattern rest n ends known = λ front part e h.
+pub UnclosedWithin-after : (pattern rest : List PatternSign) (n : ℕ) → EndsIn pattern rest → UnclosedWithin pattern n → UnclosedWithin rest n
+UnclosedWithin-after pattern rest n ends known = λ front part e h.
     known (ends.front ++ front) part (ends.joins ∙ ap (λ t. ends.front ++ t) e ∙ sym (append_assoc ends.front front part)) h
 
 none_left : (part : List PatternSign) → widths part ≤ 0 → bracket part ≡ None

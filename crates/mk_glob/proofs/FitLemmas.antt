@@ -15,9 +15,9 @@ some_end-whole test (c ∷ rest) h = or_left (test (c ∷ rest)) (some_end test 
 pub some_end-later : (test : List ℕ → Bool) (c : ℕ) (word : List ℕ) → some_end test word ≡ true → some_end test (c ∷ word) ≡ true
 some_end-later test c word h = or_right (test (c ∷ word)) (some_end test word) h
 
-some_end-behind : (test : List ℕ → Bool) (front word : List ℕ) → some_end test word ≡ true → some_end test (front ++ word) ≡ true
-some_end-behind test [] word h = h
-some_end-behind test (c ∷ front) word h = some_end-later test c (front ++ word) (some_end-behind test front word h)
+some_end-after : (test : List ℕ → Bool) (front word : List ℕ) → some_end test word ≡ true → some_end test (front ++ word) ≡ true
+some_end-after test [] word h = h
+some_end-after test (c ∷ front) word h = some_end-later test c (front ++ word) (some_end-after test front word h)
 
 -- an end of an end is an end
 pub some_end-twice : (test : List ℕ → Bool) (word : List ℕ) → some_end (some_end test) word ≡ true → some_end test word ≡ true
@@ -68,7 +68,7 @@ fits_where_each [] [] each = refl
 fits_where_each [] (part ∷ parts) each = absurd each
 fits_where_each (item ∷ items) [] each = absurd each
 fits_where_each (any_run ∷ items) (part ∷ parts) each =
-    some_end-behind (fits_items items) part (concat parts) (some_end-whole (fits_items items) (concat parts) (fits_where_each items parts each.1))
+    some_end-after (fits_items items) part (concat parts) (some_end-whole (fits_items items) (concat parts) (fits_where_each items parts each.1))
 fits_where_each (one_of negated ranges ∷ items) (part ∷ parts) each =
     let P : List ℕ → Type 0 = λ t. fits_items (one_of negated ranges ∷ items) (t ++ concat parts) ≡ true in
     let c = each.0.0 in

@@ -10,7 +10,7 @@ use Rattle.mk_glob.specs.declared.matching.Rest.{Rest}
 use Rattle.mk_glob.specs.Signs.{signs_of}
 use Rattle.mk_glob.specs.Items.{any_run, one_of, First, first_at, items, items_of}
 use Rattle.mk_glob.specs.Matching.{Fits, some_end, fits_items, fits}
-use Rattle.mk_glob.specs.Steps.{UnclosedWithin, Learns, IsBehindRun, IsBehindOne, IsOneFurther}
+use Rattle.mk_glob.specs.Steps.{UnclosedWithin, Learns, IsAfterRun, IsAfterOne, IsOneFurther}
 use Rattle.mk_glob.proofs.EndLemmas.{EndsIn, ends_along, ends_shorter, first_at-ends, items-cons, UnclosedWithin-learnt}
 use Rattle.mk_glob.proofs.FitLemmas.{some_end-twice, some_end-one, fits_where_cut}
 use Rattle.mk_glob.proofs.StepLemmas.{bare_sign}
@@ -97,7 +97,7 @@ within_first whole here sign more first within e stands =
 
 -- behind a run, which is the one to go back to from now on: what a longer earlier run could take, this one can
 pub Goes-run : (pattern word : List ℕ) (rest : Rest) (back : Option Rest) (unclosed learnt : ℕ) (behind : Rest)
-    → Goes pattern word rest back unclosed → Learns (signs_of rest.pattern.now) unclosed learnt → IsBehindRun rest behind
+    → Goes pattern word rest back unclosed → Learns (signs_of rest.pattern.now) unclosed learnt → IsAfterRun rest behind
     → Goes pattern word behind (Some behind) learnt
 Goes-run pattern word rest back unclosed learnt behind goes learns run =
     let first : First = record { item = any_run; behind = signs_of behind.pattern.now } in
@@ -129,7 +129,7 @@ Goes-run pattern word rest back unclosed learnt behind goes learns run =
 
 -- behind an item of one character and a character that it takes
 pub Goes-one : (pattern word : List ℕ) (rest : Rest) (back : Option Rest) (unclosed learnt : ℕ) (behind : Rest)
-    → Goes pattern word rest back unclosed → Learns (signs_of rest.pattern.now) unclosed learnt → IsBehindOne rest behind
+    → Goes pattern word rest back unclosed → Learns (signs_of rest.pattern.now) unclosed learnt → IsAfterOne rest behind
     → Goes pattern word behind back learnt
 Goes-one pattern word rest back unclosed learnt behind goes learns one =
     let negated = one.tells.negated in
@@ -196,7 +196,7 @@ cut_where_fits pattern word found e =
 
 -- what is left falls
 pub left-run : (pattern word : List ℕ) (rest : Rest) (back : Option Rest) (unclosed : ℕ) (behind : Rest) → Goes pattern word rest back unclosed
-    → IsBehindRun rest behind → left pattern word behind (Some behind) < left pattern word rest back
+    → IsAfterRun rest behind → left pattern word behind (Some behind) < left pattern word rest back
 left-run pattern word rest back unclosed behind goes run =
     let n = ap length run.pattern in
     let m : length (chars behind.word.now) ≤ room word back = subst (λ t. length (chars t) ≤ room word back) (sym run.word) goes.shorter in
@@ -204,7 +204,7 @@ left-run pattern word rest back unclosed behind goes run =
     (length (signs_of rest.pattern.now)) m (omega arith)
 
 pub left-one : (pattern word : List ℕ) (rest : Rest) (back : Option Rest) (unclosed : ℕ) (behind : Rest) → Goes pattern word rest back unclosed
-    → IsBehindOne rest behind → left pattern word behind back < left pattern word rest back
+    → IsAfterOne rest behind → left pattern word behind back < left pattern word rest back
 left-one pattern word rest back unclosed behind goes one =
     let n = ap length one.pattern in
     let later : EndsIn one.more (signs_of behind.pattern.now) =

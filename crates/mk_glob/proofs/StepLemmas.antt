@@ -121,11 +121,11 @@ fits-refused pattern word sign more c rest allowed behind reads begins refused t
     ∙ ap (fits_items (one_of tells.negated tells.ranges ∷ items behind)) begins
     ∙ and_left (admits tells.negated tells.ranges c) (fits_items (items behind) rest) (sym tells.tells ∙ refused)
 
-pub known-behind : (pattern : List PatternSign) (sign : PatternSign) (more : List PatternSign) (unclosed : ℕ) → pattern ≡ sign ∷ more
+pub known-after : (pattern : List PatternSign) (sign : PatternSign) (more : List PatternSign) (unclosed : ℕ) → pattern ≡ sign ∷ more
     → UnclosedWithin pattern unclosed → widths more ≤ unclosed → bracket more ≡ None
-known-behind pattern sign more unclosed reads known h = known (sign ∷ []) more reads h
+known-after pattern sign more unclosed reads known h = known (sign ∷ []) more reads h
 
-pub Learns-behind : (pattern : List PatternSign) (sign : PatternSign) (more : List PatternSign) (old new : ℕ) → pattern ≡ sign ∷ more → Finds more old new
+pub Learns-after : (pattern : List PatternSign) (sign : PatternSign) (more : List PatternSign) (old new : ℕ) → pattern ≡ sign ∷ more → Finds more old new
     → Learns pattern old new
-Learns-behind pattern sign more old new reads (inl same) = inl same
-Learns-behind pattern sign more old new reads (inr found) = inr (sign ∷ [], more, reads, found.0, found.1)
+Learns-after pattern sign more old new reads (inl same) = inl same
+Learns-after pattern sign more old new reads (inr found) = inr (sign ∷ [], more, reads, found.0, found.1)

@@ -39,14 +39,14 @@ pub record TellsOne (sign : PatternSign) (rest : List PatternSign) (c : ℕ) (al
   pub tells : allowed ≡ admits negated ranges c
 
 -- the rest after a run that the pattern begins with
-pub record IsBehindRun (rest behind : Rest) : Type 0 where
+pub record IsAfterRun (rest behind : Rest) : Type 0 where
   pub sign : PatternSign
   pub is_run : is_bare 42 sign ≡ true
   pub pattern : signs_of rest.pattern.now ≡ sign ∷ signs_of behind.pattern.now
   pub word : behind.word.now ≡ rest.word.now
 
 -- the rest after an item of one character and a character that it allows
-pub record IsBehindOne (rest behind : Rest) : Type 0 where
+pub record IsAfterOne (rest behind : Rest) : Type 0 where
   pub sign : PatternSign
   pub more : List PatternSign
   pub c : ℕ
@@ -58,8 +58,8 @@ pub record IsBehindOne (rest behind : Rest) : Type 0 where
 -- the word doesn't fit
 abbrev pub IsStep : Rest → Step → Type 0
 IsStep rest Over = (signs_of rest.pattern.now ≡ []) × (chars rest.word.now ≡ [])
-IsStep rest (Run behind) = IsBehindRun rest behind
-IsStep rest (One behind) = IsBehindOne rest behind
+IsStep rest (Run behind) = IsAfterRun rest behind
+IsStep rest (One behind) = IsAfterOne rest behind
 IsStep rest Refused = fits rest.pattern.now rest.word.now ≡ false
 
 -- the same pattern, one character further in the word

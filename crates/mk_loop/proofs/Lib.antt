@@ -1,6 +1,7 @@
 pub mod Rolls
 pub mod Steps
-pub mod Standing
+pub mod UnitPlaces
+pub mod Paying
 pub mod PassSteps
 pub mod WholeLine
 pub mod TurnSteps

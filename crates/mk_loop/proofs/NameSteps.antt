@@ -1,5 +1,5 @@
 -- The name of a reference, as far as it was read.
-use Rattle.std.proofs.Common.{◌≡◌, ◌≢◌, ℕ, ◌+◌, ◌<◌, ◌≤◌, Bool, true, false, cond, List, [], ◌∷◌, ◌++◌, length, take, drop, get_or, Option, Some, None, option_map, refl, sym, ap, subst, ◌∙◌, ◌⊎◌, arith, inl, inr, append_assoc, append-nil, lit<}
+use Rattle.std.proofs.Common.{◌≡◌, ◌≢◌, ℕ, ◌+◌, ◌<◌, ◌≤◌, true, false, cond, List, [], ◌∷◌, ◌++◌, length, take, drop, get_or, Option, Some, None, option_map, refl, sym, ap, subst, ◌∙◌, ◌⊎◌, arith, inl, inr, append_assoc, append-nil, lit<}
 use Rattle.std.specs.Prelude.{slice_range, ◌||◌}
 use Rattle.std.specs.List.{list_any}
 use Rattle.std.proofs.lemmas.Bool.{eq-eqb, ne_eqb}
@@ -9,11 +9,12 @@ use Rattle.std.proofs.lemmas.List.Folds.{list_any-append}
 use Rattle.std.proofs.Math.ListN.{drop_of_length-le}
 use Rattle.std.proofs.lemmas.Option.{none-some, same_Some}
 use Rattle.std.proofs.lemmas.Grind.{flat_map-append}
+use Rattle.general_facts.specs.Bools.{or_true}
 use Rattle.mk_ref.specs.declared.opening.Opening.TheVariants.{Letter, Marked}
-use Rattle.mk_ref.specs.Units.{TextUnit, Byte, Reference, source, sources, is_colon, before_colon, behind_colon, opening_of, marked_first, unit_before, with_more, up_to_mark, first_unit}
+use Rattle.mk_ref.specs.Units.{TextUnit, Byte, Reference, source, sources, is_colon, before_colon, following_colon, opening_of, marked_first, unit_before, with_more, up_to_mark, first_unit}
 use Rattle.mk_ref.proofs.UnitSteps.{up_to-nil, up_to-cons}
 use Rattle.mk_ref.proofs.ScanSteps.{up_to-unit, first-opening, first-marked}
-use Rattle.mk_ref.proofs.InsideSteps.{units_before, StandsAt, range_join, range_none, before-none, behind-none}
+use Rattle.mk_ref.proofs.InsideSteps.{units_before, OccursAt, range_join, range_none, before-none, after-none}
 use Rattle.mk_loop.specs.LoopWords.{is_reference}
 use Rattle.mk_loop.specs.Places.{NameEnds, EndsName}
 
@@ -24,7 +25,7 @@ pub record NameSoFar (text : List ℕ) (start mark at : ℕ) : Type 0 where
   pub later : start ≤ at
   pub within : at ≤ length text
   pub plain : list_any is_reference units ≡ false
-  pub uncoloned : behind_colon units ≡ None
+  pub uncoloned : following_colon units ≡ None
   pub name : sources units ≡ slice_range text start at
 
 before-nothing : (read : Option (List TextUnit × List ℕ)) → read ≡ option_map (units_before []) read
@@ -47,12 +48,12 @@ before-one : (units : List TextUnit) (unit : TextUnit) (read : Option (List Text
 before-one units unit None = refl
 before-one units unit (Some x) = ap (λ l. Some (l, x.1)) (sym (append_assoc units (unit ∷ []) x.0))
 
-uncolon : (unit : TextUnit) → is_colon unit ≡ false → behind_colon (unit ∷ []) ≡ None
+uncolon : (unit : TextUnit) → is_colon unit ≡ false → following_colon (unit ∷ []) ≡ None
 uncolon unit other = ap (λ t. cond t (Some []) None) other
 
 -- one unit more, which is no colon and no reference
 pub name-more : (text : List ℕ) (start mark at next : ℕ) (unit : TextUnit) → NameSoFar text start mark at → at < length text → get_or text at 0 ≢ mark
-    → StandsAt text at next unit → is_reference unit ≡ false → is_colon unit ≡ false → NameSoFar text start mark next
+    → OccursAt text at next unit → is_reference unit ≡ false → is_colon unit ≡ false → NameSoFar text start mark next
 name-more text start mark at next unit h near other stands plain uncoloned = record {
   units = h.units ++ unit ∷ [];
   read = h.read ∙ ap (option_map (units_before h.units))
@@ -62,7 +63,7 @@ name-more text start mark at next unit h near other stands plain uncoloned = rec
   later = omega (arith, h.later, stands.later);
   within = stands.within;
   plain = list_any-append is_reference h.units (unit ∷ []) ∙ ap (λ t. t || (is_reference unit || false)) h.plain ∙ ap (λ t. t || false) plain;
-  uncoloned = behind-none h.units (unit ∷ []) h.uncoloned ∙ uncolon unit uncoloned;
+  uncoloned = after-none h.units (unit ∷ []) h.uncoloned ∙ uncolon unit uncoloned;
   name = flat_map-append source h.units (unit ∷ []) ∙ ap (λ l. l ++ (source unit ++ [])) h.name ∙ ap (λ l. slice_range text start at ++ l) (append-nil (source unit) ∙ stands.written)
       ∙ range_join text start at next h.later (omega (arith, stands.later));
 }
@@ -104,7 +105,7 @@ ends-at-mark text start mark at h near here inside rest is =
     record {
       plain = ap (list_any is_reference) before ∙ h.plain;
       name = ap sources before ∙ h.name;
-      closes = λ _. (ap behind_colon all ∙ h.uncoloned, ap (λ x. x.1) same);
+      closes = λ _. (ap following_colon all ∙ h.uncoloned, ap (λ x. x.1) same);
       goes_on = λ other. absurd (other here);
     }
 
@@ -126,7 +127,7 @@ ends-at-colon text start mark at h near other colon inside rest is =
       plain = ap (list_any is_reference) before ∙ h.plain;
       name = ap sources before ∙ h.name;
       closes = λ here. absurd (other here);
-      goes_on = λ _. (split.0, (ap behind_colon all ∙ behind-none h.units (Byte 58 ∷ split.0) h.uncoloned, split.1.1));
+      goes_on = λ _. (split.0, (ap following_colon all ∙ after-none h.units (Byte 58 ∷ split.0) h.uncoloned, split.1.1));
     }
 
 -- the name ends at its mark, or at a colon
@@ -144,13 +145,9 @@ name-ends text start mark at h ascii near behind = (
   ],
 )
 
-or-yes : (t : Bool) → (t || true) ≡ true
-or-yes true = refl
-or-yes false = refl
-
 any-here : (units more : List TextUnit) (unit : TextUnit) → is_reference unit ≡ true → list_any is_reference (units ++ unit ∷ more) ≡ true
 any-here [] more unit is = ap (λ t. t || list_any is_reference more) is
-any-here (first ∷ units) more unit is = ap (λ t. is_reference first || t) (any-here units more unit is) ∙ or-yes (is_reference first)
+any-here (first ∷ units) more unit is = ap (λ t. is_reference first || t) (any-here units more unit is) ∙ or_true (is_reference first)
 
 reference-here : (text : List ℕ) (start mark at : ℕ) (unit : TextUnit) (behind : List ℕ) → NameSoFar text start mark at → at < length text → get_or text at 0 ≢ mark
     → first_unit (drop at text) ≡ Some (unit, behind) → is_reference unit ≡ true → is_colon unit ≡ false → EndsName text start mark None

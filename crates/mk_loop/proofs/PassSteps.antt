@@ -9,16 +9,17 @@ use Rattle.std.proofs.lemmas.Str.{IsCharBoundary-after_ascii}
 use Rattle.std.specs.Str.{IsUtf8, IsCharBoundary}
 use Rattle.std.specs.List.{list_any}
 use Rattle.mk_base.specs.declared.faults.FaultKind.{FaultKind}
-use Rattle.mk_base.specs.declared.stopping.Stop.{Stop}
+use Rattle.mk_base.specs.declared.stopping.PureStop.{PureStop}
 use Rattle.mk_base.specs.Meter.{Meter, pay}
 use Rattle.mk_base.specs.Outcome.{after}
-use Rattle.mk_base.specs.Stopping.{StopsAt, StopsAt-whole, Gives}
+use Rattle.mk_base.specs.Stopping.{StopsPurelyAt, StopsPurelyAt-whole, GivesPurely}
 use Rattle.mk_ref.specs.declared.opening.Opening.TheVariants.{Letter, Marked}
-use Rattle.mk_ref.specs.Units.{TextUnit, Byte, Reference, source, sources, before_colon, behind_colon, opening_of, marked_reference, unit_before, up_to_mark, first_unit, units_of, cut_on, cut}
+use Rattle.mk_ref.specs.Units.{TextUnit, Byte, Reference, source, sources, before_colon, following_colon, opening_of, marked_reference, unit_before, up_to_mark, first_unit, units_of, cut_on, cut}
 use Rattle.mk_ref.proofs.UnitSteps.{opens_with, second_of, cut-next, first-nil}
 use Rattle.mk_ref.proofs.ScanSteps.{first-opening}
-use Rattle.mk_ref.proofs.PieceSteps.{MayCut, may_cut, letter_below}
-use Rattle.mk_ref.proofs.InsideSteps.{StandsAt, range_join, range_none}
+use Rattle.general_facts.specs.Texts.{alphabetic-ascii}
+use Rattle.mk_ref.proofs.PieceSteps.{MayCut, may_cut}
+use Rattle.mk_ref.proofs.InsideSteps.{OccursAt, range_join, range_none}
 use Rattle.mk_env.specs.Texts.{Variables}
 use Rattle.mk_loop.specs.declared.passing.Around.{Around}
 use Rattle.mk_loop.specs.declared.passing.Around.TheVariants as v
@@ -26,7 +27,7 @@ use Rattle.mk_loop.specs.declared.passing.Pass.{Pass}
 use Rattle.mk_loop.specs.LoopWords.{LoopWords, is_reference, word_of, word_named}
 use Rattle.mk_loop.specs.Putting.{SoFar, nothing, as_written, with_word, put_reference, put}
 use Rattle.mk_loop.specs.Joinings.{so_far}
-use Rattle.mk_loop.specs.Places.{Staying, Changing, Left, Within, mark_of, surrounds, IsLeft, closed, goes, closes_first, closes, surround_of, here, HasAsciiMark, IsPlaced, Stands, GoesOn, NameEnds, EndsName}
+use Rattle.mk_loop.specs.Places.{Staying, Changing, Left, Within, mark_of, surrounds, IsLeft, close_reference, goes, closes_first, closes, surround_of, here, HasAsciiMark, IsKept, IsPlaced, HasLeft, GoesOn, NameEnds, EndsName}
 use Rattle.mk_loop.proofs.Steps.{BeginsWith, begins-with, closes-left, begins-marked, turn, goes-unit, goes-closed, stays-marked, replaced-paid, replaced-unpaid, goes-changing}
 
 -- further bytes as they are written
@@ -69,24 +70,26 @@ kept-placed line pass next mark placed room ascii joined around copied at = reco
   starts = subst (IsCharBoundary line) (sym copied) placed.starts;
   marks = subst (All HasAsciiMark) (sym around) (All-push HasAsciiMark pass.around.items (v.Kept mark) placed.marks ascii);
   untouched = λ none. ap so_far joined ∙ placed.untouched (sym copied ∙ none);
+  kept = λ none. subst (All IsKept) (sym around) (All-push IsKept pass.around.items (v.Kept mark) (placed.kept (sym copied ∙ none)) tt);
 }
 
 -- a pass behind a byte, up to which nothing is left to copy
-pub behind-placed : (line : List ℕ) (next : Pass) (end : ℕ) → IsUtf8 line → end < length line → get_or line end 0 < 128 → All HasAsciiMark next.around.items
+pub after-placed : (line : List ℕ) (next : Pass) (end : ℕ) → IsUtf8 line → end < length line → get_or line end 0 < 128 → All HasAsciiMark next.around.items
     → next.copied ≡ end + 1 → next.at ≡ end + 1 → IsPlaced line next
-behind-placed line next end text near ascii marks copied at = record {
+after-placed line next end text near ascii marks copied at = record {
   text = text;
   ordered = omega (arith, copied, at);
   within = omega (arith, near, at);
   starts = subst (IsCharBoundary line) (sym copied) (IsCharBoundary-after_ascii line end text near ascii);
   marks = marks;
   untouched = λ none. absurd (omega (arith, none, copied));
+  kept = λ none. absurd (omega (arith, none, copied));
 }
 
 -- the same of a pass that put a word in
-pub put-placed : (line : List ℕ) (pass : Pass) (end : ℕ) (result : Result Pass (Stop FaultKind)) → IsPlaced line pass → end < length line → get_or line end 0 < 128
+pub put-placed : (line : List ℕ) (pass : Pass) (end : ℕ) (result : Result Pass (PureStop FaultKind)) → IsPlaced line pass → end < length line → get_or line end 0 < 128
     → IfOk result (λ next. next.around.items ≡ pass.around.items) → IfOk result (λ next. next.copied ≡ end + 1) → IfOk result (λ next. next.at ≡ end + 1) → IfOk result (λ next. IsPlaced line next)
-put-placed line pass end (Ok next) placed near ascii around copied at = behind-placed line next end placed.text near ascii (subst (All HasAsciiMark) (sym around) placed.marks) copied at
+put-placed line pass end (Ok next) placed near ascii around copied at = after-placed line next end placed.text near ascii (subst (All HasAsciiMark) (sym around) placed.marks) copied at
 put-placed line pass end (Err stop) placed near ascii around copied at = tt
 
 -- a name in which a reference stands is that of no loop's variable
@@ -133,17 +136,19 @@ letter-at line at text room opens =
       name = name;
       cuts = may_cut line at Letter text room opens;
       within = ap (λ n. take n (drop (at + 1) line)) (let e : (at + 2) - (at + 1) ≡ 1 = omega arith in e) ∙ ap (take 1) (sym here);
-      ascii = subst (λ b. b < 128) byte (letter_below front.0 front.1);
+      ascii = subst (λ b. b < 128) byte (alphabetic-ascii front.0 front.1);
     }
 
--- its name is that of a loop's variable, or stands for no loop's word
-pub letter-named : (words : LoopWords) (line : List ℕ) (at : ℕ) → LetterAt line at → word_named words (take 1 (drop 1 (drop at line))) ≡ word_of words (take 1 (drop 1 (drop at line)))
-letter-named words line at h =
+-- the word of the variable that it names, if there is one; `text` is its name
+pub letter-word : (words : LoopWords) (line : List ℕ) (at : ℕ) (text : List ℕ) (word : Option (List ℕ)) → LetterAt line at → text ≡ slice_range line (at + 1) (at + 2)
+    → word ≡ word_of words text → word_named words (take 1 (drop 1 (drop at line))) ≡ word
+letter-word words line at text word h is found =
     ap (λ l. cond (list_any is_reference (units_of l)) None (word_of words (take 1 (drop 1 (drop at line))))) h.name
     ∙ ap (λ x. cond (list_any is_reference x.0) None (word_of words (take 1 (drop 1 (drop at line))))) (cut-letter h.letter)
+    ∙ ap (word_of words) (sym (is ∙ h.within)) ∙ sym found
 
 module _ (words : LoopWords) (variables : Variables) (line : List ℕ) where
-  pub begin : (pass : Pass) (left : Left) (unit : TextUnit) (end : ℕ) → pass.at < length line → StandsAt line pass.at end unit → closes pass (get_or line pass.at 0) ≡ false → Stands line pass left
+  pub begin : (pass : Pass) (left : Left) (unit : TextUnit) (end : ℕ) → pass.at < length line → OccursAt line pass.at end unit → closes pass (get_or line pass.at 0) ≡ false → HasLeft line pass left
       → BeginsWith left unit (drop end line)
   begin pass left unit end near standing other stands =
       let first = drop_more line pass.at 0 near in
@@ -151,8 +156,8 @@ module _ (words : LoopWords) (variables : Variables) (line : List ℕ) where
       (ap first_unit (sym first) ∙ standing.first) (ap (λ l. closes_first l (get_or line pass.at 0)) stands.around ∙ other)
 
   -- past a unit that stays as it is written
-  pub pass-on : (pass : Pass) (end : ℕ) (unit : TextUnit) (left : Left) (m : Meter) → IsPlaced line pass → pass.at < length line → StandsAt line pass.at end unit
-      → closes pass (get_or line pass.at 0) ≡ false → ((before : SoFar) → turn words variables before unit m ≡ Ok (as_written before (source unit), m)) → Stands line pass left
+  pub pass-on : (pass : Pass) (end : ℕ) (unit : TextUnit) (left : Left) (m : Meter) → IsPlaced line pass → pass.at < length line → OccursAt line pass.at end unit
+      → closes pass (get_or line pass.at 0) ≡ false → ((before : SoFar) → turn words variables before unit m ≡ Ok (as_written before (source unit), m)) → HasLeft line pass left
       → GoesOn words variables line pass left m (Ok (record pass { at = end })) m
   pass-on pass end unit left m placed near standing other same stands =
       let begins = begin pass left unit end near standing other stands in (
@@ -170,7 +175,7 @@ module _ (words : LoopWords) (variables : Variables) (line : List ℕ) where
       → closes pass (get_or line pass.at 0) ≡ false
       → ((units : List TextUnit) (rest : List ℕ) → up_to_mark mark (drop (pass.at + 2) line) ≡ Some (units, rest) → cut (sources (before_colon units)) ≡ (before_colon units, []) → word_named words (sources (before_colon units)) ≡ None)
       → next.joined ≡ pass.joined → next.around.items ≡ pass.around.items ++ v.Kept mark ∷ [] → next.copied ≡ pass.copied → next.at ≡ pass.at + 2
-      → Stands line pass left → GoesOn words variables line pass left m (Ok next) m
+      → HasLeft line pass left → GoesOn words variables line pass left m (Ok next) m
   pass-keep pass next mark left m placed room opens other none joined around copied at stands =
       let near : pass.at < length line = omega arith in
       let marked = begins-marked left line pass.at mark near stands.units (ap (λ l. closes_first l (get_or line pass.at 0)) stands.around ∙ other) opens in
@@ -186,7 +191,7 @@ module _ (words : LoopWords) (variables : Variables) (line : List ℕ) where
                 ∙ ap (map surround_of) (sym (ap reverse around ∙ reverse-append pass.around.items (v.Kept mark ∷ [])));
           },
           ap (λ l. goes words variables l (here line pass) m) begins.is ∙ goes-unit words variables unit begins.more (here line pass) m
-              ∙ ap (λ found. after (put_reference variables (put words variables) (here line pass) (source unit) (option_map sources (behind_colon marked.units)) found m) (λ next' m'. goes words variables begins.more next' m'))
+              ∙ ap (λ found. after (put_reference variables (put words variables) (here line pass) (source unit) (option_map sources (following_colon marked.units)) found m) (λ next' m'. goes words variables begins.more next' m'))
               (none marked.units marked.rest marked.read marked.alone.name)
               ∙ ap (λ r. after r (λ next' m'. goes words variables begins.more next' m')) (stays-marked words variables front mark marked.units (here line pass) m (opens_with (drop pass.at line) (Marked mark) opens).front marked.alone.inside)
               ∙ ap (λ s. goes words variables (Within marked.units (Staying mark) begins.more) s m)
@@ -202,11 +207,11 @@ module _ (words : LoopWords) (variables : Variables) (line : List ℕ) where
       ap (λ n. as_written (so_far pass.joined) (slice_range line n pass.at)) same
       ∙ ap (λ l. record (so_far pass.joined) { text = l }) (ap (λ l. string_bytes pass.joined.text ++ l) (range_none line pass.at) ∙ append-nil (string_bytes pass.joined.text))
 
-  put-end : (pass : Pass) (behind : ℕ) (left : Left) (m m' : Meter) (result : Result Pass (Stop FaultKind)) (unit : TextUnit) (begins : BeginsWith left unit (drop behind line)) (outcome : Result (SoFar × Meter) (FaultKind × Meter))
+  put-end : (pass : Pass) (behind : ℕ) (left : Left) (m m' : Meter) (result : Result Pass (PureStop FaultKind)) (unit : TextUnit) (begins : BeginsWith left unit (drop behind line)) (outcome : Result (SoFar × Meter) (FaultKind × Meter))
       → goes words variables left (here line pass) m ≡ after outcome (λ next' m''. goes words variables begins.more next' m'')
-      → Gives (λ next. so_far next.joined) result m' outcome
+      → GivesPurely (λ next. so_far next.joined) result m' outcome
       → IfOk result (λ next. next.around.items ≡ pass.around.items) → IfOk result (λ next. next.copied ≡ behind) → IfOk result (λ next. next.at ≡ behind)
-      → Stands line pass left → GoesOn words variables line pass left m result m'
+      → HasLeft line pass left → GoesOn words variables line pass left m result m'
   put-end pass behind left m m' (Ok next) unit begins outcome whole gives around copied at stands = (
     begins.more,
     (
@@ -215,14 +220,14 @@ module _ (words : LoopWords) (variables : Variables) (line : List ℕ) where
     ),
   )
   put-end pass behind left m m' (Err stop) unit begins outcome whole gives around copied at stands =
-      StopsAt-whole stop m' _ _ (λ end stops. whole ∙ ap (λ r. after r (λ next' m''. goes words variables begins.more next' m'')) stops) gives
+      StopsPurelyAt-whole stop m' _ _ (λ end stops. whole ∙ ap (λ r. after r (λ next' m''. goes words variables begins.more next' m'')) stops) gives
 
   -- a word comes in the place of a reference
-  pub pass-put : (pass : Pass) (behind : ℕ) (left : Left) (unit : TextUnit) (written name word : List ℕ) (m m' : Meter) (paid : Unit {0}) (result : Result Pass (Stop FaultKind))
+  pub pass-put : (pass : Pass) (behind : ℕ) (left : Left) (unit : TextUnit) (written name word : List ℕ) (m m' : Meter) (paid : Unit {0}) (result : Result Pass (PureStop FaultKind))
       → unit ≡ Reference written name None → word_named words name ≡ Some word → pay m ≡ Ok (paid, m') → BeginsWith left unit (drop behind line)
-      → Gives (λ next. so_far next.joined) result m' (with_word (here line pass) word m')
+      → GivesPurely (λ next. so_far next.joined) result m' (with_word (here line pass) word m')
       → IfOk result (λ next. next.around.items ≡ pass.around.items) → IfOk result (λ next. next.copied ≡ behind) → IfOk result (λ next. next.at ≡ behind)
-      → Stands line pass left → GoesOn words variables line pass left m result m'
+      → HasLeft line pass left → GoesOn words variables line pass left m result m'
   pass-put pass behind left unit written name word m m' paid result is named pays begins gives around copied at stands =
       let whole : goes words variables left (here line pass) m ≡ after (with_word (here line pass) word m') (λ next' m''. goes words variables begins.more next' m'') =
       ap (λ l. goes words variables l (here line pass) m) begins.is ∙ goes-unit words variables unit begins.more (here line pass) m
@@ -236,7 +241,7 @@ module _ (words : LoopWords) (variables : Variables) (line : List ℕ) where
       → word_named words name ≡ Some word → pay m ≡ Ok (paid, m') → cut (sources more) ≡ (more, []) → up_to_mark mark (drop behind line) ≡ Some (more, rest)
       → (begins : BeginsWith left (Reference written name (Some (sources more))) rest)
       → so_far next.joined ≡ nothing → map surround_of next.around.items ≡ map surround_of pass.around.items ++ Changing mark word (here line pass) ∷ []
-      → next.copied ≡ behind → next.at ≡ behind → Stands line pass left → GoesOn words variables line pass left m (Ok next) m'
+      → next.copied ≡ behind → next.at ≡ behind → HasLeft line pass left → GoesOn words variables line pass left m (Ok next) m'
   pass-replace pass next mark behind left written name word more rest m m' paid named pays alone read begins joined around copied at stands = (
     Within more (Changing mark word (here line pass)) begins.more,
     (
@@ -254,10 +259,10 @@ module _ (words : LoopWords) (variables : Variables) (line : List ℕ) where
   )
 
   -- a reference to a loop's variable that can't be paid for
-  pub pass-unpaid : (pass : Pass) (left : Left) (unit : TextUnit) (rest written name : List ℕ) (modifiers : Option (List ℕ)) (word : List ℕ) (m m' : Meter) (stop : Stop FaultKind)
-      → unit ≡ Reference written name modifiers → word_named words name ≡ Some word → BeginsWith left unit rest → StopsAt stop m' (pay m) → StopsAt stop m' (goes words variables left (here line pass) m)
+  pub pass-unpaid : (pass : Pass) (left : Left) (unit : TextUnit) (rest written name : List ℕ) (modifiers : Option (List ℕ)) (word : List ℕ) (m m' : Meter) (stop : PureStop FaultKind)
+      → unit ≡ Reference written name modifiers → word_named words name ≡ Some word → BeginsWith left unit rest → StopsPurelyAt stop m' (pay m) → StopsPurelyAt stop m' (goes words variables left (here line pass) m)
   pass-unpaid pass left unit rest written name modifiers word m m' stop is named begins stops =
-      StopsAt-whole stop m' (pay m) (goes words variables left (here line pass) m)
+      StopsPurelyAt-whole stop m' (pay m) (goes words variables left (here line pass) m)
       (λ end fails. ap (λ l. goes words variables l (here line pass) m) begins.is ∙ goes-unit words variables unit begins.more (here line pass) m
       ∙ ap (λ u. after (turn words variables (here line pass) u m) (λ next' m''. goes words variables begins.more next' m'')) is
       ∙ ap (λ found. after (put_reference variables (put words variables) (here line pass) written modifiers found m) (λ next' m''. goes words variables begins.more next' m'')) named
@@ -269,10 +274,10 @@ module _ (words : LoopWords) (variables : Variables) (line : List ℕ) where
     pub more : Left
     pub units : IsLeft more (drop (pass.at + 1) line)
     pub outside : surrounds more ≡ map surround_of (reverse outer)
-    pub becomes : (m : Meter) → goes words variables left (here line pass) m ≡ after (closed variables (surround_of around) (here line pass) m) (λ next m'. goes words variables more next m')
+    pub becomes : (m : Meter) → goes words variables left (here line pass) m ≡ after (close_reference variables (surround_of around) (here line pass) m) (λ next m'. goes words variables more next m')
     pub mark : get_or line pass.at 0 ≡ mark_of (surround_of around)
 
-  pub closes-at : (pass : Pass) (left : Left) (around : Around) (outer : List Around) → pass.at < length line → closes pass (get_or line pass.at 0) ≡ true → Stands line pass left
+  pub closes-at : (pass : Pass) (left : Left) (around : Around) (outer : List Around) → pass.at < length line → closes pass (get_or line pass.at 0) ≡ true → HasLeft line pass left
       → pass.around.items ≡ outer ++ around ∷ [] → ClosesAt pass left around outer
   closes-at pass left around outer near shut stands last =
       let b = get_or line pass.at 0 in
@@ -286,7 +291,7 @@ module _ (words : LoopWords) (variables : Variables) (line : List ℕ) where
         units = found.units;
         outside = ap (drop 1) same;
         becomes = λ m. ap (λ l. goes words variables l (here line pass) m) found.is ∙ goes-closed words variables found.surround found.more (here line pass) m
-            ∙ ap (λ s. after (closed variables s (here line pass) m) (λ next m'. goes words variables found.more next m')) (ap (λ l. get_or l 0 (surround_of around)) same);
+            ∙ ap (λ s. after (close_reference variables s (here line pass) m) (λ next m'. goes words variables found.more next m')) (ap (λ l. get_or l 0 (surround_of around)) same);
         mark = shut-mark pass outer around b last shut;
       }
 
@@ -310,7 +315,7 @@ module _ (words : LoopWords) (variables : Variables) (line : List ℕ) where
 
   -- past the mark of a reference that is replaced
   pub pass-changed : (pass next : Pass) (left : Left) (around : Around) (outer : List Around) (m m' : Meter) → (found : ClosesAt pass left around outer)
-      → closed variables (surround_of around) (here line pass) m ≡ Ok (so_far next.joined, m') → next.around.items ≡ outer → next.copied ≡ pass.at + 1 → next.at ≡ pass.at + 1
+      → close_reference variables (surround_of around) (here line pass) m ≡ Ok (so_far next.joined, m') → next.around.items ≡ outer → next.copied ≡ pass.at + 1 → next.at ≡ pass.at + 1
       → GoesOn words variables line pass left m (Ok next) m'
   pass-changed pass next left around outer m m' found end over copied at = (
     found.more,
@@ -320,17 +325,17 @@ module _ (words : LoopWords) (variables : Variables) (line : List ℕ) where
     ),
   )
 
-  pub pass-stopped : (pass : Pass) (left : Left) (around : Around) (outer : List Around) (m m' : Meter) (stop : Stop FaultKind) → ClosesAt pass left around outer
-      → StopsAt stop m' (closed variables (surround_of around) (here line pass) m) → StopsAt stop m' (goes words variables left (here line pass) m)
+  pub pass-stopped : (pass : Pass) (left : Left) (around : Around) (outer : List Around) (m m' : Meter) (stop : PureStop FaultKind) → ClosesAt pass left around outer
+      → StopsPurelyAt stop m' (close_reference variables (surround_of around) (here line pass) m) → StopsPurelyAt stop m' (goes words variables left (here line pass) m)
   pass-stopped pass left around outer m m' stop found stops =
-      StopsAt-whole stop m' _ _ (λ end fails. found.becomes m ∙ ap (λ r. after r (λ next' m''. goes words variables found.more next' m'')) fails) stops
+      StopsPurelyAt-whole stop m' _ _ (λ end fails. found.becomes m ∙ ap (λ r. after r (λ next' m''. goes words variables found.more next' m'')) fails) stops
 
-  pub marked-put : (pass : Pass) (mark end : ℕ) (left : Left) (word text : List ℕ) (m m' : Meter) (paid : Unit {0}) (result : Result Pass (Stop FaultKind)) → pass.at + 2 ≤ length line
+  pub marked-put : (pass : Pass) (mark end : ℕ) (left : Left) (word text : List ℕ) (m m' : Meter) (paid : Unit {0}) (result : Result Pass (PureStop FaultKind)) → pass.at + 2 ≤ length line
       → opening_of (drop pass.at line) ≡ Some (Marked mark) → closes pass (get_or line pass.at 0) ≡ false → EndsName line (pass.at + 2) mark (Some end) → get_or line end 0 ≡ mark
       → text ≡ slice_range line (pass.at + 2) end → Some word ≡ word_of words text → pay m ≡ Ok (paid, m')
-      → Gives (λ next. so_far next.joined) result m' (with_word (here line pass) word m')
+      → GivesPurely (λ next. so_far next.joined) result m' (with_word (here line pass) word m')
       → IfOk result (λ next. next.around.items ≡ pass.around.items) → IfOk result (λ next. next.copied ≡ end + 1) → IfOk result (λ next. next.at ≡ end + 1)
-      → Stands line pass left → GoesOn words variables line pass left m result m'
+      → HasLeft line pass left → GoesOn words variables line pass left m result m'
   marked-put pass mark end left word text m m' paid result room opens other ends here' is named pays gives around copied at stands =
       let marked = begins-marked left line pass.at mark (omega arith) stands.units (ap (λ l. closes_first l (get_or line pass.at 0)) stands.around ∙ other) opens in
       let name-ends = ends.3 marked.units marked.rest marked.read in
@@ -341,22 +346,22 @@ module _ (words : LoopWords) (variables : Variables) (line : List ℕ) where
       (name-word words line (pass.at + 2) mark end marked.units marked.rest text name-ends marked.alone.name is ∙ sym named) pays
       (subst (BeginsWith left (marked_reference front marked.units mark)) closing.1 marked.begins) gives around copied at stands
 
-  pub marked-unpaid : (pass : Pass) (mark end : ℕ) (left : Left) (word text : List ℕ) (m m' : Meter) (stop : Stop FaultKind) → pass.at + 2 ≤ length line
+  pub marked-unpaid : (pass : Pass) (mark end : ℕ) (left : Left) (word text : List ℕ) (m m' : Meter) (stop : PureStop FaultKind) → pass.at + 2 ≤ length line
       → opening_of (drop pass.at line) ≡ Some (Marked mark) → closes pass (get_or line pass.at 0) ≡ false → EndsName line (pass.at + 2) mark (Some end)
-      → text ≡ slice_range line (pass.at + 2) end → Some word ≡ word_of words text → StopsAt stop m' (pay m)
-      → Stands line pass left → StopsAt stop m' (goes words variables left (here line pass) m)
+      → text ≡ slice_range line (pass.at + 2) end → Some word ≡ word_of words text → StopsPurelyAt stop m' (pay m)
+      → HasLeft line pass left → StopsPurelyAt stop m' (goes words variables left (here line pass) m)
   marked-unpaid pass mark end left word text m m' stop room opens other ends is named stops stands =
       let marked = begins-marked left line pass.at mark (omega arith) stands.units (ap (λ l. closes_first l (get_or line pass.at 0)) stands.around ∙ other) opens in
       let name-ends = ends.3 marked.units marked.rest marked.read in
       let front = take 2 (drop pass.at line) in
-      pass-unpaid pass left (marked_reference front marked.units mark) marked.rest (front ++ sources marked.units ++ mark ∷ []) (sources (before_colon marked.units)) (option_map sources (behind_colon marked.units)) word m m' stop
+      pass-unpaid pass left (marked_reference front marked.units mark) marked.rest (front ++ sources marked.units ++ mark ∷ []) (sources (before_colon marked.units)) (option_map sources (following_colon marked.units)) word m m' stop
       refl (name-word words line (pass.at + 2) mark end marked.units marked.rest text name-ends marked.alone.name is ∙ sym named) marked.begins stops
 
   pub marked-replace : (pass next : Pass) (mark end : ℕ) (left : Left) (word text : List ℕ) (m m' : Meter) (paid : Unit {0}) → pass.at + 2 ≤ length line
       → opening_of (drop pass.at line) ≡ Some (Marked mark) → closes pass (get_or line pass.at 0) ≡ false → EndsName line (pass.at + 2) mark (Some end) → get_or line end 0 ≢ mark
       → text ≡ slice_range line (pass.at + 2) end → Some word ≡ word_of words text → pay m ≡ Ok (paid, m')
       → so_far next.joined ≡ nothing → map surround_of next.around.items ≡ map surround_of pass.around.items ++ Changing mark word (here line pass) ∷ []
-      → next.copied ≡ end + 1 → next.at ≡ end + 1 → Stands line pass left → GoesOn words variables line pass left m (Ok next) m'
+      → next.copied ≡ end + 1 → next.at ≡ end + 1 → HasLeft line pass left → GoesOn words variables line pass left m (Ok next) m'
   marked-replace pass next mark end left word text m m' paid room opens other ends colon is named pays joined around copied at stands =
       let marked = begins-marked left line pass.at mark (omega arith) stands.units (ap (λ l. closes_first l (get_or line pass.at 0)) stands.around ∙ other) opens in
       let name-ends = ends.3 marked.units marked.rest marked.read in

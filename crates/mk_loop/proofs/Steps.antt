@@ -15,7 +15,7 @@ use Rattle.mk_env.specs.Texts.{Variables}
 use Rattle.mk_env.specs.Expansion.{modified_by}
 use Rattle.mk_loop.specs.LoopWords.{LoopWords}
 use Rattle.mk_loop.specs.Putting.{SoFar, nothing, as_written, with_word, finished, inside, closing, stays, changed, put_reference, put_unit, put}
-use Rattle.mk_loop.specs.Places.{Surround, Staying, Changing, Left, Outermost, Within, mark_of, surrounds, IsLeft, closed, goes, closes_first}
+use Rattle.mk_loop.specs.Places.{Surround, Staying, Changing, Left, Outermost, Within, mark_of, surrounds, IsLeft, close_reference, goes, closes_first}
 use Rattle.mk_loop.proofs.Rolls.{put-units, put-nothing}
 
 -- what is left with one more unit in front
@@ -142,10 +142,10 @@ module _ (words : LoopWords) (variables : Variables) where
   unfolding each
   goes-unit unit (Outermost units) here m = after-twice (turn here unit m) (λ next. each turn next units) finished
   goes-unit unit (Within units surround left) here m =
-      ap (λ r. after r (λ next m'. goes words variables left next m')) (after-twice (turn here unit m) (λ next. each turn next units) (closed variables surround))
-      ∙ after-twice (turn here unit m) (λ next m'. after (each turn next units m') (closed variables surround)) (λ next m'. goes words variables left next m')
+      ap (λ r. after r (λ next m'. goes words variables left next m')) (after-twice (turn here unit m) (λ next. each turn next units) (close_reference variables surround))
+      ∙ after-twice (turn here unit m) (λ next m'. after (each turn next units m') (close_reference variables surround)) (λ next m'. goes words variables left next m')
 
-  pub goes-closed : (surround : Surround) (left : Left) (here : SoFar) (m : Meter) → goes words variables (Within [] surround left) here m ≡ after (closed variables surround here m) (λ next m'. goes words variables left next m')
+  pub goes-closed : (surround : Surround) (left : Left) (here : SoFar) (m : Meter) → goes words variables (Within [] surround left) here m ≡ after (close_reference variables surround here m) (λ next m'. goes words variables left next m')
   unfolding each
   goes-closed surround left here m = refl
 
@@ -154,7 +154,7 @@ module _ (words : LoopWords) (variables : Variables) where
   goes-nothing here m = refl
 
   stays-two : (a b mark : ℕ) (units : List TextUnit) (here : SoFar) (m : Meter) → cut (sources units) ≡ (units, [])
-      → stays (put words variables) here (a ∷ b ∷ sources units ++ mark ∷ []) m ≡ after (each turn (as_written here (a ∷ b ∷ [])) units m) (closed variables (Staying mark))
+      → stays (put words variables) here (a ∷ b ∷ sources units ++ mark ∷ []) m ≡ after (each turn (as_written here (a ∷ b ∷ [])) units m) (close_reference variables (Staying mark))
   stays-two a b mark units here m alone =
       ap (λ l. after (put words variables (as_written here (a ∷ b ∷ [])) l m) (λ found. give (as_written found (closing (a ∷ b ∷ sources units ++ mark ∷ []))))) (body-of a b mark (sources units))
       ∙ ap (λ l. after (put words variables (as_written here (a ∷ b ∷ [])) (sources units) m) (λ found. give (as_written found l))) (mark-of a b mark (sources units))
@@ -162,9 +162,9 @@ module _ (words : LoopWords) (variables : Variables) where
 
   -- a reference with marks that stays
   pub stays-marked : (front : List ℕ) (mark : ℕ) (units : List TextUnit) (here : SoFar) (m : Meter) → AreMarks front mark → cut (sources units) ≡ (units, [])
-      → stays (put words variables) here (front ++ sources units ++ mark ∷ []) m ≡ after (each turn (as_written here front) units m) (closed variables (Staying mark))
+      → stays (put words variables) here (front ++ sources units ++ mark ∷ []) m ≡ after (each turn (as_written here front) units m) (close_reference variables (Staying mark))
   stays-marked front mark units here m marks alone =
-      let P : List ℕ → Type 0 = λ f. stays (put words variables) here (f ++ sources units ++ mark ∷ []) m ≡ after (each turn (as_written here f) units m) (closed variables (Staying mark)) in
+      let P : List ℕ → Type 0 = λ f. stays (put words variables) here (f ++ sources units ++ mark ∷ []) m ≡ after (each turn (as_written here f) units m) (close_reference variables (Staying mark)) in
       elim marks [
         | inl brace ↦ subst P (sym brace.0) (stays-two 36 123 mark units here m alone)
         | inr parenthesis ↦ subst P (sym parenthesis.0) (stays-two 36 40 mark units here m alone)

@@ -5,11 +5,11 @@ use Rattle.std.proofs.Math.ListN.{drop_of_length-le}
 use Rattle.std.proofs.lemmas.Option.{none-some}
 use Rattle.mk_base.specs.declared.faults.FaultKind.{FaultKind}
 use Rattle.mk_base.specs.declared.faults.FaultKind.TheVariants as kinds
-use Rattle.mk_base.specs.declared.stopping.Stop.{Stop}
-use Rattle.mk_base.specs.declared.stopping.Stop.TheVariants as stops
+use Rattle.mk_base.specs.declared.stopping.PureStop.{PureStop}
+use Rattle.mk_base.specs.declared.stopping.PureStop.TheVariants as pure
 use Rattle.mk_base.specs.Meter.{Meter}
 use Rattle.mk_base.specs.Outcome.{after}
-use Rattle.mk_base.specs.Stopping.{StopsAt}
+use Rattle.mk_base.specs.Stopping.{StopsPurelyAt}
 use Rattle.mk_ref.specs.Units.{cut, cut_on, units_of, left_of}
 use Rattle.mk_ref.proofs.UnitSteps.{up_to-nil, cut-next, first-nil}
 use Rattle.mk_env.specs.Texts.{Variables}
@@ -18,12 +18,12 @@ use Rattle.mk_loop.specs.declared.passing.Pass.{Pass}
 use Rattle.mk_loop.specs.LoopWords.{LoopWords}
 use Rattle.mk_loop.specs.Putting.{nothing, as_written, finished, where_closed, put_words}
 use Rattle.mk_loop.specs.Joinings.{so_far}
-use Rattle.mk_loop.specs.Places.{Left, Outermost, Within, mark_of, surround_of, IsLeft, goes, here, Stands}
+use Rattle.mk_loop.specs.Places.{Left, Outermost, Within, mark_of, surround_of, IsLeft, goes, here, HasLeft}
 use Rattle.mk_loop.proofs.Rolls.{put-units}
 use Rattle.mk_loop.proofs.Steps.{goes-nothing}
 
 -- all of a line in which every reference ends is left at its beginning
-pub stands-first : (line : List ℕ) (pass : Pass) → left_of line ≡ [] → pass.around.items ≡ [] → pass.at ≡ 0 → Stands line pass (Outermost (units_of line))
+pub stands-first : (line : List ℕ) (pass : Pass) → left_of line ≡ [] → pass.around.items ≡ [] → pass.at ≡ 0 → HasLeft line pass (Outermost (units_of line))
 stands-first line pass whole around at = record {
   units = ap (λ n. cut (drop n line)) at ∙ ap (λ l. (units_of line, l)) whole;
   around = ap (λ l. map surround_of (reverse l)) (sym around);
@@ -46,17 +46,16 @@ module _ (words : LoopWords) (variables : Variables) where
   left-over line (b ∷ left) m some = refl
 
   -- a line in which a reference doesn't end
-  pub goes-unclosed : (line : List ℕ) (stop : Stop FaultKind) (m : Meter) → IsUncut line stop → StopsAt stop m (put_words words variables line m)
-  goes-unclosed line (stops.Fault kind) m uncut = left-over line (left_of line) m uncut.1 ∙ ap (λ found. Err (found, m)) (sym uncut.0)
-  goes-unclosed line stops.Store m uncut = absurd uncut
-  goes-unclosed line stops.Memory m uncut = tt
+  pub goes-unclosed : (line : List ℕ) (stop : PureStop FaultKind) (m : Meter) → IsUncut line stop → StopsPurelyAt stop m (put_words words variables line m)
+  goes-unclosed line (pure.Fault kind) m uncut = left-over line (left_of line) m uncut.1 ∙ ap (λ found. Err (found, m)) (sym uncut.0)
+  goes-unclosed line pure.Memory m uncut = tt
 
   left-end : (left : Left) → IsLeft left [] → left ≡ Outermost []
   left-end (Outermost units) is = ap (λ x. Outermost x.0) (sym is ∙ cut-next [] ∙ ap (cut_on cut []) first-nil)
   left-end (Within units surround left) is = absurd (none-some (units, is.0) (sym (up_to-nil (mark_of surround)) ∙ is.1.0))
 
   -- at the end of a line nothing is left
-  pub goes-last : (line : List ℕ) (pass : Pass) (left : Left) (m : Meter) → length line ≤ pass.at → Stands line pass left → goes words variables left (here line pass) m ≡ finished (here line pass) m
+  pub goes-last : (line : List ℕ) (pass : Pass) (left : Left) (m : Meter) → length line ≤ pass.at → HasLeft line pass left → goes words variables left (here line pass) m ≡ finished (here line pass) m
   goes-last line pass left m end stands =
       let none : IsLeft left [] = subst (IsLeft left) (drop_of_length-le line end) stands.units in
       ap (λ l. goes words variables l (here line pass) m) (left-end left none) ∙ goes-nothing words variables (here line pass) m

@@ -6,11 +6,11 @@ use Rattle.std.specs.List.{list_any}
 use Rattle.std.specs.Str.{IsUtf8, IsCharBoundary}
 use Rattle.std.specs.declared.alloc.Global.{Global}
 use Rattle.mk_base.specs.declared.faults.FaultKind.{FaultKind}
-use Rattle.mk_base.specs.declared.stopping.Stop.{Stop}
+use Rattle.mk_base.specs.declared.stopping.PureStop.{PureStop}
 use Rattle.mk_base.specs.Meter.{Meter}
 use Rattle.mk_base.specs.Outcome.{Work, give, each, ◌>>=◌}
-use Rattle.mk_base.specs.Stopping.{StopsAt}
-use Rattle.mk_ref.specs.Units.{TextUnit, sources, before_colon, behind_colon, up_to_mark, cut}
+use Rattle.mk_base.specs.Stopping.{StopsPurelyAt}
+use Rattle.mk_ref.specs.Units.{TextUnit, sources, before_colon, following_colon, up_to_mark, cut}
 use Rattle.mk_env.specs.Texts.{Variables}
 use Rattle.mk_env.specs.Expansion.{modified_by}
 use Rattle.mk_loop.specs.LoopWords.{LoopWords, is_reference}
@@ -49,16 +49,17 @@ IsLeft (Within units surround left) text = (rest : List ℕ) × ((up_to_mark (ma
 
 -- What the mark that closes a reference does. If the reference stays, the mark is joined as it is written.
 -- If the reference is replaced, its word is put in, as its modifiers change it.
-abbrev pub closed : Variables → Surround → SoFar → Work Meter FaultKind SoFar
-closed variables (Staying mark) here = give (as_written here (mark ∷ []))
-closed variables (Changing mark word front) here =
+abbrev pub close_reference : Variables → Surround → SoFar → Work Meter FaultKind SoFar
+close_reference variables (Staying mark) here = give (as_written here (mark ∷ []))
+close_reference variables (Changing mark word front) here =
     finished here >>= λ text. modified_by variables text word >>= λ found. with_word front found
 
 -- what becomes of a line if this is left of it, given what is joined so far of the innermost text
 abbrev pub goes : LoopWords → Variables → Left → SoFar → Work Meter FaultKind (List ℕ)
 goes words variables (Outermost units) here m = (each (put_unit words variables (put words variables)) here units >>= finished) m
 goes words variables (Within units surround left) here m =
-    (each (put_unit words variables (put words variables)) here units >>= closed variables surround >>= goes words variables left) m
+    (each (put_unit words variables (put words variables)) here units >>= close_reference variables surround
+    >>= goes words variables left) m
 
 -- a reference that a pass is in
 abbrev pub surround_of : Around → Surround
@@ -86,6 +87,11 @@ text_of line (Some made) = string_bytes made
 abbrev pub HasAsciiMark : Around → Type 0
 HasAsciiMark around = mark_of (surround_of around) < 128
 
+-- it stays
+abbrev pub IsKept : Around → Type 0
+IsKept (v.Kept mark) = Unit {0}
+IsKept (v.Replaced mark word front) = ⊥
+
 -- the places of a pass are in the line, and the line is UTF-8
 pub record IsPlaced (line : List ℕ) (pass : Pass) : Type 0 where
   pub text : IsUtf8 line
@@ -93,30 +99,41 @@ pub record IsPlaced (line : List ℕ) (pass : Pass) : Type 0 where
   pub within : pass.at ≤ length line
   pub starts : IsCharBoundary line pass.copied
   pub marks : All HasAsciiMark pass.around.items
-  -- if no reference was replaced yet, nothing is copied
+  -- if nothing is copied, no reference was replaced yet: nothing is joined, and each one around the place stays
   pub untouched : pass.copied ≡ 0 → so_far pass.joined ≡ nothing
+  pub kept : pass.copied ≡ 0 → All IsKept pass.around.items
+
+-- What is copied was paid for: from the first meter on nothing is spent if nothing is copied, and at least one
+-- unit if something is.
+abbrev pub IsPaid : Meter → ℕ → Meter → Type 0
+IsPaid from copied m = (copied ≡ 0 → m.spent ≡ from.spent) × (copied ≢ 0 → from.spent < m.spent)
+
+-- a step pays for what it copies
+abbrev pub PaysFor : Pass → Meter → Pass → Meter → Type 0
+PaysFor pass m next m' = (from : Meter) → IsPaid from pass.copied m → IsPaid from next.copied m'
 
 -- this is left of the line at the place of a pass
-pub record Stands (line : List ℕ) (pass : Pass) (left : Left) : Type 0 where
+pub record HasLeft (line : List ℕ) (pass : Pass) (left : Left) : Type 0 where
   pub units : IsLeft left (drop pass.at line)
   pub around : surrounds left ≡ map surround_of (reverse pass.around.items)
 
 -- A step of a pass, if this is left. What becomes of the line is the same from the new place on, or
 -- it stops there.
-abbrev pub GoesOn : LoopWords → Variables → List ℕ → Pass → Left → Meter → Result Pass (Stop FaultKind) → Meter → Type 0
+abbrev pub GoesOn : LoopWords → Variables → List ℕ → Pass → Left → Meter → Result Pass (PureStop FaultKind) → Meter → Type 0
 GoesOn words variables line pass left m (Ok next) m' =
-    (more : Left) × (Stands line next more × (goes words variables left (here line pass) m ≡ goes words variables more (here line next) m'))
-GoesOn words variables line pass left m (Err stop) m' = StopsAt stop m' (goes words variables left (here line pass) m)
+    (more : Left)
+    × (HasLeft line next more × (goes words variables left (here line pass) m ≡ goes words variables more (here line next) m'))
+GoesOn words variables line pass left m (Err stop) m' = StopsPurelyAt stop m' (goes words variables left (here line pass) m)
 
 -- The name of a reference ends at this index, and there is no reference in the name. The reference has these
 -- units inside, the first of them at `start`, and this rest follows its mark.
 pub record NameEnds (text : List ℕ) (start mark end : ℕ) (units : List TextUnit) (rest : List ℕ) : Type 0 where
   pub plain : list_any is_reference (before_colon units) ≡ false
   pub name : sources (before_colon units) ≡ slice_range text start end
-  pub closes : slice_index text end ≡ mark → (behind_colon units ≡ None) × (rest ≡ drop (end + 1) text)
+  pub closes : slice_index text end ≡ mark → (following_colon units ≡ None) × (rest ≡ drop (end + 1) text)
   pub goes_on : slice_index text end ≢ mark
       → (more : List TextUnit)
-      × ((behind_colon units ≡ Some more) × (up_to_mark mark (drop (end + 1) text) ≡ Some (more, rest)))
+      × ((following_colon units ≡ Some more) × (up_to_mark mark (drop (end + 1) text) ≡ Some (more, rest)))
 
 -- where the name of a reference ends; None if there is a reference in the name
 abbrev pub EndsName : List ℕ → ℕ → ℕ → Option ℕ → Type 0

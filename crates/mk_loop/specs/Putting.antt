@@ -28,12 +28,12 @@ abbrev pub as_written : SoFar → List ℕ → SoFar
 as_written so_far bytes = record so_far { text = so_far.text ++ bytes }
 
 -- a text with each dollar (36) doubled, so that it gives itself when it is expanded
-abbrev pub doubled : List ℕ → List ℕ
-doubled text = flat_map (λ b. if b == 36 then 36 ∷ 36 ∷ [] else b ∷ []) text
+abbrev pub double_dollars : List ℕ → List ℕ
+double_dollars text = flat_map (λ b. if b == 36 then 36 ∷ 36 ∷ [] else b ∷ []) text
 
 -- a word put in; it is a fault if what is joined of the text is then too long
 abbrev pub with_word : SoFar → List ℕ → Work Meter FaultKind SoFar
-with_word so_far word = bounded (so_far.text ++ doubled word) >>= λ text. give (record { text = text; replaced = true })
+with_word so_far word = bounded (so_far.text ++ double_dollars word) >>= λ text. give (record { text = text; replaced = true })
 
 -- a text at its end: if a word was put into it, it may not be too long; any other text has no limit
 abbrev pub finished : SoFar → Work Meter FaultKind (List ℕ)

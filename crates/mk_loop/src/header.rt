@@ -2,13 +2,13 @@
 ghost use Rattle.std.specs.Prelude.{◌≡◌, ◌<◌, ◌≤◌, ◌+◌, length, map, drop, slice_get, string_bytes, Some, IfOk};
 ghost use Rattle.std.specs.List.{zip};
 ghost use Rattle.mk_base.specs.Meter.{Meter, IsLater};
-ghost use Rattle.mk_base.specs.Stopping.{Gives, NeverStore};
+ghost use Rattle.mk_base.specs.Stopping.{GivesPurely};
 ghost use Rattle.mk_text.specs.Words.{word_spans, span_text};
 ghost use Rattle.mk_loop.specs.Header as headers;
 ghost use Rattle.mk_loop.specs.Scopes.{turn_words, turns_in};
 
 use crate::turn::{Iteration, Iterations};
-use mk_base::{Budget, FaultKind, Stop};
+use mk_base::{Budget, FaultKind, PureStop};
 use mk_env::{Env, expand};
 use mk_text::{Span, words};
 use std::alloc::Global;
@@ -60,28 +60,29 @@ pub fn read_header<'a>(
     variables: &Env,
     header: &'a str,
     budget: &mut Budget,
-) -> Result<Iterations<'a>, Stop<FaultKind>>
-    ensures store { NeverStore result }
+) -> Result<Iterations<'a>, PureStop<FaultKind>>
     ensures later { IsLater budget.old budget.new }
-    ensures gives { Gives turns_in result budget.new
+    ensures gives { GivesPurely turns_in result budget.new
         (headers.header variables.now header.now budget.old) }
 {
     let (names, rest) = read_form(alloc, header)?;
     let text = expand(alloc, variables, rest, budget)?;
     let words = words(alloc, text.as_str())?;
     if words.len() % names.len() != 0 {
-        return Err(Stop::Fault(FaultKind::For));
+        return Err(PureStop::Fault(FaultKind::For));
     }
     Ok(Iterations { names, text, words })
 }
 
 /// The variables of a header, and what follows its `in`. It is a fault if there is no `in`, or no
 /// variable before it.
-fn read_form<'a>(alloc: Global, header: &'a str) -> Result<(Vec<&'a str>, &'a str), Stop<FaultKind>>
-    ensures store { NeverStore result }
+fn read_form<'a>(
+    alloc: Global,
+    header: &'a str,
+) -> Result<(Vec<&'a str>, &'a str), PureStop<FaultKind>>
     ensures named { IfOk result (λ form. 0 < length form.0.items) }
     ensures gives { (m : Meter)
-        → Gives (λ form. (map (λ name. name.now) form.0.items, form.1.now)) result m
+        → GivesPurely (λ form. (map (λ name. name.now) form.0.items, form.1.now)) result m
         (headers.formed (headers.header_parts header.now (word_spans header.now)) m) }
 {
     let mut names = Vec::new(alloc);
@@ -89,11 +90,11 @@ fn read_form<'a>(alloc: Global, header: &'a str) -> Result<(Vec<&'a str>, &'a st
         let word = span.of(header);
         if word == "in" {
             if names.is_empty() {
-                return Err(Stop::Fault(FaultKind::For));
+                return Err(PureStop::Fault(FaultKind::For));
             }
             return Ok((names, &header[span.end..]));
         }
         names.push(word)?;
     }
-    Err(Stop::Fault(FaultKind::For))
+    Err(PureStop::Fault(FaultKind::For))
 }

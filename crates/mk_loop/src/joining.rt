@@ -1,11 +1,11 @@
 //! What is joined so far of a text that words are put into.
 ghost use Rattle.std.specs.Prelude.{◌≡◌, string_bytes, IfOk};
 ghost use Rattle.mk_base.specs.Meter.{Meter};
-ghost use Rattle.mk_base.specs.Stopping.{Gives, NeverStore};
-ghost use Rattle.mk_loop.specs.Putting.{nothing, doubled, as_written, with_word, finished};
+ghost use Rattle.mk_base.specs.Stopping.{GivesPurely};
+ghost use Rattle.mk_loop.specs.Putting.{nothing, double_dollars, as_written, with_word, finished};
 ghost use Rattle.mk_loop.specs.Joinings.{so_far};
 
-use mk_base::{FaultKind, Stop};
+use mk_base::{FaultKind, PureStop};
 use mk_text::{TEXT_LIMIT, TextFault, add_text};
 use std::alloc::{AllocError, Global};
 
@@ -46,37 +46,35 @@ impl Joined {
 
     /// The same with a word put in, each dollar of it doubled. It is a fault if the text is
     /// then too long.
-    pub(crate) fn with_word(self, alloc: Global, word: &str) -> Result<Joined, Stop<FaultKind>>
-        ensures store { NeverStore result }
-        ensures gives { (m : Meter) → Gives so_far result m (with_word (so_far self) word.now m) }
+    pub(crate) fn with_word(self, alloc: Global, word: &str) -> Result<Joined, PureStop<FaultKind>>
+        ensures gives { (m : Meter) → GivesPurely so_far result m (with_word (so_far self) word.now m) }
     {
-        let word = doubled(alloc, word)?;
+        let word = double_dollars(alloc, word)?;
         let mut text = self.text;
         match add_text(&mut text, word.as_str()) {
             Ok(()) => Ok(Joined {
                 text,
                 replaced: true,
             }),
-            Err(TextFault::Length) => Err(Stop::Fault(FaultKind::Length)),
-            Err(TextFault::Memory) => Err(Stop::Memory),
+            Err(TextFault::Length) => Err(PureStop::Fault(FaultKind::Length)),
+            Err(TextFault::Memory) => Err(PureStop::Memory),
         }
     }
 
     /// The text at its end. It is a fault if a word was put in and the text is too long.
-    pub(crate) fn finished(self) -> Result<String, Stop<FaultKind>>
-        ensures store { NeverStore result }
-        ensures gives { (m : Meter) → Gives string_bytes result m (finished (so_far self) m) }
+    pub(crate) fn finished(self) -> Result<String, PureStop<FaultKind>>
+        ensures gives { (m : Meter) → GivesPurely string_bytes result m (finished (so_far self) m) }
     {
         if self.replaced && self.text.len() > TEXT_LIMIT {
-            return Err(Stop::Fault(FaultKind::Length));
+            return Err(PureStop::Fault(FaultKind::Length));
         }
         Ok(self.text)
     }
 }
 
 /// The text with each dollar doubled.
-fn doubled(alloc: Global, text: &str) -> Result<String, AllocError>
-    ensures { IfOk result (λ made. string_bytes made ≡ doubled text.now) }
+fn double_dollars(alloc: Global, text: &str) -> Result<String, AllocError>
+    ensures { IfOk result (λ made. string_bytes made ≡ double_dollars text.now) }
 {
     let bytes = text.as_bytes();
     let mut made = String::new(alloc);

@@ -1,22 +1,22 @@
 //! The pass over a line of a loop's body, from left to right.
-ghost use Rattle.std.specs.Prelude.{◌≡◌, ◌≢◌, ℕ, ◌≤◌, ◌<◌, ◌+◌, ◌^◌, true, false, [], ◌∷◌, ◌++◌, map, length, drop};
-ghost use Rattle.std.specs.Prelude.{reverse, slice_index, string_bytes, option_map, Some, All, IfOk, OnOk};
+ghost use Rattle.std.specs.Prelude.{◌≡◌, ◌≢◌, ◌↔◌, ℕ, ◌≤◌, ◌<◌, ◌+◌, ◌^◌, true, false, [], ◌∷◌, ◌++◌, map, length, drop};
+ghost use Rattle.std.specs.Prelude.{reverse, slice_index, string_bytes, option_map, Some, None, All, IfOk, OnOk};
 ghost use Rattle.std.specs.Str.{IsCharBoundary};
 ghost use Rattle.mk_base.specs.Meter.{Meter, IsLater};
-ghost use Rattle.mk_base.specs.Stopping.{Gives, NeverStore};
+ghost use Rattle.mk_base.specs.Stopping.{GivesPurely};
 ghost use Rattle.mk_ref.specs.declared.opening.Opening.TheVariants as openings;
 ghost use Rattle.mk_ref.specs.Units.{opening_of};
 ghost use Rattle.mk_loop.specs.declared.passing.Around.TheVariants as v;
 ghost use Rattle.mk_loop.specs.Putting as putting;
 ghost use Rattle.mk_loop.specs.Scopes.{words_in};
 ghost use Rattle.mk_loop.specs.Joinings.{so_far};
-ghost use Rattle.mk_loop.specs.Places.{Left, Changing, mark_of, surround_of, here, closed, closes, text_of};
-ghost use Rattle.mk_loop.specs.Places.{HasAsciiMark, IsPlaced, Stands, GoesOn};
+ghost use Rattle.mk_loop.specs.Places.{Left, Changing, mark_of, surround_of, here, close_reference, closes, text_of};
+ghost use Rattle.mk_loop.specs.Places.{HasAsciiMark, IsPlaced, PaysFor, HasLeft, GoesOn};
 
 use crate::joining::Joined;
 use crate::names::name_end;
 use crate::scopes::LoopScope;
-use mk_base::{Budget, FaultKind, Stop};
+use mk_base::{Budget, FaultKind, PureStop};
 use mk_env::{Env, modify};
 use mk_ref::{Opening, opening_at};
 use std::alloc::{AllocError, Global};
@@ -103,14 +103,14 @@ impl Pass {
         alloc: Global,
         body: Body<'_>,
         budget: &mut Budget,
-    ) -> Result<Pass, Stop<FaultKind>>
+    ) -> Result<Pass, PureStop<FaultKind>>
         requires placed { IsPlaced body.line.now self }
         requires near { self.at < length body.line.now }
-        ensures store { NeverStore result }
         ensures later { IsLater budget.old budget.new }
         ensures placed { IfOk result (λ next. IsPlaced body.entry.line.now next) }
         ensures onward { IfOk result (λ next. self.at < next.at) }
-        ensures goes { (left : Left) → Stands body.entry.line.now self left
+        ensures paid { IfOk result (λ next. PaysFor self budget.old next budget.new) }
+        ensures goes { (left : Left) → HasLeft body.entry.line.now self left
             → GoesOn (words_in body.entry.words) body.entry.variables.now body.entry.line.now self left budget.old result budget.new }
     {
         let bytes = body.line.as_bytes();
@@ -152,16 +152,16 @@ impl Pass {
         alloc: Global,
         body: Body<'_>,
         budget: &mut Budget,
-    ) -> Result<Pass, Stop<FaultKind>>
+    ) -> Result<Pass, PureStop<FaultKind>>
         requires placed { IsPlaced body.line.now self }
         requires room { self.at + 2 ≤ length body.line.now }
         requires opens { opening_of (drop self.at body.line.now) ≡ Some openings.Letter }
         requires stays { closes self (slice_index body.line.now self.at) ≡ false }
-        ensures store { NeverStore result }
         ensures later { IsLater budget.old budget.new }
         ensures placed { IfOk result (λ next. IsPlaced body.entry.line.now next) }
         ensures onward { IfOk result (λ next. self.at < next.at) }
-        ensures goes { (left : Left) → Stands body.entry.line.now self left
+        ensures paid { IfOk result (λ next. PaysFor self budget.old next budget.new) }
+        ensures goes { (left : Left) → HasLeft body.entry.line.now self left
             → GoesOn (words_in body.entry.words) body.entry.variables.now body.entry.line.now self left budget.old result budget.new }
     {
         let behind = self.at + 2;
@@ -181,16 +181,16 @@ impl Pass {
         body: Body<'_>,
         mark: u8,
         budget: &mut Budget,
-    ) -> Result<Pass, Stop<FaultKind>>
+    ) -> Result<Pass, PureStop<FaultKind>>
         requires placed { IsPlaced body.line.now self }
         requires room { self.at + 2 ≤ length body.line.now }
         requires opens { opening_of (drop self.at body.line.now) ≡ Some (openings.Marked mark) }
         requires stays { closes self (slice_index body.line.now self.at) ≡ false }
-        ensures store { NeverStore result }
         ensures later { IsLater budget.old budget.new }
         ensures placed { IfOk result (λ next. IsPlaced body.entry.line.now next) }
         ensures onward { IfOk result (λ next. self.at < next.at) }
-        ensures goes { (left : Left) → Stands body.entry.line.now self left
+        ensures paid { IfOk result (λ next. PaysFor self budget.old next budget.new) }
+        ensures goes { (left : Left) → HasLeft body.entry.line.now self left
             → GoesOn (words_in body.entry.words) body.entry.variables.now body.entry.line.now self left budget.old result budget.new }
     {
         let bytes = body.line.as_bytes();
@@ -268,13 +268,12 @@ impl Pass {
         body: Body<'_>,
         behind: usize,
         word: &str,
-    ) -> Result<Pass, Stop<FaultKind>>
+    ) -> Result<Pass, PureStop<FaultKind>>
         requires placed { IsPlaced body.line.now self }
         requires dollar { slice_index body.line.now self.at ≡ 36 }
         requires near { self.at < length body.line.now }
-        ensures store { NeverStore result }
         ensures gives { (m : Meter)
-            → Gives (λ next. so_far next.joined) result m
+            → GivesPurely (λ next. so_far next.joined) result m
             (putting.with_word (here body.entry.line.now self) word.now m) }
         ensures around { IfOk result (λ next. next.around.items ≡ self.around.items) }
         ensures copied { IfOk result (λ next. next.copied ≡ behind) }
@@ -295,15 +294,15 @@ impl Pass {
         alloc: Global,
         body: Body<'_>,
         budget: &mut Budget,
-    ) -> Result<Pass, Stop<FaultKind>>
+    ) -> Result<Pass, PureStop<FaultKind>>
         requires placed { IsPlaced body.line.now self }
         requires near { self.at < length body.line.now }
         requires closes { closes self (slice_index body.line.now self.at) ≡ true }
-        ensures store { NeverStore result }
         ensures later { IsLater budget.old budget.new }
         ensures placed { IfOk result (λ next. IsPlaced body.entry.line.now next) }
         ensures onward { IfOk result (λ next. self.at < next.at) }
-        ensures goes { (left : Left) → Stands body.entry.line.now self left
+        ensures paid { IfOk result (λ next. PaysFor self budget.old next budget.new) }
+        ensures goes { (left : Left) → HasLeft body.entry.line.now self left
             → GoesOn (words_in body.entry.words) body.entry.variables.now body.entry.line.now self left budget.old result budget.new }
     {
         let Pass {
@@ -341,12 +340,12 @@ impl Pass {
     }
 
     /// The text at the end of a line; `None` if no word was put in.
-    pub(crate) fn finished(self, body: Body<'_>) -> Result<Option<String>, Stop<FaultKind>>
+    pub(crate) fn finished(self, body: Body<'_>) -> Result<Option<String>, PureStop<FaultKind>>
         requires placed { IsPlaced body.line.now self }
         requires all { self.at ≡ length body.line.now }
-        ensures store { NeverStore result }
+        ensures none { IfOk result (λ made. made ≡ None ↔ (self.copied ≡ 0)) }
         ensures gives { (m : Meter)
-            → Gives (text_of body.entry.line.now) result m
+            → GivesPurely (text_of body.entry.line.now) result m
             (putting.finished (here body.entry.line.now self) m) }
     {
         if self.copied == 0 {
@@ -365,12 +364,11 @@ fn change(
     word: &str,
     front: Joined,
     budget: &mut Budget,
-) -> Result<Joined, Stop<FaultKind>>
-    ensures store { NeverStore result }
+) -> Result<Joined, PureStop<FaultKind>>
     ensures later { IsLater budget.old budget.new }
     ensures gives { (mark : ℕ)
-        → Gives so_far result budget.new
-        (closed variables.now (Changing mark word.now (so_far front))
+        → GivesPurely so_far result budget.new
+        (close_reference variables.now (Changing mark word.now (so_far front))
         (so_far modifiers) budget.old) }
 {
     let modifiers = modifiers.finished()?;

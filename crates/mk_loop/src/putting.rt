@@ -1,7 +1,7 @@
 //! Lines with the words of loops put in.
-ghost use Rattle.std.specs.Prelude.{◌≡◌, [], IfOk, IfErr};
+ghost use Rattle.std.specs.Prelude.{◌≡◌, ◌↔◌, [], None, IfOk, IfErr};
 ghost use Rattle.mk_base.specs.Meter.{IsLater};
-ghost use Rattle.mk_base.specs.Stopping.{Gives, NeverStore};
+ghost use Rattle.mk_base.specs.Stopping.{GivesPurely};
 ghost use Rattle.mk_ref.specs.Units.{left_of};
 ghost use Rattle.mk_env.specs.Refusals.{IsUncut};
 ghost use Rattle.mk_loop.specs.Putting as putting;
@@ -10,14 +10,15 @@ ghost use Rattle.mk_loop.specs.Places.{text_of};
 
 use crate::passing::{Body, Pass};
 use crate::scopes::LoopScope;
-use mk_base::{Budget, FaultKind, Stop};
+use mk_base::{Budget, FaultKind, PureStop};
 use mk_env::Env;
 use mk_ref::{PiecesFault, pieces};
 use std::alloc::Global;
 
 /// The line of a loop's body with the words of its iteration put in, all at once, in one pass over the
 /// line as it is written (make(1), "FOR LOOPS"). If no word is put in, it is `None`, and the line stays
-/// as it is. `words` are the loops around the line.
+/// as it is. Each word that is put in costs a unit, so it is `None` exactly if nothing is spent. `words`
+/// are the loops around the line.
 ///
 /// If the name of a reference, as it is written, is a loop's variable, the reference is replaced by the
 /// word of that variable. That holds too for a reference in the name or the modifiers of another. A
@@ -49,10 +50,10 @@ pub fn put_words(
     words: LoopScope<'_>,
     line: &str,
     budget: &mut Budget,
-) -> Result<Option<String>, Stop<FaultKind>>
-    ensures store { NeverStore result }
+) -> Result<Option<String>, PureStop<FaultKind>>
     ensures later { IsLater budget.old budget.new }
-    ensures gives { Gives (text_of line.now) result budget.new
+    ensures none { IfOk result (λ made. made ≡ None ↔ (budget.new.spent ≡ budget.old.spent)) }
+    ensures gives { GivesPurely (text_of line.now) result budget.new
         (putting.put_words (words_in words.entry) variables.now line.now budget.old) }
 {
     check_closed(alloc, line)?;
@@ -69,13 +70,13 @@ pub fn put_words(
 }
 
 /// A reference that doesn't end is a fault.
-fn check_closed(alloc: Global, line: &str) -> Result<(), Stop<FaultKind>>
+fn check_closed(alloc: Global, line: &str) -> Result<(), PureStop<FaultKind>>
     ensures whole { IfOk result (λ _. left_of line.now ≡ []) }
     ensures err { IfErr result (IsUncut line.now) }
 {
     match pieces(alloc, line) {
         Ok(_pieces) => Ok(()),
-        Err(PiecesFault::Unclosed { at: _ }) => Err(Stop::Fault(FaultKind::Reference)),
-        Err(PiecesFault::Memory) => Err(Stop::Memory),
+        Err(PiecesFault::Unclosed { at: _ }) => Err(PureStop::Fault(FaultKind::Reference)),
+        Err(PiecesFault::Memory) => Err(PureStop::Memory),
     }
 }

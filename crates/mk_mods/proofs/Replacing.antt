@@ -8,7 +8,7 @@ use Rattle.std.proofs.lemmas.Slice.Eq.{bytes_eq-Decides}
 use Rattle.std.proofs.lemmas.Str.{IsUtf8-drop}
 use Rattle.std.proofs.lemmas.Str.Pattern.{starts_text, ends_text}
 use Rattle.mk_mods.specs.Actions.{Replacement}
-use Rattle.mk_mods.specs.Places.{StandsNowhere, FirstCut}
+use Rattle.mk_mods.specs.Places.{IsNowhere, FirstCut}
 use Rattle.mk_mods.specs.Substituted.{first_replaced, all_replaced, somewhere_replaced, replaced}
 
 pub starts-append : (old rest : List ℕ) → starts_with eqb (old ++ rest) old ≡ true
@@ -24,14 +24,14 @@ ends-append front old =
 pub ends-lacks : (old text : List ℕ) → ((front : List ℕ) → text ≢ front ++ old) → ends_with eqb text old ≡ false
 ends-lacks old text none = sym (ends_text false old text none)
 
-pub first_replaced-none : (old new word : List ℕ) → StandsNowhere old word → first_replaced old new word ≡ None
+pub first_replaced-none : (old new word : List ℕ) → IsNowhere old word → first_replaced old new word ≡ None
 first_replaced-none old new [] none = refl
 first_replaced-none old new (b ∷ rest) none =
     cond-false (starts_with eqb (b ∷ rest) old) (Some (new ++ drop (length old) (b ∷ rest))) (option_map (λ made. b ∷ made) (first_replaced old new rest))
     (starts-lacks old (b ∷ rest) (λ behind e. none [] behind e))
     ∙ ap (option_map (λ made. b ∷ made)) (first_replaced-none old new rest (λ front behind e. none (b ∷ front) behind (ap (λ l. b ∷ l) e)))
 
-pub all_replaced-none : (old new word : List ℕ) → StandsNowhere old word → all_replaced old new zero word ≡ word
+pub all_replaced-none : (old new word : List ℕ) → IsNowhere old word → all_replaced old new zero word ≡ word
 all_replaced-none old new [] none = refl
 all_replaced-none old new (b ∷ rest) none =
     cond-false (starts_with eqb (b ∷ rest) old) (new ++ all_replaced old new (length old - 1) rest) (b ∷ all_replaced old new zero rest)
@@ -81,19 +81,19 @@ all_replaced-at o old new (x ∷ front) behind least =
 -- the clause of `split_once` at a text
 pub cut-of : (old word : List ℕ) (r : Option (Bor (List ℕ) × Bor (List ℕ)))
     → MatchOption r (FindsText old word None) (λ x. SplitsAroundMatch (FindsText old) word x.0.now x.1.now)
-    → MatchOption r (StandsNowhere old word) (λ x. FirstCut old word x.0.now x.1.now)
+    → MatchOption r (IsNowhere old word) (λ x. FirstCut old word x.0.now x.1.now)
 cut-of old word None none = λ front behind e.
     none (length front) (omega (arith, ap length e, length-append front (old ++ behind))) behind (ap (drop (length front)) e ∙ drop_at front (old ++ behind) (length front) refl)
-cut-of old word (Some (front, behind)) (i, j, finds, is_front, is_behind, le, len_front, len_behind) = record {
+cut-of old word (Some (front, behind)) (i, j, finds, is_front, is_after, le, len_front, len_after) = record {
   whole = sym (take-append-drop i word) ∙ ap (λ l. take i word ++ l) finds.1.split ∙ ap (λ l. l ++ (old ++ drop j word)) (sym is_front)
-      ∙ ap (λ l. front.now ++ (old ++ l)) (sym is_behind);
+      ∙ ap (λ l. front.now ++ (old ++ l)) (sym is_after);
   least = λ f b l e. finds.0 (length f) (omega arith) b (ap (drop (length f)) e ∙ drop_at f (old ++ b) (length f) refl);
 }
 
 -- what stands behind an old text is text
-pub behind-utf8 : (old word : List ℕ) (front behind : Bor (List ℕ)) → SplitsAroundMatch (FindsText old) word front.now behind.now → IsUtf8 word → IsUtf8 behind.now
-behind-utf8 old word front behind (i, j, finds, is_front, is_behind, le, len_front, len_behind) text =
-    subst IsUtf8 (ap (λ n. drop n word) (sym finds.1.ends) ∙ sym is_behind) (IsUtf8-drop word (i + length old) text finds.1.after)
+pub after-utf8 : (old word : List ℕ) (front behind : Bor (List ℕ)) → SplitsAroundMatch (FindsText old) word front.now behind.now → IsUtf8 word → IsUtf8 behind.now
+after-utf8 old word front behind (i, j, finds, is_front, is_after, le, len_front, len_after) text =
+    subst IsUtf8 (ap (λ n. drop n word) (sym finds.1.ends) ∙ sym is_after) (IsUtf8-drop word (i + length old) text finds.1.after)
 
 -- a turn: an old text that isn't empty, at its first place
 pub all_replaced-cut : (old new word front behind : List ℕ) → 0 < length old → FirstCut old word front behind
@@ -111,7 +111,7 @@ pub first-cut : (old new word front behind : List ℕ) → 0 < length old → Fi
 first-cut [] new word front behind some cut = absurd (omega arith)
 first-cut (o ∷ old) new word front behind some cut = first_replaced-cut o old new word front behind cut
 
-pub somewhere-none : (every : Bool) (old new word : List ℕ) → StandsNowhere old word → somewhere_replaced every old new word ≡ None
+pub somewhere-none : (every : Bool) (old new word : List ℕ) → IsNowhere old word → somewhere_replaced every old new word ≡ None
 somewhere-none every [] new word none = refl
 somewhere-none true (o ∷ old) new word none = ap (option_map (λ _. all_replaced (o ∷ old) new zero word)) (first_replaced-none (o ∷ old) new word none)
 somewhere-none false (o ∷ old) new word none = first_replaced-none (o ∷ old) new word none
@@ -135,8 +135,8 @@ pub replaced-starts : (s : Replacement) (old new word : List ℕ) (r : Option (B
     → MatchOption r (FindsTextPrefix old word None) (λ x. StripsPrefix (FindsTextPrefix old) word x.now)
     → replaced s old new word ≡ option_map (λ x. new ++ x.now) r
 replaced-starts s old new word None starts ends none = rw (starts, ends, starts-lacks old word none)
-replaced-starts s old new word (Some behind) starts ends (n, finds, is_behind, len) =
-    let whole : word ≡ old ++ behind.now = finds.1 ∙ ap (λ l. old ++ l) (sym is_behind) in
+replaced-starts s old new word (Some behind) starts ends (n, finds, is_after, len) =
+    let whole : word ≡ old ++ behind.now = finds.1 ∙ ap (λ l. old ++ l) (sym is_after) in
     rw (starts, ends, whole, starts-append old behind.now, drop_at old behind.now (length old) refl)
 
 -- the clause of `strip_suffix`

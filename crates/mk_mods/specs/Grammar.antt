@@ -50,19 +50,19 @@ replacement_by old new flags =
     }
 
 -- the new text and the flags, which follow an old text
-abbrev pub behind_new : List TextSign → Option (List TextSign × List TextMark) → Option (Replacement × List TextMark)
-behind_new old None = None
-behind_new old (Some new) = Some (replacement_by old new.0 (flags_of new.1), (flags_of new.1).behind)
+abbrev pub after_new : List TextSign → Option (List TextSign × List TextMark) → Option (Replacement × List TextMark)
+after_new old None = None
+after_new old (Some new) = Some (replacement_by old new.0 (flags_of new.1), (flags_of new.1).behind)
 
 -- the old text, and what follows it
-abbrev pub behind_old : ℕ → Option (List TextSign × List TextMark) → Option (Replacement × List TextMark)
-behind_old delimiter None = None
-behind_old delimiter (Some old) = behind_new old.0 (signs_before delimiter old.1)
+abbrev pub after_old : ℕ → Option (List TextSign × List TextMark) → Option (Replacement × List TextMark)
+after_old delimiter None = None
+after_old delimiter (Some old) = after_new old.0 (signs_before delimiter old.1)
 
 -- what follows the letter of `:S`, and what follows the flags; any character is a delimiter
 abbrev pub substitution_from : List TextMark → Option (Replacement × List TextMark)
 substitution_from [] = None
-substitution_from (Char delimiter ∷ marks) = behind_old delimiter (signs_before delimiter marks)
+substitution_from (Char delimiter ∷ marks) = after_old delimiter (signs_before delimiter marks)
 substitution_from (EscapedDollar ∷ marks) = None
 substitution_from (Written source ∷ marks) = None
 

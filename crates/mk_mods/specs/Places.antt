@@ -3,8 +3,8 @@ use Rattle.std.specs.Prelude.{◌≡◌, ◌≢◌, ◌<◌, ℕ, zero, List, �
 use Rattle.mk_mods.specs.Substituted.{first_replaced, all_replaced}
 
 -- an old text is nowhere in a word
-abbrev pub StandsNowhere : List ℕ → List ℕ → Type 0
-StandsNowhere old word = (front behind : List ℕ) → word ≢ front ++ (old ++ behind)
+abbrev pub IsNowhere : List ℕ → List ℕ → Type 0
+IsNowhere old word = (front behind : List ℕ) → word ≢ front ++ (old ++ behind)
 
 -- a word cut at the leftmost place of an old text
 pub record FirstCut (old word front behind : List ℕ) : Type 0 where
@@ -25,5 +25,5 @@ EachActsAtLeast = (old new word front behind : List ℕ) → 0 < length old → 
 -- if the old text is nowhere in the word, nothing is replaced
 abbrev pub NoneWhereNowhere : Type 0
 NoneWhereNowhere =
-    (old new word : List ℕ) → StandsNowhere old word
+    (old new word : List ℕ) → IsNowhere old word
     → (first_replaced old new word ≡ None) × (all_replaced old new zero word ≡ word)

@@ -192,9 +192,9 @@ fn substitution_from<'m, 't>(
     let Some((Mark::Char(delimiter), marks)) = marks.split_first() else {
         return Err(ModsFault::BadMod);
     };
-    let (old, behind_old) = signs_before(alloc, *delimiter, marks)?;
-    let (new, behind_new) = signs_before(alloc, *delimiter, behind_old)?;
-    let (every, once, behind) = flags_of(behind_new);
+    let (old, after_old) = signs_before(alloc, *delimiter, marks)?;
+    let (new, after_new) = signs_before(alloc, *delimiter, after_old)?;
+    let (every, once, behind) = flags_of(after_new);
     let (starts, others) = without_start(&old);
     let (ends, middle) = without_end(others);
     let substitution = Substitution {

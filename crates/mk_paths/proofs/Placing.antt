@@ -1,13 +1,12 @@
 -- The search for a directory's makefile, one tree after another.
-use Rattle.std.proofs.Common.{◌≡◌, ◌∙◌, sym, ap, refl, ℕ, Bool, true, false, cond, List, [], ◌∷◌, ◌++◌, map, Option, Some, None, append_assoc}
+use Rattle.std.proofs.Common.{◌≡◌, ◌∙◌, sym, ap, refl, ℕ, Bool, true, false, cond, List, [], ◌∷◌, ◌++◌, map, Some, None, append_assoc}
 use Rattle.std.proofs.lemmas.List.{append-nil}
 use Rattle.std.specs.List.{find, cons_option}
-use Rattle.std.specs.Option.{option_map}
 use Rattle.std.specs.Result.{result_ok}
 use Rattle.std.specs.FinMap.{contains_key}
 use Rattle.mk_paths.specs.FileName.{resolved}
 use Rattle.mk_paths.specs.World.{FileMap}
-use Rattle.mk_paths.specs.FilesView.{Presence, Question, FilesView, Answers, noted}
+use Rattle.mk_paths.specs.FilesView.{Presence, Question, FilesView, Answers, noted, noted-twice, noted-nothing}
 use Rattle.mk_paths.specs.Place.{makefile_in, candidates, place_among, up_to_first, places_asked, AsksPlaces}
 
 -- the search has these trees before it: what was asked, and what is to be asked and found, are those of all trees
@@ -17,22 +16,8 @@ pub record IsUnderway (old now : FilesView) (trees all : List (List ℕ)) (direc
   pub rest : asked ++ places_asked old.files trees directory ≡ places_asked old.files all directory
   pub finds : place_among old.files trees directory ≡ place_among old.files all directory
 
-log_kept : (log : Option (List Question)) → option_map (λ questions. questions ++ []) log ≡ log
-log_kept None = refl
-log_kept (Some questions) = ap Some (append-nil questions)
-
-noted-nil : (world : FilesView) → noted world [] ≡ world
-noted-nil world = ap (λ log. record world { log = log }) (log_kept world.log)
-
-log_twice : (log : Option (List Question)) (first second : List Question) → option_map (λ questions. questions ++ second) (option_map (λ questions. questions ++ first) log) ≡ option_map (λ questions. questions ++ (first ++ second)) log
-log_twice None first second = refl
-log_twice (Some questions) first second = ap Some (append_assoc questions first second)
-
-noted-noted : (world : FilesView) (first second : List Question) → noted (noted world first) second ≡ noted world (first ++ second)
-noted-noted world first second = ap (λ log. record world { log = log }) (log_twice world.log first second)
-
 pub begins : (old : FilesView) (all : List (List ℕ)) (directory : List ℕ) → IsUnderway old old all all directory
-begins old all directory = record { asked = []; state = sym (noted-nil old); rest = refl; finds = refl }
+begins old all directory = record { asked = []; state = noted-nothing old; rest = refl; finds = refl }
 
 -- the candidates of the trees, the first tree's first
 module _ (files : FileMap) (tree : List ℕ) (trees : List (List ℕ)) (directory : List ℕ) where
@@ -50,7 +35,7 @@ asked_next : (old now new : FilesView) (asked : List Question) (name : List ℕ)
     → (there ≡ contains_key old.files name) × (new ≡ noted old (asked ++ (name, Presence there) ∷ []))
 asked_next old now new asked name there state answer = (
   answer.0 ∙ ap (λ (world : FilesView). contains_key world.files name) state,
-  answer.1 ∙ ap (λ world. noted world ((name, Presence there) ∷ [])) state ∙ noted-noted old asked ((name, Presence there) ∷ []),
+  answer.1 ∙ ap (λ world. noted world ((name, Presence there) ∷ [])) state ∙ noted-twice old asked ((name, Presence there) ∷ []),
 )
 
 -- what is asked, and found, from a name on

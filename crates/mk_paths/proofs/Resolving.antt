@@ -5,7 +5,7 @@ use Rattle.std.proofs.lemmas.Grind.{common_steps}
 use Rattle.std.proofs.lemmas.List.{append-nil, take-append-drop}
 use Rattle.std.proofs.lemmas.List.Folds.{list_all-append}
 use Rattle.text_parts.specs.Laws.{is_between, are_between}
-use Rattle.text_parts.proofs.PartTexts.{parts_are_between, written_is_cut_again, written_stands}
+use Rattle.text_parts.proofs.PartTexts.{parts_are_between, written_is_cut_again, written_parts_may_occur}
 use Rattle.std.specs.List.{list_all}
 use Rattle.std.specs.Option.{option_and_then}
 use Rattle.std.specs.Str.{bytes_eq}
@@ -13,12 +13,12 @@ use Rattle.mk_paths.specs.FileName.{slash, is_plain, parts_of, kept_parts, with_
 use Rattle.mk_paths.specs.declared.file_name.NameFault.TheVariants.{BadName}
 
 -- a byte between slashes
-abbrev pub may_stand : ℕ → Bool
-may_stand = is_between slash is_plain
+abbrev pub may_occur : ℕ → Bool
+may_occur = is_between slash is_plain
 
 -- a part that is kept as it stands
 abbrev pub is_kept : List ℕ → Bool
-is_kept part = (not (bytes_eq part []) && not (bytes_eq part (codes ".")) && not (bytes_eq part (codes ".."))) && list_all may_stand part
+is_kept part = (not (bytes_eq part []) && not (bytes_eq part (codes ".")) && not (bytes_eq part (codes ".."))) && list_all may_occur part
 
 list_all-take : {X : Type 0} (p : X → Bool) (n : ℕ) (xs : List X) → list_all p xs ≡ true → list_all p (take n xs) ≡ true
 list_all-take p n xs a =
@@ -47,17 +47,17 @@ keeps_by false false kept part next a b e =
     let same : kept ++ part ∷ [] ≡ next = cc in
     subst (λ parts. list_all is_kept parts ≡ true) same (list_all-append is_kept kept (part ∷ []) ∙ and_from (list_all is_kept kept) (list_all is_kept (part ∷ [])) a (and_from (is_kept part) true (b refl refl) refl))
 
-keeps : (kept : List (List ℕ)) (part : List ℕ) (next : List (List ℕ)) → list_all is_kept kept ≡ true → list_all may_stand part ≡ true → with_part kept part ≡ Some next → list_all is_kept next ≡ true
+keeps : (kept : List (List ℕ)) (part : List ℕ) (next : List (List ℕ)) → list_all is_kept kept ≡ true → list_all may_occur part ≡ true → with_part kept part ≡ Some next → list_all is_kept next ≡ true
 keeps kept part next a b e =
-    keeps_by (bytes_eq part [] || bytes_eq part (codes ".")) (bytes_eq part (codes "..")) kept part next a (λ p q. stands (bytes_eq part []) (bytes_eq part (codes ".")) (bytes_eq part (codes "..")) (list_all may_stand part) p q b) e
+    keeps_by (bytes_eq part [] || bytes_eq part (codes ".")) (bytes_eq part (codes "..")) kept part next a (λ p q. stands (bytes_eq part []) (bytes_eq part (codes ".")) (bytes_eq part (codes "..")) (list_all may_occur part) p q b) e
 
-pub kept_stand : (kept parts next : List (List ℕ)) → list_all is_kept kept ≡ true → list_all (list_all may_stand) parts ≡ true → kept_parts kept parts ≡ Some next → list_all is_kept next ≡ true
+pub kept_stand : (kept parts next : List (List ℕ)) → list_all is_kept kept ≡ true → list_all (list_all may_occur) parts ≡ true → kept_parts kept parts ≡ Some next → list_all is_kept next ≡ true
 unfolding kept_parts
 kept_stand kept [] next a b e =
     let same : kept ≡ next = cc in
     subst (λ parts. list_all is_kept parts ≡ true) same a
 kept_stand kept (part ∷ parts) next a b e =
-    let t = and_parts (list_all may_stand part) (list_all (list_all may_stand) parts) b in
+    let t = and_parts (list_all may_occur part) (list_all (list_all may_occur) parts) b in
     elim (with_part kept part) as (λ o. with_part kept part ≡ o → option_and_then (λ more. kept_parts more parts) o ≡ Some next → list_all is_kept next ≡ true) [
       | None ↦ λ is none. cc
       | Some more ↦ λ is some. kept_stand more parts next (keeps kept part more a t.0 is) t.1 some
@@ -65,7 +65,7 @@ kept_stand kept (part ∷ parts) next a b e =
 
 with_kept : (kept : List (List ℕ)) (part : List ℕ) → is_kept part ≡ true → with_part kept part ≡ Some (kept ++ part ∷ [])
 with_kept kept part a =
-    let t = tests_of (bytes_eq part []) (bytes_eq part (codes ".")) (bytes_eq part (codes "..")) (list_all may_stand part) a in
+    let t = tests_of (bytes_eq part []) (bytes_eq part (codes ".")) (bytes_eq part (codes "..")) (list_all may_occur part) a in
     ap (λ b. cond b (Some kept) (cond (bytes_eq part (codes "..")) (without_last kept) (Some (kept ++ part ∷ [])))) t.0
     ∙ ap (λ b. cond b (without_last kept) (Some (kept ++ part ∷ []))) t.1
 
@@ -82,7 +82,7 @@ stand : (parts : List (List ℕ)) → list_all is_kept parts ≡ true → are_be
 stand [] a = refl
 stand (part ∷ parts) a =
     let e = and_parts (is_kept part) (list_all is_kept parts) a in
-    and_from (list_all may_stand part) (are_between slash is_plain parts) ((and_parts _ (list_all may_stand part) e.0).1) (stand parts e.1)
+    and_from (list_all may_occur part) (are_between slash is_plain parts) ((and_parts _ (list_all may_occur part) e.0).1) (stand parts e.1)
 
 ok_of : (test : Bool) (wanted name : List ℕ) → cond test (Ok wanted) (Err BadName) ≡ Ok name → name ≡ wanted
 ok_of true wanted name e = cc
@@ -103,7 +103,7 @@ again (part ∷ parts) name a same e =
     let cut : parts_of text ≡ [] ∷ part ∷ parts = written_is_cut_again slash is_plain [] (part ∷ parts) (stand (part ∷ parts) a) in
     let kept : kept_parts [] (parts_of text) ≡ Some (part ∷ parts) = ap (kept_parts []) cut ∙ kept_again [] (part ∷ parts) a in
     let here : resolved text ≡ Ok name =
-    ap (λ b. cond b (name_of (kept_parts [] (parts_of text))) (Err BadName)) (written_stands slash is_plain [] (part ∷ parts) refl (stand (part ∷ parts) a)) ∙ ap name_of kept ∙ e in
+    ap (λ b. cond b (name_of (kept_parts [] (parts_of text))) (Err BadName)) (written_parts_may_occur slash is_plain [] (part ∷ parts) refl (stand (part ∷ parts) a)) ∙ ap name_of kept ∙ e in
     record { itself = subst (λ bytes. resolved bytes ≡ Ok name) (sym same) here }
 
 -- what a text names is a name that names itself

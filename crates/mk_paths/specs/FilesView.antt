@@ -1,7 +1,9 @@
 -- Files that can be asked, and what it is to ask them.
-use Rattle.std.specs.Prelude.{◌≡◌, ℕ, ◌+◌, ◌-◌, ◌^◌, min, Bool, List, [], ◌∷◌, ◌++◌, Option, option_map}
+use Rattle.std.specs.Prelude.{◌≡◌, ℕ, ◌+◌, ◌-◌, ◌^◌, min, Bool, List, [], ◌∷◌, ◌++◌, Option, Some, None, option_map}
+use Rattle.std.proofs.Common.{refl, sym, ap, append-nil, append_assoc}
 use Rattle.std.specs.FinMap.{get, contains_key}
-use Rattle.mk_paths.specs.World.{FileMap}
+use Rattle.mk_paths.specs.World.{FileMap, World}
+use Rattle.mk_paths.specs.declared.search_path.Settings.{Settings}
 
 -- the answer to a question: whether the file is there, or its content, if it is there
 pub data Reply : Type 0 where
@@ -17,6 +19,10 @@ pub record FilesView : Type 0 where
   pub files : FileMap
   pub log : Option (List Question)
   pub failures : ℕ
+
+-- the world of these files with these settings
+abbrev pub world_of : FilesView → Settings → World
+world_of view settings = (view.files, settings)
 
 -- the reply is the one that the files give
 abbrev pub IsReply : FileMap → List ℕ → Reply → Type 0
@@ -38,3 +44,20 @@ Answers old new name reply = IsReply old.files name reply × (new ≡ noted old 
 -- a question failed: nothing changed but the count of failures
 abbrev pub Fails : FilesView → FilesView → Type 0
 Fails old new = new ≡ failed old
+
+log_with : (first second : List Question) (log : Option (List Question))
+    → option_map (λ l. l ++ second) (option_map (λ l. l ++ first) log) ≡ option_map (λ l. l ++ (first ++ second)) log
+log_with first second None = refl
+log_with first second (Some l) = ap Some (append_assoc l first second)
+
+-- some questions, and then more
+pub noted-twice : (world : FilesView) (first second : List Question) → noted (noted world first) second ≡ noted world (first ++ second)
+noted-twice world first second = ap (λ log. record world { log = log }) (log_with first second world.log)
+
+log_as_is : (log : Option (List Question)) → log ≡ option_map (λ l. l ++ []) log
+log_as_is None = refl
+log_as_is (Some l) = ap Some (sym (append-nil l))
+
+-- no question
+pub noted-nothing : (world : FilesView) → world ≡ noted world []
+noted-nothing world = ap (λ log. record world { log = log }) (log_as_is world.log)

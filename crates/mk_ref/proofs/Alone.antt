@@ -3,7 +3,7 @@ use Rattle.std.proofs.Common.{◌≡◌, ℕ, zero, suc, ◌+◌, ◌≤◌, Lis
 use Rattle.std.proofs.lemmas.Bool.Decides.{eqb_tells}
 use Rattle.std.proofs.lemmas.List.{drop_more, take_at}
 use Rattle.mk_ref.specs.Places.{IsUnclosedAt}
-use Rattle.mk_ref.specs.Units.{TextUnit, Byte, source, sources, opening_behind, unit_before, unit_by, up_to_mark, first_unit, cut_on, cut, units_of, left_of}
+use Rattle.mk_ref.specs.Units.{TextUnit, Byte, source, sources, opening_after, unit_before, unit_by, up_to_mark, first_unit, cut_on, cut, units_of, left_of}
 use Rattle.mk_ref.proofs.UnitSteps.{IsUnitOf, first_whole, first-nil, cut-next, units-text}
 use Rattle.mk_ref.proofs.PartSteps.{StartsLike, first_same}
 
@@ -58,7 +58,7 @@ unfolding first_unit
 unended b rest none =
     elim (eqb_tells b 36) [
       | inl dollar ↦ dollar.1
-      | inr other ↦ absurd (let no : Some (Byte b, rest) ≡ None = ap (λ t. unit_by up_to_mark (cond t (opening_behind rest) None) (b ∷ rest)) (sym other.0) ∙ none in cc)
+      | inr other ↦ absurd (let no : Some (Byte b, rest) ≡ None = ap (λ t. unit_by up_to_mark (cond t (opening_after rest) None) (b ∷ rest)) (sym other.0) ∙ none in cc)
     ]
 
 pub unclosed-dollar : (text : List ℕ) (at : ℕ) → IsUnclosedAt text at → get_or text at 0 ≡ 36

@@ -10,7 +10,7 @@ use Rattle.std.proofs.lemmas.Option.{none-some, same_Some}
 use Rattle.std.proofs.lemmas.Grind.{flat_map-append}
 use Rattle.mk_ref.specs.declared.opening.Opening.{Opening}
 use Rattle.mk_ref.specs.declared.opening.Opening.TheVariants.{Doubled, Letter, Marked}
-use Rattle.mk_ref.specs.Units.{TextUnit, Byte, EscapedDollar, Reference, source, sources, is_colon, before_colon, behind_colon, opening_behind, opening_of, marked_first, unit_by, unit_before, with_more, up_to_mark, first_unit}
+use Rattle.mk_ref.specs.Units.{TextUnit, Byte, EscapedDollar, Reference, source, sources, is_colon, before_colon, following_colon, opening_after, opening_of, marked_first, unit_by, unit_before, with_more, up_to_mark, first_unit}
 use Rattle.mk_ref.specs.Ends.{GoesOnAt, IsInside}
 use Rattle.mk_ref.proofs.ScanSteps.{up_to-unit}
 use Rattle.mk_ref.proofs.UnitSteps.{up_to-nil, up_to-cons, first_whole, IsUnitOf}
@@ -26,7 +26,7 @@ pub record InsideSoFar (text : List ℕ) (start closing : ℕ) (colon : Option �
   pub later : start ≤ at
   pub within : at ≤ length text
   pub name : sources (before_colon units) ≡ slice_range text start (unwrap_or colon at)
-  pub modifiers : option_map sources (behind_colon units) ≡ option_map (λ c. slice_range text (c + 1) at) colon
+  pub modifiers : option_map sources (following_colon units) ≡ option_map (λ c. slice_range text (c + 1) at) colon
   pub colon_at : IfSome colon (λ c. (start ≤ c) × (c < at) × (get_or text c 0 ≡ 58))
 
 -- a text between two places, cut at a third between them
@@ -41,7 +41,7 @@ pub range_none : (text : List ℕ) (a : ℕ) → slice_range text a a ≡ []
 range_none text a = let none : a - a ≡ 0 = omega arith in ap (λ n. take n (drop a text)) none
 
 -- a unit that stands in a text from a place up to another
-pub record StandsAt (text : List ℕ) (at next : ℕ) (unit : TextUnit) : Type 0 where
+pub record OccursAt (text : List ℕ) (at next : ℕ) (unit : TextUnit) : Type 0 where
   pub first : first_unit (drop at text) ≡ Some (unit, drop next text)
   pub written : source unit ≡ slice_range text at next
   pub later : at < next
@@ -56,7 +56,7 @@ written_as text at next unit low first =
     append_cancel_right (source unit) (slice_range text at next) (drop next text)
     ((subst (λ o. IfSome o (λ x. IsUnitOf (drop at text) x.0 x.1)) first (first_whole (drop at text))).whole ∙ drop_split text at next low)
 
-pub stands_at : (text : List ℕ) (at next : ℕ) → GoesOnAt text at (first_unit (drop at text)) next → (unit : TextUnit) × StandsAt text at next unit
+pub stands_at : (text : List ℕ) (at next : ℕ) → GoesOnAt text at (first_unit (drop at text)) next → (unit : TextUnit) × OccursAt text at next unit
 stands_at text at next h =
     let found = read_of (first_unit (drop at text)) (drop next text) h.rest in
     (found.0, record { first = found.1; written = written_as text at next found.0 (omega (arith, h.later)) found.1; later = h.later; within = h.within })
@@ -77,58 +77,58 @@ colon_by None b rest is = refl
 colon_by (Some opening) b rest is =
     elim (eqb_tells b 36) [
       | inl dollar ↦ rw (ap (λ n. nat_eq n 58) dollar.1) (no_colon opening (b ∷ rest))
-      | inr other ↦ absurd (none-some opening (ap (λ t. cond t (opening_behind rest) None) (sym other.0) ∙ is))
+      | inr other ↦ absurd (none-some opening (ap (λ t. cond t (opening_after rest) None) (sym other.0) ∙ is))
     ]
 
-pub colon_first : (text : List ℕ) (at next : ℕ) (unit : TextUnit) → at < length text → StandsAt text at next unit → is_colon unit ≡ nat_eq (get_or text at 0) 58
+pub colon_first : (text : List ℕ) (at next : ℕ) (unit : TextUnit) → at < length text → OccursAt text at next unit → is_colon unit ≡ nat_eq (get_or text at 0) 58
 unfolding first_unit
 colon_first text at next unit near h =
     subst (λ o. IfSome o (λ x. is_colon x.0 ≡ nat_eq (get_or text at 0) 58)) (ap first_unit (sym (drop_more text at 0 near)) ∙ h.first)
     (colon_by (opening_of (get_or text at 0 ∷ drop (at + 1) text)) (get_or text at 0) (drop (at + 1) text) refl)
 
-before_found_by : (test : Bool) (first : TextUnit) (units found : List TextUnit) (unit : TextUnit) → cond test (Some units) (behind_colon units) ≡ Some found
-    → (behind_colon units ≡ Some found → before_colon (units ++ unit ∷ []) ≡ before_colon units)
+before_found_by : (test : Bool) (first : TextUnit) (units found : List TextUnit) (unit : TextUnit) → cond test (Some units) (following_colon units) ≡ Some found
+    → (following_colon units ≡ Some found → before_colon (units ++ unit ∷ []) ≡ before_colon units)
     → cond test [] (first ∷ before_colon (units ++ unit ∷ [])) ≡ cond test [] (first ∷ before_colon units)
 before_found_by true first units found unit is h = refl
 before_found_by false first units found unit is h = ap (λ l. first ∷ l) (h is)
 
 -- units with one more behind them, where a colon stands among them
-before-found : (units found : List TextUnit) (unit : TextUnit) → behind_colon units ≡ Some found → before_colon (units ++ unit ∷ []) ≡ before_colon units
+before-found : (units found : List TextUnit) (unit : TextUnit) → following_colon units ≡ Some found → before_colon (units ++ unit ∷ []) ≡ before_colon units
 before-found [] found unit is = cc
 before-found (first ∷ units) found unit is = before_found_by (is_colon first) first units found unit is (before-found units found unit)
 
-behind_found_by : (test : Bool) (units found : List TextUnit) (unit : TextUnit) → cond test (Some units) (behind_colon units) ≡ Some found
-    → (behind_colon units ≡ Some found → behind_colon (units ++ unit ∷ []) ≡ Some (found ++ unit ∷ []))
-    → cond test (Some (units ++ unit ∷ [])) (behind_colon (units ++ unit ∷ [])) ≡ Some (found ++ unit ∷ [])
-behind_found_by true units found unit is h = ap (λ l. Some (l ++ unit ∷ [])) (same_Some units found is)
-behind_found_by false units found unit is h = h is
+after_found_by : (test : Bool) (units found : List TextUnit) (unit : TextUnit) → cond test (Some units) (following_colon units) ≡ Some found
+    → (following_colon units ≡ Some found → following_colon (units ++ unit ∷ []) ≡ Some (found ++ unit ∷ []))
+    → cond test (Some (units ++ unit ∷ [])) (following_colon (units ++ unit ∷ [])) ≡ Some (found ++ unit ∷ [])
+after_found_by true units found unit is h = ap (λ l. Some (l ++ unit ∷ [])) (same_Some units found is)
+after_found_by false units found unit is h = h is
 
-behind-found : (units found : List TextUnit) (unit : TextUnit) → behind_colon units ≡ Some found → behind_colon (units ++ unit ∷ []) ≡ Some (found ++ unit ∷ [])
-behind-found [] found unit is = cc
-behind-found (first ∷ units) found unit is = behind_found_by (is_colon first) units found unit is (behind-found units found unit)
+after-found : (units found : List TextUnit) (unit : TextUnit) → following_colon units ≡ Some found → following_colon (units ++ unit ∷ []) ≡ Some (found ++ unit ∷ [])
+after-found [] found unit is = cc
+after-found (first ∷ units) found unit is = after_found_by (is_colon first) units found unit is (after-found units found unit)
 
-before_none_by : (test : Bool) (first : TextUnit) (units more : List TextUnit) → cond test (Some units) (behind_colon units) ≡ None
-    → (behind_colon units ≡ None → before_colon (units ++ more) ≡ units ++ before_colon more)
+before_none_by : (test : Bool) (first : TextUnit) (units more : List TextUnit) → cond test (Some units) (following_colon units) ≡ None
+    → (following_colon units ≡ None → before_colon (units ++ more) ≡ units ++ before_colon more)
     → cond test [] (first ∷ before_colon (units ++ more)) ≡ first ∷ units ++ before_colon more
 before_none_by true first units more is h = cc
 before_none_by false first units more is h = ap (λ l. first ∷ l) (h is)
 
 -- the same where no colon stands among them
-pub before-none : (units more : List TextUnit) → behind_colon units ≡ None → before_colon (units ++ more) ≡ units ++ before_colon more
+pub before-none : (units more : List TextUnit) → following_colon units ≡ None → before_colon (units ++ more) ≡ units ++ before_colon more
 before-none [] more is = refl
 before-none (first ∷ units) more is = before_none_by (is_colon first) first units more is (before-none units more)
 
-behind_none_by : (test : Bool) (units more : List TextUnit) → cond test (Some units) (behind_colon units) ≡ None
-    → (behind_colon units ≡ None → behind_colon (units ++ more) ≡ behind_colon more)
-    → cond test (Some (units ++ more)) (behind_colon (units ++ more)) ≡ behind_colon more
-behind_none_by true units more is h = cc
-behind_none_by false units more is h = h is
+after_none_by : (test : Bool) (units more : List TextUnit) → cond test (Some units) (following_colon units) ≡ None
+    → (following_colon units ≡ None → following_colon (units ++ more) ≡ following_colon more)
+    → cond test (Some (units ++ more)) (following_colon (units ++ more)) ≡ following_colon more
+after_none_by true units more is h = cc
+after_none_by false units more is h = h is
 
-pub behind-none : (units more : List TextUnit) → behind_colon units ≡ None → behind_colon (units ++ more) ≡ behind_colon more
-behind-none [] more is = refl
-behind-none (first ∷ units) more is = behind_none_by (is_colon first) units more is (behind-none units more)
+pub after-none : (units more : List TextUnit) → following_colon units ≡ None → following_colon (units ++ more) ≡ following_colon more
+after-none [] more is = refl
+after-none (first ∷ units) more is = after_none_by (is_colon first) units more is (after-none units more)
 
-before-all : (units : List TextUnit) → behind_colon units ≡ None → before_colon units ≡ units
+before-all : (units : List TextUnit) → following_colon units ≡ None → before_colon units ≡ units
 before-all units none = ap before_colon (sym (append-nil units)) ∙ before-none units [] none ∙ append-nil units
 
 colon_one : (unit : TextUnit) → is_colon unit ≡ true → length (source unit) ≡ 1
@@ -140,7 +140,7 @@ pub length-range : (text : List ℕ) (start end : ℕ) → start ≤ end → end
 length-range text start end low high = omega (arith, length-take (end - start) (drop start text), length-drop start text)
 
 -- a colon is one byte
-colon_end : (text : List ℕ) (at next : ℕ) (unit : TextUnit) → StandsAt text at next unit → is_colon unit ≡ true → next ≡ at + 1
+colon_end : (text : List ℕ) (at next : ℕ) (unit : TextUnit) → OccursAt text at next unit → is_colon unit ≡ true → next ≡ at + 1
 colon_end text at next unit h colon =
     let size = length-range text at next (omega (arith, h.later)) h.within in
     omega (arith, colon_one unit colon, ap length h.written, size, h.later)
@@ -162,7 +162,7 @@ up_to-mark text mark at near is =
     ∙ ap (λ t. cond t (Some ([], drop (at + 1) text)) (with_more (up_to_mark mark) (first_unit (get_or text at 0 ∷ drop (at + 1) text)))) (eq-eqb (get_or text at 0) mark is)
 
 read_more : (text : List ℕ) (start closing : ℕ) (colon : Option ℕ) (at next : ℕ) (unit : TextUnit) (h : InsideSoFar text start closing colon at)
-    → at < length text → get_or text at 0 ≢ closing → StandsAt text at next unit
+    → at < length text → get_or text at 0 ≢ closing → OccursAt text at next unit
     → up_to_mark closing (drop start text) ≡ option_map (units_before (h.units ++ unit ∷ [])) (up_to_mark closing (drop next text))
 read_more text start closing colon at next unit h near other stands =
     h.read
@@ -186,17 +186,17 @@ sources_push : (units : List TextUnit) (unit : TextUnit) → sources (units ++ u
 sources_push units unit = flat_map-append source units (unit ∷ []) ∙ ap (λ l. sources units ++ l) (append-nil (source unit))
 
 -- a unit behind the first colon
-more_behind : (text : List ℕ) (start closing colon at next : ℕ) (unit : TextUnit) → InsideSoFar text start closing (Some colon) at
-    → at < length text → get_or text at 0 ≢ closing → StandsAt text at next unit → InsideSoFar text start closing (Some colon) next
-more_behind text start closing colon at next unit h near other stands =
-    let found = found_of (behind_colon h.units) (slice_range text (colon + 1) at) h.modifiers in
+more_after : (text : List ℕ) (start closing colon at next : ℕ) (unit : TextUnit) → InsideSoFar text start closing (Some colon) at
+    → at < length text → get_or text at 0 ≢ closing → OccursAt text at next unit → InsideSoFar text start closing (Some colon) next
+more_after text start closing colon at next unit h near other stands =
+    let found = found_of (following_colon h.units) (slice_range text (colon + 1) at) h.modifiers in
     record {
       units = h.units ++ unit ∷ [];
       read = read_more text start closing (Some colon) at next unit h near other stands;
       later = omega (arith, h.later, stands.later);
       within = stands.within;
       name = ap sources (before-found h.units found.0 unit found.1) ∙ h.name;
-      modifiers = ap (option_map sources) (behind-found h.units found.0 unit found.1)
+      modifiers = ap (option_map sources) (after-found h.units found.0 unit found.1)
           ∙ ap Some (sources_push found.0 unit ∙ ap (λ l. l ++ source unit) found.2 ∙ ap (λ l. slice_range text (colon + 1) at ++ l) stands.written
           ∙ range_join text (colon + 1) at next (omega (arith, h.colon_at.1)) (omega (arith, stands.later)));
       colon_at = (h.colon_at.0, omega (arith, h.colon_at.1, stands.later), h.colon_at.2);
@@ -204,9 +204,9 @@ more_behind text start closing colon at next unit h near other stands =
 
 -- a unit before any colon, by whether it is one
 more_before : (test : Bool) (text : List ℕ) (start closing at next : ℕ) (unit : TextUnit) → nat_eq (get_or text at 0) 58 ≡ test → InsideSoFar text start closing None at
-    → at < length text → get_or text at 0 ≢ closing → StandsAt text at next unit → InsideSoFar text start closing (cond test (Some at) None) next
+    → at < length text → get_or text at 0 ≢ closing → OccursAt text at next unit → InsideSoFar text start closing (cond test (Some at) None) next
 more_before false text start closing at next unit is h near other stands =
-    let none = none_of (behind_colon h.units) h.modifiers in
+    let none = none_of (following_colon h.units) h.modifiers in
     let plain = colon_first text at next unit near stands ∙ is in
     record {
       units = h.units ++ unit ∷ [];
@@ -216,11 +216,11 @@ more_before false text start closing at next unit is h near other stands =
       name = ap sources (before-none h.units (unit ∷ []) none ∙ ap (λ t. h.units ++ cond t [] (unit ∷ [])) plain)
           ∙ sources_push h.units unit ∙ ap (λ l. l ++ source unit) (ap sources (sym (before-all h.units none)) ∙ h.name)
           ∙ ap (λ l. slice_range text start at ++ l) stands.written ∙ range_join text start at next h.later (omega (arith, stands.later));
-      modifiers = ap (option_map sources) (behind-none h.units (unit ∷ []) none ∙ ap (λ t. cond t (Some []) None) plain);
+      modifiers = ap (option_map sources) (after-none h.units (unit ∷ []) none ∙ ap (λ t. cond t (Some []) None) plain);
       colon_at = tt;
     }
 more_before true text start closing at next unit is h near other stands =
-    let none = none_of (behind_colon h.units) h.modifiers in
+    let none = none_of (following_colon h.units) h.modifiers in
     let plain = colon_first text at next unit near stands ∙ is in
     record {
       units = h.units ++ unit ∷ [];
@@ -228,7 +228,7 @@ more_before true text start closing at next unit is h near other stands =
       later = omega (arith, h.later, stands.later);
       within = stands.within;
       name = ap sources (before-none h.units (unit ∷ []) none ∙ ap (λ t. h.units ++ cond t [] (unit ∷ [])) plain ∙ append-nil h.units ∙ sym (before-all h.units none)) ∙ h.name;
-      modifiers = ap (option_map sources) (behind-none h.units (unit ∷ []) none ∙ ap (λ t. cond t (Some []) None) plain)
+      modifiers = ap (option_map sources) (after-none h.units (unit ∷ []) none ∙ ap (λ t. cond t (Some []) None) plain)
           ∙ ap Some (sym (range_none text (at + 1)) ∙ ap (slice_range text (at + 1)) (sym (colon_end text at next unit stands plain)));
       colon_at = (h.later, stands.later, eqb-true (get_or text at 0) 58 is);
     }
@@ -242,7 +242,7 @@ inside-more text start closing None at next h near other goes =
     more_before (nat_eq (get_or text at 0) 58) text start closing at next found.0 refl h near other found.1
 inside-more text start closing (Some colon) at next h near other goes =
     let found = stands_at text at next goes in
-    more_behind text start closing colon at next found.0 h near other found.1
+    more_after text start closing colon at next found.0 h near other found.1
 
 -- the closing mark is met
 pub inside-close : (text : List ℕ) (start closing : ℕ) (colon : Option ℕ) (at : ℕ) → InsideSoFar text start closing colon at

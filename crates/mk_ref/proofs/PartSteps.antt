@@ -5,7 +5,7 @@ use Rattle.std.proofs.lemmas.Bool.Decides.{eqb_tells}
 use Rattle.std.specs.Char.{is_ascii_alphabetic}
 use Rattle.mk_ref.specs.declared.opening.Opening.{Opening}
 use Rattle.mk_ref.specs.declared.opening.Opening.TheVariants.{Doubled, Letter, Marked}
-use Rattle.mk_ref.specs.Units.{TextUnit, Byte, Reference, source, sources, is_colon, before_colon, behind_colon, opening_behind, opening_of, marked_reference, marked_first, unit_by, unit_before, with_more, read_up_to, up_to_mark, first_unit, cut_on, cut, left_of}
+use Rattle.mk_ref.specs.Units.{TextUnit, Byte, Reference, source, sources, is_colon, before_colon, following_colon, opening_after, opening_of, marked_reference, marked_first, unit_by, unit_before, with_more, read_up_to, up_to_mark, first_unit, cut_on, cut, left_of}
 use Rattle.mk_ref.specs.Laws.{AreMarks, HasWholeParts, AreCutAlone}
 use Rattle.mk_ref.proofs.UnitSteps.{Reader, IsUnitOf, opens_with, unit_whole, read_faithful, up_to_faithful, read_any, up_to-nil, up_to-cons, first_whole, first-nil, second_of, cut-next, cut_all}
 
@@ -28,7 +28,7 @@ plain_stays b rest [] is like = elim (eqb_tells b 36) [ inl dollar ↦ rw dollar
 plain_stays b [] (c ∷ other) is like = absurd like
 plain_stays b (d ∷ rest) (c ∷ other) is like = subst (λ n. opening_of (b ∷ n ∷ other) ≡ None) like is
 
-letter_opens : (letter : ℕ) (other : List ℕ) → is_ascii_alphabetic letter ≡ true → opening_behind (letter ∷ other) ≡ Some Letter
+letter_opens : (letter : ℕ) (other : List ℕ) → is_ascii_alphabetic letter ≡ true → opening_after (letter ∷ other) ≡ Some Letter
 letter_opens letter other is =
     elim (eqb_tells letter 36) [
       | inl dollar ↦ absurd (let no : is_ascii_alphabetic 36 ≡ true = subst (λ n. is_ascii_alphabetic n ≡ true) dollar.1 is in cc)
@@ -48,9 +48,9 @@ letter_stays up_to letter other written name is front second =
     ∙ ap (λ o. unit_by up_to o (36 ∷ letter ∷ other)) (letter_opens letter other is)
     ∙ ap (λ l. Some (Reference l (letter ∷ []) None, other)) (sym front) ∙ ap (λ l. Some (Reference written l None, other)) (sym second)
 
-marked_by : (up_to : Reader) (b mark : ℕ) (inside : List TextUnit) (other : List ℕ) → opening_behind (b ∷ sources inside ++ mark ∷ other) ≡ Some (Marked mark)
+marked_by : (up_to : Reader) (b mark : ℕ) (inside : List TextUnit) (other : List ℕ) → opening_after (b ∷ sources inside ++ mark ∷ other) ≡ Some (Marked mark)
     → up_to mark (sources inside ++ mark ∷ other) ≡ Some (inside, other)
-    → unit_by up_to (opening_behind (b ∷ sources inside ++ mark ∷ other)) (36 ∷ b ∷ sources inside ++ mark ∷ other) ≡ Some (marked_reference (36 ∷ b ∷ []) inside mark, other)
+    → unit_by up_to (opening_after (b ∷ sources inside ++ mark ∷ other)) (36 ∷ b ∷ sources inside ++ mark ∷ other) ≡ Some (marked_reference (36 ∷ b ∷ []) inside mark, other)
 marked_by up_to b mark inside other is h =
     ap (λ o. unit_by up_to o (36 ∷ b ∷ sources inside ++ mark ∷ other)) is ∙ ap (option_map (marked_first (36 ∷ b ∷ []) mark)) h
 
@@ -235,14 +235,14 @@ front_of : (units : List TextUnit) → (more : List TextUnit) × (units ≡ befo
 front_of [] = ([], refl)
 front_of (unit ∷ units) = front_by (is_colon unit) unit units (front_of units)
 
-behind_by : (test : Bool) (units : List TextUnit) (rest : List ℕ) → ReadBefore units rest → IfSome (behind_colon units) (λ found. ReadBefore found rest)
-    → IfSome (cond test (Some units) (behind_colon units)) (λ found. ReadBefore found rest)
-behind_by true units rest h more = h
-behind_by false units rest h more = more
+after_by : (test : Bool) (units : List TextUnit) (rest : List ℕ) → ReadBefore units rest → IfSome (following_colon units) (λ found. ReadBefore found rest)
+    → IfSome (cond test (Some units) (following_colon units)) (λ found. ReadBefore found rest)
+after_by true units rest h more = h
+after_by false units rest h more = more
 
-behind_read : (units : List TextUnit) (rest : List ℕ) → ReadBefore units rest → IfSome (behind_colon units) (λ found. ReadBefore found rest)
-behind_read [] rest h = tt
-behind_read (unit ∷ units) rest h = behind_by (is_colon unit) units rest h.1 (behind_read units rest h.1)
+after_read : (units : List TextUnit) (rest : List ℕ) → ReadBefore units rest → IfSome (following_colon units) (λ found. ReadBefore found rest)
+after_read [] rest h = tt
+after_read (unit ∷ units) rest h = after_by (is_colon unit) units rest h.1 (after_read units rest h.1)
 
 name_whole : (units : List TextUnit) (rest : List ℕ) → ReadBefore units rest → left_of (sources (before_colon units)) ≡ []
 name_whole units rest h =
@@ -263,7 +263,7 @@ letter_whole letter = alone_whole (Byte letter ∷ []) (first_letter letter, tt)
 parts_marked : (front : List ℕ) (mark : ℕ) (read : Option (List TextUnit × List ℕ)) → IfSome read (λ x. ReadBefore x.0 (mark ∷ x.1))
     → IfSome (option_map (marked_first front mark) read) (λ x. HasWholeParts x.0)
 parts_marked front mark None h = tt
-parts_marked front mark (Some x) h = (name_whole x.0 (mark ∷ x.1) h, modifiers_whole (mark ∷ x.1) (behind_colon x.0) (behind_read x.0 (mark ∷ x.1) h))
+parts_marked front mark (Some x) h = (name_whole x.0 (mark ∷ x.1) h, modifiers_whole (mark ∷ x.1) (following_colon x.0) (after_read x.0 (mark ∷ x.1) h))
 
 parts_whole : (opening : Option Opening) (text : List ℕ) → opening_of text ≡ opening → IfSome (unit_by up_to_mark opening text) (λ x. HasWholeParts x.0)
 parts_whole None [] is = tt
@@ -294,7 +294,7 @@ cut_inside rest units h =
     record {
       inside = alone_cut units (read_all units rest h);
       name = alone_cut (before_colon units) (read_front (before_colon units) front.0 rest (subst (λ l. ReadBefore l rest) front.1 h));
-      modifiers = cut_modifiers rest (behind_colon units) (behind_read units rest h);
+      modifiers = cut_modifiers rest (following_colon units) (after_read units rest h);
     }
 
 cut_read : (mark : ℕ) (read : Option (List TextUnit × List ℕ)) → IfSome read (λ x. ReadBefore x.0 (mark ∷ x.1)) → IfSome read (λ x. AreCutAlone x.0)

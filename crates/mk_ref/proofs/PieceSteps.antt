@@ -1,9 +1,8 @@
 -- The piece that a text has at a place.
-use Rattle.std.proofs.Common.{◌≡◌, ℕ, ◌+◌, ◌-◌, ◌<◌, ◌≤◌, true, List, length, take, drop, get_or, Option, Some, None, option_map, IfSome, IsUtf8, IsCharBoundary, refl, sym, ap, subst, ◌∙◌, arith, inl, inr, drop-drop, get_or-take, get_or-drop}
+use Rattle.std.proofs.Common.{◌≡◌, ℕ, ◌+◌, ◌-◌, ◌<◌, ◌≤◌, List, length, take, drop, get_or, Option, Some, None, option_map, IfSome, IsUtf8, IsCharBoundary, refl, sym, ap, subst, ◌∙◌, arith, inl, inr, drop-drop, get_or-take, get_or-drop}
 use Rattle.std.specs.Prelude.{slice_range, unwrap_or}
-use Rattle.std.specs.Char.{is_ascii_alphabetic}
-use Rattle.std.proofs.lemmas.Bool.Decides.{nat_tests}
 use Rattle.std.proofs.lemmas.Str.{IsCharBoundary-before_ascii, IsCharBoundary-after_ascii}
+use Rattle.general_facts.specs.Texts.{alphabetic-ascii}
 use Rattle.mk_text.specs.Words.{span_text, IsSpanOf}
 use Rattle.mk_ref.specs.declared.opening.Opening.{Opening}
 use Rattle.mk_ref.specs.declared.opening.Opening.TheVariants.{Doubled, Letter, Marked}
@@ -18,13 +17,10 @@ use Rattle.mk_ref.proofs.UnitSteps.{IsFront, Opens, opens_with}
 use Rattle.mk_ref.proofs.ScanSteps.{first-opening, first-marked}
 use Rattle.mk_ref.proofs.InsideSteps.{written_as}
 
-pub letter_below : (letter : ℕ) → is_ascii_alphabetic letter ≡ true → letter < 128
-letter_below letter is = grind (arith, nat_tests)
-
 -- the two bytes of an opening are ASCII characters
 front_below : (opening : Opening) (front : List ℕ) → IsFront opening front → (get_or front 0 0 < 128) × (get_or front 1 0 < 128)
 front_below Doubled front is = rw is (omega arith, omega arith)
-front_below Letter front is = rw is.2 (omega arith, letter_below is.0 is.1)
+front_below Letter front is = rw is.2 (omega arith, alphabetic-ascii is.0 is.1)
 front_below (Marked mark) front is = elim is [ inl brace ↦ rw brace.0 (omega arith, omega arith) | inr parenthesis ↦ rw parenthesis.0 (omega arith, omega arith) ]
 
 mark_below : (mark : ℕ) (front : List ℕ) → IsFront (Marked mark) front → mark < 128

@@ -1,16 +1,17 @@
 -- The pieces of a text, as far as they are found.
-use Rattle.std.proofs.Common.{◌≡◌, ℕ, ◌+◌, ◌-◌, ◌<◌, ◌≤◌, Bool, true, false, cond, nat_lt, List, [], ◌∷◌, ◌++◌, length, map, take, drop, get_or, Some, None, All, IsUtf8, IsCharBoundary, refl, sym, ap, subst, ◌∙◌, arith, append_assoc}
+use Rattle.std.proofs.Common.{◌≡◌, ℕ, ◌+◌, ◌<◌, ◌≤◌, Bool, true, false, cond, nat_lt, List, [], ◌∷◌, ◌++◌, length, map, drop, get_or, Some, None, All, IsUtf8, IsCharBoundary, refl, sym, ap, subst, ◌∙◌, arith, append_assoc}
 use Rattle.std.specs.Prelude.{slice_range}
 use Rattle.std.proofs.lemmas.Bool.{ltb-true, ltb-false}
 use Rattle.std.proofs.lemmas.List.{drop_more, map-append}
 use Rattle.std.proofs.lemmas.List.Elements.{All-nil, All-cons, All-append}
 use Rattle.std.proofs.Math.Seq.{drop-length}
 use Rattle.std.proofs.lemmas.Str.{IsCharBoundary-start, IsCharBoundary-end}
+use Rattle.general_facts.specs.Lists.{slice_range-one}
 use Rattle.mk_ref.specs.declared.cutting.Piece.{Piece}
 use Rattle.mk_ref.specs.declared.cutting.Piece.TheVariants as v
 use Rattle.mk_ref.specs.Units.{TextUnit, Byte, EscapedDollar, Reference, opening_of, unit_before, first_unit, cut_on, cut, units_of, left_of}
 use Rattle.mk_ref.specs.Pieces.{TextPiece, LiteralPiece, with_byte, pieces_of}
-use Rattle.mk_ref.specs.Places.{shown, place_of, StandFrom, IsPieceIn, IsUnclosedAt}
+use Rattle.mk_ref.specs.Places.{shown, place_of, FollowFrom, IsPieceIn, IsUnclosedAt}
 use Rattle.mk_ref.specs.Firsts.{literal_at, IsAlone, IsPieceAt}
 use Rattle.mk_ref.proofs.UnitSteps.{cut-next, first-nil}
 use Rattle.mk_ref.proofs.ScanSteps.{first-opening}
@@ -20,7 +21,7 @@ use Rattle.mk_ref.proofs.InsideSteps.{range_join, range_none, length-range}
 pub record CutSoFar (text : List ℕ) (found : List Piece) (literal at : ℕ) : Type 0 where
   pub pieces : map (shown text) found ++ pieces_of (map Byte (slice_range text literal at) ++ units_of (drop at text)) ≡ pieces_of (units_of text)
   pub left : left_of (drop at text) ≡ left_of text
-  pub order : StandFrom 0 found literal
+  pub order : FollowFrom 0 found literal
   pub places : All (IsPieceIn text) found
   pub ordered : literal ≤ at
   pub within : at ≤ length text
@@ -40,11 +41,6 @@ so_far-none text utf8 = record {
 cut-first : (text : List ℕ) (unit : TextUnit) (rest : List ℕ) → first_unit text ≡ Some (unit, rest) → cut text ≡ unit_before unit (cut rest)
 cut-first text unit rest is = cut-next text ∙ ap (cut_on cut text) is
 
-range_one : (text : List ℕ) (at : ℕ) → at < length text → slice_range text at (at + 1) ≡ get_or text at 0 ∷ []
-range_one text at near =
-    let one : at + 1 - at ≡ 1 = omega arith in
-    ap (λ n. take n (drop at text)) one ∙ ap (take 1) (drop_more text at 0 near)
-
 first_byte : (text : List ℕ) (at : ℕ) → at < length text → opening_of (drop at text) ≡ None → first_unit (drop at text) ≡ Some (Byte (get_or text at 0), drop (at + 1) text)
 first_byte text at near plain =
     let from = drop_more text at 0 near in
@@ -58,7 +54,7 @@ so_far-byte text found literal at h near plain =
     let bytes : List ℕ = slice_range text literal at in
     let next = cut-first (drop at text) (Byte b) (drop (at + 1) text) (first_byte text at near plain) in
     let longer : slice_range text literal (at + 1) ≡ bytes ++ b ∷ [] =
-    sym (range_join text literal at (at + 1) h.ordered (omega arith)) ∙ ap (λ l. bytes ++ l) (range_one text at near) in
+    sym (range_join text literal at (at + 1) h.ordered (omega arith)) ∙ ap (λ l. bytes ++ l) (slice_range-one text at near) in
     record {
       pieces = ap (λ l. map (shown text) found ++ pieces_of l)
           (ap (λ l. map Byte l ++ units_of (drop (at + 1) text)) longer
@@ -109,14 +105,14 @@ no_literal [] none = refl
 no_literal (b ∷ bytes) none = absurd (omega arith)
 
 -- pieces that stand directly behind one another, in two parts
-stand_on : (start : ℕ) (found : List Piece) (middle : ℕ) (more : List Piece) (end : ℕ) → StandFrom start found middle → StandFrom middle more end → StandFrom start (found ++ more) end
-stand_on start [] middle more end front back = subst (λ n. StandFrom n more end) (sym front) back
+stand_on : (start : ℕ) (found : List Piece) (middle : ℕ) (more : List Piece) (end : ℕ) → FollowFrom start found middle → FollowFrom middle more end → FollowFrom start (found ++ more) end
+stand_on start [] middle more end front back = subst (λ n. FollowFrom n more end) (sym front) back
 stand_on start (piece ∷ found) middle more end front back = (front.0, front.1, stand_on (place_of piece).end found middle more end front.2 back)
 
 -- what the literal from a place up to another is
 pub record IsLiteralAt (text : List ℕ) (start end : ℕ) (literal : List Piece) : Type 0 where
   pub pieces : map (shown text) literal ≡ literal_pieces (slice_range text start end)
-  pub order : StandFrom start literal end
+  pub order : FollowFrom start literal end
   pub places : All (IsPieceIn text) literal
 
 literal_by : (test : Bool) (text : List ℕ) (start end : ℕ) → nat_lt start end ≡ test → start ≤ end → end ≤ length text → IsCharBoundary text start → IsCharBoundary text end
@@ -181,7 +177,7 @@ so_far-piece text found literal at piece h p =
 pub record AllCut (text : List ℕ) (found : List Piece) : Type 0 where
   pub pieces : map (shown text) found ≡ pieces_of (units_of text)
   pub whole : left_of text ≡ []
-  pub order : StandFrom 0 found (length text)
+  pub order : FollowFrom 0 found (length text)
   pub places : All (IsPieceIn text) found
 
 cut-nil : cut [] ≡ ([], [])

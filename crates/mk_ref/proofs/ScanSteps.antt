@@ -10,27 +10,27 @@ use Rattle.mk_ref.specs.Ends.{GoesOnAt, EndsAt, UnitEndsAt}
 use Rattle.mk_ref.proofs.UnitSteps.{up_to-nil, up_to-cons}
 
 -- what stands behind the marks that close a text, the innermost first
-abbrev pub behind_marks : List ℕ → List ℕ → Option (List ℕ)
-behind_marks [] text = Some text
-behind_marks (mark ∷ marks) text = option_and_then (λ x. behind_marks marks x.1) (up_to_mark mark text)
+abbrev pub after_marks : List ℕ → List ℕ → Option (List ℕ)
+after_marks [] text = Some text
+after_marks (mark ∷ marks) text = option_and_then (λ x. after_marks marks x.1) (up_to_mark mark text)
 
-behind-unit : (marks : List ℕ) (unit : TextUnit) (read : Option (List TextUnit × List ℕ))
-    → option_and_then (λ x. behind_marks marks x.1) (option_map (unit_before unit) read) ≡ option_and_then (λ x. behind_marks marks x.1) read
-behind-unit marks unit None = refl
-behind-unit marks unit (Some x) = refl
+after-unit : (marks : List ℕ) (unit : TextUnit) (read : Option (List TextUnit × List ℕ))
+    → option_and_then (λ x. after_marks marks x.1) (option_map (unit_before unit) read) ≡ option_and_then (λ x. after_marks marks x.1) read
+after-unit marks unit None = refl
+after-unit marks unit (Some x) = refl
 
-behind-reference : (mark : ℕ) (marks front : List ℕ) (inner : ℕ) (read : Option (List TextUnit × List ℕ))
-    → option_and_then (λ x. behind_marks marks x.1) (with_more (up_to_mark mark) (option_map (marked_first front inner) read))
-    ≡ option_and_then (λ x. behind_marks (mark ∷ marks) x.1) read
-behind-reference mark marks front inner None = refl
-behind-reference mark marks front inner (Some x) = behind-unit marks (marked_reference front x.0 inner) (up_to_mark mark x.1)
+after-reference : (mark : ℕ) (marks front : List ℕ) (inner : ℕ) (read : Option (List TextUnit × List ℕ))
+    → option_and_then (λ x. after_marks marks x.1) (with_more (up_to_mark mark) (option_map (marked_first front inner) read))
+    ≡ option_and_then (λ x. after_marks (mark ∷ marks) x.1) read
+after-reference mark marks front inner None = refl
+after-reference mark marks front inner (Some x) = after-unit marks (marked_reference front x.0 inner) (up_to_mark mark x.1)
 
-pub behind-none : (mark : ℕ) (marks : List ℕ) → behind_marks (mark ∷ marks) [] ≡ None
-behind-none mark marks = ap (option_and_then (λ x. behind_marks marks x.1)) (up_to-nil mark)
+pub after-none : (mark : ℕ) (marks : List ℕ) → after_marks (mark ∷ marks) [] ≡ None
+after-none mark marks = ap (option_and_then (λ x. after_marks marks x.1)) (up_to-nil mark)
 
-pub behind-mark : (mark : ℕ) (marks : List ℕ) (b : ℕ) (rest : List ℕ) → nat_eq b mark ≡ true → behind_marks (mark ∷ marks) (b ∷ rest) ≡ behind_marks marks rest
-behind-mark mark marks b rest is =
-    ap (option_and_then (λ x. behind_marks marks x.1)) (up_to-cons mark b rest ∙ ap (λ t. cond t (Some ([], rest)) (with_more (up_to_mark mark) (first_unit (b ∷ rest)))) is)
+pub after-mark : (mark : ℕ) (marks : List ℕ) (b : ℕ) (rest : List ℕ) → nat_eq b mark ≡ true → after_marks (mark ∷ marks) (b ∷ rest) ≡ after_marks marks rest
+after-mark mark marks b rest is =
+    ap (option_and_then (λ x. after_marks marks x.1)) (up_to-cons mark b rest ∙ ap (λ t. cond t (Some ([], rest)) (with_more (up_to_mark mark) (first_unit (b ∷ rest)))) is)
 
 -- a text that goes on with a unit
 pub up_to-unit : (mark b : ℕ) (rest : List ℕ) → nat_eq b mark ≡ false → up_to_mark mark (b ∷ rest) ≡ with_more (up_to_mark mark) (first_unit (b ∷ rest))
@@ -41,22 +41,22 @@ pub first-opening : (text : List ℕ) (opening : Option Opening) → opening_of 
 unfolding first_unit
 first-opening text opening is = ap (λ o. unit_by up_to_mark o text) is
 
-pub behind-first : (mark : ℕ) (marks : List ℕ) (b : ℕ) (rest : List ℕ) (unit : TextUnit) (behind : List ℕ)
-    → nat_eq b mark ≡ false → first_unit (b ∷ rest) ≡ Some (unit, behind) → behind_marks (mark ∷ marks) (b ∷ rest) ≡ behind_marks (mark ∷ marks) behind
-behind-first mark marks b rest unit behind other is =
-    ap (option_and_then (λ x. behind_marks marks x.1)) (up_to-unit mark b rest other ∙ ap (with_more (up_to_mark mark)) is)
-    ∙ behind-unit marks unit (up_to_mark mark behind)
+pub after-first : (mark : ℕ) (marks : List ℕ) (b : ℕ) (rest : List ℕ) (unit : TextUnit) (behind : List ℕ)
+    → nat_eq b mark ≡ false → first_unit (b ∷ rest) ≡ Some (unit, behind) → after_marks (mark ∷ marks) (b ∷ rest) ≡ after_marks (mark ∷ marks) behind
+after-first mark marks b rest unit behind other is =
+    ap (option_and_then (λ x. after_marks marks x.1)) (up_to-unit mark b rest other ∙ ap (with_more (up_to_mark mark)) is)
+    ∙ after-unit marks unit (up_to_mark mark behind)
 
-pub behind-open : (mark : ℕ) (marks : List ℕ) (b : ℕ) (rest : List ℕ) (inner : ℕ)
-    → nat_eq b mark ≡ false → opening_of (b ∷ rest) ≡ Some (Marked inner) → behind_marks (mark ∷ marks) (b ∷ rest) ≡ behind_marks (inner ∷ mark ∷ marks) (drop 1 rest)
-behind-open mark marks b rest inner other is =
-    ap (option_and_then (λ x. behind_marks marks x.1)) (up_to-unit mark b rest other ∙ ap (with_more (up_to_mark mark)) (first-opening (b ∷ rest) (Some (Marked inner)) is))
-    ∙ behind-reference mark marks (take 2 (b ∷ rest)) inner (up_to_mark inner (drop 1 rest))
+pub after-open : (mark : ℕ) (marks : List ℕ) (b : ℕ) (rest : List ℕ) (inner : ℕ)
+    → nat_eq b mark ≡ false → opening_of (b ∷ rest) ≡ Some (Marked inner) → after_marks (mark ∷ marks) (b ∷ rest) ≡ after_marks (inner ∷ mark ∷ marks) (drop 1 rest)
+after-open mark marks b rest inner other is =
+    ap (option_and_then (λ x. after_marks marks x.1)) (up_to-unit mark b rest other ∙ ap (with_more (up_to_mark mark)) (first-opening (b ∷ rest) (Some (Marked inner)) is))
+    ∙ after-reference mark marks (take 2 (b ∷ rest)) inner (up_to_mark inner (drop 1 rest))
 
 -- The marks that are open at a place: behind them, the innermost first, stands what stands behind the first mark to be closed from
 -- another place on.
 pub record MarksOpen (text : List ℕ) (start closing : ℕ) (around : List ℕ) (mark at : ℕ) : Type 0 where
-  pub behind : behind_marks (mark ∷ reverse around) (drop at text) ≡ option_map (λ x. x.1) (up_to_mark closing (drop start text))
+  pub behind : after_marks (mark ∷ reverse around) (drop at text) ≡ option_map (λ x. x.1) (up_to_mark closing (drop start text))
   pub later : start ≤ at
   pub within : at ≤ length text
 
@@ -82,7 +82,7 @@ module _ (text : List ℕ) (at : ℕ) (near : at < length text) where
 
 open-step : (text : List ℕ) (start closing : ℕ) (around : List ℕ) (mark at : ℕ) (next : ℕ) (marks : List ℕ) (outer : ℕ)
     → MarksOpen text start closing around mark at → at < next → next ≤ length text
-    → behind_marks (mark ∷ reverse around) (drop at text) ≡ behind_marks (outer ∷ reverse marks) (drop next text)
+    → after_marks (mark ∷ reverse around) (drop at text) ≡ after_marks (outer ∷ reverse marks) (drop next text)
     → MarksOpen text start closing marks outer next
 open-step text start closing around mark at next marks outer h more within is = record {
   behind = sym is ∙ h.behind;
@@ -96,17 +96,17 @@ pub open-close : (text : List ℕ) (start closing : ℕ) (around : List ℕ) (ma
     → MarksOpen text start closing left outer (at + 1)
 open-close text start closing around mark at left outer h near is last =
     open-step text start closing around mark at (at + 1) left outer h (omega arith) (omega arith)
-    (ap (behind_marks (mark ∷ reverse around)) (from_here text at near)
-    ∙ behind-mark mark (reverse around) (get_or text at 0) (drop (at + 1) text) (eq-eqb (get_or text at 0) mark is)
-    ∙ ap (λ l. behind_marks l (drop (at + 1) text)) (ap reverse last ∙ reverse-append left (outer ∷ [])))
+    (ap (after_marks (mark ∷ reverse around)) (from_here text at near)
+    ∙ after-mark mark (reverse around) (get_or text at 0) (drop (at + 1) text) (eq-eqb (get_or text at 0) mark is)
+    ∙ ap (λ l. after_marks l (drop (at + 1) text)) (ap reverse last ∙ reverse-append left (outer ∷ [])))
 
 -- the outermost mark is closed
 pub open-last : (text : List ℕ) (start closing : ℕ) (around : List ℕ) (mark at : ℕ)
     → MarksOpen text start closing around mark at → at < length text → get_or text at 0 ≡ mark → around ≡ []
     → GoesOnAt text start (up_to_mark closing (drop start text)) (at + 1)
 open-last text start closing around mark at h near is none = record {
-  rest = sym h.behind ∙ ap (λ l. behind_marks (mark ∷ reverse l) (drop at text)) none ∙ ap (behind_marks (mark ∷ [])) (from_here text at near)
-      ∙ behind-mark mark [] (get_or text at 0) (drop (at + 1) text) (eq-eqb (get_or text at 0) mark is);
+  rest = sym h.behind ∙ ap (λ l. after_marks (mark ∷ reverse l) (drop at text)) none ∙ ap (after_marks (mark ∷ [])) (from_here text at near)
+      ∙ after-mark mark [] (get_or text at 0) (drop (at + 1) text) (eq-eqb (get_or text at 0) mark is);
   later = omega (arith, h.later);
   within = omega arith;
 }
@@ -117,8 +117,8 @@ pub open-byte : (text : List ℕ) (start closing : ℕ) (around : List ℕ) (mar
     → MarksOpen text start closing around mark (at + 1)
 open-byte text start closing around mark at h near other plain =
     open-step text start closing around mark at (at + 1) around mark h (omega arith) (omega arith)
-    (ap (behind_marks (mark ∷ reverse around)) (from_here text at near)
-    ∙ behind-first mark (reverse around) (get_or text at 0) (drop (at + 1) text) (Byte (get_or text at 0)) (drop (at + 1) text)
+    (ap (after_marks (mark ∷ reverse around)) (from_here text at near)
+    ∙ after-first mark (reverse around) (get_or text at 0) (drop (at + 1) text) (Byte (get_or text at 0)) (drop (at + 1) text)
     (ne_eqb (get_or text at 0) mark other) (first_here text at near None plain))
 
 -- a pair or a reference of one letter
@@ -128,18 +128,18 @@ pub open-two : (text : List ℕ) (start closing : ℕ) (around : List ℕ) (mark
 open-two text start closing around mark at Doubled two h room other is =
     let near : at < length text = omega arith in
     open-step text start closing around mark at (at + 2) around mark h (omega arith) room
-    (ap (behind_marks (mark ∷ reverse around)) (from_here text at near)
-    ∙ behind-first mark (reverse around) (get_or text at 0) (drop (at + 1) text) EscapedDollar (drop 1 (drop (at + 1) text))
+    (ap (after_marks (mark ∷ reverse around)) (from_here text at near)
+    ∙ after-first mark (reverse around) (get_or text at 0) (drop (at + 1) text) EscapedDollar (drop 1 (drop (at + 1) text))
     (ne_eqb (get_or text at 0) mark other) (first_here text at near (Some Doubled) is)
-    ∙ ap (behind_marks (mark ∷ reverse around)) (two_on text at near))
+    ∙ ap (after_marks (mark ∷ reverse around)) (two_on text at near))
 open-two text start closing around mark at Letter two h room other is =
     let near : at < length text = omega arith in
     let here : List ℕ = get_or text at 0 ∷ drop (at + 1) text in
     open-step text start closing around mark at (at + 2) around mark h (omega arith) room
-    (ap (behind_marks (mark ∷ reverse around)) (from_here text at near)
-    ∙ behind-first mark (reverse around) (get_or text at 0) (drop (at + 1) text) (Reference (take 2 here) (take 1 (drop 1 here)) None) (drop 1 (drop (at + 1) text))
+    (ap (after_marks (mark ∷ reverse around)) (from_here text at near)
+    ∙ after-first mark (reverse around) (get_or text at 0) (drop (at + 1) text) (Reference (take 2 here) (take 1 (drop 1 here)) None) (drop 1 (drop (at + 1) text))
     (ne_eqb (get_or text at 0) mark other) (first_here text at near (Some Letter) is)
-    ∙ ap (behind_marks (mark ∷ reverse around)) (two_on text at near))
+    ∙ ap (after_marks (mark ∷ reverse around)) (two_on text at near))
 open-two text start closing around mark at (Marked inner) two h room other is = elim two [ ]
 
 -- an inner reference with marks
@@ -149,10 +149,10 @@ pub open-inner : (text : List ℕ) (start closing : ℕ) (around : List ℕ) (ma
 open-inner text start closing around mark at inner h room other is =
     let near : at < length text = omega arith in
     open-step text start closing around mark at (at + 2) (around ++ mark ∷ []) inner h (omega arith) room
-    (ap (behind_marks (mark ∷ reverse around)) (from_here text at near)
-    ∙ behind-open mark (reverse around) (get_or text at 0) (drop (at + 1) text) inner (ne_eqb (get_or text at 0) mark other) (opening_here text at near (Some (Marked inner)) is)
-    ∙ ap (behind_marks (inner ∷ mark ∷ reverse around)) (two_on text at near)
-    ∙ ap (λ l. behind_marks (inner ∷ l) (drop (at + 2) text)) (sym (reverse-append around (mark ∷ []))))
+    (ap (after_marks (mark ∷ reverse around)) (from_here text at near)
+    ∙ after-open mark (reverse around) (get_or text at 0) (drop (at + 1) text) inner (ne_eqb (get_or text at 0) mark other) (opening_here text at near (Some (Marked inner)) is)
+    ∙ ap (after_marks (inner ∷ mark ∷ reverse around)) (two_on text at near)
+    ∙ ap (λ l. after_marks (inner ∷ l) (drop (at + 2) text)) (sym (reverse-append around (mark ∷ []))))
 
 no_rest : (read : Option (List TextUnit × List ℕ)) → option_map (λ x. x.1) read ≡ None → read ≡ None
 no_rest None is = refl
@@ -163,7 +163,7 @@ pub open-end : (text : List ℕ) (start closing : ℕ) (around : List ℕ) (mark
     → MarksOpen text start closing around mark at → length text ≤ at → up_to_mark closing (drop start text) ≡ None
 open-end text start closing around mark at h end =
     no_rest (up_to_mark closing (drop start text))
-    (sym h.behind ∙ ap (behind_marks (mark ∷ reverse around)) (drop_of_length-le text end) ∙ behind-none mark (reverse around))
+    (sym h.behind ∙ ap (after_marks (mark ∷ reverse around)) (drop_of_length-le text end) ∙ after-none mark (reverse around))
 
 pub first-marked : (text : List ℕ) (at mark : ℕ) → opening_of (drop at text) ≡ Some (Marked mark)
     → first_unit (drop at text) ≡ option_map (marked_first (take 2 (drop at text)) mark) (up_to_mark mark (drop (at + 2) text))

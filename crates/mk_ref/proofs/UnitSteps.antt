@@ -3,9 +3,10 @@ use Rattle.std.proofs.Common.{◌≡◌, ℕ, zero, suc, ◌<◌, ◌≤◌, Boo
 use Rattle.std.proofs.lemmas.Bool.Decides.{eqb_tells}
 use Rattle.std.proofs.lemmas.List.Elements.{All-nil, All-cons}
 use Rattle.std.specs.Char.{is_ascii_alphabetic}
+use Rattle.mk_ref.specs.UnitFacts.{around_colon}
 use Rattle.mk_ref.specs.declared.opening.Opening.{Opening}
 use Rattle.mk_ref.specs.declared.opening.Opening.TheVariants.{Doubled, Letter, Marked}
-use Rattle.mk_ref.specs.Units.{TextUnit, Byte, EscapedDollar, Reference, source, sources, before_colon, behind_colon, opening_behind, opening_of, marked_first, unit_by, unit_before, with_more, read_up_to, up_to_mark, first_unit, cut_on, cut_by, cut}
+use Rattle.mk_ref.specs.Units.{TextUnit, source, sources, before_colon, following_colon, opening_after, opening_of, marked_first, unit_by, unit_before, with_more, read_up_to, up_to_mark, first_unit, cut_on, cut_by, cut}
 use Rattle.mk_ref.specs.Laws.{AreMarks, with_colon, IsPutTogether}
 
 -- the two bytes that an opening takes
@@ -23,8 +24,8 @@ opens_letter : (c : ℕ) (rest : List ℕ) (test : Bool) → is_ascii_alphabetic
 opens_letter c rest true is = record { front = (c, is, refl); room = omega arith }
 opens_letter c rest false is = tt
 
-opens_behind : (c : ℕ) (rest : List ℕ) → IfSome (opening_behind (c ∷ rest)) (Opens (36 ∷ c ∷ rest))
-opens_behind c rest =
+opens_after : (c : ℕ) (rest : List ℕ) → IfSome (opening_after (c ∷ rest)) (Opens (36 ∷ c ∷ rest))
+opens_after c rest =
     elim (eqb_tells c 36) [
       | inl two ↦ rw two.0 (record { front = ap (λ n. 36 ∷ n ∷ []) two.1; room = omega arith })
       | inr no_dollar ↦ elim (eqb_tells c 123) [
@@ -42,7 +43,7 @@ opens [] = tt
 opens (b ∷ []) = elim (eqb_tells b 36) [ inl dollar ↦ rw dollar.0 tt | inr other ↦ rw other.0 tt ]
 opens (b ∷ c ∷ rest) =
     elim (eqb_tells b 36) [
-      | inl dollar ↦ rw dollar.0 (subst (λ n. IfSome (opening_behind (c ∷ rest)) (Opens (n ∷ c ∷ rest))) (sym dollar.1) (opens_behind c rest))
+      | inl dollar ↦ rw dollar.0 (subst (λ n. IfSome (opening_after (c ∷ rest)) (Opens (n ∷ c ∷ rest))) (sym dollar.1) (opens_after c rest))
       | inr other ↦ rw other.0 tt
     ]
 
@@ -223,18 +224,6 @@ pub units-text : (text : List ℕ) → sources (cut text).0 ++ (cut text).1 ≡ 
 unfolding cut
 units-text text = cut_whole (length text) text
 
--- the name and the modifiers of what stands inside a reference, put together with the colon
-around_colon : (units : List TextUnit) → sources (before_colon units) ++ with_colon (option_map sources (behind_colon units)) ≡ sources units
-around_colon [] = refl
-around_colon (Byte b ∷ units) =
-    elim (eqb_tells b 58) [
-      | inl colon ↦ rw colon.0 (ap (λ n. n ∷ sources units) (sym colon.1))
-      | inr other ↦ rw other.0 (ap (λ l. b ∷ l) (around_colon units))
-    ]
-around_colon (EscapedDollar ∷ units) = ap (λ l. 36 ∷ 36 ∷ l) (around_colon units)
-around_colon (Reference written name modifiers ∷ units) =
-    append_assoc written (sources (before_colon units)) (with_colon (option_map sources (behind_colon units))) ∙ ap (λ l. written ++ l) (around_colon units)
-
 together_marked : (front : List ℕ) (mark : ℕ) (read : Option (List TextUnit × List ℕ)) → AreMarks front mark
     → IfSome (option_map (marked_first front mark) read) (λ x. IsPutTogether x.0)
 together_marked front mark None marks = tt
@@ -243,7 +232,7 @@ together_marked front mark (Some x) marks = inr (record {
   mark = mark;
   marks = marks;
   written_as = ap (λ l. l ++ mark ∷ []) (ap (λ l. front ++ l) (sym (around_colon x.0))
-      ∙ sym (append_assoc front (sources (before_colon x.0)) (with_colon (option_map sources (behind_colon x.0)))));
+      ∙ sym (append_assoc front (sources (before_colon x.0)) (with_colon (option_map sources (following_colon x.0)))));
 })
 
 pub second_of : (text : List ℕ) (letter : ℕ) → take 2 text ≡ 36 ∷ letter ∷ [] → take 1 (drop 1 text) ≡ letter ∷ []

@@ -5,7 +5,7 @@ use Rattle.std.specs.Char.{is_ascii_alphabetic}
 use Rattle.std.specs.List.{flat_map, list_any}
 use Rattle.mk_ref.specs.Outside.{outside}
 use Rattle.mk_ref.specs.Pieces.{units_in, pieces_of}
-use Rattle.mk_ref.specs.Units.{TextUnit, Byte, EscapedDollar, Reference, sources, before_colon, behind_colon}
+use Rattle.mk_ref.specs.Units.{TextUnit, Byte, EscapedDollar, Reference, sources, before_colon, following_colon}
 use Rattle.mk_ref.specs.Units.{with_more, cut_on, up_to_mark, first_unit, cut, units_of, left_of}
 
 -- the units of a text and what is left, put together, are the text
@@ -61,7 +61,7 @@ PartsAreWhole = (text : List ℕ) → All HasWholeParts (units_of text)
 pub record AreCutAlone (units : List TextUnit) : Type 0 where
   pub inside : cut (sources units) ≡ (units, [])
   pub name : cut (sources (before_colon units)) ≡ (before_colon units, [])
-  pub modifiers : IfSome (behind_colon units) (λ more. cut (sources more) ≡ (more, []))
+  pub modifiers : IfSome (following_colon units) (λ more. cut (sources more) ≡ (more, []))
 
 -- this holds for the inside of each reference
 abbrev pub InsidesAreCutAlone : Type 0
@@ -86,7 +86,7 @@ DollarsAlonePartTexts = (text : List ℕ) → list_any (λ b. b == 36) text ≡ 
 
 -- what `outside` gives is as long as the text, and each of its bytes that isn't a dollar (36) is the text's
 -- byte at the same place
-abbrev pub OutsideStandsInPlace : Type 0
-OutsideStandsInPlace = (text : List ℕ)
+abbrev pub OutsideKeepsPlaces : Type 0
+OutsideKeepsPlaces = (text : List ℕ)
     → (length (outside text) ≡ length text)
     × ((at : ℕ) → slice_index (outside text) at ≢ 36 → slice_index (outside text) at ≡ slice_index text at)

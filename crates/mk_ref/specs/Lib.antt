@@ -5,3 +5,4 @@ pub mod Places
 pub mod Firsts
 pub mod Outside
 pub mod Laws
+pub mod UnitFacts

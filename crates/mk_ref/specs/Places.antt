@@ -25,10 +25,10 @@ place_of (v.EscapedDollar span) = span
 place_of (v.Reference reference) = reference.whole
 
 -- pieces follow one another directly, from one place up to another, and none of them is empty
-abbrev pub StandFrom : ℕ → List Piece → ℕ → Type 0
-StandFrom start [] end = start ≡ end
-StandFrom start (piece ∷ pieces) end =
-    ((place_of piece).start ≡ start) × (start < (place_of piece).end) × StandFrom (place_of piece).end pieces end
+abbrev pub FollowFrom : ℕ → List Piece → ℕ → Type 0
+FollowFrom start [] end = start ≡ end
+FollowFrom start (piece ∷ pieces) end =
+    ((place_of piece).start ≡ start) × (start < (place_of piece).end) × FollowFrom (place_of piece).end pieces end
 
 -- where the modifiers of a reference end, or its name if it has none
 abbrev pub inside_end : Span → Option Span → ℕ

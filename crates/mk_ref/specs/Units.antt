@@ -39,16 +39,16 @@ before_colon [] = []
 before_colon (unit ∷ units) = if is_colon unit then [] else unit ∷ before_colon units
 
 -- the units after the first colon outside references, if there is one
-abbrev pub behind_colon : List TextUnit → Option (List TextUnit)
-behind_colon [] = None
-behind_colon (unit ∷ units) = if is_colon unit then Some units else behind_colon units
+abbrev pub following_colon : List TextUnit → Option (List TextUnit)
+following_colon [] = None
+following_colon (unit ∷ units) = if is_colon unit then Some units else following_colon units
 
 -- What a `$` makes with what follows it. With a second `$` it makes a pair, and with an ASCII letter a
 -- reference of one letter. With `{` (123) or `(` (40) it begins a reference, which `}` (125) or `)` (41)
 -- closes. With anything else, or nothing, it is itself.
-abbrev pub opening_behind : List ℕ → Option Opening
-opening_behind [] = None
-opening_behind (b ∷ rest) =
+abbrev pub opening_after : List ℕ → Option Opening
+opening_after [] = None
+opening_after (b ∷ rest) =
     if b == 36 then Some Doubled
     else if b == 123 then Some (Marked 125)
     else if b == 40 then Some (Marked 41)
@@ -58,12 +58,12 @@ opening_behind (b ∷ rest) =
 -- what a text begins with, if that is a `$` which makes more than itself; it takes two bytes
 abbrev pub opening_of : List ℕ → Option Opening
 opening_of [] = None
-opening_of (b ∷ rest) = if b == 36 then opening_behind rest else None
+opening_of (b ∷ rest) = if b == 36 then opening_after rest else None
 
 -- the reference that begins with these two bytes and has these units inside and this closing mark
 abbrev pub marked_reference : List ℕ → List TextUnit → ℕ → TextUnit
 marked_reference front inside mark =
-    Reference (front ++ sources inside ++ mark ∷ []) (sources (before_colon inside)) (option_map sources (behind_colon inside))
+    Reference (front ++ sources inside ++ mark ∷ []) (sources (before_colon inside)) (option_map sources (following_colon inside))
 
 -- such a reference and what follows it, from what was read after its first two bytes
 abbrev pub marked_first : List ℕ → ℕ → List TextUnit × List ℕ → TextUnit × List ℕ

@@ -4,7 +4,7 @@ ghost use Rattle.std.specs.Option.{ForSome};
 ghost use Rattle.mk_ref.specs.declared.cutting.PiecesFault.TheVariants as faults;
 ghost use Rattle.mk_ref.specs.Units.{opening_of, units_of, left_of};
 ghost use Rattle.mk_ref.specs.Pieces.{pieces_of};
-ghost use Rattle.mk_ref.specs.Places.{shown, place_of, StandFrom, IsPieceIn, IsFaultOf};
+ghost use Rattle.mk_ref.specs.Places.{shown, place_of, FollowFrom, IsPieceIn, IsFaultOf};
 ghost use Rattle.mk_ref.specs.Firsts.{literal_at, reference_at, BeginsAt};
 
 use crate::ending::{Inside, inside_from};
@@ -89,7 +89,7 @@ pub fn pieces(alloc: Global, text: &str) -> Result<Vec<Piece>, PiecesFault>
     ensures pieces { IfOk result (λ found. map (shown text.now) found.items
         ≡ pieces_of (units_of text.now)) }
     ensures whole { IfOk result (λ found. left_of text.now ≡ []) }
-    ensures order { IfOk result (λ found. StandFrom 0 found.items (length text.now)) }
+    ensures order { IfOk result (λ found. FollowFrom 0 found.items (length text.now)) }
     ensures places { IfOk result (λ found. All (IsPieceIn text.now) found.items) }
     ensures fault { IfErr result (IsFaultOf text.now) }
 {

@@ -16,7 +16,7 @@ pub(crate) struct Inside {
 
 /// The index after the mark that closes what begins at `start`. Inner references are passed over. It is
 /// `None` if nothing closes it.
-pub(crate) fn behind_mark(
+pub(crate) fn after_mark(
     alloc: Global,
     bytes: &[u8],
     start: usize,
@@ -53,12 +53,12 @@ pub(crate) fn behind_mark(
 
 /// The index after the unit that begins at `at`: after a reference, a pair or a single byte. It is
 /// `None` if a reference begins there that doesn't end.
-fn behind_unit(alloc: Global, bytes: &[u8], at: usize) -> Result<Option<usize>, AllocError>
+fn after_unit(alloc: Global, bytes: &[u8], at: usize) -> Result<Option<usize>, AllocError>
     requires { at < length bytes.now }
     ensures { IfOk result (UnitEndsAt bytes.now at) }
 {
     match opening_at(bytes, at) {
-        Some(Opening::Marked(closing)) => behind_mark(alloc, bytes, at + 2, closing),
+        Some(Opening::Marked(closing)) => after_mark(alloc, bytes, at + 2, closing),
         Some(Opening::Doubled) => Ok(Some(at + 2)),
         Some(Opening::Letter) => Ok(Some(at + 2)),
         None => Ok(Some(at + 1)),
@@ -85,7 +85,7 @@ pub(crate) fn inside_from(
         if bytes[at] == b':' && colon.is_none() {
             colon = Some(at);
         }
-        match behind_unit(alloc, bytes, at)? {
+        match after_unit(alloc, bytes, at)? {
             Some(behind) => at = behind,
             None => return Ok(None),
         }

@@ -1,6 +1,6 @@
 //! What holds of every text. Each function does nothing: its clause is the law.
 ghost use Rattle.mk_ref.specs.Laws.{UnitsAreText, ReferencesArePutTogether, CutGoesOn, ReadGoesOn, PartsAreWhole};
-ghost use Rattle.mk_ref.specs.Laws.{InsidesAreCutAlone, PiecesAreUnits, DollarsAlonePartTexts, OutsideStandsInPlace};
+ghost use Rattle.mk_ref.specs.Laws.{InsidesAreCutAlone, PiecesAreUnits, DollarsAlonePartTexts, OutsideKeepsPlaces};
 
 /// The units of a text and what is left of it, put together, are the text.
 pub fn units_are_text()
@@ -45,6 +45,6 @@ pub fn dollars_alone_part_texts()
 
 /// What `outside` gives is as long as the text. Each of its bytes that isn't a dollar is the text's
 /// byte at the same place.
-pub fn outside_stands_in_place()
-    ensures { OutsideStandsInPlace }
+pub fn outside_keeps_places()
+    ensures { OutsideKeepsPlaces }
 {}

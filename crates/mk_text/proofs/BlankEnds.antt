@@ -7,6 +7,7 @@ use Rattle.std.proofs.lemmas.Str.{encode_ascii, len_utf8_bounds}
 use Rattle.std.proofs.lemmas.Str.Pattern.{drop_at_char}
 use Rattle.std.specs.Char.{IsScalar, char_set_contains}
 use Rattle.std.specs.Str.Pattern.{FindsPrefixBy, FindsSuffixBy, HasPassingCharAt, CutsPrefixes, CutsSuffixes, IsTrimStartMatches, IsTrimEndMatches}
+use Rattle.general_facts.specs.Bools.{or_false}
 use Rattle.mk_text.specs.Blanks.{is_blank, skip_blanks}
 
 flip : (a b : ℕ) → eqb a b ≡ eqb b a
@@ -14,10 +15,6 @@ flip a b =
     ⊎_elim (λ e. eq-eqb a b e ∙ sym (eq-eqb b a (sym e)))
     (λ n. ne_eqb a b n ∙ sym (ne_eqb b a (λ e. n (sym e))))
     (cases_eq a b)
-
-or_false : (x : Bool) → (x || false) ≡ x
-or_false true = refl
-or_false false = refl
 
 -- the blanks as the list of characters that the code has
 pub blank_set : (c : ℕ) → char_set_contains (32 ∷ 9 ∷ []) c ≡ is_blank c

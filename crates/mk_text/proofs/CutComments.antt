@@ -51,8 +51,8 @@ without_comment-escaped (b ∷ c ∷ kept) rest h =
     ∙ ap (λ l. b ∷ l) (without_comment-escaped (c ∷ kept) rest (later b (c ∷ kept) h))
 
 -- what stands behind a sign is text
-pub behind_utf8 : (s front behind : List ℕ) → s ≡ front ++ 35 ∷ behind → IsUtf8 s → IsUtf8 behind
-behind_utf8 s front behind e u =
+pub after_utf8 : (s front behind : List ℕ) → s ≡ front ++ 35 ∷ behind → IsUtf8 s → IsUtf8 behind
+after_utf8 s front behind e u =
     let near : length front < length s = omega (arith, ap length e, length-append front (35 ∷ behind)) in
     let sign : get_or s (length front) 0 ≡ 35 = ap (λ l. get_or l (length front) 0) e ∙ get_or_at front 35 behind 0 (length front) refl in
     let rest : drop (length front + 1) s ≡ behind = ap (drop (length front + 1)) (e ∙ sym (append_assoc front (35 ∷ []) behind)) ∙ drop_at (front ++ 35 ∷ []) behind (length front + 1) (omega (arith, length-append front (35 ∷ []))) in

@@ -61,10 +61,10 @@ pub ending_at : (letter start last : ℕ) (text front behind before : List ℕ) 
     → list_all is_ascii_digit (drop start text) ≡ true → (0 < start → is_ascii_digit (slice_index text (start - 1)) ≡ false)
     → front ≡ take start text → behind ≡ drop start text → length front ≡ start → front ≡ before ++ last ∷ []
     → ended_by letter text ≡ cond (last == letter && is_number behind) (record { before = before; number = number_of behind }) (whole text)
-ending_at letter start last text front behind before plain all other in_front in_behind long cut =
+ending_at letter start last text front behind before plain all other in_front in_after long cut =
     let joined : before ++ last ∷ behind ≡ text =
     sym (append_assoc before (last ∷ []) behind) ∙ ap (λ f. f ++ behind) (sym cut ∙ in_front)
-    ∙ ap (λ b. take start text ++ b) in_behind ∙ take-append-drop start text in
+    ∙ ap (λ b. take start text ++ b) in_after ∙ take-append-drop start text in
     let sum = length-append before (last ∷ []) in
     let cut_long = ap length cut in
     let here : start - 1 ≡ length before = omega (arith, long, cut_long, sum) in
@@ -72,7 +72,7 @@ ending_at letter start last text front behind before plain all other in_front in
     let stands : get_or text (start - 1) 0 ≡ last =
     ap (λ n. get_or text n 0) here ∙ ap (λ t. get_or t (length before) 0) (sym joined) ∙ get_or-append_seam before last behind 0 in
     let last_other : is_ascii_digit last ≡ false = ap is_ascii_digit (sym stands) ∙ other some in
-    let digits : list_all is_ascii_digit behind ≡ true = ap (list_all is_ascii_digit) in_behind ∙ all in
+    let digits : list_all is_ascii_digit behind ≡ true = ap (list_all is_ascii_digit) in_after ∙ all in
     ap (ended_by letter) (sym joined) ∙ ended_at letter before last behind plain last_other digits
     ∙ ap (λ t. cond (last == letter && is_number behind) (record { before = before; number = number_of behind }) (whole t)) joined
 

@@ -8,6 +8,7 @@ use Rattle.std.specs.Ordering.{ordering_index}
 use Rattle.std.specs.declared.cmp.Ordering.{Ordering}
 use Rattle.std.specs.declared.cmp.Ordering.TheVariants.{Less, Equal, Greater}
 use Rattle.std.specs.Cmp.Lexicographic.{slice_cmp}
+use Rattle.general_facts.specs.Lists.{slice_split-first}
 use Rattle.pkg_name.specs.Order.{PartKey, part_key, part_keys, part_cmp}
 
 nothing : {n : ℕ} → 0 ≡ suc n → ⊥
@@ -51,22 +52,12 @@ pub next_part_cut : (text : List ℕ) (end : ℕ) → end ≡ position_or_len (�
 next_part_cut text end value bound inside =
     next_part text end value bound inside ∙ ap (λ rest. part_key (take end text) ∷ part_keys rest) (sym (cut_all text (end + 1)))
 
--- there is a part in each text
-some_part : (p : ℕ → Bool) (xs : List ℕ) → (part : List ℕ) × (parts : List (List ℕ)) × (slice_split p xs ≡ part ∷ parts)
-some_part p [] = ([], [], refl)
-some_part p (x ∷ xs) =
-    let rest = some_part p xs in
-    elim (cases_Bool (p x)) [
-      | inl h ↦ ([], slice_split p xs, rw h refl)
-      | inr h ↦ (x ∷ rest.0, rest.1, rw (h, rest.2) refl)
-    ]
-
 -- parts are behind no parts
 pub none_before : (text : List ℕ) → slice_cmp part_cmp [] (part_keys text) ≡ Less
-none_before text = let some = some_part (λ byte. byte == 46) text in rw some.2 refl
+none_before text = let some = slice_split-first (λ byte. byte == 46) text in rw some.2 refl
 
-pub some_behind : (text : List ℕ) → slice_cmp part_cmp (part_keys text) [] ≡ Greater
-some_behind text = let some = some_part (λ byte. byte == 46) text in rw some.2 refl
+pub some_after : (text : List ℕ) → slice_cmp part_cmp (part_keys text) [] ≡ Greater
+some_after text = let some = slice_split-first (λ byte. byte == 46) text in rw some.2 refl
 
 -- where the first parts tie, those behind them decide
 pub tied_first : (keys others : List PartKey) (key other : PartKey) (more other_more : List PartKey) → keys ≡ key ∷ more → others ≡ other ∷ other_more

@@ -49,17 +49,17 @@ short-front (x ∷ xs) ys short =
     and_from (nat_le (digit_count (x ∷ xs)) 18) (has_short_numbers xs) (le-leb (digit_count (x ∷ xs)) 18 (no_more most fewer)) rest
 
 -- so has what stands behind one
-pub short-behind : (xs ys : List ℕ) → has_short_numbers (xs ++ ys) ≡ true → has_short_numbers ys ≡ true
+pub short-after : (xs ys : List ℕ) → has_short_numbers (xs ++ ys) ≡ true → has_short_numbers ys ≡ true
 unfolding has_short_numbers
-short-behind [] ys short = short
-short-behind (x ∷ xs) ys short =
-    short-behind xs ys (second_so (nat_le (digit_count (x ∷ xs ++ ys)) 18) (has_short_numbers (xs ++ ys)) short)
+short-after [] ys short = short
+short-after (x ∷ xs) ys short =
+    short-after xs ys (second_so (nat_le (digit_count (x ∷ xs ++ ys)) 18) (has_short_numbers (xs ++ ys)) short)
 
 pub short-take : (n : ℕ) (xs : List ℕ) → has_short_numbers xs ≡ true → has_short_numbers (take n xs) ≡ true
 short-take n xs short = short-front (take n xs) (drop n xs) (ap has_short_numbers (take-append-drop n xs) ∙ short)
 
 pub short-drop : (n : ℕ) (xs : List ℕ) → has_short_numbers xs ≡ true → has_short_numbers (drop n xs) ≡ true
-short-drop n xs short = short-behind (take n xs) (drop n xs) (ap has_short_numbers (take-append-drop n xs) ∙ short)
+short-drop n xs short = short-after (take n xs) (drop n xs) (ap has_short_numbers (take-append-drop n xs) ∙ short)
 
 -- digits with short numbers are at most 18
 pub short-digits : (xs : List ℕ) → list_all is_ascii_digit xs ≡ true → has_short_numbers xs ≡ true → length xs ≤ 18
@@ -71,8 +71,8 @@ short-digits (x ∷ xs) all short =
     no_more (leb-true (digit_count (x ∷ xs)) 18 most) (as_much whole)
 
 -- the numbers are short behind so many digits
-abbrev pub fits_behind : ℕ → List ℕ → Bool
-fits_behind digits text = nat_le (digits + digit_count text) 18 && has_short_numbers text
+abbrev pub fits_after : ℕ → List ℕ → Bool
+fits_after digits text = nat_le (digits + digit_count text) 18 && has_short_numbers text
 
 -- a test that another one implies
 implied : (a b s : Bool) → (a ≡ true → b ≡ true) → (a && (b && s)) ≡ (a && s)
@@ -80,37 +80,37 @@ implied true b s h = rw (h refl) refl
 implied false b s h = refl
 
 -- with no digit before it a text stands for itself
-pub fits_behind-none : (text : List ℕ) → fits_behind 0 text ≡ has_short_numbers text
+pub fits_after-none : (text : List ℕ) → fits_after 0 text ≡ has_short_numbers text
 unfolding has_short_numbers
-fits_behind-none [] = refl
-fits_behind-none (byte ∷ rest) =
+fits_after-none [] = refl
+fits_after-none (byte ∷ rest) =
     ap (λ n. nat_le n 18 && has_short_numbers (byte ∷ rest)) (zero-add (digit_count (byte ∷ rest)))
     ∙ implied (nat_le (digit_count (byte ∷ rest)) 18) (nat_le (digit_count (byte ∷ rest)) 18) (has_short_numbers rest) (λ h. h)
 
 -- one more digit
-pub fits_behind-digit : (digits byte : ℕ) (rest : List ℕ) → is_ascii_digit byte ≡ true
-    → fits_behind digits (byte ∷ rest) ≡ fits_behind (digits + 1) rest
+pub fits_after-digit : (digits byte : ℕ) (rest : List ℕ) → is_ascii_digit byte ≡ true
+    → fits_after digits (byte ∷ rest) ≡ fits_after (digits + 1) rest
 unfolding has_short_numbers
-fits_behind-digit digits byte rest digit =
+fits_after-digit digits byte rest digit =
     let one : digits + (1 + digit_count rest) ≡ digits + 1 + digit_count rest = omega arith in
     let fewer : nat_le (digits + 1 + digit_count rest) 18 ≡ true → nat_le (1 + digit_count rest) 18 ≡ true =
     λ h. le-leb (1 + digit_count rest) 18 (no_more (leb-true (digits + 1 + digit_count rest) 18 h) (omega arith)) in
     rw (digit, one) (implied (nat_le (digits + 1 + digit_count rest) 18) (nat_le (1 + digit_count rest) 18) (has_short_numbers rest) fewer)
 
 -- another byte
-pub fits_behind-other : (digits byte : ℕ) (rest : List ℕ) → is_ascii_digit byte ≡ false → digits ≤ 18
-    → fits_behind digits (byte ∷ rest) ≡ fits_behind 0 rest
+pub fits_after-other : (digits byte : ℕ) (rest : List ℕ) → is_ascii_digit byte ≡ false → digits ≤ 18
+    → fits_after digits (byte ∷ rest) ≡ fits_after 0 rest
 unfolding has_short_numbers
-fits_behind-other digits byte rest other few =
+fits_after-other digits byte rest other few =
     let fits : nat_le (digits + 0) 18 ≡ true = le-leb (digits + 0) 18 (omega arith) in
-    rw (other, fits) (sym (fits_behind-none rest))
+    rw (other, fits) (sym (fits_after-none rest))
 
 -- too many digits
-pub fits_behind-many : (digits : ℕ) (text : List ℕ) → 18 < digits → fits_behind digits text ≡ false
-fits_behind-many digits text many =
+pub fits_after-many : (digits : ℕ) (text : List ℕ) → 18 < digits → fits_after digits text ≡ false
+fits_after-many digits text many =
     and_left (nat_le (digits + digit_count text) 18) (has_short_numbers text) (lt-leb (digits + digit_count text) 18 (omega arith))
 
 -- nothing behind them
-pub fits_behind-end : (digits : ℕ) → digits ≤ 18 → fits_behind digits [] ≡ true
+pub fits_after-end : (digits : ℕ) → digits ≤ 18 → fits_after digits [] ≡ true
 unfolding has_short_numbers
-fits_behind-end digits few = and_from (nat_le (digits + 0) 18) true (le-leb (digits + 0) 18 (omega arith)) refl
+fits_after-end digits few = and_from (nat_le (digits + 0) 18) true (le-leb (digits + 0) 18 (omega arith)) refl

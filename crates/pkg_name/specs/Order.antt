@@ -49,13 +49,13 @@ pub record PartKey : Type 0 where
 -- the keys of a part's text
 abbrev pub part_key : List ℕ → PartKey
 part_key part =
-    let behind_number = past_while is_ascii_digit part in
-    let behind_letters = past_while is_ascii_alphabetic behind_number in
+    let after_number = past_while is_ascii_digit part in
+    let after_letters = past_while is_ascii_alphabetic after_number in
     record {
       number = number_of (take_while is_ascii_digit part);
-      letters = take_while is_ascii_alphabetic behind_number;
-      second = number_of (take_while is_ascii_digit behind_letters);
-      rest = past_while is_ascii_digit behind_letters;
+      letters = take_while is_ascii_alphabetic after_number;
+      second = number_of (take_while is_ascii_digit after_letters);
+      rest = past_while is_ascii_digit after_letters;
     }
 
 -- the keys of the parts between the dots of a text

@@ -48,13 +48,13 @@ pub version_cmp-same : (a b : List ℕ) → version_cmp a b ≡ Equal → a ≡ 
 version_cmp-same a b e =
     let x = version_key a in
     let y = version_key b in
-    let behind_revision = text_cmp a b in
-    let behind_parts = ordering_then (number_cmp x.revision y.revision) behind_revision in
-    let behind_epoch = ordering_then (slice_cmp part_cmp x.parts y.parts) behind_parts in
+    let after_revision = text_cmp a b in
+    let after_parts = ordering_then (number_cmp x.revision y.revision) after_revision in
+    let after_epoch = ordering_then (slice_cmp part_cmp x.parts y.parts) after_parts in
     text_cmp-same a b
-    (second_ties (number_cmp x.revision y.revision) behind_revision
-    (second_ties (slice_cmp part_cmp x.parts y.parts) behind_parts
-    (second_ties (number_cmp x.epoch y.epoch) behind_epoch e)))
+    (second_ties (number_cmp x.revision y.revision) after_revision
+    (second_ties (slice_cmp part_cmp x.parts y.parts) after_parts
+    (second_ties (number_cmp x.epoch y.epoch) after_epoch e)))
 
 -- a version ties with itself
 pub version_cmp-itself : (a : List ℕ) → version_cmp a a ≡ Equal

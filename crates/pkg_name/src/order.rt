@@ -106,12 +106,12 @@ fn compare_parts(text: &[u8], other: &[u8]) -> Ordering
     let (mut text, mut other) = (text, other);
     loop {
         let (part, behind) = first_part(text);
-        let (other_part, other_behind) = first_part(other);
+        let (other_part, other_after) = first_part(other);
         let ordering = compare_part(part, other_part);
         if ordering != Ordering::Equal {
             return ordering;
         }
-        match (behind, other_behind) {
+        match (behind, other_after) {
             (None, None) => return Ordering::Equal,
             (None, Some(_)) => return Ordering::Less,
             (Some(_), None) => return Ordering::Greater,
@@ -129,7 +129,7 @@ fn first_part(text: &[u8]) -> (&[u8], Option<&[u8]>)
     ensures parts { MatchOption result.1 (part_keys text.now ≡ part_key result.0.now ∷ [])
         (λ behind. part_keys text.now ≡ part_key result.0.now ∷ part_keys behind.now) }
     ensures short { IsTrue (has_short_numbers result.0.now) }
-    ensures behind_short { IfSome result.1 (λ behind. IsTrue (has_short_numbers behind.now)) }
+    ensures after_short { IfSome result.1 (λ behind. IsTrue (has_short_numbers behind.now)) }
     ensures shorter { IfSome result.1 (λ behind. length behind.now < length text.now) }
 {
     let end = dot_or_end(text);
@@ -170,9 +170,9 @@ fn keys_of_part(part: &[u8]) -> PartKeys<'_>
     ensures second { result.second ≡ (part_key part.now).second }
     ensures rest { result.rest.now ≡ (part_key part.now).rest }
 {
-    let (number, behind_number) = take_number(part);
-    let (letters, behind_letters) = take_letters(behind_number);
-    let (second, rest) = take_number(behind_letters);
+    let (number, after_number) = take_number(part);
+    let (letters, after_letters) = take_letters(after_number);
+    let (second, rest) = take_number(after_letters);
     PartKeys {
         number,
         letters,

@@ -1,21 +1,21 @@
 -- What a text names is named by its canonical text, too.
 use Rattle.std.proofs.Common.{◌≡◌, ◌∙◌, sym, ap, subst, refl, ℕ, Bool, true, false, not, cond, ◌&&◌, ◌||◌, eqb, ltb, List, [], ◌∷◌, ◌++◌, length, Option, Some, None, Ok, Err, append_assoc, arith}
-use Rattle.std.proofs.lemmas.Bool.{false≢true, and_parts, and_from, or_parts}
+use Rattle.std.proofs.lemmas.Bool.{false≢true, and_parts, and_from, or_parts, not-true}
 use Rattle.std.proofs.lemmas.Grind.{common_steps, flat_map-append}
 use Rattle.std.proofs.lemmas.List.Folds.{list_all-append}
 use Rattle.text_parts.specs.Laws.{is_between}
-use Rattle.text_parts.proofs.PartTexts.{parts_are_between, written_is_cut_again, written_stands}
+use Rattle.text_parts.proofs.PartTexts.{parts_are_between, written_is_cut_again, written_parts_may_occur}
 use Rattle.std.specs.List.{list_all, list_any, filter, find}
 use Rattle.std.specs.Option.{option_to_list}
 use Rattle.std.specs.Str.{bytes_eq}
 use Rattle.text_parts.specs.Ordered.{among-in_order, in_order-again}
-use Rattle.pkg_path.specs.Paths.{comma, PathValue, elements_of, directory_of, choices_of, is_subpackage, is_flavor, flavors_of, value_of, has_two_subpackages, may_stand, is_directory, is_bare_dash, is_well_written, path_of, flavor_choices, choices_text, canonical, IsPath, without_subpackage}
+use Rattle.pkg_path.specs.Paths.{comma, PathValue, elements_of, directory_of, choices_of, is_subpackage, is_flavor, flavors_of, value_of, has_two_subpackages, may_occur, is_directory, is_bare_dash, is_well_written, path_of, flavor_choices, choices_text, canonical, IsPath, without_subpackage}
 use Rattle.text_parts.specs.Order.{in_order}
 use Rattle.pkg_path.specs.declared.faults.PkgPathFault.TheVariants.{Empty, TwoSubpackages, BadCharacter}
 
 -- a byte of an element: it may stand in a path and is no comma
 abbrev is_plain : ℕ → Bool
-is_plain = is_between comma may_stand
+is_plain = is_between comma may_occur
 
 -- a flavor as a path has it
 abbrev is_word : List ℕ → Bool
@@ -36,10 +36,6 @@ record IsSound (path : PathValue) : Type 0 where
   subpackage : IsSoundName path.subpackage
 
 -- tests
-
-not_true : (a : Bool) → not a ≡ true → a ≡ false
-not_true true e = sym e
-not_true false e = refl
 
 of_not : (a : Bool) → not a ≡ false → a ≡ true
 of_not true e = refl
@@ -99,15 +95,15 @@ sound_by false true written text path is e = absurd cc
 sound_by false false false text path is e = absurd cc
 sound_by false false true text path is e =
     let same : value_of (elements_of text) ≡ path = cc in
-    let t = and_parts (list_all may_stand text && is_directory (directory_of (elements_of text))) (not (list_any is_bare_dash (choices_of (elements_of text)))) is in
-    let bytes = and_parts (list_all may_stand text) (is_directory (directory_of (elements_of text))) t.0 in
-    let plain = parts_are_between comma may_stand text bytes.0 in
+    let t = and_parts (list_all may_occur text && is_directory (directory_of (elements_of text))) (not (list_any is_bare_dash (choices_of (elements_of text)))) is in
+    let bytes = and_parts (list_all may_occur text) (is_directory (directory_of (elements_of text))) t.0 in
+    let plain = parts_are_between comma may_occur text bytes.0 in
     let choices = choices_plain (elements_of text) plain in
     let sound : IsSound (value_of (elements_of text)) = record {
       bytes = directory_plain (elements_of text) plain;
       parts = bytes.1;
       flavors = sound_flavors_by (list_any (λ choice. not (is_subpackage choice)) (choices_of (elements_of text))) (choices_of (elements_of text)) choices;
-      subpackage = sound_name (choices_of (elements_of text)) choices (not_true (list_any is_bare_dash (choices_of (elements_of text))) t.1);
+      subpackage = sound_name (choices_of (elements_of text)) choices (not-true (list_any is_bare_dash (choices_of (elements_of text))) t.1);
     } in
     subst IsSound same sound
 
@@ -160,12 +156,12 @@ name_plain : (name : Option (List ℕ)) → IsSoundName name → list_all (list_
 name_plain None a = refl
 name_plain (Some name) a = and_from (list_all is_plain name) true a.1 refl
 
-found_behind : (choices : List (List ℕ)) (name : Option (List ℕ)) → NoneNames choices → IsSoundName name → find is_subpackage (choices ++ option_to_list name) ≡ name
-found_behind [] None a b = refl
-found_behind [] (Some name) a b = ap (λ t. cond t (Some name) None) b.0
-found_behind (choice ∷ choices) name a b =
+found_after : (choices : List (List ℕ)) (name : Option (List ℕ)) → NoneNames choices → IsSoundName name → find is_subpackage (choices ++ option_to_list name) ≡ name
+found_after [] None a b = refl
+found_after [] (Some name) a b = ap (λ t. cond t (Some name) None) b.0
+found_after (choice ∷ choices) name a b =
     let e = and_parts (not (is_subpackage choice)) (list_all (λ choice. not (is_subpackage choice)) choices) a in
-    ap (λ t. cond t (Some choice) (find is_subpackage (choices ++ option_to_list name))) (not_true (is_subpackage choice) e.0) ∙ found_behind choices name e.1 b
+    ap (λ t. cond t (Some choice) (find is_subpackage (choices ++ option_to_list name))) (not-true (is_subpackage choice) e.0) ∙ found_after choices name e.1 b
 
 names_at_most_one : (name : Option (List ℕ)) → ltb 1 (length (filter is_subpackage (option_to_list name))) ≡ false
 names_at_most_one None = refl
@@ -179,12 +175,12 @@ one_name : (choices : List (List ℕ)) (name : Option (List ℕ)) → NoneNames 
 one_name [] name a = names_at_most_one name
 one_name (choice ∷ choices) name a =
     let e = and_parts (not (is_subpackage choice)) (list_all (λ choice. not (is_subpackage choice)) choices) a in
-    ap (λ t. ltb 1 (length (cond t (choice ∷ filter is_subpackage (choices ++ option_to_list name)) (filter is_subpackage (choices ++ option_to_list name))))) (not_true (is_subpackage choice) e.0)
+    ap (λ t. ltb 1 (length (cond t (choice ∷ filter is_subpackage (choices ++ option_to_list name)) (filter is_subpackage (choices ++ option_to_list name))))) (not-true (is_subpackage choice) e.0)
     ∙ one_name choices name e.1
 
 not_bare : (choice : List ℕ) → not (is_subpackage choice) ≡ true → is_bare_dash choice ≡ false
 not_bare [] a = refl
-not_bare (x ∷ choice) a = ap (λ b. b && bytes_eq choice []) (not_true (eqb x 45) a)
+not_bare (x ∷ choice) a = ap (λ b. b && bytes_eq choice []) (not-true (eqb x 45) a)
 
 none_bare : (choices : List (List ℕ)) (name : Option (List ℕ)) → NoneNames choices → IsSoundName name → list_any is_bare_dash (choices ++ option_to_list name) ≡ false
 none_bare [] None a b = refl
@@ -236,13 +232,13 @@ names_itself path s =
     list_all-append (list_all is_plain) (flavor_choices path.flavors) (option_to_list path.subpackage) ∙ and_from _ _ (flavors_plain path.flavors s.flavors) (name_plain path.subpackage s.subpackage) in
     let text = path.directory ++ choices_text (written path) in
     let whole : list_all (list_all is_plain) (path.directory ∷ written path) ≡ true = and_from (list_all is_plain path.directory) (list_all (list_all is_plain) (written path)) s.bytes plain in
-    let cut : elements_of text ≡ path.directory ∷ written path = written_is_cut_again comma may_stand path.directory (written path) whole in
-    let bytes : list_all may_stand text ≡ true = written_stands comma may_stand path.directory (written path) refl whole in
+    let cut : elements_of text ≡ path.directory ∷ written path = written_is_cut_again comma may_occur path.directory (written path) whole in
+    let bytes : list_all may_occur text ≡ true = written_parts_may_occur comma may_occur path.directory (written path) refl whole in
     let well : is_well_written text ≡ true =
-    ap (λ elements. (list_all may_stand text && is_directory (directory_of elements)) && not (list_any is_bare_dash (choices_of elements))) cut
-    ∙ and_from (list_all may_stand text && is_directory path.directory) (not (list_any is_bare_dash (written path))) (and_from (list_all may_stand text) (is_directory path.directory) bytes s.parts) (ap not (none_bare (flavor_choices path.flavors) path.subpackage none_names s.subpackage)) in
+    ap (λ elements. (list_all may_occur text && is_directory (directory_of elements)) && not (list_any is_bare_dash (choices_of elements))) cut
+    ∙ and_from (list_all may_occur text && is_directory path.directory) (not (list_any is_bare_dash (written path))) (and_from (list_all may_occur text) (is_directory path.directory) bytes s.parts) (ap not (none_bare (flavor_choices path.flavors) path.subpackage none_names s.subpackage)) in
     let value : value_of (path.directory ∷ written path) ≡ path =
-    λ i. record { directory = path.directory; flavors = flavors_again path.flavors path.subpackage s.flavors s.subpackage i; subpackage = found_behind (flavor_choices path.flavors) path.subpackage none_names s.subpackage i } in
+    λ i. record { directory = path.directory; flavors = flavors_again path.flavors path.subpackage s.flavors s.subpackage i; subpackage = found_after (flavor_choices path.flavors) path.subpackage none_names s.subpackage i } in
     ap path_of (canonical_is path)
     ∙ ap (λ b. cond b (Err Empty) (cond (has_two_subpackages (elements_of text)) (Err TwoSubpackages) (cond (is_well_written text) (Ok (value_of (elements_of text))) (Err BadCharacter)))) (some_byte path.directory (choices_text (written path)) s.parts)
     ∙ ap (λ elements. cond (has_two_subpackages elements) (Err TwoSubpackages) (cond (is_well_written text) (Ok (value_of elements)) (Err BadCharacter))) cut

@@ -67,8 +67,8 @@ abbrev pub has_two_subpackages : List (List ℕ) → Bool
 has_two_subpackages elements = nat_lt 1 (length (filter is_subpackage (choices_of elements)))
 
 -- a byte of a path: printable ASCII, no blank, and none of `: | < > = *`
-abbrev pub may_stand : ℕ → Bool
-may_stand byte =
+abbrev pub may_occur : ℕ → Bool
+may_occur byte =
     nat_le 33 byte && nat_le byte 126 && not (byte == 58) && not (byte == 124) && not (byte == 60) && not (byte == 62)
     && not (byte == 61) && not (byte == 42)
 
@@ -86,7 +86,7 @@ is_bare_dash choice = bytes_eq choice (codes "-")
 
 -- the bytes may be in a path, the directory is one, and no choice is a bare dash
 abbrev pub is_well_cut : List ℕ → List ℕ → List (List ℕ) → Bool
-is_well_cut text directory choices = list_all may_stand text && is_directory directory && not (list_any is_bare_dash choices)
+is_well_cut text directory choices = list_all may_occur text && is_directory directory && not (list_any is_bare_dash choices)
 
 abbrev pub is_well_written : List ℕ → Bool
 is_well_written text = is_well_cut text (directory_of (elements_of text)) (choices_of (elements_of text))

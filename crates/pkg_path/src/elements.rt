@@ -2,7 +2,7 @@
 ghost use Rattle.std.specs.Prelude.{◌≡◌, IfOk, map, filter, find, length, option_map};
 ghost use Rattle.std.specs.List.{list_all, list_any};
 ghost use Rattle.std.specs.String.{string_bytes};
-ghost use Rattle.pkg_path.specs.Paths.{is_subpackage, is_flavor, flavors_of, may_stand, is_part, is_directory, is_bare_dash, is_well_cut};
+ghost use Rattle.pkg_path.specs.Paths.{is_subpackage, is_flavor, flavors_of, may_occur, is_part, is_directory, is_bare_dash, is_well_cut};
 ghost use Rattle.text_parts.specs.Order.{in_order};
 ghost use Rattle.pkg_path.specs.Seen.{flavors_seen};
 ghost use Rattle.text_parts.specs.Cuts.{now_all};
@@ -52,14 +52,14 @@ pub(crate) fn is_well_written(text: &str, directory: &str, choices: &[&str]) -> 
 
 // Whether each byte may be in a path.
 fn has_path_bytes(text: &str) -> bool
-    ensures { result ≡ list_all may_stand text.now }
+    ensures { result ≡ list_all may_occur text.now }
 {
     text.bytes().all(|byte| is_path_byte(byte))
 }
 
 // Whether a byte may be in a path.
 fn is_path_byte(byte: u8) -> bool
-    ensures { result ≡ may_stand byte }
+    ensures { result ≡ may_occur byte }
 {
     33 <= byte
         && byte <= 126

@@ -69,11 +69,11 @@ impl Alternative {
     pub(crate) fn admits(&self, name: &PkgName) -> bool
         ensures { result ≡ set_of_alternative (alternative_seen self.now) name.now }
     {
-        fits_stem(self.stem.as_str(), name) && self.admits_behind_stem(name)
+        fits_stem(self.stem.as_str(), name) && self.admits_after_stem(name)
     }
 
     // Whether the version and the flavors of a name are those that are asked for.
-    fn admits_behind_stem(&self, name: &PkgName) -> bool
+    fn admits_after_stem(&self, name: &PkgName) -> bool
         ensures { result
             ≡ (list_all (λ comparison. meeting
             (comparison_seen comparison) name.now) self.now.comparisons.items

@@ -37,7 +37,7 @@ pub fn index(alloc: Global, world: &mut World) -> Result<Answer, Trouble> {
 
 /// `items`: the items of the makefile's port, each with its kind, its package, its path
 /// and its spec, or `BadItem`.
-pub fn items_told(alloc: Global, world: &mut World) -> Result<Answer, Trouble> {
+pub fn items_answer(alloc: Global, world: &mut World) -> Result<Answer, Trouble> {
     let mut answer = Answer::new(alloc);
     for item in &items(alloc, &port(alloc, world)?)? {
         add_item(alloc, &mut answer, item)?;
@@ -64,12 +64,12 @@ pub fn statuses(alloc: Global, world: &mut World, given: &[Vec<u8>]) -> Result<A
     let what = one_text(given)?;
     let port = port(alloc, world)?;
     match found_there(what, &port) {
-        Some(found) => told_statuses(alloc, &port, found),
+        Some(found) => statuses_answer(alloc, &port, found),
         None => Err(Trouble::NoCase),
     }
 }
 
-fn told_statuses(alloc: Global, port: &PortRecord, found: Found<'_>) -> Result<Answer, Trouble> {
+fn statuses_answer(alloc: Global, port: &PortRecord, found: Found<'_>) -> Result<Answer, Trouble> {
     let mut answer = Answer::new(alloc);
     for item in &items(alloc, port)? {
         answer.word(resolve(alloc, item, found)?.status().as_str());
@@ -103,10 +103,10 @@ pub fn over_edges(
     let kinds = Kinds::read(as_text(kinds)?).ok_or(Trouble::NoCase)?;
     let path = path_of(alloc, as_text(path)?)?;
     let edges = edges(alloc, world)?;
-    edges_told(alloc, what, kinds, &path, edges.as_slice())
+    edges_answer(alloc, what, kinds, &path, edges.as_slice())
 }
 
-fn edges_told(
+fn edges_answer(
     alloc: Global,
     what: &str,
     kinds: Kinds,
@@ -117,7 +117,7 @@ fn edges_told(
         "first" => items_of(alloc, &first_edges(alloc, kinds, path, edges)?),
         "to" => items_of(alloc, &edges_to(alloc, kinds, path, edges)?),
         "reached" => reached_from(alloc, kinds, path, edges)?,
-        _ => texts_told(alloc, &reaching(alloc, kinds, path, edges)?),
+        _ => texts_answer(alloc, &reaching(alloc, kinds, path, edges)?),
     })
 }
 
@@ -129,7 +129,7 @@ fn reached_from(
 ) -> Result<Answer, Trouble> {
     let first = first_edges(alloc, kinds, path, edges)?;
     let reached = reached(alloc, kinds, first.as_slice(), edges)?;
-    Ok(texts_told(alloc, reached.as_slice()))
+    Ok(texts_answer(alloc, reached.as_slice()))
 }
 
 /// `list WHERE`: the names of the makefile's packages that meet the conditions, or `BadQuery`.
@@ -138,7 +138,7 @@ pub fn listed(alloc: Global, world: &mut World, given: &[Vec<u8>]) -> Result<Ans
         Ok(query) => {
             let roots = roots(alloc, world)?;
             let packages = answer(alloc, &query, roots.as_slice())?;
-            Ok(told_packages(alloc, packages.as_slice()))
+            Ok(packages_answer(alloc, packages.as_slice()))
         }
         Err(QueryFault::BadQuery) => Ok(Answer::of_word(alloc, "BadQuery")),
         Err(QueryFault::Memory) => Err(Trouble::Memory),
@@ -151,14 +151,14 @@ pub fn matched(alloc: Global, world: &mut World, given: &[Vec<u8>]) -> Result<An
         Ok(spec) => {
             let roots = roots(alloc, world)?;
             let packages = admitted(alloc, &spec, roots.as_slice())?;
-            Ok(told_packages(alloc, packages.as_slice()))
+            Ok(packages_answer(alloc, packages.as_slice()))
         }
         Err(SpecFault::Memory) => Err(Trouble::Memory),
         Err(_) => Ok(Answer::of_word(alloc, "BadSpec")),
     }
 }
 
-fn told_packages(alloc: Global, packages: &[Listed]) -> Answer {
+fn packages_answer(alloc: Global, packages: &[Listed]) -> Answer {
     let mut answer = Answer::new(alloc);
     for package in packages {
         answer.text(package.path().as_bytes());
@@ -207,7 +207,7 @@ fn items_of(alloc: Global, edges: &[&RootEdge]) -> Answer {
     answer
 }
 
-fn texts_told(alloc: Global, texts: &[String]) -> Answer {
+fn texts_answer(alloc: Global, texts: &[String]) -> Answer {
     let mut answer = Answer::new(alloc);
     add_texts(&mut answer, texts);
     answer

@@ -18,9 +18,9 @@ pub fn answer(
 ) -> Result<Answer, Trouble> {
     let world = &mut setup.world;
     match call {
-        "record" => records::record_told(alloc, world, given),
+        "record" => records::record_answer(alloc, world, given),
         "index" => dependencies::index(alloc, world),
-        "items" => dependencies::items_told(alloc, world),
+        "items" => dependencies::items_answer(alloc, world),
         "statuses" => dependencies::statuses(alloc, world, given),
         "first" | "to" | "reached" | "reaching" => {
             dependencies::over_edges(alloc, world, call, given)

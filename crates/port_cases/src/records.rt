@@ -1,7 +1,7 @@
 //! The layer of ports: their records.
 use case_lines::{Answer, Trouble, one_text};
 use make_cases::{World, add_cost, evaluated, failure, makefile};
-use mk_base::Stop;
+use mk_base::PureStop;
 use mk_eval::Evaluated;
 use pkg_path::PkgPath;
 use port_rules::{Depend, Package, PortFlavors, PortRecord, record};
@@ -10,15 +10,19 @@ use text_cases::{add_texts, path_of};
 
 /// `record PATH`: what the port at this path is, by the makefile, with its cost; or its fault, or the
 /// makefile's.
-pub fn record_told(alloc: Global, world: &mut World, given: &[Vec<u8>]) -> Result<Answer, Trouble> {
+pub fn record_answer(
+    alloc: Global,
+    world: &mut World,
+    given: &[Vec<u8>],
+) -> Result<Answer, Trouble> {
     let path = path_of(alloc, one_text(given)?)?.without_sub();
     match evaluated(alloc, world)? {
-        Ok(evaluated) => port_told(alloc, &path, &evaluated),
+        Ok(evaluated) => port_answer(alloc, &path, &evaluated),
         Err(failed) => failure(alloc, &failed),
     }
 }
 
-fn port_told(alloc: Global, path: &PkgPath, evaluated: &Evaluated) -> Result<Answer, Trouble> {
+fn port_answer(alloc: Global, path: &PkgPath, evaluated: &Evaluated) -> Result<Answer, Trouble> {
     match record(alloc, evaluated, &makefile(alloc)?) {
         Ok(recorded) => {
             let mut answer = Answer::new(alloc);
@@ -28,8 +32,8 @@ fn port_told(alloc: Global, path: &PkgPath, evaluated: &Evaluated) -> Result<Ans
             add_cost(&mut answer, recorded.cost);
             Ok(answer)
         }
-        Err(Stop::Fault(failed)) => failure(alloc, &failed),
-        Err(_) => Err(Trouble::Memory),
+        Err(PureStop::Fault(failed)) => failure(alloc, &failed),
+        Err(PureStop::Memory) => Err(Trouble::Memory),
     }
 }
 

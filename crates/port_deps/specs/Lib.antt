@@ -2,5 +2,5 @@ pub mod Reading
 pub mod Items
 pub mod Statuses
 pub mod Edges
-pub mod Lists
+pub mod Roots
 pub mod Seen

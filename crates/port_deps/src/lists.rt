@@ -15,7 +15,7 @@ pub struct Root {
 
 impl Model for Root {
     ghost use Rattle.std.specs.Prelude.{string_bytes};
-    ghost use Rattle.port_deps.specs.Lists.{RootValue};
+    ghost use Rattle.port_deps.specs.Roots.{RootValue};
 
     ghost Value = { RootValue };
 
@@ -54,7 +54,7 @@ pub struct RootEdge {
 
 impl Model for RootEdge {
     ghost use Rattle.std.specs.Prelude.{string_bytes};
-    ghost use Rattle.port_deps.specs.Lists.{RootEdgeValue};
+    ghost use Rattle.port_deps.specs.Roots.{RootEdgeValue};
 
     ghost Value = { RootEdgeValue };
 

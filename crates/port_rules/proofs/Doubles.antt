@@ -5,6 +5,7 @@ use Rattle.std.proofs.lemmas.Cmp.{nat_list_eq_equiv}
 use Rattle.std.proofs.lemmas.List.{map-append, take_more, take-append-drop}
 use Rattle.std.proofs.lemmas.List.Folds.{list_any-append}
 use Rattle.std.specs.Str.{bytes_eq}
+use Rattle.general_facts.specs.Bools.{or_swap}
 use Rattle.mk_env.specs.Expansion.{is_among}
 use Rattle.port_rules.specs.Packages.{has_double}
 
@@ -69,16 +70,10 @@ pub new : (is_new held : Bool) → is_new ≡ not held → is_new ≡ true → h
 new is_new true is fresh = absurd (false≢true (sym is ∙ fresh))
 new is_new false is fresh = refl
 
-swap : (a b : Bool) → (a || (b || false)) ≡ (b || a)
-swap true true = refl
-swap true false = refl
-swap false true = refl
-swap false false = refl
-
 -- which texts stand among the items, with one more
 pub is_among-more : (items : List (String Global)) (i : ℕ) (item : String Global) (text : List ℕ) → i < length items → item ≡ get_or items i item
     → is_among text (map string_bytes (take (i + 1) items)) ≡ (bytes_eq text (string_bytes item) || is_among text (map string_bytes (take i items)))
 is_among-more items i item text below is =
     ap (is_among text) (with-one-more items i item below is)
     ∙ list_any-append (bytes_eq text) (map string_bytes (take i items)) (string_bytes item ∷ [])
-    ∙ swap (is_among text (map string_bytes (take i items))) (bytes_eq text (string_bytes item))
+    ∙ or_swap (is_among text (map string_bytes (take i items))) (bytes_eq text (string_bytes item))

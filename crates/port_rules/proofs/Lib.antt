@@ -1,4 +1,3 @@
 pub mod Exits
 pub mod Everywhere
 pub mod Doubles
-pub mod TextLookups

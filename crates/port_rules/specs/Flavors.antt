@@ -9,7 +9,7 @@ use Rattle.mk_base.specs.Meter.{Meter}
 use Rattle.mk_base.specs.Outcome.{Work, give, fail, ◌>>=◌}
 use Rattle.mk_env.specs.Texts.{Variables}
 use Rattle.mk_env.specs.Expansion.{is_among}
-use Rattle.port_rules.specs.Values.{asked_lowered}
+use Rattle.port_rules.specs.Values.{lowercase_words}
 
 -- the flavors that are chosen, and those that a port has: the flavors proper, and those that leave no mark
 -- in a package's name
@@ -28,8 +28,8 @@ known flavors = if has_chosen flavors then give flavors else fail kinds.Flavor
 
 unfoldable pub flavors_of : Variables → Work Meter FaultKind FlavorsValue
 flavors_of variables m =
-    (asked_lowered variables (codes "FLAVOR") >>= λ chosen. asked_lowered variables (codes "FLAVORS")
-    >>= λ proper. asked_lowered variables (codes "PSEUDO_FLAVORS")
+    (lowercase_words variables (codes "FLAVOR") >>= λ chosen. lowercase_words variables (codes "FLAVORS")
+    >>= λ proper. lowercase_words variables (codes "PSEUDO_FLAVORS")
     >>= λ pseudo. known (record { chosen = chosen; proper = proper; pseudo = pseudo })) m
 
 -- the marks of flavors in a package's name: those of the port's proper flavors that are chosen, in the

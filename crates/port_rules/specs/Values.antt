@@ -46,8 +46,8 @@ asked_text variables name m = (value variables name >>= λ found. give (text_of 
 unfoldable pub asked_words : Variables → List ℕ → Work Meter FaultKind (List (List ℕ))
 asked_words variables name m = (value variables name >>= λ found. give (words_of (text_of found))) m
 
-unfoldable pub asked_lowered : Variables → List ℕ → Work Meter FaultKind (List (List ℕ))
-asked_lowered variables name m = (value variables name >>= λ found. give (words_of (str_to_ascii_lowercase (text_of found)))) m
+unfoldable pub lowercase_words : Variables → List ℕ → Work Meter FaultKind (List (List ℕ))
+lowercase_words variables name m = (value variables name >>= λ found. give (words_of (str_to_ascii_lowercase (text_of found)))) m
 
 -- the text of a variable for a package, and its words
 unfoldable pub package_text : Variables → List ℕ → List ℕ → Work Meter FaultKind (List ℕ)

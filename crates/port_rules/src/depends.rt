@@ -1,11 +1,11 @@
 //! What a port depends on.
 ghost use Rattle.std.specs.Prelude.{◌≡◌, ◌++◌, [], map, string_bytes, OnOk};
 ghost use Rattle.mk_base.specs.Outcome.{each};
-ghost use Rattle.mk_base.specs.Stopping.{Gives, NeverStore};
+ghost use Rattle.mk_base.specs.Stopping.{GivesPurely};
 ghost use Rattle.port_rules.specs.Depends as depends;
 
 use crate::values::{asked_words, package_words};
-use mk_base::{Budget, FaultKind, Stop};
+use mk_base::{Budget, FaultKind, PureStop};
 use mk_env::Env;
 use std::alloc::{AllocError, Global};
 use std::marker::Model;
@@ -85,9 +85,8 @@ pub(crate) fn read_depends(
     variables: &Env,
     subpackages: &[String],
     budget: &mut Budget,
-) -> Result<Vec<Depend>, Stop<FaultKind>>
-    ensures store { NeverStore result }
-    ensures gives { Gives (λ found. found.items) result budget.new
+) -> Result<Vec<Depend>, PureStop<FaultKind>>
+    ensures { GivesPurely (λ found. found.items) result budget.new
         (depends.depends_of variables.now (map string_bytes subpackages.now) budget.old) }
 {
     let build = asked_words(alloc, variables, "BUILD_DEPENDS", budget)?;
@@ -106,9 +105,8 @@ fn add_each(
     found: &mut Vec<Depend>,
     subpackages: &[String],
     budget: &mut Budget,
-) -> Result<(), Stop<FaultKind>>
-    ensures store { NeverStore result }
-    ensures gives { Gives (λ _. found.new.items) result budget.new
+) -> Result<(), PureStop<FaultKind>>
+    ensures { GivesPurely (λ _. found.new.items) result budget.new
         (each (depends.add_depends variables.now) found.old.items
         (map string_bytes subpackages.now) budget.old) }
 {
@@ -126,9 +124,8 @@ fn add_depends(
     found: &mut Vec<Depend>,
     subpackage: &str,
     budget: &mut Budget,
-) -> Result<(), Stop<FaultKind>>
-    ensures store { NeverStore result }
-    ensures gives { Gives (λ _. found.new.items) result budget.new
+) -> Result<(), PureStop<FaultKind>>
+    ensures { GivesPurely (λ _. found.new.items) result budget.new
         (depends.add_depends variables.now found.old.items subpackage.now budget.old) }
 {
     let lib = package_words(alloc, variables, "LIB_DEPENDS", subpackage, budget)?;

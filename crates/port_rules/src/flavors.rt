@@ -1,14 +1,14 @@
 //! The flavors of a port.
 ghost use Rattle.std.specs.Prelude.{◌≡◌, ◌||◌, map, string_bytes, IfOk};
 ghost use Rattle.std.specs.List.{list_all};
-ghost use Rattle.mk_base.specs.Stopping.{Gives, NeverStore};
+ghost use Rattle.mk_base.specs.Stopping.{GivesPurely};
 ghost use Rattle.text_parts.specs.Cuts.{now_all};
 ghost use Rattle.port_rules.specs.TextSets.{holds};
 ghost use Rattle.port_rules.specs.Flavors as flavors;
 
 use crate::text_sets::TextSet;
-use crate::values::asked_lowered;
-use mk_base::{Budget, FaultKind, Stop};
+use crate::values::lowercase_words;
+use mk_base::{Budget, FaultKind, PureStop};
 use mk_env::Env;
 use std::alloc::{AllocError, Global};
 use std::marker::Model;
@@ -104,20 +104,19 @@ pub(crate) fn read_flavors(
     alloc: Global,
     variables: &Env,
     budget: &mut Budget,
-) -> Result<PortFlavors, Stop<FaultKind>>
-    ensures store { NeverStore result }
-    ensures gives { Gives (λ x. x) result budget.new (flavors.flavors_of variables.now budget.old) }
+) -> Result<PortFlavors, PureStop<FaultKind>>
+    ensures { GivesPurely (λ x. x) result budget.new (flavors.flavors_of variables.now budget.old) }
 {
-    let chosen = asked_lowered(alloc, variables, "FLAVOR", budget)?;
-    let proper = asked_lowered(alloc, variables, "FLAVORS", budget)?;
-    let pseudo = asked_lowered(alloc, variables, "PSEUDO_FLAVORS", budget)?;
+    let chosen = lowercase_words(alloc, variables, "FLAVOR", budget)?;
+    let proper = lowercase_words(alloc, variables, "FLAVORS", budget)?;
+    let pseudo = lowercase_words(alloc, variables, "PSEUDO_FLAVORS", budget)?;
     let flavors = PortFlavors {
         chosen,
         proper,
         pseudo,
     };
     if !flavors.has_chosen(alloc)? {
-        return Err(Stop::Fault(FaultKind::Flavor));
+        return Err(PureStop::Fault(FaultKind::Flavor));
     }
     Ok(flavors)
 }

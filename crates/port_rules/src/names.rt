@@ -2,13 +2,13 @@
 ghost use Rattle.std.specs.Prelude.{◌≡◌, ◌<◌, ◌++◌, ◌∷◌, option_map, string_bytes, IfOk, OnOk, OnErr};
 ghost use Rattle.std.specs.List.{flat_map};
 ghost use Rattle.mk_base.specs.Meter.{Meter};
-ghost use Rattle.mk_base.specs.Stopping.{Gives, GivesOnly, NeverStore};
+ghost use Rattle.mk_base.specs.Stopping.{GivesOnly, GivesPurely};
 ghost use Rattle.text_parts.specs.Cuts.{now_all};
 ghost use Rattle.pkg_name.specs.Name.{split_name, dash};
 ghost use Rattle.port_rules.specs.Packages as packages;
 
 use crate::values::{ending, package_value, value, value_or, with_ending};
-use mk_base::{Budget, FaultKind, Stop};
+use mk_base::{Budget, FaultKind, PureStop};
 use mk_env::Env;
 use pkg_name::{NameFault, PkgName};
 use std::alloc::{AllocError, Global};
@@ -26,9 +26,8 @@ pub(crate) fn full_name(
     marks: &[&str],
     subpackage: &str,
     budget: &mut Budget,
-) -> Result<PkgName, Stop<FaultKind>>
-    ensures store { NeverStore result }
-    ensures gives { Gives (λ x. x) result budget.new
+) -> Result<PkgName, PureStop<FaultKind>>
+    ensures { GivesPurely (λ x. x) result budget.new
         (packages.full_name variables.now (now_all marks.now) subpackage.now budget.old) }
 {
     let own = with_ending(alloc, "FULLPKGNAME", subpackage)?;
@@ -39,10 +38,9 @@ pub(crate) fn full_name(
 }
 
 /// The full name that FULLPKGNAME is.
-fn whole_name(alloc: Global, text: String) -> Result<PkgName, Stop<FaultKind>>
-    ensures store { NeverStore result }
-    ensures gives { (m : Meter)
-        → Gives (λ x. x) result m (packages.whole_name (string_bytes text) m) }
+fn whole_name(alloc: Global, text: String) -> Result<PkgName, PureStop<FaultKind>>
+    ensures { (m : Meter)
+        → GivesPurely (λ x. x) result m (packages.whole_name (string_bytes text) m) }
 {
     let text = present(Some(text))?;
     read_name(alloc, text.as_str())
@@ -56,9 +54,8 @@ fn default_name(
     marks: &[&str],
     subpackage: &str,
     budget: &mut Budget,
-) -> Result<PkgName, Stop<FaultKind>>
-    ensures store { NeverStore result }
-    ensures gives { Gives (λ x. x) result budget.new
+) -> Result<PkgName, PureStop<FaultKind>>
+    ensures { GivesPurely (λ x. x) result budget.new
         (packages.default_name variables.now (now_all marks.now) subpackage.now budget.old) }
 {
     let base = package_base(alloc, variables, subpackage, budget)?;
@@ -73,9 +70,8 @@ fn package_base(
     variables: &Env,
     subpackage: &str,
     budget: &mut Budget,
-) -> Result<Option<String>, Stop<FaultKind>>
-    ensures store { NeverStore result }
-    ensures gives { Gives (option_map string_bytes) result budget.new
+) -> Result<Option<String>, PureStop<FaultKind>>
+    ensures { GivesPurely (option_map string_bytes) result budget.new
         (packages.package_base variables.now subpackage.now budget.old) }
 {
     let own = with_ending(alloc, "PKGNAME", subpackage)?;
@@ -115,15 +111,14 @@ fn present(found: Option<String>) -> Result<String, FaultKind>
 }
 
 /// The name that a text is.
-fn read_name(alloc: Global, text: &str) -> Result<PkgName, Stop<FaultKind>>
-    ensures store { NeverStore result }
-    ensures gives { (m : Meter)
-        → Gives (λ x. x) result m (packages.readable (split_name text.now) m) }
+fn read_name(alloc: Global, text: &str) -> Result<PkgName, PureStop<FaultKind>>
+    ensures { (m : Meter)
+        → GivesPurely (λ x. x) result m (packages.readable (split_name text.now) m) }
 {
     match PkgName::split(alloc, text) {
         Ok(name) => Ok(name),
-        Err(NameFault::NoName) => Err(Stop::Fault(FaultKind::BadName)),
-        Err(NameFault::Memory) => Err(Stop::Memory),
+        Err(NameFault::NoName) => Err(PureStop::Fault(FaultKind::BadName)),
+        Err(NameFault::Memory) => Err(PureStop::Memory),
     }
 }
 
@@ -136,9 +131,8 @@ fn made_name(
     subpackage: &str,
     base: &str,
     budget: &mut Budget,
-) -> Result<PkgName, Stop<FaultKind>>
-    ensures store { NeverStore result }
-    ensures gives { Gives (λ x. x) result budget.new
+) -> Result<PkgName, PureStop<FaultKind>>
+    ensures { GivesPurely (λ x. x) result budget.new
         (packages.made_name variables.now (now_all marks.now) subpackage.now base.now budget.old) }
 {
     let revision = package_value(alloc, variables, "REVISION", subpackage, budget)?;

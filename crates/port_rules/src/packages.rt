@@ -1,7 +1,7 @@
 //! The packages of a port.
 ghost use Rattle.std.specs.Prelude.{◌≡◌, map, string_bytes, IfOk};
 ghost use Rattle.std.specs.List.{list_all};
-ghost use Rattle.mk_base.specs.Stopping.{Gives, NeverStore};
+ghost use Rattle.mk_base.specs.Stopping.{GivesPurely};
 ghost use Rattle.text_parts.specs.Cuts.{now_all};
 ghost use Rattle.port_rules.specs.Flavors.{marks_of};
 ghost use Rattle.port_rules.specs.Packages as packages;
@@ -10,7 +10,7 @@ use crate::flavors::PortFlavors;
 use crate::names::full_name;
 use crate::text_sets::has_double;
 use crate::values::{asked_words, package_text};
-use mk_base::{Budget, FaultKind, Stop};
+use mk_base::{Budget, FaultKind, PureStop};
 use mk_env::Env;
 use pkg_name::PkgName;
 use std::alloc::{AllocError, Global};
@@ -66,14 +66,13 @@ pub(crate) fn read_subpackages(
     alloc: Global,
     variables: &Env,
     budget: &mut Budget,
-) -> Result<Vec<String>, Stop<FaultKind>>
-    ensures store { NeverStore result }
-    ensures gives { Gives (λ found. map string_bytes found.items) result budget.new
+) -> Result<Vec<String>, PureStop<FaultKind>>
+    ensures { GivesPurely (λ found. map string_bytes found.items) result budget.new
         (packages.subpackages_of variables.now budget.old) }
 {
     let mut names = asked_words(alloc, variables, "MULTI_PACKAGES", budget)?;
     if !are_subpackages(alloc, &names)? {
-        return Err(Stop::Fault(FaultKind::BadName));
+        return Err(PureStop::Fault(FaultKind::BadName));
     }
     if names.is_empty() {
         names.push(String::from_str(alloc, "-")?)?;
@@ -114,9 +113,8 @@ pub(crate) fn read_packages(
     flavors: &PortFlavors,
     subpackages: &[String],
     budget: &mut Budget,
-) -> Result<Vec<Package>, Stop<FaultKind>>
-    ensures store { NeverStore result }
-    ensures gives { Gives (λ found. found.items) result budget.new
+) -> Result<Vec<Package>, PureStop<FaultKind>>
+    ensures { GivesPurely (λ found. found.items) result budget.new
         (packages.packages_of variables.now (marks_of flavors.now)
         (map string_bytes subpackages.now) budget.old) }
 {
@@ -131,9 +129,8 @@ fn read_each(
     marks: &[&str],
     subpackages: &[String],
     budget: &mut Budget,
-) -> Result<Vec<Package>, Stop<FaultKind>>
-    ensures store { NeverStore result }
-    ensures gives { Gives (λ found. found.items) result budget.new
+) -> Result<Vec<Package>, PureStop<FaultKind>>
+    ensures { GivesPurely (λ found. found.items) result budget.new
         (packages.packages_of variables.now (now_all marks.now)
         (map string_bytes subpackages.now) budget.old) }
 {
@@ -151,9 +148,8 @@ fn read_package(
     marks: &[&str],
     subpackage: &str,
     budget: &mut Budget,
-) -> Result<Package, Stop<FaultKind>>
-    ensures store { NeverStore result }
-    ensures gives { Gives (λ x. x) result budget.new
+) -> Result<Package, PureStop<FaultKind>>
+    ensures { GivesPurely (λ x. x) result budget.new
         (packages.package_of variables.now (now_all marks.now) subpackage.now budget.old) }
 {
     let name = full_name(alloc, variables, marks, subpackage, budget)?;

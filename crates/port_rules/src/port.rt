@@ -1,13 +1,13 @@
 //! The record of a port.
 ghost use Rattle.std.specs.Prelude.{◌≡◌, map, string_bytes};
-ghost use Rattle.mk_base.specs.Stopping.{Gives, NeverStore};
+ghost use Rattle.mk_base.specs.Stopping.{GivesPurely};
 ghost use Rattle.port_rules.specs.Ports as ports;
 
 use crate::depends::{Depend, read_depends};
 use crate::flavors::{PortFlavors, read_flavors};
 use crate::packages::{Package, read_packages, read_subpackages};
 use crate::values::{asked_text, asked_words};
-use mk_base::{Budget, FaultKind, Stop};
+use mk_base::{Budget, FaultKind, PureStop};
 use mk_env::Env;
 use std::alloc::Global;
 use std::marker::Model;
@@ -91,9 +91,8 @@ pub(crate) fn read_port(
     alloc: Global,
     variables: &Env,
     budget: &mut Budget,
-) -> Result<PortRecord, Stop<FaultKind>>
-    ensures store { NeverStore result }
-    ensures gives { Gives (λ x. x) result budget.new (ports.port_of variables.now budget.old) }
+) -> Result<PortRecord, PureStop<FaultKind>>
+    ensures { GivesPurely (λ x. x) result budget.new (ports.port_of variables.now budget.old) }
 {
     let flavors = read_flavors(alloc, variables, budget)?;
     let subpackages = read_subpackages(alloc, variables, budget)?;

@@ -1,12 +1,11 @@
 //! Records of ports, each in a budget of its own.
 ghost use Rattle.std.specs.Prelude.{◌≡◌};
-ghost use Rattle.mk_base.specs.Stopping.{NeverStore};
 ghost use Rattle.mk_eval.specs.Telling as telling;
 ghost use Rattle.port_rules.specs.Records.{record_of};
 
 use crate::port::{PortRecord, read_port};
-use mk_base::{Budget, Fault, Stop, UNITS};
-use mk_eval::{Evaluated, Failed};
+use mk_base::{Budget, PureStop, UNITS};
+use mk_eval::{Evaluated, Failed, with_units};
 use mk_paths::Name;
 use std::alloc::Global;
 
@@ -32,9 +31,12 @@ pub struct Recorded {
 /// is neither in it nor in FLAVORS. After MULTI_PACKAGES it is `BadName` if a word of it isn't a dash
 /// and a name, or is there twice. It is `NoName` if a package has no name, or an empty one, and
 /// `BadName` if its name can't be a package's name. The other error is that memory runs out.
-pub fn record(alloc: Global, evaluated: &Evaluated, name: &Name) -> Result<Recorded, Stop<Failed>>
-    ensures record { telling.Tells (λ x. x) result (record_of evaluated.now.env name.now) }
-    ensures store { NeverStore result }
+pub fn record(
+    alloc: Global,
+    evaluated: &Evaluated,
+    name: &Name,
+) -> Result<Recorded, PureStop<Failed>>
+    ensures record { telling.TellsPurely (λ x. x) result (record_of evaluated.now.env name.now) }
 {
     let mut budget = Budget::new(UNITS);
     match read_port(alloc, &evaluated.env, &mut budget) {
@@ -44,18 +46,7 @@ pub fn record(alloc: Global, evaluated: &Evaluated, name: &Name) -> Result<Recor
         }),
         Err(stop) => {
             let stop = stop.blame(alloc, name.as_str(), 0);
-            Err(with_cost(stop, budget.spent()))
+            Err(with_units(stop, budget.spent()))
         }
-    }
-}
-
-/// The stop; a fault gets the units that were spent.
-fn with_cost(stop: Stop<Fault>, cost: u64) -> Stop<Failed>
-    ensures { result ≡ telling.with_cost cost stop }
-{
-    match stop {
-        Stop::Fault(fault) => Stop::Fault(Failed { fault, cost }),
-        Stop::Store => Stop::Store,
-        Stop::Memory => Stop::Memory,
     }
 }

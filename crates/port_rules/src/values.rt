@@ -1,11 +1,11 @@
 //! Variables that are asked for a record, over its one budget.
 ghost use Rattle.std.specs.Prelude.{◌≡◌, ◌++◌, map, option_map, string_bytes, IfOk};
 ghost use Rattle.std.specs.Str.{str_to_ascii_lowercase};
-ghost use Rattle.mk_base.specs.Stopping.{Gives, NeverStore};
+ghost use Rattle.mk_base.specs.Stopping.{GivesPurely};
 ghost use Rattle.mk_text.specs.Words.{words_of};
 ghost use Rattle.port_rules.specs.Values as values;
 
-use mk_base::{Budget, FaultKind, Stop};
+use mk_base::{Budget, FaultKind, PureStop};
 use mk_env::{Env, expand_variable};
 use mk_text::words;
 use std::alloc::{AllocError, Global};
@@ -17,9 +17,8 @@ pub(crate) fn value(
     variables: &Env,
     name: &str,
     budget: &mut Budget,
-) -> Result<Option<String>, Stop<FaultKind>>
-    ensures store { NeverStore result }
-    ensures gives { Gives (option_map string_bytes) result budget.new
+) -> Result<Option<String>, PureStop<FaultKind>>
+    ensures { GivesPurely (option_map string_bytes) result budget.new
         (values.value variables.now name.now budget.old) }
 {
     if !variables.defined(name) {
@@ -37,9 +36,8 @@ pub(crate) fn value_or(
     name: &str,
     other: &str,
     budget: &mut Budget,
-) -> Result<Option<String>, Stop<FaultKind>>
-    ensures store { NeverStore result }
-    ensures gives { Gives (option_map string_bytes) result budget.new
+) -> Result<Option<String>, PureStop<FaultKind>>
+    ensures { GivesPurely (option_map string_bytes) result budget.new
         (values.value_or variables.now name.now other.now budget.old) }
 {
     match value(alloc, variables, name, budget)? {
@@ -56,9 +54,8 @@ pub(crate) fn package_value(
     name: &str,
     subpackage: &str,
     budget: &mut Budget,
-) -> Result<Option<String>, Stop<FaultKind>>
-    ensures store { NeverStore result }
-    ensures gives { Gives (option_map string_bytes) result budget.new
+) -> Result<Option<String>, PureStop<FaultKind>>
+    ensures { GivesPurely (option_map string_bytes) result budget.new
         (values.package_value variables.now name.now subpackage.now budget.old) }
 {
     let own = with_ending(alloc, name, subpackage)?;
@@ -87,9 +84,8 @@ pub(crate) fn asked_text(
     variables: &Env,
     name: &str,
     budget: &mut Budget,
-) -> Result<String, Stop<FaultKind>>
-    ensures store { NeverStore result }
-    ensures gives { Gives string_bytes result budget.new
+) -> Result<String, PureStop<FaultKind>>
+    ensures { GivesPurely string_bytes result budget.new
         (values.asked_text variables.now name.now budget.old) }
 {
     let found = value(alloc, variables, name, budget)?;
@@ -103,9 +99,8 @@ pub(crate) fn asked_words(
     variables: &Env,
     name: &str,
     budget: &mut Budget,
-) -> Result<Vec<String>, Stop<FaultKind>>
-    ensures store { NeverStore result }
-    ensures gives { Gives (λ found. map string_bytes found.items) result budget.new
+) -> Result<Vec<String>, PureStop<FaultKind>>
+    ensures { GivesPurely (λ found. map string_bytes found.items) result budget.new
         (values.asked_words variables.now name.now budget.old) }
 {
     let found = value(alloc, variables, name, budget)?;
@@ -114,16 +109,15 @@ pub(crate) fn asked_words(
 }
 
 /// The words of a variable, their letters lowered.
-#[tactic(auto, unfolding(crate::specs::Values::asked_lowered))]
-pub(crate) fn asked_lowered(
+#[tactic(auto, unfolding(crate::specs::Values::lowercase_words))]
+pub(crate) fn lowercase_words(
     alloc: Global,
     variables: &Env,
     name: &str,
     budget: &mut Budget,
-) -> Result<Vec<String>, Stop<FaultKind>>
-    ensures store { NeverStore result }
-    ensures gives { Gives (λ found. map string_bytes found.items) result budget.new
-        (values.asked_lowered variables.now name.now budget.old) }
+) -> Result<Vec<String>, PureStop<FaultKind>>
+    ensures { GivesPurely (λ found. map string_bytes found.items) result budget.new
+        (values.lowercase_words variables.now name.now budget.old) }
 {
     let found = value(alloc, variables, name, budget)?;
     let text = text_of(alloc, found);
@@ -139,9 +133,8 @@ pub(crate) fn package_text(
     name: &str,
     subpackage: &str,
     budget: &mut Budget,
-) -> Result<String, Stop<FaultKind>>
-    ensures store { NeverStore result }
-    ensures gives { Gives string_bytes result budget.new
+) -> Result<String, PureStop<FaultKind>>
+    ensures { GivesPurely string_bytes result budget.new
         (values.package_text variables.now name.now subpackage.now budget.old) }
 {
     let found = package_value(alloc, variables, name, subpackage, budget)?;
@@ -156,9 +149,8 @@ pub(crate) fn package_words(
     name: &str,
     subpackage: &str,
     budget: &mut Budget,
-) -> Result<Vec<String>, Stop<FaultKind>>
-    ensures store { NeverStore result }
-    ensures gives { Gives (λ found. map string_bytes found.items) result budget.new
+) -> Result<Vec<String>, PureStop<FaultKind>>
+    ensures { GivesPurely (λ found. map string_bytes found.items) result budget.new
         (values.package_words variables.now name.now subpackage.now budget.old) }
 {
     let found = package_value(alloc, variables, name, subpackage, budget)?;

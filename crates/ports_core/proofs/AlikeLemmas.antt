@@ -1,6 +1,7 @@
 -- Two runs with the same requests of a tenant.
-use Rattle.std.proofs.Common.{◌≡◌, ℕ, List, [], ◌∷◌, ◌++◌, length, refl, sym, ap, ◌∙◌, inl, inr, arith, append-nil}
+use Rattle.std.proofs.Common.{◌≡◌, ℕ, List, [], ◌∷◌, ◌++◌, refl, sym, ap, ◌∙◌, inl, inr, append-nil}
 use Rattle.std.specs.Prelude.{map}
+use Rattle.std.proofs.lemmas.List.{nil_from_length}
 use Rattle.ports_http.specs.Messages.{ReplyMessage}
 use Rattle.ports_plain.specs.Plain.{PlainRequest, plain}
 use Rattle.ports_core.specs.declared.event.Event.{Event}
@@ -25,10 +26,6 @@ replies-plain_run (queued_request ∷ queued_requests) world = ap (λ rs. (plain
 pub map-append : {X Y : Type 0} (f : X → Y) (xs ys : List X) → map f (xs ++ ys) ≡ map f xs ++ map f ys
 map-append f [] ys = refl
 map-append f (x ∷ xs) ys = ap (λ zs. f x ∷ zs) (map-append f xs ys)
-
-pub no_elements : {X : Type 0} (xs : List X) → length xs ≡ 0 → xs ≡ []
-no_elements [] e = refl
-no_elements (x ∷ xs) e = absurd (omega arith)
 
 -- of two fronts of one list, one begins the other
 pub fronts : {X : Type 0} (xs ys ls bs : List X) → xs ++ ls ≡ ys ++ bs → AreAlike xs ys
@@ -59,8 +56,8 @@ told_alike keys other_keys t u events other_events steps others service other to
     record {
       alike = fronts (replies_to t steps) (replies_to u others) _ _ all;
       whole = λ none none_there.
-          let no_later : told.later ≡ [] = no_elements told.later (told.waiting ∙ none) in
-          let no_later_there : told_there.later ≡ [] = no_elements told_there.later (told_there.waiting ∙ none_there) in
+          let no_later : told.later ≡ [] = nil_from_length told.later (told.waiting ∙ none) in
+          let no_later_there : told_there.later ≡ [] = nil_from_length told_there.later (told_there.waiting ∙ none_there) in
           sym (append-nil (replies_to t steps))
           ∙ ap (λ (ls : List (ℕ × ReplyMessage)). replies_to t steps ++ map (λ (answer : ℕ × ReplyMessage). answer.1) ls) (sym no_later)
           ∙ all

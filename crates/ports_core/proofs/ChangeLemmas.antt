@@ -1,6 +1,7 @@
 -- What each event does to the slices and to the connections: all that proofs about runs see of it.
-use Rattle.std.proofs.Common.{◌≡◌, ◌<◌, ◌≤◌, ℕ, Bool, true, false, List, ◌∷◌, ◌++◌, Option, Some, None, refl, sym, ap, subst, ◌∙◌, inl, inr, arith}
+use Rattle.std.proofs.Common.{◌≡◌, ◌<◌, ◌≤◌, ℕ, Bool, false, List, ◌∷◌, ◌++◌, Option, Some, None, refl, sym, ap, subst, ◌∙◌, inl, inr, arith}
 use Rattle.std.specs.Prelude.{◌⊎◌, ◌&&◌, MatchBool, MatchOption, is_none, option_map}
+use Rattle.general_facts.specs.Bools.{and_false}
 use Rattle.ports_core.specs.declared.event.Event.{Event}
 use Rattle.ports_core.specs.declared.event.Event.TheVariants.{Open, Piece, End, Fault, Wrote, Turn}
 use Rattle.ports_core.specs.declared.event.Told.{Told}
@@ -12,15 +13,15 @@ use Rattle.ports_core.specs.Keys.{tenant_of}
 use Rattle.mk_paths.specs.World.{World}
 use Rattle.ports_core.specs.Slices.{Slice, Queue, joined, sliced}
 use Rattle.ports_core.specs.Connections.{new_connection, hears, is_empty}
-use Rattle.ports_core.specs.Taking.{Taken, Nothing, Whole, Refusal, Lost, TakesOff, told_of_tenant, told_at_once, entering}
+use Rattle.ports_core.specs.Taking.{Taken, Nothing, Whole, Refusal, Lost, TakesOff, told_of_tenant, refused_at_once, entering}
 use Rattle.ports_core.specs.Telling.{in_turn}
 use Rattle.ports_core.specs.Opened.{KeepsConnections, KeepsOthers}
 use Rattle.ports_core.specs.Books.{TellsOn, BookOpens, BookTurns, BookStep}
 use Rattle.ports_core.specs.State.{State, keys_of, next_of, world_at, queue_at, slice_of, book_of, connection_of, IsAllowed}
-use Rattle.ports_core.specs.Steps.{Does, Hears, Turns, Opens}
+use Rattle.ports_core.specs.Steps.{Does, Hears, Turns, Opens, keys_stay}
 use Rattle.ports_core.specs.Changes.{KeepsSlices, Enters, FirstLeaves, ChangesSlices}
 use Rattle.ports_core.proofs.Lists.{none_some, some_same}
-use Rattle.ports_core.proofs.TakingLemmas.{nothing_behind}
+use Rattle.ports_core.proofs.TakingLemmas.{nothing_after}
 
 -- a world and a queue behind which requests wait
 sliced-joined : (queued_requests : List QueuedRequest) (world : Option World) (queue : Option Queue) → sliced world (option_map (λ (q : Queue). q ++ queued_requests) queue) ≡ option_map (joined queued_requests) (sliced world queue)
@@ -46,7 +47,7 @@ of_tenant : (c : ℕ) (place : Option ℕ) → ToNone (told_of_tenant c place)
 of_tenant c None = refl
 of_tenant c (Some tenant) = tt
 
-at_once_to_none : (keys : List (List ℕ)) (c : ℕ) (taken : Taken) → ToNone (told_at_once keys c taken)
+at_once_to_none : (keys : List (List ℕ)) (c : ℕ) (taken : Taken) → ToNone (refused_at_once keys c taken)
 at_once_to_none keys c Nothing = tt
 at_once_to_none keys c (Whole request) = of_tenant c (tenant_of keys request.key)
 at_once_to_none keys c (Refusal fault) = refl
@@ -58,26 +59,22 @@ enters event c told old new h = record {
   slices = λ t. ap (λ w. sliced w (queue_at t new)) (h.worlds t) ∙ ap (sliced (world_at t old)) (h.queues t) ∙ sliced-joined (entering (keys_of old) c h.taken t) (world_at t old) (queue_at t old);
 }
 
-and-false : (b : Bool) → (b && false) ≡ false
-and-false true = refl
-and-false false = refl
-
 -- nothing is taken off a connection that is lost
-lost_rests : (c : ℕ) (told : Told) (old new : State) (h : Hears (Fault c) c told old new) → KeepsSlices told h.taken old new
-lost_rests c told old new h =
+lost_and_stays : (c : ℕ) (told : Told) (old new : State) (h : Hears (Fault c) c told old new) → KeepsSlices told h.taken old new
+lost_and_stays c told old new h =
     let connection : Connection = hears (Fault c) h.hears.connection in
     let P : Bool → Type 0 = λ b. MatchBool b (TakesOff connection.stream h.taken h.hears.takes.stream) ((h.taken ≡ Nothing) × (h.hears.takes.stream ≡ connection.stream)) in
-    let busy : P false = subst P (and-false (is_none connection.waits && is_empty connection.pending)) h.hears.takes.stands in
+    let busy : P false = subst P (and_false (is_none connection.waits && is_empty connection.pending)) h.hears.takes.stands in
     record {
       nothing = busy.0;
-      silent = h.hears.takes.told_is ∙ ap (told_at_once (keys_of old) c) busy.0;
+      silent = h.hears.takes.told_is ∙ ap (refused_at_once (keys_of old) c) busy.0;
       slices = λ t. same_slice t old new (h.worlds t)
-          (h.queues t ∙ ap (λ k. option_map (λ (q : Queue). q ++ entering (keys_of old) c k t) (queue_at t old)) busy.0 ∙ sym (nothing_behind (queue_at t old)));
+          (h.queues t ∙ ap (λ k. option_map (λ (q : Queue). q ++ entering (keys_of old) c k t) (queue_at t old)) busy.0 ∙ sym (nothing_after (queue_at t old)));
     }
 
-opens_rests : (told : Told) (old new : State) → Opens told old new → KeepsSlices told Nothing old new
-opens_rests told old new (inl h) = record { nothing = refl; silent = h.reply; slices = λ t. same_slice t old new (h.worlds t) (h.queues t) }
-opens_rests told old new (inr h) = record { nothing = refl; silent = h.reply; slices = λ t. same_slice t old new (h.same.worlds t) (h.same.queues t) }
+opens_and_stays : (told : Told) (old new : State) → Opens told old new → KeepsSlices told Nothing old new
+opens_and_stays told old new (inl h) = record { nothing = refl; silent = h.reply; slices = λ t. same_slice t old new (h.worlds t) (h.queues t) }
+opens_and_stays told old new (inr h) = record { nothing = refl; silent = h.reply; slices = λ t. same_slice t old new (h.same.worlds t) (h.same.queues t) }
 
 turns_change : (t : ℕ) (told : Told) (old new : State) → Turns t told old new → KeepsSlices told Nothing old new ⊎ FirstLeaves t told Nothing old new
 turns_change t told old new (inl h) = inl (record { nothing = refl; silent = h.reply; slices = λ u. same_slice u old new (h.same.worlds u) (h.same.queues u) })
@@ -110,10 +107,10 @@ taken_by (Turn t) told old new does = Nothing
 -- the table of changes
 changes : (event : Event) (told : Told) (old new : State) (does : Does event told old new) → ChangesSlices event told (taken_by event told old new does) old new
 unfolding taken_by
-changes (Open c) told old new does = opens_rests told old new does
+changes (Open c) told old new does = opens_and_stays told old new does
 changes (Piece c bytes) told old new does = enters (Piece c bytes) c told old new does
 changes (End c) told old new does = enters (End c) c told old new does
-changes (Fault c) told old new does = lost_rests c told old new does
+changes (Fault c) told old new does = lost_and_stays c told old new does
 changes (Wrote c count) told old new does = enters (Wrote c count) c told old new does
 changes (Turn t) told old new does = turns_change t told old new does
 
@@ -147,17 +144,7 @@ books (Fault c) told old new allowed does = does.hears
 books (Wrote c count) told old new allowed does = does.hears
 books (Turn t) told old new allowed does = (refl, turns_book t told old new does)
 
--- the keys stay, and numbers are given in order
-keys_stay : (event : Event) (told : Told) (old new : State) → Does event told old new → keys_of new ≡ keys_of old
-keys_stay (Open c) told old new (inl h) = h.keys
-keys_stay (Open c) told old new (inr h) = h.same.keeps.keys
-keys_stay (Piece c bytes) told old new h = h.keeps.keys
-keys_stay (End c) told old new h = h.keeps.keys
-keys_stay (Fault c) told old new h = h.keeps.keys
-keys_stay (Wrote c count) told old new h = h.keeps.keys
-keys_stay (Turn t) told old new (inl h) = h.same.keeps.keys
-keys_stay (Turn t) told old new (inr h) = h.keeps.keys
-
+-- numbers are given in order
 next_grows : (event : Event) (told : Told) (old new : State) → Does event told old new → next_of old ≤ next_of new
 next_grows (Open c) told old new (inl h) = omega (arith, h.next)
 next_grows (Open c) told old new (inr h) = omega (arith, h.same.keeps.next)

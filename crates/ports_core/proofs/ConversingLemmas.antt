@@ -21,7 +21,7 @@ use Rattle.ports_core.specs.Keys.{tenant_of}
 use Rattle.ports_core.specs.Slices.{Slice, Queue, waiting_of, joined}
 use Rattle.ports_core.specs.Connections.{new_connection, hears, answered, kept, is_ready, room_on, count_off, Fits}
 use Rattle.ports_core.specs.Telling.{at_once, in_turn}
-use Rattle.ports_core.specs.Taking.{Taken, Nothing, Whole, Refusal, Lost, TakesOff, IsTaken, connection_after, told_of_tenant, told_at_once, entering}
+use Rattle.ports_core.specs.Taking.{Taken, Nothing, Whole, Refusal, Lost, TakesOff, IsTaken, connection_after, told_of_tenant, refused_at_once, entering}
 use Rattle.ports_core.specs.State.{State, keys_of, slice_of, connection_of, book_of, next_of, IsAllowed}
 use Rattle.ports_core.specs.Changes.{KeepsSlices, FirstLeaves, ChangesSlices}
 use Rattle.ports_core.specs.Books.{HearsOn, TellsOn, BookTurns}
@@ -33,7 +33,7 @@ use Rattle.ports_core.proofs.TalkLemmas.{Talk, talk_fed, talk_quiet, talk_sent, 
 use Rattle.ports_core.proofs.Lists.{none_some, some_same, option_from}
 use Rattle.ports_core.proofs.QueueLemmas.{queued_requests_of, queued_request, queued_requests_at, queued_requests_after}
 use Rattle.ports_core.proofs.ChangeLemmas.{IsSeen}
-use Rattle.ports_core.proofs.StandingLemmas.{Queued, Holds, IsConnection, Stands, settles, reply_waits, idle_behind, told_here, told_there, takes}
+use Rattle.ports_core.proofs.ConversesLemmas.{Queued, Holds, IsConnection, Stands, settles, reply_waits, idle_after, told_here, told_there, takes}
 
 pub no_length : (bytes : List ℕ) → length bytes ≤ 0 → bytes ≡ []
 no_length [] e = refl
@@ -206,19 +206,19 @@ hears_moves keys Plain c event step taken old mid keys_are allowed heard h enter
     let took = takes keys Plain c (came ++ came_in c event) (sent ++ sent_in c event step) tells (hears event is.connection) old mid now stream taken stands slices in
     let after_is : connection_after keys taken (record (hears event is.connection) { stream = stream }) ≡ h.after =
     sym (h.takes.connection_is ∙ ap (λ ks. connection_after ks taken (record (hears event h.connection) { stream = stream })) keys_are ∙ ap (λ l. connection_after keys taken (record (hears event l) { stream = stream })) connection_is) in
-    let told_is : told_in c (told_at_once keys c taken) ≡ told_in c step.told.reply =
-    ap (told_in c) (sym (h.takes.told_is ∙ ap (λ ks. told_at_once ks c taken) keys_are)) in
+    let told_is : told_in c (refused_at_once keys c taken) ≡ told_in c step.told.reply =
+    ap (told_in c) (sym (h.takes.told_is ∙ ap (λ ks. refused_at_once ks c taken) keys_are)) in
     settles keys Plain c (came ++ came_in c event) (sent ++ sent_in c event step) (tells ++ told_in c step.told.reply) h.after mid h.connection_is (omega (arith, next, is.below))
-    (λ came_some. subst (λ l. is_ready l ≡ true → TakesOff l.stream Nothing l.stream) after_is (idle_behind keys (hears event is.connection) taken stream stands))
+    (λ came_some. subst (λ l. is_ready l ≡ true → TakesOff l.stream Nothing l.stream) after_is (idle_after keys (hears event is.connection) taken stream stands))
     (subst (λ ts. IsConnection keys Plain c (came ++ came_in c event) (sent ++ sent_in c event step) (tells ++ ts) h.after mid) told_is
-    (subst (λ l. IsConnection keys Plain c (came ++ came_in c event) (sent ++ sent_in c event step) (tells ++ told_in c (told_at_once keys c taken)) l mid) after_is took))
+    (subst (λ l. IsConnection keys Plain c (came ++ came_in c event) (sent ++ sent_in c event step) (tells ++ told_in c (refused_at_once keys c taken)) l mid) after_is took))
 
 -- what is told at once goes to the connection that asked
 told_of : (c d : ℕ) (place : Option ℕ) → d ≢ c → told_in c (told_of_tenant d place) ≡ []
 told_of c d None apart = told_there c (at_once d unknown_key) apart
 told_of c d (Some tenant) apart = refl
 
-told_by : (keys : List (List ℕ)) (c d : ℕ) (taken : Taken) → d ≢ c → told_in c (told_at_once keys d taken) ≡ []
+told_by : (keys : List (List ℕ)) (c d : ℕ) (taken : Taken) → d ≢ c → told_in c (refused_at_once keys d taken) ≡ []
 told_by keys c d Nothing apart = refl
 told_by keys c d (Whole request) apart = told_of c d (tenant_of keys request.key) apart
 told_by keys c d (Refusal fault) apart = told_there c (at_once d (fault_reply fault)) apart

@@ -2,6 +2,7 @@
 use Rattle.std.proofs.Common.{◌≡◌, ℕ, false, List, [], ◌∷◌, ◌++◌, length, Option, All, refl, sym, ap, ◌∙◌, append-nil}
 use Rattle.std.specs.Prelude.{map, if◌then◌else◌, option_map, unwrap_or}
 use Rattle.std.proofs.lemmas.List.Elements.{All-head, All-tail}
+use Rattle.std.proofs.lemmas.List.{nil_from_length}
 use Rattle.ports_http.specs.Messages.{ReplyMessage}
 use Rattle.ports_plain.specs.Plain.{PlainRequest, plain}
 use Rattle.ports_core.specs.declared.event.Event.{Event}
@@ -17,7 +18,7 @@ use Rattle.ports_core.specs.Plainly.{told_to, own_of, plain_world}
 use Rattle.ports_core.specs.Alike.{requests_of, replies_to}
 use Rattle.ports_core.specs.Isolation.{IsServedPlainly, NoneFails, EqualSlicesAreToldAlike}
 use Rattle.ports_core.proofs.ChangeLemmas.{slice_parts}
-use Rattle.ports_core.proofs.AlikeLemmas.{replies_from, replies-plain_run, map-append, no_elements, fronts}
+use Rattle.ports_core.proofs.AlikeLemmas.{replies_from, replies-plain_run, map-append, fronts}
 
 -- the world behind a list of requests, whichever connections asked
 unfoldable pub world_from : World → List PlainRequest → World
@@ -59,7 +60,7 @@ module _ (t : ℕ) (slice : Slice) (events : List Event) (steps : List Effect) (
       ∙ map-append (λ (w : QueuedRequest). plain_request_of w.request) served.answered served.last.1
 
   pub none_waits : waiting_at t new ≡ 0 → served.last.1 ≡ []
-  none_waits none = no_elements served.last.1 (sym (ap (λ (o : Option Queue). unwrap_or (option_map length o) 0) (slice_parts (world_at t new) (queue_at t new) served.last served.last_is).1) ∙ none)
+  none_waits none = nil_from_length served.last.1 (sym (ap (λ (o : Option Queue). unwrap_or (option_map length o) 0) (slice_parts (world_at t new) (queue_at t new) served.last served.last_is).1) ∙ none)
 
 pub equal_slices_alike : EqualSlicesAreToldAlike
 equal_slices_alike t u slice other_slice events other_events steps others old new other_old other_new served there equal same fine fine_there =

@@ -3,8 +3,9 @@ use Rattle.std.proofs.Common.{◌≡◌, ◌<◌, ℕ, ◌+◌, Bool, List, leng
 use Rattle.std.specs.Prelude.{position, not, ◌&&◌, bytes_eq, String, string_bytes, string_eq}
 use Rattle.std.specs.List.{list_any, list_all}
 use Rattle.std.proofs.lemmas.List.Folds.{list_all-map}
+use Rattle.general_facts.specs.Lists.{list_any-map}
 use Rattle.ports_core.specs.Keys.{key_texts, tenant_of, are_apart}
-use Rattle.ports_core.proofs.Lists.{position-map, list_any-map, length-map, take-rest}
+use Rattle.ports_core.proofs.Lists.{position-map, length-map, take-rest}
 
 -- the place among the keys is that among their texts
 pub tenant_of_place : {Z : Type 0} (keys : List (String Z)) (bytes key : List ℕ) (place : Option ℕ) → place ≡ position (λ known. bytes_eq (string_bytes known) bytes) keys → bytes ≡ key → place ≡ tenant_of (key_texts keys) (Some key)

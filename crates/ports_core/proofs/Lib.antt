@@ -13,7 +13,7 @@ mod RunsServe
 mod AlikeLemmas
 mod IsolationLemmas
 mod TalkLemmas
-mod StandingLemmas
+mod ConversesLemmas
 mod PlaceLemmas
 mod ConversingLemmas
 mod LostLemmas

@@ -4,6 +4,8 @@ use Rattle.std.proofs.Common.{◌≡◌, ◌≢◌, ◌<◌, ◌≤◌, ◌-◌,
 use Rattle.std.specs.Prelude.{◌==◌, ◌&&◌, not, map, is_none, option_map, option_and_then, MatchBool, MatchOption, if◌then◌else◌, Vec}
 use Rattle.std.specs.declared.alloc.Global.{Global}
 use Rattle.std.proofs.lemmas.Bool.{cases_eq, and_parts}
+use Rattle.general_facts.specs.Options.{None_from_is_none}
+use Rattle.general_facts.specs.Bools.{and_false}
 use Rattle.ports_http.specs.Messages.{RequestMessage, ReplyMessage}
 use Rattle.ports_http.specs.Limits.{unread_limit}
 use Rattle.ports_http.specs.Incoming.{room_of}
@@ -18,7 +20,7 @@ use Rattle.ports_core.specs.Effects.{Effect}
 use Rattle.ports_core.specs.Slices.{Slice, waiting_of, joined}
 use Rattle.ports_core.specs.Connections.{new_connection, hears, answered, kept, is_done, is_ready, is_empty, room_on, count_off, Fits}
 use Rattle.ports_core.specs.Telling.{in_turn}
-use Rattle.ports_core.specs.Taking.{Taken, Nothing, TakesOff, TakesNext, told_at_once, connection_after, entering}
+use Rattle.ports_core.specs.Taking.{Taken, Nothing, TakesOff, TakesNext, refused_at_once, connection_after, entering}
 use Rattle.ports_core.specs.Opened.{OpenAnd, KeepsConnections, KeepsOthers}
 use Rattle.ports_core.specs.Books.{HearsOn, TellsOn, BookTurns}
 use Rattle.ports_core.specs.State.{State, keys_of, slice_of, connection_of, book_of, next_of, IsAllowed}
@@ -29,9 +31,9 @@ use Rattle.ports_core.proofs.Numbers.{other_number}
 use Rattle.ports_core.proofs.Lists.{none_some, some_same, option_from}
 use Rattle.ports_core.proofs.QueueLemmas.{queued_requests_of, queued_request, queued_requests_at}
 use Rattle.ports_core.proofs.ChangeLemmas.{IsSeen}
-use Rattle.ports_core.proofs.PlaceLemmas.{hears_waits, none_waits}
+use Rattle.ports_core.proofs.PlaceLemmas.{hears_waits}
 use Rattle.ports_core.proofs.TalkLemmas.{LostTalk, talk_lost, lost_answered}
-use Rattle.ports_core.proofs.StandingLemmas.{Queued, Holds, Stands, told_here}
+use Rattle.ports_core.proofs.ConversesLemmas.{Queued, Holds, Stands, told_here}
 use Rattle.ports_core.proofs.ConversingLemmas.{no_length, drop_nil, sent_first, Untouched, hears_untouched, rests_untouched, none_enters, rest_none, first_in_queue, first_waits, answered_there, answers_in_turn, EachIsPlain}
 
 -- nothing is pending on a lost connection, and its stream is over
@@ -46,7 +48,7 @@ LostAt None waits = waits ≡ None
 LostAt (Some connection) waits = IsLostConnection connection × (connection.waits ≡ waits)
 
 -- where a lost connection stands
-pub record StandsLost (keys : List (List ℕ)) (Plain : ℕ → QueuedRequest → ReplyMessage → Type 0) (c : ℕ) (came sent : List ℕ) (tells : List Tell) (state : State) : Type 0 where
+pub record ConversesLost (keys : List (List ℕ)) (Plain : ℕ → QueuedRequest → ReplyMessage → Type 0) (c : ℕ) (came sent : List ℕ) (tells : List Tell) (state : State) : Type 0 where
   pub below : c < next_of state
   pub waits : Option ℕ
   pub waiting : List RequestMessage
@@ -62,10 +64,6 @@ take_nil (suc n) = refl
 if_nil : {X : Type 0} (b : Bool) (xs : List X) → xs ≡ [] → (if b then xs else []) ≡ []
 if_nil true xs none = none
 if_nil false xs none = refl
-
-and-false : (b : Bool) → (b && false) ≡ false
-and-false true = refl
-and-false false = refl
 
 -- it stays lost
 lost_hears : (event : Event) (connection : Connection) → IsLostConnection connection → IsLostConnection (hears event connection)
@@ -88,7 +86,7 @@ lost_kept : (connection : Connection) (o : Option Connection) → o ≡ kept con
 lost_kept connection o is lost =
     let P : Bool → Type 0 = λ b. is_done connection ≡ b → o ≡ (if b then None else Some connection) → LostAt o connection.waits in
     elim (is_done connection) as P [
-      | true ↦ λ done none. subst (λ (p : Option Connection). LostAt p connection.waits) (sym none) (none_waits connection.waits (and_parts _ _ (and_parts _ _ done).0).0)
+      | true ↦ λ done none. subst (λ (p : Option Connection). LostAt p connection.waits) (sym none) (None_from_is_none connection.waits (and_parts _ _ (and_parts _ _ done).0).0)
       | false ↦ λ done some. subst (λ (p : Option Connection). LostAt p connection.waits) (sym some) (lost, refl)
     ] refl is
 
@@ -96,25 +94,25 @@ lost_kept connection o is lost =
 lost_taken : (keys : List (List ℕ)) (c : ℕ) (taken : Taken) (told : Option Tell) (connection after : Connection) → IsLostConnection connection → TakesNext keys c taken told connection after → (taken ≡ Nothing) × (told ≡ None) × (after ≡ connection)
 lost_taken keys c taken told connection after is takes =
     let front : Bool = is_none connection.waits && is_empty connection.pending in
-    let busy : is_ready connection ≡ false = ap (λ b. front && not b) is.lost ∙ and-false front in
+    let busy : is_ready connection ≡ false = ap (λ b. front && not b) is.lost ∙ and_false front in
     let stays = subst (λ b. MatchBool b (TakesOff connection.stream taken takes.stream) ((taken ≡ Nothing) × (takes.stream ≡ connection.stream))) busy takes.stands in (
       stays.0,
-      takes.told_is ∙ ap (told_at_once keys c) stays.0,
+      takes.told_is ∙ ap (refused_at_once keys c) stays.0,
       takes.connection_is ∙ ap (λ k. connection_after keys k (record connection { stream = takes.stream })) stays.0 ∙ ap (λ s. record connection { stream = s }) stays.1,
     )
 
 module _ (keys : List (List ℕ)) (Plain : ℕ → QueuedRequest → ReplyMessage → Type 0) (c : ℕ) (event : Event) (step : Effect) (old mid : State) where
   -- where nothing comes, is sent or is told
   lost_silent : (came sent : List ℕ) (tells : List Tell) → came_in c event ≡ [] → sent_in c event step ≡ [] → told_in c step.told.reply ≡ []
-      → StandsLost keys Plain c came sent tells mid → StandsLost keys Plain c (came ++ came_in c event) (sent ++ sent_in c event step) (tells ++ told_in c step.told.reply) mid
+      → ConversesLost keys Plain c came sent tells mid → ConversesLost keys Plain c (came ++ came_in c event) (sent ++ sent_in c event step) (tells ++ told_in c step.told.reply) mid
   lost_silent came sent tells no_bytes none_sent none_told stands =
-      subst (λ bs. StandsLost keys Plain c bs (sent ++ sent_in c event step) (tells ++ told_in c step.told.reply) mid) (sym (ap (λ bs. came ++ bs) no_bytes ∙ append-nil came))
-      (subst (λ bs. StandsLost keys Plain c came bs (tells ++ told_in c step.told.reply) mid) (sym (ap (λ bs. sent ++ bs) none_sent ∙ append-nil sent))
-      (subst (λ ts. StandsLost keys Plain c came sent ts mid) (sym (ap (λ ts. tells ++ ts) none_told ∙ append-nil tells)) stands))
+      subst (λ bs. ConversesLost keys Plain c bs (sent ++ sent_in c event step) (tells ++ told_in c step.told.reply) mid) (sym (ap (λ bs. came ++ bs) no_bytes ∙ append-nil came))
+      (subst (λ bs. ConversesLost keys Plain c came bs (tells ++ told_in c step.told.reply) mid) (sym (ap (λ bs. sent ++ bs) none_sent ∙ append-nil sent))
+      (subst (λ ts. ConversesLost keys Plain c came sent ts mid) (sym (ap (λ ts. tells ++ ts) none_told ∙ append-nil tells)) stands))
 
   -- nothing happens to it
-  lost_on : (came sent : List ℕ) (tells : List Tell) → Untouched c event step old mid → StandsLost keys Plain c came sent tells old
-      → StandsLost keys Plain c (came ++ came_in c event) (sent ++ sent_in c event step) (tells ++ told_in c step.told.reply) mid
+  lost_on : (came sent : List ℕ) (tells : List Tell) → Untouched c event step old mid → ConversesLost keys Plain c came sent tells old
+      → ConversesLost keys Plain c (came ++ came_in c event) (sent ++ sent_in c event step) (tells ++ told_in c step.told.reply) mid
   lost_on came sent tells h is = lost_silent came sent tells h.came h.sent h.told (record {
     below = omega (arith, is.below, h.next);
     waits = is.waits;
@@ -129,7 +127,7 @@ module _ (keys : List (List ℕ)) (Plain : ℕ → QueuedRequest → ReplyMessag
   lost_heard : (taken : Taken) (came sent : List ℕ) (tells : List Tell) → OpenAnd (connection_of c old) (Fits event)
       → ((connection : Connection) → connection_of c old ≡ Some connection → IsLostConnection connection → Fits event connection → (came_in c event ≡ []) × (sent_in c event step ≡ []))
       → HearsOn (keys_of old) event c step.told taken (book_of old) (book_of mid) → ((u : ℕ) → slice_of u mid ≡ option_map (joined (entering (keys_of old) c taken u)) (slice_of u old)) → next_of old ≤ next_of mid
-      → StandsLost keys Plain c came sent tells old → StandsLost keys Plain c (came ++ came_in c event) (sent ++ sent_in c event step) (tells ++ told_in c step.told.reply) mid
+      → ConversesLost keys Plain c came sent tells old → ConversesLost keys Plain c (came ++ came_in c event) (sent ++ sent_in c event step) (tells ++ told_in c step.told.reply) mid
   lost_heard taken came sent tells allowed silent h enters next is =
       let at : LostAt (Some h.connection) is.waits = subst (λ (o : Option Connection). LostAt o is.waits) h.was_open is.at in
       let fits : Fits event h.connection = subst (λ (o : Option Connection). OpenAnd o (Fits event)) h.was_open allowed in
@@ -158,7 +156,7 @@ waits_for keys (Some t) waiting pending over (request, one, key_is, none, over_i
 
 -- a connection is lost
 pub is_lost : (keys : List (List ℕ)) (Plain : ℕ → QueuedRequest → ReplyMessage → Type 0) (c : ℕ) (step : Effect) (old mid : State) (came sent : List ℕ) (tells : List Tell) → IsSeen (Fault c) step.told old mid
-    → Stands keys Plain c came sent tells old → StandsLost keys Plain c (came ++ []) (sent ++ []) (tells ++ told_in c step.told.reply) mid
+    → Stands keys Plain c came sent tells old → ConversesLost keys Plain c (came ++ []) (sent ++ []) (tells ++ told_in c step.told.reply) mid
 is_lost keys Plain c step old mid came sent tells s (inr is) = absurd (none_some (sym is.at ∙ s.books.was_open))
 is_lost keys Plain c step old mid came sent tells s (inl is) =
     let h = s.books in
@@ -189,7 +187,7 @@ lost_answers (Some connection) p waits reply at is =
 
 lost_turn : (keys : List (List ℕ)) (Plain : ℕ → QueuedRequest → ReplyMessage → Type 0) (c t : ℕ) (step : Effect) (taken : Taken) (old mid : State) (came sent : List ℕ) (tells : List Tell) (h : FirstLeaves t step.told taken old mid)
     → TellsOn h.tell (book_of old) (book_of mid) → next_of old ≤ next_of mid → Plain t h.first h.tell.reply → h.first.conn ≡ c
-    → StandsLost keys Plain c came sent tells old → StandsLost keys Plain c (came ++ []) (sent ++ []) (tells ++ told_in c step.told.reply) mid
+    → ConversesLost keys Plain c came sent tells old → ConversesLost keys Plain c (came ++ []) (sent ++ []) (tells ++ told_in c step.told.reply) mid
 lost_turn keys Plain c t step taken old mid came sent tells h book next plain here is =
     let reply = h.tell.reply in
     let conn_is : h.tell.conn ≡ c = h.to_asker ∙ here in
@@ -204,7 +202,7 @@ lost_turn keys Plain c t step taken old mid came sent tells h book next plain he
     let talk : LostTalk keys Plain c came sent tells (request ∷ []) = subst (λ ws. LostTalk keys Plain c came sent tells ws) holds.1 is.talk in
     let connection_is : connection_of c mid ≡ option_and_then kept (option_map (answered reply) (connection_of c old)) =
     ap (λ d. connection_of d mid) (sym conn_is) ∙ book.connection_is ∙ ap (λ d. option_and_then kept (option_map (answered reply) (connection_of d old))) conn_is in
-    let stands : StandsLost keys Plain c came sent (tells ++ tell ∷ []) mid = record {
+    let stands : ConversesLost keys Plain c came sent (tells ++ tell ∷ []) mid = record {
       below = omega (arith, is.below, next);
       waits = None;
       waiting = [];
@@ -218,14 +216,14 @@ lost_turn keys Plain c t step taken old mid came sent tells h book next plain he
           (λ other. is.queued u slice (sym (h.others u other) ∙ was) ∙ ap (λ w. queued_requests_at c u w is.waiting) first.0
           ∙ ap (λ b. if b then map (queued_request c) is.waiting else []) (other_number t u (λ e. other (sym e)))) (cases_eq u t);
     } in
-    subst (λ bs. StandsLost keys Plain c bs (sent ++ []) (tells ++ told_in c step.told.reply) mid) (sym (append-nil came))
-    (subst (λ bs. StandsLost keys Plain c came bs (tells ++ told_in c step.told.reply) mid) (sym (append-nil sent))
-    (subst (λ ts. StandsLost keys Plain c came sent (tells ++ ts) mid) (sym told) stands))
+    subst (λ bs. ConversesLost keys Plain c bs (sent ++ []) (tells ++ told_in c step.told.reply) mid) (sym (append-nil came))
+    (subst (λ bs. ConversesLost keys Plain c came bs (tells ++ told_in c step.told.reply) mid) (sym (append-nil sent))
+    (subst (λ ts. ConversesLost keys Plain c came sent (tells ++ ts) mid) (sym told) stands))
 
 -- what an event does to a lost connection
 abbrev pub LostMoves : List (List ℕ) → (ℕ → QueuedRequest → ReplyMessage → Type 0) → ℕ → Event → Effect → State → State → Type 0
-LostMoves keys Plain c event step old mid = (came sent : List ℕ) (tells : List Tell) → StandsLost keys Plain c came sent tells old
-    → StandsLost keys Plain c (came ++ came_in c event) (sent ++ sent_in c event step) (tells ++ told_in c step.told.reply) mid
+LostMoves keys Plain c event step old mid = (came sent : List ℕ) (tells : List Tell) → ConversesLost keys Plain c came sent tells old
+    → ConversesLost keys Plain c (came ++ came_in c event) (sent ++ sent_in c event step) (tells ++ told_in c step.told.reply) mid
 
 lost_heard_by : (keys : List (List ℕ)) (Plain : ℕ → QueuedRequest → ReplyMessage → Type 0) (c d : ℕ) (event : Event) (step : Effect) (taken : Taken) (old mid : State) → OpenAnd (connection_of d old) (Fits event)
     → ((connection : Connection) → connection_of d old ≡ Some connection → IsLostConnection connection → Fits event connection → (came_in d event ≡ []) × (sent_in d event step ≡ []))

@@ -20,7 +20,7 @@ use Rattle.ports_core.specs.Effects.{Effect}
 use Rattle.ports_core.specs.Keys.{tenant_of}
 use Rattle.ports_core.specs.Connections.{new_connection, hears, answered, kept, is_ready, with_pending}
 use Rattle.ports_core.specs.Telling.{at_once}
-use Rattle.ports_core.specs.Taking.{Taken, Nothing, Whole, Refusal, Lost, TakesOff, IsTaken, told_of_tenant, told_at_once, connection_after, entering}
+use Rattle.ports_core.specs.Taking.{Taken, Nothing, Whole, Refusal, Lost, TakesOff, IsTaken, told_of_tenant, refused_at_once, connection_after, entering}
 use Rattle.ports_core.specs.Opened.{Book, no_connections, KeepsConnections, KeepsOthers}
 use Rattle.ports_core.specs.Books.{HearsOn, TellsOn, BookStep, conn_of, TakesIn, OneListIsTaken}
 use Rattle.ports_core.proofs.Lists.{none_some, some_same}
@@ -64,7 +64,7 @@ pub record SameTaking (keys : List (List ℕ)) (c : ℕ) (connection : Connectio
   pub connection_is : connection_after keys taken (record connection { stream = new }) ≡ connection_after keys other (record connection { stream = after })
 
 module _ (keys : List (List ℕ)) (c : ℕ) (connection : Connection) (new after : Incoming) where
-  both_take : (taken other : Taken) → TakesOff connection.stream taken new → TakesOff connection.stream other after → told_at_once keys c taken ≡ told_at_once keys c other
+  both_take : (taken other : Taken) → TakesOff connection.stream taken new → TakesOff connection.stream other after → refused_at_once keys c taken ≡ refused_at_once keys c other
       → SameTaking keys c connection taken other new after
   both_take Nothing Nothing a b told = record { enters = λ t. refl; connection_is = ap (λ s. record connection { stream = s }) (a.0 ∙ sym b.0) }
   both_take Nothing (Whole request) a b told = absurd (nothing_not_whole connection.stream new after request a b)
@@ -101,7 +101,7 @@ module _ (keys : List (List ℕ)) (c : ℕ) (connection : Connection) (new after
             ∙ ap (λ k. with_pending (reply_text store_failed k) (record connection { stream = after })) closes;
       }
 
-  same_taking : (taken other : Taken) → IsTaken connection taken new → IsTaken connection other after → told_at_once keys c taken ≡ told_at_once keys c other
+  same_taking : (taken other : Taken) → IsTaken connection taken new → IsTaken connection other after → refused_at_once keys c taken ≡ refused_at_once keys c other
       → SameTaking keys c connection taken other new after
   same_taking taken other a b told =
       let P : Bool → Type 0 = λ k. MatchBool k (TakesOff connection.stream taken new) ((taken ≡ Nothing) × (new ≡ connection.stream))
@@ -130,7 +130,7 @@ same_hears : (keys : List (List ℕ)) (event : Event) (c : ℕ) (told : Told) (t
 same_hears keys event c told taken other old was new after same h k =
     let connection : k.connection ≡ h.connection = some_same (sym k.was_open ∙ sym (same c) ∙ h.was_open) in
     let stands : IsTaken (hears event h.connection) other k.takes.stream = subst (λ l. IsTaken (hears event l) other k.takes.stream) connection k.takes.stands in
-    let told_same : told_at_once keys c taken ≡ told_at_once keys c other = sym h.takes.told_is ∙ k.takes.told_is in
+    let told_same : refused_at_once keys c taken ≡ refused_at_once keys c other = sym h.takes.told_is ∙ k.takes.told_is in
     let takes = same_taking keys c (hears event h.connection) h.takes.stream k.takes.stream taken other h.takes.stands stands told_same in
     let after_is : h.after ≡ k.after =
     h.takes.connection_is ∙ takes.connection_is ∙ ap (λ l. connection_after keys other (record (hears event l) { stream = k.takes.stream })) (sym connection) ∙ sym k.takes.connection_is in
@@ -170,10 +170,10 @@ same_lists : (keys : List (List ℕ)) (t : ℕ) (events : List Event) (steps : L
 same_lists keys t [] [] old was all others same a b = a ∙ sym b
 same_lists keys t [] (step ∷ steps) old was all others same a b = absurd a
 same_lists keys t (event ∷ events) [] old was all others same a b = absurd a
-same_lists keys t (event ∷ events) (step ∷ steps) old was all others same (taken, next, rest, does, all_is, later) (other, after, left, did, others_is, behind_it) =
+same_lists keys t (event ∷ events) (step ∷ steps) old was all others same (taken, next, rest, does, all_is, later) (other, after, left, did, others_is, after_it) =
     let one = same_step keys event step.told taken other old was next after same does did in
     all_is ∙ ap (λ xs. xs ++ rest) (one.enters t)
-    ∙ ap (λ xs. entering keys (conn_of event) other t ++ xs) (same_lists keys t events steps next after rest left one.books later behind_it)
+    ∙ ap (λ xs. entering keys (conn_of event) other t ++ xs) (same_lists keys t events steps next after rest left one.books later after_it)
     ∙ sym others_is
 
 pub one_list : OneListIsTaken

@@ -1,11 +1,12 @@
 -- The places in which requests wait: they suffice, and each event keeps what is true of them.
 use Rattle.std.proofs.Common.{◌≡◌, ◌≢◌, ◌<◌, ◌≤◌, ◌+◌, ℕ, zero, suc, Bool, true, false, not, List, [], ◌∷◌, ◌++◌, length, refl, sym, ap, subst, ◌∙◌, arith, eq-eqb, ⊎_elim, append-nil, Option, Some, None, filter}
-use Rattle.std.specs.Prelude.{◌==◌, All, MatchBool, Result, Ok, Err, IfOk, is_err, replicate, is_some, is_none, option_map, option_and_then, slice_get, if◌then◌else◌, unwrap_or}
+use Rattle.std.specs.Prelude.{◌==◌, All, MatchBool, Result, Ok, Err, IfOk, is_err, replicate, is_some, option_map, option_and_then, slice_get, if◌then◌else◌, unwrap_or}
 use Rattle.std.specs.Ordering.{nat_cmp, is_eq}
 use Rattle.std.proofs.Math.ListN.{set}
 use Rattle.std.proofs.lemmas.Bool.{false≢true, cases_eq, and_parts}
 use Rattle.std.proofs.lemmas.Map.Entries.{lookup_head, lookup_tail}
 use Rattle.std.proofs.lemmas.Option.{slice_get_cases, unwrap_or-slice_get}
+use Rattle.general_facts.specs.Options.{None_from_is_none}
 use Rattle.ports_http.specs.Messages.{RequestMessage, ReplyMessage}
 use Rattle.ports_http.specs.Incoming.{Incoming}
 use Rattle.ports_core.specs.declared.connection.Connection.{Connection}
@@ -167,21 +168,17 @@ hears_waits (Wrote c None) connection = refl
 hears_waits (Wrote c (Some count)) connection = refl
 hears_waits (Turn t) connection = refl
 
-pub none_waits : (waits : Option ℕ) → is_none waits ≡ true → waits ≡ None
-none_waits None e = refl
-none_waits (Some t) e = absurd (cc)
-
 pub ready_waits : (connection : Connection) → is_ready connection ≡ true → connection.waits ≡ None
-ready_waits connection ready = none_waits connection.waits (and_parts _ _ (and_parts _ _ ready).0).0
+ready_waits connection ready = None_from_is_none connection.waits (and_parts _ _ (and_parts _ _ ready).0).0
 
-pub ready_behind : (event : Event) (connection : Connection) → is_ready (hears event connection) ≡ true → connection.waits ≡ None
-ready_behind event connection ready = sym (hears_waits event connection) ∙ ready_waits (hears event connection) ready
+pub ready_after : (event : Event) (connection : Connection) → is_ready (hears event connection) ≡ true → connection.waits ≡ None
+ready_after event connection ready = sym (hears_waits event connection) ∙ ready_waits (hears event connection) ready
 
 -- a connection that closes waits for nothing
 kept_waits : (t : ℕ) (connection : Connection) → may_wait_on t (kept connection) ≡ may_wait t connection.waits
 kept_waits t connection =
     elim (is_done connection) as (λ b. is_done connection ≡ b → may_wait_on t (if b then None else Some connection) ≡ may_wait t connection.waits) [
-      | true ↦ λ done. sym (ap (may_wait t) (none_waits connection.waits (and_parts _ _ (and_parts _ _ done).0).0))
+      | true ↦ λ done. sym (ap (may_wait t) (None_from_is_none connection.waits (and_parts _ _ (and_parts _ _ done).0).0))
       | false ↦ λ open_still. refl
     ] refl
 

@@ -3,6 +3,7 @@ use Rattle.std.proofs.Common.{◌≡◌, ℕ, zero, suc, Bool, true, false, List
 use Rattle.std.specs.Prelude.{◌||◌, not, map, MatchBool, option_map, unwrap_or, slice_get}
 use Rattle.std.specs.List.{flat_map}
 use Rattle.std.proofs.lemmas.Bool.{cases_eq, false≢true, and_parts}
+use Rattle.general_facts.specs.Bools.{or_assoc}
 use Rattle.ports_http.specs.Messages.{RequestMessage, ReplyMessage}
 use Rattle.ports_http.specs.Streams as streams
 use Rattle.ports_http.specs.Incoming.{opening}
@@ -21,18 +22,18 @@ use Rattle.ports_core.proofs.Lists.{none_some, some_same}
 use Rattle.ports_core.proofs.QueueLemmas.{queued_requests_of}
 use Rattle.ports_core.proofs.ChangeLemmas.{IsSeen, seen, slice_parts}
 use Rattle.ports_core.proofs.TalkLemmas.{none_came}
-use Rattle.ports_core.proofs.StandingLemmas.{Stands}
+use Rattle.ports_core.proofs.ConversesLemmas.{Stands}
 use Rattle.ports_core.proofs.ConversingLemmas.{moves}
-use Rattle.ports_core.proofs.LostLemmas.{LostAt, StandsLost, LostMoves, lost_moves, is_lost, waits_for}
+use Rattle.ports_core.proofs.LostLemmas.{LostAt, ConversesLost, LostMoves, lost_moves, is_lost, waits_for}
 use Rattle.ports_core.proofs.PositionLemmas.{EachPlain, each_plain}
 
 -- where a connection stands, lost or not
-abbrev StandsSo : Bool → List (List ℕ) → (ℕ → QueuedRequest → ReplyMessage → Type 0) → ℕ → List ℕ → List ℕ → List Tell → State → Type 0
-StandsSo lost keys Plain c came sent tells state = MatchBool lost (StandsLost keys Plain c came sent tells state) (Stands keys Plain c came sent tells state)
+abbrev ConversesSo : Bool → List (List ℕ) → (ℕ → QueuedRequest → ReplyMessage → Type 0) → ℕ → List ℕ → List ℕ → List Tell → State → Type 0
+ConversesSo lost keys Plain c came sent tells state = MatchBool lost (ConversesLost keys Plain c came sent tells state) (Stands keys Plain c came sent tells state)
 
 -- no event of this kind is another's
 only_fault : (keys : List (List ℕ)) (Plain : ℕ → QueuedRequest → ReplyMessage → Type 0) (c : ℕ) (event : Event) (step : Effect) (old mid : State) (came sent : List ℕ) (tells : List Tell) → loses c event ≡ true → IsSeen event step.told old mid
-    → Stands keys Plain c came sent tells old → StandsLost keys Plain c (came ++ came_in c event) (sent ++ sent_in c event step) (tells ++ told_in c step.told.reply) mid
+    → Stands keys Plain c came sent tells old → ConversesLost keys Plain c (came ++ came_in c event) (sent ++ sent_in c event step) (tells ++ told_in c step.told.reply) mid
 only_fault keys Plain c (Open d) step old mid came sent tells lost s stands = absurd (false≢true lost)
 only_fault keys Plain c (Piece d bytes) step old mid came sent tells lost s stands = absurd (false≢true lost)
 only_fault keys Plain c (End d) step old mid came sent tells lost s stands = absurd (false≢true lost)
@@ -44,32 +45,28 @@ only_fault keys Plain c (Fault d) step old mid came sent tells lost s stands =
 only_fault keys Plain c (Wrote d count) step old mid came sent tells lost s stands = absurd (false≢true lost)
 only_fault keys Plain c (Turn t) step old mid came sent tells lost s stands = absurd (false≢true lost)
 
-or-same : (a b c : Bool) → ((a || b) || c) ≡ (a || (b || c))
-or-same true b c = refl
-or-same false b c = refl
-
 -- one event
 moves_so : (was_lost : Bool) (keys : List (List ℕ)) (Plain : ℕ → QueuedRequest → ReplyMessage → Type 0) (c : ℕ) (event : Event) (step : Effect) (old mid : State) (came sent : List ℕ) (tells : List Tell)
     → (Stands keys Plain c came sent tells old → loses c event ≡ false → Stands keys Plain c (came ++ came_in c event) (sent ++ sent_in c event step) (tells ++ told_in c step.told.reply) mid)
     → LostMoves keys Plain c event step old mid → IsSeen event step.told old mid
-    → StandsSo was_lost keys Plain c came sent tells old → StandsSo (was_lost || loses c event) keys Plain c (came ++ came_in c event) (sent ++ sent_in c event step) (tells ++ told_in c step.told.reply) mid
+    → ConversesSo was_lost keys Plain c came sent tells old → ConversesSo (was_lost || loses c event) keys Plain c (came ++ came_in c event) (sent ++ sent_in c event step) (tells ++ told_in c step.told.reply) mid
 moves_so true keys Plain c event step old mid came sent tells alive lost s stands = lost came sent tells stands
 moves_so false keys Plain c event step old mid came sent tells alive lost s stands =
-    elim (loses c event) as (λ b. loses c event ≡ b → StandsSo b keys Plain c (came ++ came_in c event) (sent ++ sent_in c event step) (tells ++ told_in c step.told.reply) mid) [
+    elim (loses c event) as (λ b. loses c event ≡ b → ConversesSo b keys Plain c (came ++ came_in c event) (sent ++ sent_in c event step) (tells ++ told_in c step.told.reply) mid) [
       | true ↦ λ now. only_fault keys Plain c event step old mid came sent tells now s stands
       | false ↦ λ goes. alive stands goes
     ] refl
 
 -- a whole run, from where the connection stood
 run_moves : (lost : Bool) (keys : List (List ℕ)) (Plain : ℕ → QueuedRequest → ReplyMessage → Type 0) (c : ℕ) (came sent : List ℕ) (tells : List Tell) (events : List Event) (steps : List Effect) (old new : State) → keys_of old ≡ keys
-    → (run : Run old events steps new) → EachPlain Plain events steps old new run → StandsSo lost keys Plain c came sent tells old
-    → StandsSo (lost || is_lost_in c events) keys Plain c (came ++ came_on c events) (sent ++ sent_on c events steps) (tells ++ told_on c steps) new
+    → (run : Run old events steps new) → EachPlain Plain events steps old new run → ConversesSo lost keys Plain c came sent tells old
+    → ConversesSo (lost || is_lost_in c events) keys Plain c (came ++ came_on c events) (sent ++ sent_on c events steps) (tells ++ told_on c steps) new
 run_moves lost keys Plain c came sent tells [] [] old new keys_are same plain stands =
-    subst (λ b. StandsSo b keys Plain c (came ++ []) (sent ++ []) (tells ++ []) new) (or_nothing lost)
-    (subst (λ (s : State). StandsSo lost keys Plain c (came ++ []) (sent ++ []) (tells ++ []) s) (sym same)
-    (subst (λ bs. StandsSo lost keys Plain c bs (sent ++ []) (tells ++ []) old) (sym (append-nil came))
-    (subst (λ bs. StandsSo lost keys Plain c came bs (tells ++ []) old) (sym (append-nil sent))
-    (subst (λ ts. StandsSo lost keys Plain c came sent ts old) (sym (append-nil tells)) stands))))
+    subst (λ b. ConversesSo b keys Plain c (came ++ []) (sent ++ []) (tells ++ []) new) (or_nothing lost)
+    (subst (λ (s : State). ConversesSo lost keys Plain c (came ++ []) (sent ++ []) (tells ++ []) s) (sym same)
+    (subst (λ bs. ConversesSo lost keys Plain c bs (sent ++ []) (tells ++ []) old) (sym (append-nil came))
+    (subst (λ bs. ConversesSo lost keys Plain c came bs (tells ++ []) old) (sym (append-nil sent))
+    (subst (λ ts. ConversesSo lost keys Plain c came sent ts old) (sym (append-nil tells)) stands))))
   where
     or_nothing : (b : Bool) → b ≡ (b || false)
     or_nothing true = refl
@@ -85,10 +82,10 @@ run_moves lost keys Plain c came sent tells (event ∷ events) (step ∷ steps) 
     (lost_moves keys Plain c event step old mid h.allowed h.sent s plain.0) s stands in
     let later = run_moves (lost || loses c event) keys Plain c (came ++ came_in c event) (sent ++ sent_in c event step) (tells ++ told_in c step.told.reply) events steps mid new
     (s.keys ∙ keys_are) run.2 plain.1 now in
-    subst (λ b. StandsSo b keys Plain c (came ++ came_on c (event ∷ events)) (sent ++ sent_on c (event ∷ events) (step ∷ steps)) (tells ++ told_on c (step ∷ steps)) new) (or-same lost (loses c event) (is_lost_in c events))
-    (subst (λ bs. StandsSo ((lost || loses c event) || is_lost_in c events) keys Plain c bs (sent ++ sent_on c (event ∷ events) (step ∷ steps)) (tells ++ told_on c (step ∷ steps)) new) (append_assoc came (came_in c event) (came_on c events))
-    (subst (λ bs. StandsSo ((lost || loses c event) || is_lost_in c events) keys Plain c ((came ++ came_in c event) ++ came_on c events) bs (tells ++ told_on c (step ∷ steps)) new) (append_assoc sent (sent_in c event step) (sent_on c events steps))
-    (subst (λ ts. StandsSo ((lost || loses c event) || is_lost_in c events) keys Plain c ((came ++ came_in c event) ++ came_on c events) ((sent ++ sent_in c event step) ++ sent_on c events steps) ts new) (append_assoc tells (told_in c step.told.reply) (told_on c steps)) later)))
+    subst (λ b. ConversesSo b keys Plain c (came ++ came_on c (event ∷ events)) (sent ++ sent_on c (event ∷ events) (step ∷ steps)) (tells ++ told_on c (step ∷ steps)) new) (or_assoc lost (loses c event) (is_lost_in c events))
+    (subst (λ bs. ConversesSo ((lost || loses c event) || is_lost_in c events) keys Plain c bs (sent ++ sent_on c (event ∷ events) (step ∷ steps)) (tells ++ told_on c (step ∷ steps)) new) (append_assoc came (came_in c event) (came_on c events))
+    (subst (λ bs. ConversesSo ((lost || loses c event) || is_lost_in c events) keys Plain c ((came ++ came_in c event) ++ came_on c events) bs (tells ++ told_on c (step ∷ steps)) new) (append_assoc sent (sent_in c event step) (sent_on c events steps))
+    (subst (λ ts. ConversesSo ((lost || loses c event) || is_lost_in c events) keys Plain c ((came ++ came_in c event) ++ came_on c events) ((sent ++ sent_in c event step) ++ sent_on c events steps) ts new) (append_assoc tells (told_in c step.told.reply) (told_on c steps)) later)))
 
 -- each tenant begins with an empty queue
 new_queue : (keys : List (List ℕ)) (u : ℕ) (queue : Queue) → slice_get (map (λ (key : List ℕ). let none : Queue = [] in none) keys) u ≡ Some queue → queue ≡ []
@@ -150,7 +147,7 @@ module _ (keys : List (List ℕ)) (c : ℕ) (events : List Event) (steps : List 
   lost_left None waits waiting end at request = subst (λ w. WaitsFor keys w waiting) at request
   lost_left (Some connection) waits waiting end at request = (λ here. absurd (false≢true (sym here ∙ at.0.lost)), subst (λ w. WaitsFor keys w waiting) (sym at.1) request)
 
-  lost_converses : is_lost_in c events ≡ true → StandsLost keys (IsPlainOr503 keys events steps) c (came_on c events) (sent_on c events steps) (told_on c steps) service → ConversesPlainly keys c events steps service
+  lost_converses : is_lost_in c events ≡ true → ConversesLost keys (IsPlainOr503 keys events steps) c (came_on c events) (sent_on c events steps) (told_on c steps) service → ConversesPlainly keys c events steps service
   lost_converses lost is = record {
     exchanges = is.talk.exchanges;
     end = is.talk.end;
@@ -166,9 +163,9 @@ module _ (keys : List (List ℕ)) (c : ℕ) (events : List Event) (steps : List 
 -- in a run from the beginning, each connection converses plainly
 pub run_converses : EachConnectionConverses
 run_converses keys events steps service c run =
-    let stands : StandsSo (is_lost_in c events) keys (IsPlainOr503 keys events steps) c (came_on c events) (sent_on c events steps) (told_on c steps) service =
+    let stands : ConversesSo (is_lost_in c events) keys (IsPlainOr503 keys events steps) c (came_on c events) (sent_on c events steps) (told_on c steps) service =
     run_moves false keys (IsPlainOr503 keys events steps) c [] [] [] events steps (new_state keys) service refl run (each_plain keys [] events [] steps (new_state keys) service refl run) (begins keys (IsPlainOr503 keys events steps) c) in
-    elim (is_lost_in c events) as (λ b. is_lost_in c events ≡ b → StandsSo b keys (IsPlainOr503 keys events steps) c (came_on c events) (sent_on c events steps) (told_on c steps) service → ConversesPlainly keys c events steps service) [
+    elim (is_lost_in c events) as (λ b. is_lost_in c events ≡ b → ConversesSo b keys (IsPlainOr503 keys events steps) c (came_on c events) (sent_on c events steps) (told_on c steps) service → ConversesPlainly keys c events steps service) [
       | true ↦ λ lost at. lost_converses keys c events steps service lost at
       | false ↦ λ alive at. alive_converses keys c events steps service alive at
     ] refl stands

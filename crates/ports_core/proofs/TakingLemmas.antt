@@ -14,14 +14,14 @@ use Rattle.ports_core.specs.declared.queue.QueuedRequest.{QueuedRequest}
 use Rattle.ports_core.specs.Keys.{tenant_of}
 use Rattle.ports_core.specs.Slices.{Queue}
 use Rattle.ports_core.specs.Connections.{is_ready}
-use Rattle.ports_core.specs.Taking.{Taken, Nothing, Whole, taken_of, TakesOff, IsTaken, told_at_once, connection_after, entering_of, entering, Joins, TakesNext}
+use Rattle.ports_core.specs.Taking.{Taken, Nothing, Whole, taken_of, TakesOff, IsTaken, refused_at_once, connection_after, entering_of, entering, Joins, TakesNext}
 use Rattle.ports_core.proofs.Numbers.{other_number}
 use Rattle.ports_core.proofs.Lists.{slice_get-set_same, slice_get-set_other}
 
 -- nothing waits behind a queue
-pub nothing_behind : (o : Option Queue) → o ≡ option_map (λ (queue : Queue). queue ++ []) o
-nothing_behind None = refl
-nothing_behind (Some queue) = ap Some (sym (append-nil queue))
+pub nothing_after : (o : Option Queue) → o ≡ option_map (λ (queue : Queue). queue ++ []) o
+nothing_after None = refl
+nothing_after (Some queue) = ap Some (sym (append-nil queue))
 
 -- what stands first on a connection that is ready is taken
 pub taken_of_ready : (connection : Connection) (taken : Taken) (stream : Incoming) → is_ready connection ≡ true → TakesOff connection.stream taken stream → IsTaken connection taken stream
@@ -49,7 +49,7 @@ takes_off old new (Err (Memory close)) takes = takes
 module _ (keys : List (List ℕ)) (c : ℕ) (queues : List Queue) where
   pub joins_none : (taken : Taken) → ((t : ℕ) → entering keys c taken t ≡ []) → Joins keys c taken queues queues
   joins_none taken none = λ t.
-      nothing_behind (slice_get queues t) ∙ ap (λ (ws : Queue). option_map (λ (queue : Queue). queue ++ ws) (slice_get queues t)) (sym (none t))
+      nothing_after (slice_get queues t) ∙ ap (λ (ws : Queue). option_map (λ (queue : Queue). queue ++ ws) (slice_get queues t)) (sym (none t))
 
   -- a request joins the queue of its tenant
   pub joins_at : (request : RequestMessage) (place : ℕ) (queue after : Queue) → tenant_of keys request.key ≡ Some place → place < length queues → slice_get queues place ≡ Some queue
@@ -66,7 +66,7 @@ module _ (keys : List (List ℕ)) (c : ℕ) (queues : List Queue) where
       here ∙ ap Some after_is ∙ ap (λ (o : Option Queue). option_map (λ (q : Queue). q ++ queued_request ∷ []) o) (sym there) ∙ ap behind (sym one))
       (λ apart.
       let none : entering keys c (Whole request) t ≡ [] = enters ∙ ap (λ b. if b then queued_request ∷ [] else []) (other_number place t (λ e. apart (sym e))) in
-      slice_get-set_other queues place t after apart ∙ nothing_behind (slice_get queues t) ∙ ap behind (sym none))
+      slice_get-set_other queues place t after apart ∙ nothing_after (slice_get queues t) ∙ ap behind (sym none))
       (cases_eq t place)
 
   pub takes_nothing : (connection : Connection) → is_ready connection ≡ false → (taken : Taken) × TakesNext keys c taken None connection connection × Joins keys c taken queues queues
@@ -77,7 +77,7 @@ module _ (keys : List (List ℕ)) (c : ℕ) (queues : List Queue) where
   )
 
   pub takes_answer : (connection : Connection) (stream : Incoming) (answer : Taking) (told : Option Tell) (new : Connection) (after : List Queue) → is_ready connection ≡ true → TakesOrLoses connection.stream answer stream
-      → told ≡ told_at_once keys c (taken_of answer) → new ≡ connection_after keys (taken_of answer) (record connection { stream = stream }) → Joins keys c (taken_of answer) queues after
+      → told ≡ refused_at_once keys c (taken_of answer) → new ≡ connection_after keys (taken_of answer) (record connection { stream = stream }) → Joins keys c (taken_of answer) queues after
       → (taken : Taken) × TakesNext keys c taken told connection new × Joins keys c taken queues after
   takes_answer connection stream answer told new after ready takes told_is connection_is joins = (
     taken_of answer,

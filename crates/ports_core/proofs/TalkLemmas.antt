@@ -9,7 +9,7 @@ use Rattle.ports_http.specs.Messages.{RequestMessage, ReplyMessage}
 use Rattle.ports_http.specs.Streams.{End, waiting, refused, closed, Begins, Refuses, RequestAt}
 use Rattle.ports_http.specs.Incoming.{Incoming, opening, ended, fed, behind, Removes}
 use Rattle.ports_http.specs.Replies.{reply_text, fault_reply}
-use Rattle.ports_http.proofs.StreamLaws.{requests_stay, next_request, cuts_on, closes_behind}
+use Rattle.ports_http.proofs.StreamLaws.{requests_stay, next_request, cuts_on, closes_after}
 use Rattle.ports_core.specs.declared.event.Tell.{Tell}
 use Rattle.ports_core.specs.declared.queue.QueuedRequest.{QueuedRequest}
 use Rattle.ports_core.specs.Telling.{at_once}
@@ -62,7 +62,7 @@ next_cut c came requests unread request rest begins stands =
       | true ↦ λ closing. record {
         end = closed;
         left_is = refl;
-        cut = cuts_on came requests unread (request ∷ []) closed begins (rest, stands, closes_behind rest request.close closing);
+        cut = cuts_on came requests unread (request ∷ []) closed begins (rest, stands, closes_after rest request.close closing);
         unrefused = record { told = refl; written_is = refl };
       }
       | false ↦ λ stays. record {

@@ -21,4 +21,4 @@ pub mod Replays
 pub mod OutboxView
 pub mod StepView
 pub mod QueueView
-pub mod Standing
+pub mod Consistent

@@ -1,6 +1,7 @@
 -- What each event does to a service, and what it tells: for every tenant its world and its queue, and for
 -- every connection what it is after the event.
 use Rattle.std.specs.Prelude.{◌≡◌, ◌≢◌, ◌⊎◌, ℕ, ◌+◌, false, List, [], ◌∷◌, Some, None, option_map, option_and_then, if◌then◌else◌}
+use Rattle.std.proofs.Common.{inl, inr}
 use Rattle.ports_http.specs.Messages.{ReplyMessage}
 use Rattle.ports_core.specs.declared.event.Event.{Event}
 use Rattle.ports_core.specs.declared.event.Event.TheVariants.{Open, Piece, End, Fault, Wrote, Turn}
@@ -108,3 +109,14 @@ Does (End c) told old new = Hears (End c) c told old new
 Does (Fault c) told old new = Hears (Fault c) c told old new
 Does (Wrote c count) told old new = Hears (Wrote c count) c told old new
 Does (Turn t) told old new = Turns t told old new
+
+-- no event changes the keys of the tenants
+pub keys_stay : (event : Event) (told : Told) (old new : State) → Does event told old new → keys_of new ≡ keys_of old
+keys_stay (Open c) told old new (inl h) = h.keys
+keys_stay (Open c) told old new (inr h) = h.same.keeps.keys
+keys_stay (Piece c bytes) told old new h = h.keeps.keys
+keys_stay (End c) told old new h = h.keeps.keys
+keys_stay (Fault c) told old new h = h.keeps.keys
+keys_stay (Wrote c count) told old new h = h.keeps.keys
+keys_stay (Turn t) told old new (inl h) = h.same.keeps.keys
+keys_stay (Turn t) told old new (inr h) = h.keeps.keys

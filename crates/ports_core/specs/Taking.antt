@@ -49,11 +49,11 @@ told_of_tenant c None = Some (at_once c unknown_key)
 told_of_tenant c (Some tenant) = None
 
 -- the reply that is told at once to what is taken
-abbrev pub told_at_once : List (List ℕ) → ℕ → Taken → Option Tell
-told_at_once keys c Nothing = None
-told_at_once keys c (Whole request) = told_of_tenant c (tenant_of keys request.key)
-told_at_once keys c (Refusal fault) = Some (at_once c (fault_reply fault))
-told_at_once keys c (Lost close) = Some (at_once c store_failed)
+abbrev pub refused_at_once : List (List ℕ) → ℕ → Taken → Option Tell
+refused_at_once keys c Nothing = None
+refused_at_once keys c (Whole request) = told_of_tenant c (tenant_of keys request.key)
+refused_at_once keys c (Refusal fault) = Some (at_once c (fault_reply fault))
+refused_at_once keys c (Lost close) = Some (at_once c store_failed)
 
 -- the connection after a request of this tenant, or of none: the request waits, or
 -- its refusal is to be written
@@ -91,5 +91,5 @@ Joins keys c taken old new =
 pub record TakesNext (keys : List (List ℕ)) (c : ℕ) (taken : Taken) (told : Option Tell) (old new : Connection) : Type 0 where
   pub stream : Incoming
   pub stands : IsTaken old taken stream
-  pub told_is : told ≡ told_at_once keys c taken
+  pub told_is : told ≡ refused_at_once keys c taken
   pub connection_is : new ≡ connection_after keys taken (record old { stream = stream })

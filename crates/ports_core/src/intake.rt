@@ -3,7 +3,7 @@ ghost use Rattle.std.specs.Prelude.{◌≡◌, ◌<◌, true, All, length, optio
 ghost use Rattle.ports_core.specs.Keys.{key_texts, tenant_of};
 ghost use Rattle.ports_core.specs.Connections.{is_ready};
 ghost use Rattle.ports_core.specs.Places.{HasPlace};
-ghost use Rattle.ports_core.specs.Taking.{Taken, Whole, taken_of, told_at_once, connection_after, Joins, TakesNext};
+ghost use Rattle.ports_core.specs.Taking.{Taken, Whole, taken_of, refused_at_once, connection_after, Joins, TakesNext};
 
 use crate::connection::Connection;
 use crate::event::Tell;
@@ -45,7 +45,7 @@ fn settle(
 ) -> Option<Tell>
     requires keyed { length queues.old ≡ length keys.now }
     requires places { All HasPlace queues.old }
-    ensures told { result ≡ told_at_once (key_texts keys.now) conn (taken_of answer) }
+    ensures told { result ≡ refused_at_once (key_texts keys.now) conn (taken_of answer) }
     ensures connection { connection.new
         ≡ connection_after (key_texts keys.now) (taken_of answer) connection.old }
     ensures queues { Joins (key_texts keys.now) conn (taken_of answer) queues.old queues.new }
@@ -72,7 +72,7 @@ fn admit(
 ) -> Option<Tell>
     requires keyed { length queues.old ≡ length keys.now }
     requires places { All HasPlace queues.old }
-    ensures told { result ≡ told_at_once (key_texts keys.now) conn (Whole request) }
+    ensures told { result ≡ refused_at_once (key_texts keys.now) conn (Whole request) }
     ensures connection { connection.new
         ≡ connection_after (key_texts keys.now) (Whole request) connection.old }
     ensures queues { Joins (key_texts keys.now) conn (Whole request) queues.old queues.new }

@@ -78,9 +78,9 @@ impl<K: Tenants> Model for Service<K> {
 
     ghost view = { λ s. (key_texts s.keys.items, K.worlds s.worlds, s.queues.items, s.connections.entries, s.next) };
 
-    ghost use Rattle.ports_core.specs.Standing.{IsStanding};
+    ghost use Rattle.ports_core.specs.Consistent.{IsConsistent};
 
-    ghost invariant = { λ s. IsStanding (length s.keys.items) (K.worlds s.worlds) s.queues.items s.connections.entries s.next };
+    ghost invariant = { λ s. IsConsistent (length s.keys.items) (K.worlds s.worlds) s.queues.items s.connections.entries s.next };
 }
 
 impl<K: Tenants> Service<K> {

@@ -110,13 +110,13 @@ removes old new stream request size begun same stands after = record {
   begun = begun;
   rest = drop size stream;
   stands = rw same stands;
-  after = after ∙ passed_behind request.close;
+  after = after ∙ passed_after request.close;
 }
   where
-    passed_behind : (close : Bool) → passed old size close
+    passed_after : (close : Bool) → passed old size close
         ≡ (if close then ended else record { unread = drop size stream; over = false })
-    passed_behind true = refl
-    passed_behind false = λ i. record { unread = drop size (same i); over = begun i }
+    passed_after true = refl
+    passed_after false = λ i. record { unread = drop size (same i); over = begun i }
 
 -- a connection that isn't over waits as its unread bytes do
 pub waits_unless_over : (incoming : Incoming) (stream : List ℕ) → incoming.over ≡ false → incoming.unread ≡ stream

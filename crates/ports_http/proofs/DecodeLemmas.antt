@@ -9,8 +9,8 @@ use Rattle.ports_http.specs.declared.stream.StreamEnd.TheVariants as ends
 use Rattle.ports_http.specs.Messages.{RequestMessage}
 use Rattle.ports_http.specs.Streams.{RequestAt, Waits, waiting, refused, closed, Cuts, Begins}
 use Rattle.ports_http.specs.Incoming.{Incoming, room_of, ended, fed, Takes}
-use Rattle.ports_http.specs.Decoding.{end_of, Decodes, with_found, end_behind, IsSettled, DecodedSoFar}
-use Rattle.ports_http.proofs.StreamLaws.{requests_stay, next_request, cuts_on, cuts_stay, closes_behind, waiting_has_room}
+use Rattle.ports_http.specs.Decoding.{end_of, Decodes, with_found, end_after, IsSettled, DecodedSoFar}
+use Rattle.ports_http.proofs.StreamLaws.{requests_stay, next_request, cuts_on, cuts_stay, closes_after, waiting_has_room}
 
 -- a head has bytes
 head_has_bytes : (head : RequestHead) → 0 < length (print_request head)
@@ -53,7 +53,7 @@ request_on : (stream : List ℕ) (unread : List ℕ) (request : RequestMessage) 
     (if close then ends.Closed else ends.Waiting)
 request_on stream unread request rest requests true closing begins at =
     let last : Cuts unread (request ∷ []) closed =
-    (rest, at, closes_behind rest request.close closing) in
+    (rest, at, closes_after rest request.close closing) in
     (λ e. cc, cuts_on stream requests unread (request ∷ []) closed begins last)
 request_on stream unread request rest requests false stays begins at =
     (refl, next_request stream requests unread request rest begins at stays)
@@ -61,10 +61,10 @@ request_on stream unread request rest requests false stays begins at =
 -- what was found is decoded, too
 pub so_far_on : (stream : List ℕ) (old new : Incoming) (found : Result RequestMessage HeadFault)
     (requests : List RequestMessage) (end : StreamEnd) → Takes old (Some found) new → DecodedSoFar stream old requests end
-    → DecodedSoFar stream new (with_found requests found) (end_behind found)
+    → DecodedSoFar stream new (with_found requests found) (end_after found)
 so_far_on stream old new (Ok request) requests end takes so_far =
     let before = begun_so_far stream old requests end takes.begun so_far in
-    subst (λ (n : Incoming). DecodedSoFar stream n (requests ++ request ∷ []) (end_behind (Ok request))) (sym takes.after)
+    subst (λ (n : Incoming). DecodedSoFar stream n (requests ++ request ∷ []) (end_after (Ok request))) (sym takes.after)
     (request_on stream old.unread request takes.rest requests request.close refl before.1 takes.stands)
 so_far_on stream old new (Err fault) requests end takes so_far =
     let before = begun_so_far stream old requests end takes.0 so_far in

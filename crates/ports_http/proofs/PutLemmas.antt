@@ -39,9 +39,9 @@ appends_both {old = old} {a = a} {b = b} x y = record {
   room = omega arith;
 }
 
-pub puts_behind : {Z A E : Type 0} {old middle : Vec ℕ Z} {a : List ℕ} (new : Vec ℕ Z) (b : List ℕ) (r : Result A E) → Appends old middle a
+pub puts_after : {Z A E : Type 0} {old middle : Vec ℕ Z} {a : List ℕ} (new : Vec ℕ Z) (b : List ℕ) (r : Result A E) → Appends old middle a
     → Puts middle b r new → Puts old (a ++ b) r new
-puts_behind new b (Ok x) before next = appends_both before next
-puts_behind {old = old} {middle = middle} {a = a} new b (Err x) before next =
+puts_after new b (Ok x) before next = appends_both before next
+puts_after {old = old} {middle = middle} {a = a} new b (Err x) before next =
     let sizes = ap length before.items in
     omega (arith, sizes, middle.ok.0, old.ok.0, before.room, next, length-append old.items a, length-append a b)

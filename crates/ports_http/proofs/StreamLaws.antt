@@ -245,25 +245,25 @@ left_open stream a b (inl same) = inl same
 left_open stream a b (inr left) = inr (stream, refl, left)
 
 -- one more request in front
-behind_one : (stream rest : List ℕ) (request : RequestMessage) (requests others : List RequestMessage) (a b : End)
+after_one : (stream rest : List ℕ) (request : RequestMessage) (requests others : List RequestMessage) (a b : End)
     → RequestAt stream request rest → request.close ≡ false → SameCutting rest requests others a b
     → SameCutting stream (request ∷ requests) (request ∷ others) a b
-behind_one stream rest request requests others a b at stays (same, inl ends) = (ap (λ l. request ∷ l) same, inl ends)
-behind_one stream rest request requests others a b at stays (same, inr left) =
+after_one stream rest request requests others a b at stays (same, inl ends) = (ap (λ l. request ∷ l) same, inl ends)
+after_one stream rest request requests others a b at stays (same, inr left) =
     (ap (λ l. request ∷ l) same, inr (left.0, (rest, at, stays, left.1), left.2))
 
 -- what stands behind the first request, in two cuttings
 abbrev pub Behind : List ℕ → Bool → List RequestMessage → End → Type 0
 Behind rest close requests end = MatchBool close ((requests ≡ []) × (end ≡ closed)) (Cuts rest requests end)
 
-both_behind : (stream rest : List ℕ) (request : RequestMessage) (requests others : List RequestMessage) (a b : End)
+both_after : (stream rest : List ℕ) (request : RequestMessage) (requests others : List RequestMessage) (a b : End)
     → RequestAt stream request rest → (close : Bool) → request.close ≡ close → Behind rest close requests a
     → Behind rest close others b → (Cuts rest requests a → Cuts rest others b → SameCutting rest requests others a b)
     → SameCutting stream (request ∷ requests) (request ∷ others) a b
-both_behind stream rest request requests others a b at true closing x y later =
+both_after stream rest request requests others a b at true closing x y later =
     (ap (λ l. request ∷ l) (x.0 ∙ sym y.0), inl (x.1 ∙ sym y.1))
-both_behind stream rest request requests others a b at false stays x y later =
-    behind_one stream rest request requests others a b at stays (later x y)
+both_after stream rest request requests others a b at false stays x y later =
+    after_one stream rest request requests others a b at stays (later x y)
 
 pub one_cutting : OneCutting
 one_cutting stream [] [] end other_end x y = (refl, left_open stream end other_end (one_end stream end other_end x y))
@@ -274,7 +274,7 @@ one_cutting stream (request ∷ requests) (other ∷ others) end other_end x y =
     let same = one_request stream request other x.0 y.0 x.1 y.1 in
     let there = subst (λ (r : RequestMessage). Behind y.0 r.close others other_end) (sym same.0) y.2 in
     let here = subst (λ (rest : List ℕ). Behind rest request.close others other_end) (sym same.1) there in
-    let found = both_behind stream x.0 request requests others end other_end x.1 request.close refl x.2 here
+    let found = both_after stream x.0 request requests others end other_end x.1 request.close refl x.2 here
     (λ p q. one_cutting x.0 requests others end other_end p q) in
     (found.0 ∙ ap (λ r. r ∷ others) same.0, found.1)
 
@@ -294,21 +294,21 @@ next_request stream (first ∷ requests) rest request behind begins at stays =
     (begins.0, begins.1, begins.2, next_request begins.0 requests rest request behind begins.3 at stays)
 
 -- a request that doesn't close has the cutting of the rest behind it
-stays_behind : (rest : List ℕ) (close : Bool) (requests : List RequestMessage) (end : End) → close ≡ false
+stays_after : (rest : List ℕ) (close : Bool) (requests : List RequestMessage) (end : End) → close ≡ false
     → Cuts rest requests end → Behind rest close requests end
-stays_behind rest close requests end stays cuts = rw stays cuts
+stays_after rest close requests end stays cuts = rw stays cuts
 
-behind_stays : (rest : List ℕ) (close : Bool) (requests : List RequestMessage) (end : End) → close ≡ false
+after_stays : (rest : List ℕ) (close : Bool) (requests : List RequestMessage) (end : End) → close ≡ false
     → Behind rest close requests end → Cuts rest requests end
-behind_stays rest true requests end stays behind = cc
-behind_stays rest false requests end stays behind = behind
+after_stays rest true requests end stays behind = cc
+after_stays rest false requests end stays behind = behind
 
 pub cuts_on : CutsOn
 cuts_on stream [] rest later end begins cuts = subst (λ s. Cuts s later end) (sym begins) cuts
 cuts_on stream (request ∷ requests) rest later end begins cuts = (
   begins.0,
   begins.1,
-  stays_behind begins.0 request.close (requests ++ later) end begins.2
+  stays_after begins.0 request.close (requests ++ later) end begins.2
       (cuts_on begins.0 requests rest later end begins.3 cuts),
 )
 
@@ -321,7 +321,7 @@ cuts_from stream (request ∷ requests) rest (other ∷ all) end begins cuts =
     let there = subst (λ (r : RequestMessage). Behind cuts.0 r.close all end) (sym same.0) cuts.2 in
     let here = subst (λ (b : List ℕ). Behind b request.close all end) (sym same.1) there in
     let later = cuts_from begins.0 requests rest all end begins.3
-    (behind_stays begins.0 request.close all end begins.2 here) in
+    (after_stays begins.0 request.close all end begins.2 here) in
     (later.0, (λ i. sym same.0 i ∷ later.1 i), later.2)
 
 bind_ok : {A B : Type 0} (r : Result A HeadFault) (next : A → Result B HeadFault) (y : B) → (r >>= next) ≡ Ok y
@@ -330,14 +330,14 @@ bind_ok (Ok x) next y e = (x, refl, e)
 bind_ok (Err fault) next y e = absurd (ok_not_err (sym e))
 
 -- nothing is read behind a request that closes
-pub closes_behind : (rest : List ℕ) (close : Bool) → close ≡ true → Behind rest close [] closed
-closes_behind rest close closing = rw closing (refl, refl)
+pub closes_after : (rest : List ℕ) (close : Bool) → close ≡ true → Behind rest close [] closed
+closes_after rest close closing = rw closing (refl, refl)
 
-behind_goes_on : (rest : List ℕ) (close : Bool) (requests : List RequestMessage) (end : End) (more : List ℕ)
+after_goes_on : (rest : List ℕ) (close : Bool) (requests : List RequestMessage) (end : End) (more : List ℕ)
     → Behind rest close requests end → (Cuts rest requests end → Cuts (rest ++ more) requests end)
     → Behind (rest ++ more) close requests end
-behind_goes_on rest true requests end more behind on = behind
-behind_goes_on rest false requests end more behind on = on behind
+after_goes_on rest true requests end more behind on = behind
+after_goes_on rest false requests end more behind on = on behind
 
 -- what has ended otherwise than by waiting has ended so with more behind
 pub cuts_stay : (stream : List ℕ) (requests : List RequestMessage) (end : End) (more : List ℕ)
@@ -348,7 +348,7 @@ cuts_stay stream [] closed more other cuts = cuts
 cuts_stay stream (request ∷ requests) end more other cuts = (
   cuts.0 ++ more,
   request_stays stream request cuts.0 more cuts.1,
-  behind_goes_on cuts.0 request.close requests end more cuts.2 (λ later. cuts_stay cuts.0 requests end more other later),
+  after_goes_on cuts.0 request.close requests end more cuts.2 (λ later. cuts_stay cuts.0 requests end more other later),
 )
 
 -- no body is over the limit

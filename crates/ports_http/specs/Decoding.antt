@@ -23,9 +23,9 @@ with_found requests (Ok request) = requests ++ request ∷ []
 with_found requests (Err fault) = requests
 
 -- the end that a request or a head refusal makes
-abbrev pub end_behind : Result RequestMessage HeadFault → StreamEnd
-end_behind (Ok request) = if request.close then ends.Closed else ends.Waiting
-end_behind (Err fault) = ends.Refused fault
+abbrev pub end_after : Result RequestMessage HeadFault → StreamEnd
+end_after (Ok request) = if request.close then ends.Closed else ends.Waiting
+end_after (Err fault) = ends.Refused fault
 
 -- what is unread waits, or the stream is over
 abbrev pub IsSettled : Incoming → Type 0

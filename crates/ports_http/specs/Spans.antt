@@ -65,8 +65,8 @@ abbrev pub IsMissing : List ℕ → ℕ → Type 0
 IsMissing stream missing = (missing ≡ 0) ⊎ ((lacks : LacksBody stream) × (missing + length lacks.rest ≡ lacks.size))
 
 -- what comes first in the stream
-abbrev pub StandsFirst : List ℕ → First → Type 0
-StandsFirst stream (first.Waiting missing) = Waits stream × IsMissing stream missing
-StandsFirst stream (first.Refused fault) = Refuses stream fault
-StandsFirst stream (first.Ready whole) =
+abbrev pub ComesFirst : List ℕ → First → Type 0
+ComesFirst stream (first.Waiting missing) = Waits stream × IsMissing stream missing
+ComesFirst stream (first.Refused fault) = Refuses stream fault
+ComesFirst stream (first.Ready whole) =
     RequestAt stream (message_at stream whole) (drop whole.body.end stream) × IsWholeWithin stream whole

@@ -2,7 +2,7 @@
 ghost use Rattle.std.specs.Prelude.{◌≡◌, ◌≤◌, ◌<◌, length, take, drop};
 ghost use Rattle.httparse.specs.Grammar.{RequestHead};
 ghost use Rattle.ports_http.specs.Limits.{head_limit};
-ghost use Rattle.ports_http.specs.Spans.{CoversHead, StandsFirst};
+ghost use Rattle.ports_http.specs.Spans.{CoversHead, ComesFirst};
 
 use crate::announced::announced;
 use crate::fault::HeadFault;
@@ -37,11 +37,11 @@ pub(crate) struct Whole {
 
 /// What comes first in the unread bytes.
 pub(crate) fn read_first(unread: &[u8]) -> First
-    ensures { StandsFirst unread.now result }
+    ensures { ComesFirst unread.now result }
 {
     let mut fields = [EMPTY_HEADER_SPAN; FIELD_LIMIT];
     match parse_request(front(unread), &mut fields) {
-        Ok(Status::Complete(spans)) => behind_head(unread, &spans, &fields[..spans.headers]),
+        Ok(Status::Complete(spans)) => after_head(unread, &spans, &fields[..spans.headers]),
         Ok(Status::Partial) => {
             if unread.len() < HEAD_LIMIT {
                 First::Waiting(0)
@@ -68,9 +68,9 @@ fn front(unread: &[u8]) -> &[u8]
 }
 
 /// What comes first, if a whole head does.
-fn behind_head(unread: &[u8], spans: &RequestSpans, fields: &[HeaderSpan]) -> First
+fn after_head(unread: &[u8], spans: &RequestSpans, fields: &[HeaderSpan]) -> First
     requires { (head : RequestHead) × CoversHead unread.now spans.now fields.now head }
-    ensures { StandsFirst unread.now result }
+    ensures { ComesFirst unread.now result }
 {
     let word = spans.method.of(unread);
     match announced(word, spans.version, unread, fields) {

@@ -1,7 +1,7 @@
 //! A whole stream, decoded piece by piece.
 ghost use Rattle.std.specs.Prelude.{◌≡◌, ℕ, List, ◌++◌, IfOk, OnOk};
 ghost use Rattle.std.specs.List.{flat_map};
-ghost use Rattle.ports_http.specs.Decoding.{Decodes, with_found, end_behind, IsSettled, DecodedSoFar};
+ghost use Rattle.ports_http.specs.Decoding.{Decodes, with_found, end_after, IsSettled, DecodedSoFar};
 
 use crate::conn::Conn;
 use crate::fault::HeadFault;
@@ -89,7 +89,7 @@ fn take_all(alloc: Global, conn: &mut Conn, decoded: &mut Decoded) -> Result<(),
 fn note(found: Result<Request, HeadFault>, decoded: &mut Decoded) -> Result<(), AllocError>
     ensures requests { OnOk result (decoded.new.requests.items
         ≡ with_found decoded.old.requests.items found) }
-    ensures end { OnOk result (decoded.new.end ≡ end_behind found) }
+    ensures end { OnOk result (decoded.new.end ≡ end_after found) }
 {
     match found {
         Ok(request) => {

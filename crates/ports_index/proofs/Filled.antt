@@ -4,27 +4,28 @@ use Rattle.std.proofs.lemmas.Bool.{false≢true, or_right}
 use Rattle.std.proofs.lemmas.Slice.Eq.{bytes_eq-Decides}
 use Rattle.std.specs.List.{AllByRecursion}
 use Rattle.std.specs.Str.{bytes_eq}
+use Rattle.general_facts.specs.Bools.{or_true}
 use Rattle.text_parts.specs.Order.{in_order}
 use Rattle.text_parts.specs.Ordered.{among-in_order}
 use Rattle.mk_paths.specs.World.{World}
 use Rattle.ports_index.specs.PathOutcomes.{PathOutcome, outcome_at}
 use Rattle.ports_index.specs.Filling.{AreRight, Stay, is_one_of, Fills}
 
-abbrev pub Held : Type 0
-Held = List ℕ → Option PathOutcome
+abbrev pub Entries : Type 0
+Entries = List ℕ → Option PathOutcome
 
 -- each of these paths has its row
-abbrev pub AreKnown : World → Held → List (List ℕ) → Type 0
-AreKnown world held paths = AllByRecursion (λ path. held path ≡ Some (outcome_at world path)) paths
+abbrev pub AreKnown : World → Entries → List (List ℕ) → Type 0
+AreKnown world entries paths = AllByRecursion (λ path. entries path ≡ Some (outcome_at world path)) paths
 
-pub Stay-nothing : (held : Held) → Stay held held
-Stay-nothing held = record { stay = λ path row is. is }
+pub Stay-nothing : (entries : Entries) → Stay entries entries
+Stay-nothing entries = record { stay = λ path row is. is }
 
-pub Stay-on : (first middle last : Held) → Stay first middle → Stay middle last → Stay first last
+pub Stay-on : (first middle last : Entries) → Stay first middle → Stay middle last → Stay first last
 Stay-on first middle last one more = record { stay = λ path row is. more.stay path row (one.stay path row is) }
 
 -- rows that no path lost or got
-pub Stay-same : (old new : Held) → ((path : List ℕ) → new path ≡ old path) → Stay old new
+pub Stay-same : (old new : Entries) → ((path : List ℕ) → new path ≡ old path) → Stay old new
 Stay-same old new same = record { stay = λ path row is. same path ∙ is }
 
 regroup : (a b c : Bool) → (a || (b || c)) ≡ ((a || b) || c)
@@ -39,10 +40,6 @@ one_of-append path (first ∷ paths) more =
 -- a path is one of two lists of paths, which are put in order
 one_of-in_order : (path : List ℕ) (paths more : List (List ℕ)) → is_one_of path (in_order (paths ++ more)) ≡ (is_one_of path paths || is_one_of path more)
 one_of-in_order path paths more = among-in_order (λ one. bytes_eq one path) (paths ++ more) ∙ one_of-append path paths more
-
-or_true : (a : Bool) → (a || true) ≡ true
-or_true true = refl
-or_true false = refl
 
 absorbed : (a b c : Bool) → b ≡ (c || a) → (a || b) ≡ b
 absorbed true b c is = sym (is ∙ or_true c)
@@ -62,10 +59,10 @@ in_turn false true row old middle new first second = second
 in_turn false false row old middle new first second = second ∙ first
 
 module _ (world : World) where
-  pub Fills-nothing : (held : Held) → Fills world [] held held
-  Fills-nothing held = record { filled = λ path. refl }
+  pub Fills-nothing : (entries : Entries) → Fills world [] entries entries
+  Fills-nothing entries = record { filled = λ path. refl }
 
-  pub Fills-on : (paths more : List (List ℕ)) (old middle new : Held) → Fills world paths old middle → Fills world more middle new → Fills world (paths ++ more) old new
+  pub Fills-on : (paths more : List (List ℕ)) (old middle new : Entries) → Fills world paths old middle → Fills world more middle new → Fills world (paths ++ more) old new
   Fills-on paths more old middle new first second = record {
     filled = λ path.
         in_turn (is_one_of path paths) (is_one_of path more) (Some (outcome_at world path)) (old path) (middle path) (new path) (first.filled path) (second.filled path)
@@ -73,70 +70,70 @@ module _ (world : World) where
   }
 
   -- the same paths, in another list
-  pub Fills-same : (paths others : List (List ℕ)) (old new : Held) → ((path : List ℕ) → is_one_of path paths ≡ is_one_of path others) → Fills world paths old new → Fills world others old new
+  pub Fills-same : (paths others : List (List ℕ)) (old new : Entries) → ((path : List ℕ) → is_one_of path paths ≡ is_one_of path others) → Fills world paths old new → Fills world others old new
   Fills-same paths others old new same fills = record { filled = λ path. fills.filled path ∙ ap (λ b. if b then Some (outcome_at world path) else old path) (same path) }
 
   -- a path that is one of these has its row
-  pub row-filled : (paths : List (List ℕ)) (old new : Held) → Fills world paths old new → (path : List ℕ) → is_one_of path paths ≡ true → new path ≡ Some (outcome_at world path)
+  pub row-filled : (paths : List (List ℕ)) (old new : Entries) → Fills world paths old new → (path : List ℕ) → is_one_of path paths ≡ true → new path ≡ Some (outcome_at world path)
   row-filled paths old new fills path is = fills.filled path ∙ ap (λ b. if b then Some (outcome_at world path) else old path) is
 
-  pub known-of : (paths : List (List ℕ)) (held : Held) → ((path : List ℕ) → is_one_of path paths ≡ true → held path ≡ Some (outcome_at world path)) → AreKnown world held paths
-  known-of [] held are = tt
-  known-of (path ∷ paths) held are = (
+  pub known-of : (paths : List (List ℕ)) (entries : Entries) → ((path : List ℕ) → is_one_of path paths ≡ true → entries path ≡ Some (outcome_at world path)) → AreKnown world entries paths
+  known-of [] entries are = tt
+  known-of (path ∷ paths) entries are = (
     are path (ap (λ b. b || is_one_of path paths) ((bytes_eq-Decides path path).1 refl)),
-    known-of paths held (λ other is. are other (or_right (bytes_eq path other) (is_one_of other paths) is)),
+    known-of paths entries (λ other is. are other (or_right (bytes_eq path other) (is_one_of other paths) is)),
   )
 
   -- two lists of paths that are filled together
-  pub known-first : (paths more : List (List ℕ)) (old new : Held) → Fills world (in_order (paths ++ more)) old new → AreKnown world new paths
+  pub known-first : (paths more : List (List ℕ)) (old new : Entries) → Fills world (in_order (paths ++ more)) old new → AreKnown world new paths
   known-first paths more old new fills =
       known-of paths new (λ path is. row-filled (in_order (paths ++ more)) old new fills path (one_of-in_order path paths more ∙ ap (λ b. b || is_one_of path more) is))
 
-  pub known-second : (paths more : List (List ℕ)) (old new : Held) → Fills world (in_order (paths ++ more)) old new → AreKnown world new more
+  pub known-second : (paths more : List (List ℕ)) (old new : Entries) → Fills world (in_order (paths ++ more)) old new → AreKnown world new more
   known-second paths more old new fills =
       known-of more new (λ path is. row-filled (in_order (paths ++ more)) old new fills path (one_of-in_order path paths more ∙ or_right (is_one_of path paths) (is_one_of path more) is))
 
-  pub known-filled : (paths : List (List ℕ)) (old new : Held) → Fills world paths old new → AreKnown world new paths
+  pub known-filled : (paths : List (List ℕ)) (old new : Entries) → Fills world paths old new → AreKnown world new paths
   known-filled paths old new fills = known-of paths new (row-filled paths old new fills)
 
-module _ (world : World) (held : Held) (right : AreRight world held) (path : List ℕ) where
-  there : (row : Option PathOutcome) → held path ≡ row → is_some row ≡ true → held path ≡ Some (outcome_at world path)
+module _ (world : World) (entries : Entries) (right : AreRight world entries) (path : List ℕ) where
+  there : (row : Option PathOutcome) → entries path ≡ row → is_some row ≡ true → entries path ≡ Some (outcome_at world path)
   there None e is = absurd (false≢true is)
   there (Some row) e is = e ∙ ap Some (right path row e)
 
-  there-at : (other : List ℕ) (same : Bool) → bytes_eq path other ≡ same → held path ≡ Some (outcome_at world path)
-      → held other ≡ (if same || false then Some (outcome_at world other) else held other)
-  there-at other true same is = subst (λ at. held at ≡ Some (outcome_at world at)) ((bytes_eq-Decides path other).0 same) is
+  there-at : (other : List ℕ) (same : Bool) → bytes_eq path other ≡ same → entries path ≡ Some (outcome_at world path)
+      → entries other ≡ (if same || false then Some (outcome_at world other) else entries other)
+  there-at other true same is = subst (λ at. entries at ≡ Some (outcome_at world at)) ((bytes_eq-Decides path other).0 same) is
   there-at other false same is = refl
 
   -- a path that has its row
-  pub Fills-there : is_some (held path) ≡ true → Fills world (path ∷ []) held held
-  Fills-there is = record { filled = λ other. there-at other (bytes_eq path other) refl (there (held path) refl is) }
+  pub Fills-there : is_some (entries path) ≡ true → Fills world (path ∷ []) entries entries
+  Fills-there is = record { filled = λ other. there-at other (bytes_eq path other) refl (there (entries path) refl is) }
 
   -- a path that is given its row
-  module _ (new : Held) (row : PathOutcome) (is : row ≡ outcome_at world path) (put : (other : List ℕ) → new other ≡ (if bytes_eq path other then Some row else held other)) where
+  module _ (new : Entries) (row : PathOutcome) (is : row ≡ outcome_at world path) (put : (other : List ℕ) → new other ≡ (if bytes_eq path other then Some row else entries other)) where
     right-at : (other : List ℕ) (same : Bool) → bytes_eq path other ≡ same → (found : PathOutcome) → new other ≡ Some found → found ≡ outcome_at world other
     right-at other true same found e =
-        let here : new other ≡ Some row = put other ∙ ap (λ b. if b then Some row else held other) same in
+        let here : new other ≡ Some row = put other ∙ ap (λ b. if b then Some row else entries other) same in
         let the_row : found ≡ row = cc in
         the_row ∙ is ∙ ap (outcome_at world) ((bytes_eq-Decides path other).0 same)
-    right-at other false same found e = right other found (sym (put other ∙ ap (λ b. if b then Some row else held other) same) ∙ e)
+    right-at other false same found e = right other found (sym (put other ∙ ap (λ b. if b then Some row else entries other) same) ∙ e)
 
-    stay-at : (other : List ℕ) (same : Bool) → bytes_eq path other ≡ same → (found : PathOutcome) → held other ≡ Some found → new other ≡ Some found
+    stay-at : (other : List ℕ) (same : Bool) → bytes_eq path other ≡ same → (found : PathOutcome) → entries other ≡ Some found → new other ≡ Some found
     stay-at other true same found e =
-        put other ∙ ap (λ b. if b then Some row else held other) same
+        put other ∙ ap (λ b. if b then Some row else entries other) same
         ∙ ap Some (is ∙ ap (outcome_at world) ((bytes_eq-Decides path other).0 same) ∙ sym (right other found e))
-    stay-at other false same found e = put other ∙ ap (λ b. if b then Some row else held other) same ∙ e
+    stay-at other false same found e = put other ∙ ap (λ b. if b then Some row else entries other) same ∙ e
 
-    put-at : (other : List ℕ) (same : Bool) → bytes_eq path other ≡ same → (if same then Some row else held other) ≡ (if same || false then Some (outcome_at world other) else held other)
+    put-at : (other : List ℕ) (same : Bool) → bytes_eq path other ≡ same → (if same then Some row else entries other) ≡ (if same || false then Some (outcome_at world other) else entries other)
     put-at other true same = ap Some (is ∙ ap (outcome_at world) ((bytes_eq-Decides path other).0 same))
     put-at other false same = refl
 
     pub AreRight-put : AreRight world new
     AreRight-put other found e = right-at other (bytes_eq path other) refl found e
 
-    pub Stay-put : Stay held new
+    pub Stay-put : Stay entries new
     Stay-put = record { stay = λ other found e. stay-at other (bytes_eq path other) refl found e }
 
-    pub Fills-put : Fills world (path ∷ []) held new
+    pub Fills-put : Fills world (path ∷ []) entries new
     Fills-put = record { filled = λ other. put other ∙ put-at other (bytes_eq path other) refl }

@@ -10,37 +10,37 @@ use Rattle.ports_index.specs.Depending.{RootItemValue, state_of, root_with, root
 use Rattle.ports_index.proofs.Filled.{AreKnown}
 use Rattle.ports_index.specs.Seen.{known_row, known_in}
 
-module _ (world : World) (held : List ℕ → Option PathOutcome) where
-  named-known : (paths : List (List ℕ)) → AreKnown world held paths → flat_map (named_at (known_in held)) paths ≡ flat_map (named_at (outcome_at world)) paths
+module _ (world : World) (entries : List ℕ → Option PathOutcome) where
+  named-known : (paths : List (List ℕ)) → AreKnown world entries paths → flat_map (named_at (known_in entries)) paths ≡ flat_map (named_at (outcome_at world)) paths
   named-known [] known = refl
   named-known (path ∷ paths) known =
-      ap (λ row. named_in path (known_row row) ++ flat_map (named_at (known_in held)) paths) known.0
+      ap (λ row. named_in path (known_row row) ++ flat_map (named_at (known_in entries)) paths) known.0
       ∙ ap (λ more. named_at (outcome_at world) path ++ more) (named-known paths known.1)
 
-  pub listed-known : (paths : List (List ℕ)) → AreKnown world held paths → listed_from (known_in held) paths ≡ listed_from (outcome_at world) paths
+  pub listed-known : (paths : List (List ℕ)) → AreKnown world entries paths → listed_from (known_in entries) paths ≡ listed_from (outcome_at world) paths
   listed-known paths known = ap (λ named. in_order (named ++ paths)) (named-known paths known)
 
-  pub items-known : (paths : List (List ℕ)) → AreKnown world held paths → items_among (known_in held) paths ≡ items_among (outcome_at world) paths
+  pub items-known : (paths : List (List ℕ)) → AreKnown world entries paths → items_among (known_in entries) paths ≡ items_among (outcome_at world) paths
   items-known [] known = refl
   items-known (path ∷ paths) known =
-      ap (λ row. items_in path (known_row row) ++ items_among (known_in held) paths) known.0
+      ap (λ row. items_in path (known_row row) ++ items_among (known_in entries) paths) known.0
       ∙ ap (λ more. items_at (outcome_at world) path ++ more) (items-known paths known.1)
 
-  pub roots-known : (paths : List (List ℕ)) → AreKnown world held paths → roots_among (known_in held) paths ≡ roots_among (outcome_at world) paths
+  pub roots-known : (paths : List (List ℕ)) → AreKnown world entries paths → roots_among (known_in entries) paths ≡ roots_among (outcome_at world) paths
   roots-known [] known = refl
   roots-known (path ∷ paths) known =
-      ap (λ row. cons_option (root_with path (state_of (known_row row))) (roots_among (known_in held) paths)) known.0
+      ap (λ row. cons_option (root_with path (state_of (known_row row))) (roots_among (known_in entries) paths)) known.0
       ∙ ap (λ more. cons_option (root_at (outcome_at world) path) more) (roots-known paths known.1)
 
-  found-known : (target : Option (List ℕ)) (more : List (List ℕ)) → AreKnown world held (cons_option target more)
-      → (found_at (known_in held) target ≡ found_at (outcome_at world) target) × AreKnown world held more
+  found-known : (target : Option (List ℕ)) (more : List (List ℕ)) → AreKnown world entries (cons_option target more)
+      → (found_at (known_in entries) target ≡ found_at (outcome_at world) target) × AreKnown world entries more
   found-known None more known = (refl, known)
   found-known (Some path) more known = (ap (λ row. found_of (known_row row)) known.0, known.1)
 
-  pub edges-known : (items : List RootItemValue) → AreKnown world held (filter_map target_of items)
-      → map (edge_at (known_in held)) items ≡ map (edge_at (outcome_at world)) items
+  pub edges-known : (items : List RootItemValue) → AreKnown world entries (filter_map target_of items)
+      → map (edge_at (known_in entries)) items ≡ map (edge_at (outcome_at world)) items
   edges-known [] known = refl
   edges-known (rooted ∷ items) known =
       let found = found-known (target_of rooted) (filter_map target_of items) known in
-      ap (λ found. record { root = rooted.root; edge = edge_of rooted.item found } ∷ map (edge_at (known_in held)) items) found.0
+      ap (λ found. record { root = rooted.root; edge = edge_of rooted.item found } ∷ map (edge_at (known_in entries)) items) found.0
       ∙ ap (λ more. edge_at (outcome_at world) rooted ∷ more) (edges-known items found.1)

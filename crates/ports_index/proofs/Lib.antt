@@ -4,3 +4,4 @@ pub mod Filled
 pub mod Taking
 pub mod More
 pub mod Lookups
+pub mod Names

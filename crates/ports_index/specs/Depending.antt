@@ -8,7 +8,7 @@ use Rattle.port_deps.specs.Items.{ItemValue, WantedValue, item_of}
 use Rattle.port_deps.specs.Statuses.{FoundValue}
 use Rattle.port_deps.specs.Statuses as found
 use Rattle.port_deps.specs.Edges.{edge_of}
-use Rattle.port_deps.specs.Lists.{RootValue, RootEdgeValue}
+use Rattle.port_deps.specs.Roots.{RootValue, RootEdgeValue}
 use Rattle.ports_index.specs.PathOutcomes.{PathOutcome, Absent, Faulty, Port, Lists, BadList, Other}
 
 -- the root at a path, by what the path leads to: a port, or a fault, that of SUBDIR too
@@ -26,10 +26,10 @@ root_with path (Some state) = Some (record { path = path; state = state })
 
 -- the root at a path, if there is one
 abbrev pub root_at : (List ℕ → PathOutcome) → List ℕ → Option RootValue
-root_at stands path = root_with path (state_of (stands path))
+root_at outcomes path = root_with path (state_of (outcomes path))
 
 abbrev pub roots_among : (List ℕ → PathOutcome) → List (List ℕ) → List RootValue
-roots_among stands paths = filter_map (root_at stands) paths
+roots_among outcomes paths = filter_map (root_at outcomes) paths
 
 -- an item of the port at a path
 pub record RootItemValue : Type 0 where
@@ -45,10 +45,10 @@ items_in path (Port port) = map (item_at path) (map item_of port.depends)
 items_in path outcome = []
 
 abbrev pub items_at : (List ℕ → PathOutcome) → List ℕ → List RootItemValue
-items_at stands path = items_in path (stands path)
+items_at outcomes path = items_in path (outcomes path)
 
 abbrev pub items_among : (List ℕ → PathOutcome) → List (List ℕ) → List RootItemValue
-items_among stands paths = flat_map (items_at stands) paths
+items_among outcomes paths = flat_map (items_at outcomes) paths
 
 -- the path that an item names, without its subpackage, if the item can be read
 abbrev pub target_in : ItemValue → Option (List ℕ)
@@ -67,12 +67,12 @@ found_of (BadList fault) = found.NotPort
 found_of Other = found.NotPort
 
 abbrev pub found_at : (List ℕ → PathOutcome) → Option (List ℕ) → FoundValue
-found_at stands None = found.NotThere
-found_at stands (Some path) = found_of (stands path)
+found_at outcomes None = found.NotThere
+found_at outcomes (Some path) = found_of (outcomes path)
 
 -- the dependency that an item is: its status depends on what the item's path leads to
 abbrev pub edge_at : (List ℕ → PathOutcome) → RootItemValue → RootEdgeValue
-edge_at stands rooted = record { root = rooted.root; edge = edge_of rooted.item (found_at stands (target_of rooted)) }
+edge_at outcomes rooted = record { root = rooted.root; edge = edge_of rooted.item (found_at outcomes (target_of rooted)) }
 
 abbrev pub edges_among : (List ℕ → PathOutcome) → List (List ℕ) → List RootEdgeValue
-edges_among stands paths = map (edge_at stands) (items_among stands paths)
+edges_among outcomes paths = map (edge_at outcomes) (items_among outcomes paths)

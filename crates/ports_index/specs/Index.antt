@@ -3,23 +3,23 @@ use Rattle.std.specs.Prelude.{ℕ, List, ◌++◌}
 use Rattle.std.specs.List.{filter_map}
 use Rattle.text_parts.specs.Order.{in_order}
 use Rattle.mk_paths.specs.World.{World, files_in}
-use Rattle.port_deps.specs.Lists.{RootValue, RootEdgeValue}
+use Rattle.port_deps.specs.Roots.{RootValue, RootEdgeValue}
 use Rattle.ports_index.specs.PathOutcomes.{outcome_at}
 use Rattle.ports_index.specs.Naming.{directories, listed_from}
 use Rattle.ports_index.specs.Depending.{roots_among, edges_among, items_among, target_of}
 
 -- the paths at which roots may be: directories, and what lists of directories name
-abbrev pub listed : World → List (List ℕ)
-listed world = listed_from (outcome_at world) (directories (files_in world))
+abbrev pub listed_paths : World → List (List ℕ)
+listed_paths world = listed_from (outcome_at world) (directories (files_in world))
 
 -- the ports, and the faults that are met where ports should be: in the order of their paths, each once
 abbrev pub roots : World → List RootValue
-roots world = roots_among (outcome_at world) (listed world)
+roots world = roots_among (outcome_at world) (listed_paths world)
 
 -- every item of every port, in that order, with the status that follows from what the item's path leads to
 abbrev pub edges : World → List RootEdgeValue
-edges world = edges_among (outcome_at world) (listed world)
+edges world = edges_among (outcome_at world) (listed_paths world)
 
 -- the paths on whose makefiles these depend, each once: those that are listed, and those that items name
-abbrev pub rests : World → List (List ℕ)
-rests world = in_order (listed world ++ filter_map target_of (items_among (outcome_at world) (listed world)))
+abbrev pub needed_paths : World → List (List ℕ)
+needed_paths world = in_order (listed_paths world ++ filter_map target_of (items_among (outcome_at world) (listed_paths world)))

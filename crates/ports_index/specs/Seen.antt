@@ -19,8 +19,8 @@ row_seen (BadList fault) = seen.BadList fault
 row_seen Other = seen.Other
 
 -- what rows in memory hold
-abbrev pub held_in : MemoryRows → List ℕ → Option PathOutcome
-held_in rows path = option_map row_seen (get_by_text rows.rows path)
+abbrev pub entries_in : MemoryRows → List ℕ → Option PathOutcome
+entries_in rows path = option_map row_seen (get_by_text rows.rows path)
 
 -- what a path without a row leads to isn't known, and counts as nothing
 abbrev pub known_row : Option PathOutcome → PathOutcome
@@ -29,7 +29,7 @@ known_row (Some row) = row
 
 -- what each path leads to, as far as rows say it
 abbrev pub known_in : (List ℕ → Option PathOutcome) → List ℕ → PathOutcome
-known_in held path = known_row (held path)
+known_in entries path = known_row (entries path)
 
 -- an item of a port
 abbrev pub item_seen : RootItem → RootItemValue

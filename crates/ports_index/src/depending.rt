@@ -28,7 +28,7 @@ pub(crate) fn items_of_all<R: Rows>(
     rows: &R,
 ) -> Result<Vec<RootItem>, AllocError>
     ensures { IfOk result (λ found. map item_seen found.items
-        ≡ depending.items_among (known_in (R.held rows.now)) (map string_bytes paths.now)) }
+        ≡ depending.items_among (known_in (R.entries rows.now)) (map string_bytes paths.now)) }
 {
     let mut found = Vec::new(alloc);
     for path in paths {
@@ -105,7 +105,7 @@ pub(crate) fn edges_of_all<R: Rows>(
     rows: &R,
 ) -> Result<Vec<RootEdge>, AllocError>
     ensures { IfOk result (λ found. found.items
-        ≡ map (depending.edge_at (known_in (R.held rows.now))) (map item_seen items.items)) }
+        ≡ map (depending.edge_at (known_in (R.entries rows.now))) (map item_seen items.items)) }
 {
     let mut found = Vec::new(alloc);
     for rooted in items {
@@ -117,7 +117,7 @@ pub(crate) fn edges_of_all<R: Rows>(
 // The dependency that an item is.
 fn edge_of<R: Rows>(alloc: Global, rooted: RootItem, rows: &R) -> Result<RootEdge, AllocError>
     ensures { IfOk result (λ edge. edge
-        ≡ depending.edge_at (known_in (R.held rows.now)) (item_seen rooted)) }
+        ≡ depending.edge_at (known_in (R.entries rows.now)) (item_seen rooted)) }
 {
     let found = match target_of(alloc, &rooted.item)? {
         Some(path) => found_as(rows.get(path.as_str())),
@@ -149,7 +149,7 @@ pub(crate) fn roots_of_all<R: Rows>(
 ) -> Result<Vec<Root>, AllocError>
     requires { IsListed (map string_bytes paths.now) }
     ensures { IfOk result (λ found. found.items
-        ≡ depending.roots_among (known_in (R.held rows.old)) (map string_bytes paths.now)) }
+        ≡ depending.roots_among (known_in (R.entries rows.old)) (map string_bytes paths.now)) }
 {
     let mut found = Vec::new(alloc);
     for path in paths {

@@ -1,4 +1,5 @@
 //! What a path of a ports tree leads to.
+ghost use Rattle.mk_paths.specs.FilesView.{world_of};
 ghost use Rattle.std.specs.Prelude.{◌≡◌, IfOk, codes};
 ghost use Rattle.std.specs.Result.{result_err};
 ghost use Rattle.mk_eval.specs.Meaning.{means, value_of};
@@ -9,7 +10,7 @@ ghost use Rattle.ports_index.specs.Keeping.{Keeps};
 ghost use Rattle.ports_index.specs.PathOutcomes as outcomes;
 ghost use Rattle.ports_index.specs.Seen.{row_seen};
 
-use mk_base::{Fault, Stop};
+use mk_base::{Fault, PureStop, Stop};
 use mk_eval::{Evaluated, Kind, evaluate, value};
 use mk_files::Files;
 use mk_paths::{FilesFault, Name, Settings, find};
@@ -47,7 +48,7 @@ pub fn evaluate_path<F: Files>(
     path: &str,
 ) -> Result<Row, FilesFault>
     ensures row { IfOk result (λ row. row_seen row
-        ≡ outcomes.outcome_at ((F.view files.old).files, settings.now) path.now) }
+        ≡ outcomes.outcome_at (world_of (F.view files.old) settings.now) path.now) }
     ensures keeps { Keeps (result_err result) (F.view files.old) (F.view files.new) }
 {
     if path == "." {
@@ -68,7 +69,7 @@ fn row_in<F: Files>(
     flavors: Option<&[String]>,
 ) -> Result<Row, FilesFault>
     ensures row { IfOk result (λ row. row_seen row
-        ≡ outcomes.outcome_in ((F.view files.old).files, settings.now) directory.now
+        ≡ outcomes.outcome_in (world_of (F.view files.old) settings.now) directory.now
         (flavors_in flavors.entry)) }
     ensures keeps { Keeps (result_err result) (F.view files.old) (F.view files.new) }
 {
@@ -88,7 +89,7 @@ fn row_of<F: Files>(
 ) -> Result<Row, FilesFault>
     ensures row { IfOk result (λ row. row_seen row
         ≡ outcomes.outcome_of_evaluation makefile.now (flavors_in flavors.entry)
-        (means ((F.view files.old).files, settings.now) makefile.now (flavors_in flavors.entry))) }
+        (means (world_of (F.view files.old) settings.now) makefile.now (flavors_in flavors.entry))) }
     ensures keeps { Keeps (result_err result) (F.view files.old) (F.view files.new) }
 {
     match evaluate(alloc, files, settings, makefile, flavors) {
@@ -126,9 +127,8 @@ fn port_row(alloc: Global, evaluated: &Evaluated, makefile: &Name) -> Result<Row
 {
     match record(alloc, evaluated, makefile) {
         Ok(recorded) => Ok(Row::Port(recorded.port)),
-        Err(Stop::Fault(failed)) => Ok(Row::Faulty(failed.fault)),
-        Err(Stop::Store) => Err(AllocError),
-        Err(Stop::Memory) => Err(AllocError),
+        Err(PureStop::Fault(failed)) => Ok(Row::Faulty(failed.fault)),
+        Err(PureStop::Memory) => Err(AllocError),
     }
 }
 
@@ -140,8 +140,7 @@ fn list_row(alloc: Global, evaluated: &Evaluated, makefile: &Name) -> Result<Row
     match value(alloc, evaluated, makefile, "SUBDIR") {
         Ok(Some(found)) => Ok(Row::Lists(words_in(alloc, found.text())?)),
         Ok(None) => Ok(Row::Lists(Vec::new(alloc))),
-        Err(Stop::Fault(failed)) => Ok(Row::BadList(failed.fault)),
-        Err(Stop::Store) => Err(AllocError),
-        Err(Stop::Memory) => Err(AllocError),
+        Err(PureStop::Fault(failed)) => Ok(Row::BadList(failed.fault)),
+        Err(PureStop::Memory) => Err(AllocError),
     }
 }

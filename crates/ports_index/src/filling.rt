@@ -1,4 +1,5 @@
 //! Finding what paths lead to, if they have no row yet.
+ghost use Rattle.mk_paths.specs.FilesView.{world_of};
 ghost use Rattle.std.specs.Prelude.{◌∷◌, [], map, string_bytes, OnOk};
 ghost use Rattle.std.specs.Result.{result_err};
 ghost use Rattle.ports_index.specs.Filling.{AreRight, Stay, Fills};
@@ -21,11 +22,11 @@ pub fn fill<F: Files, R: Rows>(
     paths: &[String],
     rows: &mut R,
 ) -> Result<(), FilesFault>
-    requires { AreRight ((F.view files.old).files, settings.now) (R.held rows.old) }
-    ensures right { AreRight ((F.view files.old).files, settings.now) (R.held rows.new) }
-    ensures stay { Stay (R.held rows.old) (R.held rows.new) }
-    ensures fills { OnOk result (Fills ((F.view files.old).files, settings.now)
-        (map string_bytes paths.now) (R.held rows.old) (R.held rows.new)) }
+    requires { AreRight (world_of (F.view files.old) settings.now) (R.entries rows.old) }
+    ensures right { AreRight (world_of (F.view files.old) settings.now) (R.entries rows.new) }
+    ensures stay { Stay (R.entries rows.old) (R.entries rows.new) }
+    ensures fills { OnOk result (Fills (world_of (F.view files.old) settings.now)
+        (map string_bytes paths.now) (R.entries rows.old) (R.entries rows.new)) }
     ensures keeps { Keeps (result_err result) (F.view files.old) (F.view files.new) }
 {
     for path in paths {
@@ -42,11 +43,11 @@ pub(crate) fn fill_one<F: Files, R: Rows>(
     path: &str,
     rows: &mut R,
 ) -> Result<(), FilesFault>
-    requires { AreRight ((F.view files.old).files, settings.now) (R.held rows.old) }
-    ensures right { AreRight ((F.view files.old).files, settings.now) (R.held rows.new) }
-    ensures stay { Stay (R.held rows.old) (R.held rows.new) }
-    ensures fills { OnOk result (Fills ((F.view files.old).files, settings.now) (path.now ∷ [])
-        (R.held rows.old) (R.held rows.new)) }
+    requires { AreRight (world_of (F.view files.old) settings.now) (R.entries rows.old) }
+    ensures right { AreRight (world_of (F.view files.old) settings.now) (R.entries rows.new) }
+    ensures stay { Stay (R.entries rows.old) (R.entries rows.new) }
+    ensures fills { OnOk result (Fills (world_of (F.view files.old) settings.now) (path.now ∷ [])
+        (R.entries rows.old) (R.entries rows.new)) }
     ensures keeps { Keeps (result_err result) (F.view files.old) (F.view files.new) }
 {
     if rows.get(path).is_some() {

@@ -1,4 +1,5 @@
 //! The index of a ports tree.
+ghost use Rattle.mk_paths.specs.FilesView.{world_of};
 ghost use Rattle.std.specs.Prelude.{◌≡◌, map, string_bytes, IfOk, OnOk};
 ghost use Rattle.std.specs.Result.{result_err};
 ghost use Rattle.ports_index.specs.Filling.{AreRight, Stay, Fills};
@@ -45,9 +46,9 @@ pub fn index_files<F: Listing>(
     settings: &Settings,
 ) -> Result<Index, FilesFault>
     ensures roots { IfOk result (λ index. index.roots.items
-        ≡ indexed.roots ((F.view files.old).files, settings.now)) }
+        ≡ indexed.roots (world_of (F.view files.old) settings.now)) }
     ensures edges { IfOk result (λ index. index.edges.items
-        ≡ indexed.edges ((F.view files.old).files, settings.now)) }
+        ≡ indexed.edges (world_of (F.view files.old) settings.now)) }
     ensures keeps { Keeps (result_err result) (F.view files.old) (F.view files.new) }
 {
     let mut rows = MemoryRows::new(alloc);
@@ -65,7 +66,7 @@ pub fn index_roots<F: Listing>(
     settings: &Settings,
 ) -> Result<Vec<Root>, FilesFault>
     ensures roots { IfOk result (λ roots. roots.items
-        ≡ indexed.roots ((F.view files.old).files, settings.now)) }
+        ≡ indexed.roots (world_of (F.view files.old) settings.now)) }
     ensures keeps { Keeps (result_err result) (F.view files.old) (F.view files.new) }
 {
     let mut rows = MemoryRows::new(alloc);
@@ -91,17 +92,17 @@ fn walk<F: Listing, R: Rows>(
     settings: &Settings,
     rows: &mut R,
 ) -> Result<Walked, FilesFault>
-    requires { AreRight ((F.view files.old).files, settings.now) (R.held rows.old) }
-    ensures right { AreRight ((F.view files.old).files, settings.now) (R.held rows.new) }
-    ensures stay { Stay (R.held rows.old) (R.held rows.new) }
-    ensures fills { OnOk result (Fills ((F.view files.old).files, settings.now)
-        (indexed.rests ((F.view files.old).files, settings.now)) (R.held rows.old)
-        (R.held rows.new)) }
+    requires { AreRight (world_of (F.view files.old) settings.now) (R.entries rows.old) }
+    ensures right { AreRight (world_of (F.view files.old) settings.now) (R.entries rows.new) }
+    ensures stay { Stay (R.entries rows.old) (R.entries rows.new) }
+    ensures fills { OnOk result (Fills (world_of (F.view files.old) settings.now)
+        (indexed.needed_paths (world_of (F.view files.old) settings.now)) (R.entries rows.old)
+        (R.entries rows.new)) }
     ensures paths { IfOk result (λ walked. map string_bytes walked.paths.items
-        ≡ indexed.listed ((F.view files.old).files, settings.now)) }
+        ≡ indexed.listed_paths (world_of (F.view files.old) settings.now)) }
     ensures items { IfOk result (λ walked. map item_seen walked.items.items
-        ≡ items_among (outcome_at ((F.view files.old).files, settings.now))
-        (indexed.listed ((F.view files.old).files, settings.now))) }
+        ≡ items_among (outcome_at (world_of (F.view files.old) settings.now))
+        (indexed.listed_paths (world_of (F.view files.old) settings.now))) }
     ensures keeps { Keeps (result_err result) (F.view files.old) (F.view files.new) }
 {
     let paths = list(alloc, files, settings, rows)?;
@@ -118,14 +119,14 @@ fn list<F: Listing, R: Rows>(
     settings: &Settings,
     rows: &mut R,
 ) -> Result<Vec<String>, FilesFault>
-    requires { AreRight ((F.view files.old).files, settings.now) (R.held rows.old) }
-    ensures right { AreRight ((F.view files.old).files, settings.now) (R.held rows.new) }
-    ensures stay { Stay (R.held rows.old) (R.held rows.new) }
-    ensures fills { OnOk result (Fills ((F.view files.old).files, settings.now)
-        (indexed.listed ((F.view files.old).files, settings.now)) (R.held rows.old)
-        (R.held rows.new)) }
+    requires { AreRight (world_of (F.view files.old) settings.now) (R.entries rows.old) }
+    ensures right { AreRight (world_of (F.view files.old) settings.now) (R.entries rows.new) }
+    ensures stay { Stay (R.entries rows.old) (R.entries rows.new) }
+    ensures fills { OnOk result (Fills (world_of (F.view files.old) settings.now)
+        (indexed.listed_paths (world_of (F.view files.old) settings.now)) (R.entries rows.old)
+        (R.entries rows.new)) }
     ensures listed { IfOk result (λ paths. map string_bytes paths.items
-        ≡ indexed.listed ((F.view files.old).files, settings.now)) }
+        ≡ indexed.listed_paths (world_of (F.view files.old) settings.now)) }
     ensures keeps { Keeps (result_err result) (F.view files.old) (F.view files.new) }
 {
     let directories = directories(alloc, files)?;

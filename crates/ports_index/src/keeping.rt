@@ -3,7 +3,7 @@ ghost use Rattle.std.specs.Prelude.{◌≡◌, ℕ, List, Option, Some, None, op
 ghost use Rattle.std.specs.Str.{bytes_eq};
 ghost use Rattle.std.specs.BTreeMap.{get_by_text};
 ghost use Rattle.ports_index.specs.PathOutcomes.{PathOutcome};
-ghost use Rattle.ports_index.specs.Seen.{row_seen, held_in};
+ghost use Rattle.ports_index.specs.Seen.{row_seen, entries_in};
 
 use crate::evaluating::Row;
 use std::alloc::{AllocError, Global};
@@ -13,27 +13,27 @@ use std::collections::BTreeMap;
 ///
 /// Its meaning is a map from canonical paths to rows.
 pub trait Rows {
-    ghost held: { Self → List ℕ → Option PathOutcome };
+    ghost entries: { Self → List ℕ → Option PathOutcome };
 
     /// The row of this path, if it has one.
     fn get(&self, path: &str) -> Option<&Row>
-        ensures { option_map (λ row. row_seen row.now) result ≡ held self.now path.now };
+        ensures { option_map (λ row. row_seen row.now) result ≡ entries self.now path.now };
 
     /// Gives this path this row, whether or not it had one. If memory runs out, it fails, and
     /// all rows stay as they are.
     fn put(&mut self, path: String, row: Row) -> Result<(), AllocError>
         ensures ok { OnOk result ((other : List ℕ)
-            → held self.new other
+            → entries self.new other
             ≡ (if bytes_eq (string_bytes path) other
-            then Some (row_seen row) else held self.old other)) }
-        ensures err { OnErr result ((other : List ℕ) → held self.new other ≡ held self.old other) };
+            then Some (row_seen row) else entries self.old other)) }
+        ensures err { OnErr result ((other : List ℕ) → entries self.new other ≡ entries self.old other) };
 
     /// Takes the row of this path out and gives it, if there is one. The other rows stay.
     fn take(&mut self, path: &str) -> Option<Row>
-        ensures taken { option_map row_seen result ≡ held self.old path.now }
+        ensures taken { option_map row_seen result ≡ entries self.old path.now }
         ensures left { (other : List ℕ)
-            → held self.new other
-            ≡ (if bytes_eq path.now other then None else held self.old other) };
+            → entries self.new other
+            ≡ (if bytes_eq path.now other then None else entries self.old other) };
 }
 
 /// Rows in memory.
@@ -45,7 +45,7 @@ pub struct MemoryRows {
 impl MemoryRows {
     /// A map without rows. It takes no memory.
     pub fn new(alloc: Global) -> MemoryRows
-        ensures { (path : List ℕ) → held_in result path ≡ None }
+        ensures { (path : List ℕ) → entries_in result path ≡ None }
     {
         MemoryRows {
             rows: BTreeMap::new(alloc),
@@ -54,7 +54,7 @@ impl MemoryRows {
 }
 
 impl Rows for MemoryRows {
-    ghost held = { held_in };
+    ghost entries = { entries_in };
 
     fn get(&self, path: &str) -> Option<&Row> {
         self.rows.get(path)

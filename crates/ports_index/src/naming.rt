@@ -1,6 +1,5 @@
 //! The paths of a ports tree: directories with a makefile, and what a list of directories names.
 ghost use Rattle.std.specs.Prelude.{◌≡◌, ◌==◌, ◌++◌, map, string_bytes, IfOk, OnOk, option_map, option_to_list};
-ghost use Rattle.std.specs.Prelude.{MatchOption, Some, None, true};
 ghost use Rattle.std.specs.List.{filter_map, flat_map, list_any};
 ghost use Rattle.std.specs.Option.{option_copied};
 ghost use Rattle.std.specs.Result.{result_err};
@@ -14,7 +13,7 @@ use mk_files::Listing;
 use mk_paths::FilesFault;
 use pkg_path::PkgPath;
 use std::alloc::{AllocError, Global};
-use text_parts::{cut_where, put_in_order};
+use text_parts::put_in_order;
 
 /// The directories in which a makefile may be, by the names of the files: in the order of their bytes, each
 /// once. It fails if the files fail, or if memory runs out.
@@ -69,77 +68,24 @@ fn directory_of(alloc: Global, name: &str) -> Result<Option<String>, AllocError>
     Ok(None)
 }
 
-// The directory, below its tree, of which a name is the makefile.
+// The directory, below its tree, of which a name is the makefile: that of `/TREE/DIRECTORY/Makefile`, and `.`
+// for `/TREE/Makefile`.
 fn makefile_directory(name: &str) -> Option<&str>
     ensures { option_copied result ≡ naming.makefile_directory name.now }
 {
-    match behind_slash(name) {
-        Some(tree) => directory_in(tree),
-        None => None,
-    }
-}
-
-// The same of a name without its first slash.
-fn directory_in(name: &str) -> Option<&str>
-    ensures { option_copied result ≡ naming.directory_in name.now }
-{
-    match behind_slash(name) {
-        Some("Makefile") => Some("."),
-        Some(below) => before_makefile(below),
-        None => None,
+    let place = after_slash(name.strip_suffix("/Makefile")?)?;
+    match after_slash(place) {
+        Some(directory) => Some(directory),
+        None => Some("."),
     }
 }
 
 // What follows the first slash of a text.
-fn behind_slash(text: &str) -> Option<&str>
-    ensures { option_copied result ≡ naming.behind_slash text.now }
+fn after_slash(text: &str) -> Option<&str>
+    ensures { option_copied result ≡ naming.after_slash text.now }
 {
-    match at_slash(text) {
-        Some((_before, behind)) => Some(behind),
-        None => None,
-    }
-}
-
-// What precedes and what follows the first slash of a text.
-fn at_slash(text: &str) -> Option<(&str, &str)>
-    ensures { MatchOption result (naming.at_slash text.now ≡ None)
-        (λ cut. naming.at_slash text.now
-        ≡ Some (record { before = cut.0.now; behind = cut.1.now })) }
-{
-    cut_where(text, '/', is_anything)
-}
-
-// Accepts every text.
-fn is_anything(_text: &[u8]) -> bool
-    ensures { result ≡ true }
-{
-    true
-}
-
-// What precedes the makefile and its slash in a text.
-fn before_makefile(text: &str) -> Option<&str>
-    ensures { option_copied result ≡ naming.before_makefile text.now }
-{
-    match at_makefile(text) {
-        Some((before, _makefile)) => Some(before),
-        None => None,
-    }
-}
-
-// What precedes and what follows the slash in front of a makefile.
-fn at_makefile(text: &str) -> Option<(&str, &str)>
-    ensures { MatchOption result (naming.at_makefile text.now ≡ None)
-        (λ cut. naming.at_makefile text.now
-        ≡ Some (record { before = cut.0.now; behind = cut.1.now })) }
-{
-    cut_where(text, '/', is_makefile)
-}
-
-// Whether a text is `Makefile`.
-fn is_makefile(text: &[u8]) -> bool
-    ensures { result ≡ naming.is_makefile text.now }
-{
-    text == b"Makefile".as_slice()
+    let (_before, after) = text.split_once('/')?;
+    Some(after)
 }
 
 // Whether a text is a path that chooses no flavors and names no subpackage.
@@ -167,7 +113,7 @@ pub(crate) fn listed<R: Rows>(
     rows: &R,
 ) -> Result<Vec<String>, AllocError>
     ensures { IfOk result (λ found. map string_bytes found.items
-        ≡ naming.listed_from (known_in (R.held rows.now)) (map string_bytes directories.items)) }
+        ≡ naming.listed_from (known_in (R.entries rows.now)) (map string_bytes directories.items)) }
 {
     let mut paths = named_by_all(alloc, &directories, rows)?;
     append(&mut paths, directories)?;
@@ -192,7 +138,7 @@ fn named_by_all<R: Rows>(
     rows: &R,
 ) -> Result<Vec<String>, AllocError>
     ensures { IfOk result (λ found. map string_bytes found.items
-        ≡ flat_map (naming.named_at (known_in (R.held rows.now)))
+        ≡ flat_map (naming.named_at (known_in (R.entries rows.now)))
         (map string_bytes directories.now)) }
 {
     let mut found = Vec::new(alloc);
@@ -243,7 +189,7 @@ fn path_of_word(alloc: Global, directory: &str, word: &str) -> Result<Option<Str
     if !has_comma(word) {
         return Ok(None);
     }
-    let text = joined(alloc, directory, word)?;
+    let text = path_below(alloc, directory, word)?;
     match PkgPath::read_if_one(alloc, text.as_str())? {
         Some(path) => Ok(Some(path.port_path(alloc)?)),
         None => Ok(None),
@@ -258,8 +204,8 @@ fn has_comma(text: &str) -> bool
 }
 
 // The text of a word below a directory. In the trees' own directory it is the word alone.
-fn joined(alloc: Global, directory: &str, word: &str) -> Result<String, AllocError>
-    ensures { IfOk result (λ text. string_bytes text ≡ naming.joined directory.now word.now) }
+fn path_below(alloc: Global, directory: &str, word: &str) -> Result<String, AllocError>
+    ensures { IfOk result (λ text. string_bytes text ≡ naming.path_below directory.now word.now) }
 {
     if directory == "." {
         String::from_str(alloc, word)

@@ -8,7 +8,7 @@ use Rattle.serde_json.specs.Written.{has_float, items_have_float}
 use Rattle.mk_base.specs.FaultAt.{FaultAt}
 use Rattle.pkg_path.specs.Paths.{PathValue}
 use Rattle.port_rules.specs.Ports.{PortValue}
-use Rattle.port_deps.specs.Lists.{RootValue, RootEdgeValue}
+use Rattle.port_deps.specs.Roots.{RootValue, RootEdgeValue}
 use Rattle.ports_query.specs.Edges.{first_edges_of, edges_to_of}
 use Rattle.ports_query.specs.Reaching.{reached_of, reaching_of}
 use Rattle.ports_query.specs.Listing.{ListedValue}
@@ -16,7 +16,7 @@ use Rattle.ports_query.specs.declared.kinds.Kinds.{Kinds}
 use Rattle.ports_plain.specs.declared.depth.Depth.{Depth}
 use Rattle.ports_plain.specs.declared.depth.Depth.TheVariants.{Direct, All}
 use Rattle.ports_plain.specs.ListBodies.{list_body, listed_body, packages_body, dependency_body, dependencies_body, dependent_body, dependents_body, reached_body, reaching_body, fault_at, faults_body}
-use Rattle.ports_plain.specs.Lists.{dependencies_at, dependencies_body_of, dependents_at, dependents_body_of}
+use Rattle.ports_plain.specs.IndexRoutes.{dependencies_at, dependencies_body_of, dependents_at, dependents_body_of}
 use Rattle.ports_plain.specs.declared.dependencies.Question.{Question}
 
 none : {X : Type 0} (f : X → Data) (xs : List X) → ((x : X) → has_float (f x) ≡ false) → items_have_float (items_of (map f xs)) ≡ false

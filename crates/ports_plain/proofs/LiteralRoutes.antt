@@ -2,6 +2,7 @@
 use Rattle.std.proofs.Common.{◌≡◌, ℕ, zero, suc, ◌-◌, ◌==◌, ltb, ◌&&◌, Bool, true, false, cond, List, [], ◌∷◌, Option, Some, None, refl, ap, ◌∙◌, arith, length, if◌then◌else◌}
 use Rattle.std.proofs.lemmas.Bool.Decides.{nat_tests}
 use Rattle.std.specs.Str.{bytes_eq}
+use Rattle.std.proofs.lemmas.Bool.{and_parts}
 use Rattle.matchit.specs.Rows.{RowsOf, param_token, catch_all_token}
 use Rattle.matchit.specs.Seek.{seek, own, step, or_else, param_step, has_slash, slash}
 
@@ -9,10 +10,6 @@ use Rattle.matchit.specs.Seek.{seek, own, step, or_else, param_step, has_slash, 
 abbrev pub is_literal : List ℕ → Bool
 is_literal [] = true
 is_literal (token ∷ pattern) = ltb token 256 && is_literal pattern
-
-both : (a b : Bool) → a && b ≡ true → (a ≡ true) × (b ≡ true)
-both true b h = (refl, h)
-both false b h = (h, cc)
 
 -- a byte is no token of a parameter
 differ : (x token : ℕ) → ltb x 256 ≡ true → ltb token 256 ≡ false → (x == token) ≡ false
@@ -63,8 +60,8 @@ module _ {K : Type 0} where
   step_wild token wild [] h = refl
   step_wild token wild (([], key) ∷ rest) h = step_wild token wild rest h
   step_wild token wild ((x ∷ t, key) ∷ rest) h =
-      let parts = both (ltb x 256 && is_literal t) (are_literal rest) h in
-      let here = both (ltb x 256) (is_literal t) parts.0 in
+      let parts = and_parts (ltb x 256 && is_literal t) (are_literal rest) h in
+      let here = and_parts (ltb x 256) (is_literal t) parts.0 in
       rw (differ x token here.0 wild) (step_wild token wild rest parts.1)
 
   either : (goes_on : Bool) (t : List ℕ) (key : K) (rest : RowsOf K) → is_literal t ≡ true → are_literal rest ≡ true
@@ -82,8 +79,8 @@ module _ {K : Type 0} where
   literal_step b [] h = refl
   literal_step b (([], key) ∷ rest) h = literal_step b rest h
   literal_step b ((x ∷ t, key) ∷ rest) h =
-      let parts = both (ltb x 256 && is_literal t) (are_literal rest) h in
-      let here = both (ltb x 256) (is_literal t) parts.0 in
+      let parts = and_parts (ltb x 256 && is_literal t) (are_literal rest) h in
+      let here = and_parts (ltb x 256) (is_literal t) parts.0 in
       either (x == b) t key (step b rest) here.1 (literal_step b rest parts.1)
 
   -- a row whose pattern goes on with a byte is the row of what is behind it

@@ -1,6 +1,7 @@
 -- The plain service answers no failure of its own.
-use Rattle.std.proofs.Common.{◌≡◌, ℕ, ◌==◌, true, false, List, Option, Some, None, refl}
+use Rattle.std.proofs.Common.{◌≡◌, ℕ, ◌==◌, true, false, List, Option, Some, None, option_map, refl}
 use Rattle.std.specs.Prelude.{Result, Ok, Err, codes, if◌then◌else◌}
+use Rattle.std.specs.Option.{option_map_or}
 use Rattle.std.specs.Str.{is_utf8}
 use Rattle.std.specs.FinMap.{get, contains_key}
 use Rattle.mk_paths.specs.World.{FileMap, World, files_in}
@@ -22,22 +23,25 @@ use Rattle.ports_plain.specs.Routes.{route_of}
 use Rattle.ports_plain.specs.Target.{path_of as target_path, query_of as query_of_target}
 use Rattle.ports_plain.specs.Parameters.{parameter, optional}
 use Rattle.ports_plain.specs.Subpackages.{has_named}
-use Rattle.ports_plain.specs.Lists.{list_by, get_list, matched_by, get_match, bad_spec, depth_of, dependencies_body_of, dependencies_with, dependencies_of_root, root_named, dependencies_of, dependents_of, question_on, question_of, answered}
+use Rattle.ports_plain.specs.IndexRoutes.{list_by, match_reply, match_by, bad_spec, depth_of, dependencies_body_of, dependencies_by, root_named, reply_to, question_on, question_of, question_in, get_dependencies}
+use Rattle.ports_plain.specs.PathParameter.{path_or_refusal, path_of_parameter, path_in, reply_or_refusal}
+use Rattle.ports_plain.specs.declared.dependencies.Direction.{Direction}
+use Rattle.ports_plain.specs.declared.dependencies.Direction.TheVariants.{Dependencies, Dependents}
 use Rattle.ports_plain.specs.declared.dependencies.Question.{Question}
 use Rattle.ports_plain.specs.declared.depth.Depth.{Depth}
 use Rattle.ports_query.specs.Conditions.{ConditionValue, query_of}
 use Rattle.ports_query.specs.Kinds.{kinds_of}
 use Rattle.ports_query.specs.declared.kinds.Kinds.{Kinds}
 use Rattle.ports_index.specs.Index.{roots, edges}
-use Rattle.port_deps.specs.Lists.{RootValue, RootEdgeValue}
+use Rattle.port_deps.specs.Roots.{RootValue, RootEdgeValue}
 use Rattle.port_rules.specs.Ports.{PortValue}
 use Rattle.pkg_spec.specs.Alternatives.{spec_of}
 use Rattle.mk_base.specs.FaultAt.{FaultAt}
 use Rattle.std.specs.Result.{is_ok}
 use Rattle.ports_http.specs.Messages.{ReplyMessage}
 use Rattle.ports_plain.specs.Trimming.{trimmed}
-use Rattle.ports_plain.specs.Replies.{bad_path, full, json_reply, no_file, no_subpackage, removed, port_shown}
-use Rattle.ports_plain.specs.Plain.{PlainRequest, reply_alone, content_shown, on_named_file, on_resolved, on_file, set_trees, set_path, value_after, valued, variable_at, variable_of, get_variable, record_after, port_reply, port_at, port_of, get_port, question_in, get_reply, on_query, on_path, answer_on, answer, plain}
+use Rattle.ports_plain.specs.Replies.{bad_parameter, bad_path, full, json_reply, no_file, no_subpackage, removed, port_shown}
+use Rattle.ports_plain.specs.Plain.{PlainRequest, reply_alone, content_shown, on_named_file, on_resolved, on_file, set_trees, set_path, value_after, value_reply, variable_at, variable_of, get_variable, record_after, port_reply, port_at, port_of, get_reply, on_query, on_path, answer_on, answer, plain}
 use Rattle.ports_plain.specs.declared.changing.Change.{Change}
 use Rattle.ports_plain.specs.declared.changing.Change.TheVariants.{RemoveFile}
 use Rattle.ports_plain.specs.Changing.{changed, overfills, settle_change}
@@ -74,23 +78,49 @@ set_path-fine body =
       | false ↦ refl
     ]
 
-valued-fine : (value : Result (Option Expanded) Failed) → ((valued value).status == 503) ≡ false
-valued-fine (Ok value) = refl
-valued-fine (Err failed) = refl
+-- what was read of a query, or a refusal that isn't 503
+RefusesFinely : {A : Type 0} → Result A ReplyMessage → Type 0
+RefusesFinely (Ok value) = Unit {0}
+RefusesFinely (Err refused) = (refused.status == 503) ≡ false
+
+either-fine : {A : Type 0} (reply : A → ReplyMessage) → ((value : A) → ((reply value).status == 503) ≡ false) → (read : Result A ReplyMessage) → RefusesFinely read
+    → ((reply_or_refusal reply read).status == 503) ≡ false
+unfolding RefusesFinely
+either-fine reply fine (Ok value) refuses = fine value
+either-fine reply fine (Err refused) refuses = refuses
+
+path-fine : (path : Result PathValue PkgPathFault) → RefusesFinely (path_or_refusal path)
+unfolding RefusesFinely
+path-fine (Ok path) = tt
+path-fine (Err fault) = refl
+
+path_in-fine : (text : Option (List ℕ)) → RefusesFinely (path_of_parameter text)
+unfolding RefusesFinely
+path_in-fine (Some text) = path-fine (path_of text)
+path_in-fine None = refl
+
+with_path-fine : (reply : PathValue → ReplyMessage) → ((path : PathValue) → ((reply path).status == 503) ≡ false) → (query : List ℕ) → ((reply_or_refusal reply (path_in query)).status == 503) ≡ false
+with_path-fine reply fine query = either-fine reply fine (path_in query) (path_in-fine (parameter (codes "path") query))
+
+-- a parameter, or the refusal where it isn't as it must be
+parameter-fine : (reply : List ℕ → ReplyMessage) → ((text : List ℕ) → ((reply text).status == 503) ≡ false) → (text : Option (List ℕ)) → ((option_map_or reply text bad_parameter).status == 503) ≡ false
+parameter-fine reply fine (Some text) = fine text
+parameter-fine reply fine None = refl
+
+value_reply-fine : (value : Result (Option Expanded) Failed) → ((value_reply value).status == 503) ≡ false
+value_reply-fine (Ok value) = refl
+value_reply-fine (Err failed) = refl
 
 variable_at-fine : (world : World) (name : List ℕ) (flavors : Option (List (List ℕ))) (makefile : Option (List ℕ)) → ((variable_at world name flavors makefile).status == 503) ≡ false
-variable_at-fine world name flavors (Some makefile) = valued-fine (value_after makefile name (means world makefile flavors))
+variable_at-fine world name flavors (Some makefile) = value_reply-fine (value_after makefile name (means world makefile flavors))
 variable_at-fine world name flavors None = refl
 
-variable_of-fine : (world : World) (name : List ℕ) (path : Result PathValue PkgPathFault) → ((variable_of world name path).status == 503) ≡ false
-variable_of-fine world name (Ok path) = variable_at-fine world name path.flavors (place world path.directory)
-variable_of-fine world name (Err refusal) = refl
+variable_of-fine : (world : World) (name : List ℕ) (path : PathValue) → ((variable_of world name path).status == 503) ≡ false
+variable_of-fine world name path = variable_at-fine world name path.flavors (place world path.directory)
 
-get_variable-fine : (world : World) (path name : Option (List ℕ)) → ((get_variable world path name).status == 503) ≡ false
-get_variable-fine world (Some path) (Some name) = variable_of-fine world name (path_of path)
-get_variable-fine world (Some path) None = refl
-get_variable-fine world None (Some name) = refl
-get_variable-fine world None None = refl
+get_variable-fine : (world : World) (query : List ℕ) → ((get_variable world query).status == 503) ≡ false
+get_variable-fine world query =
+    parameter-fine (λ name. reply_or_refusal (variable_of world name) (path_in query)) (λ name. with_path-fine (variable_of world name) (variable_of-fine world name) query) (parameter (codes "name") query)
 
 port_reply-fine : (path : PathValue) (found : Result (Option Recorded) Failed) → ((port_reply path found).status == 503) ≡ false
 port_reply-fine path (Ok (Some recorded)) =
@@ -105,13 +135,8 @@ port_at-fine : (world : World) (path : PathValue) (makefile : Option (List ℕ))
 port_at-fine world path (Some makefile) = port_reply-fine path (record_after makefile (means world makefile path.flavors))
 port_at-fine world path None = refl
 
-port_of-fine : (world : World) (path : Result PathValue PkgPathFault) → ((port_of world path).status == 503) ≡ false
-port_of-fine world (Ok path) = port_at-fine world path (place world path.directory)
-port_of-fine world (Err refusal) = refl
-
-get_port-fine : (world : World) (path : Option (List ℕ)) → ((get_port world path).status == 503) ≡ false
-get_port-fine world (Some path) = port_of-fine world (path_of path)
-get_port-fine world None = refl
+port_of-fine : (world : World) (path : PathValue) → ((port_of world path).status == 503) ≡ false
+port_of-fine world path = port_at-fine world path (place world path.directory)
 
 -- the lists
 
@@ -119,75 +144,55 @@ list_by-fine : (world : World) (conditions : Option (List ConditionValue)) → (
 list_by-fine world (Some conditions) = refl
 list_by-fine world None = refl
 
-get_list-fine : (world : World) (text : Option (List ℕ)) → ((get_list world text).status == 503) ≡ false
-get_list-fine world (Some text) = list_by-fine world (query_of text)
-get_list-fine world None = refl
-
-get_match-fine : (world : World) (text : Option (List ℕ)) → ((get_match world text).status == 503) ≡ false
-get_match-fine world (Some text) =
-    elim (is_ok (spec_of text)) as (λ b. ((if b then matched_by world text else bad_spec).status == 503) ≡ false) [
+match_by-fine : (world : World) (text : List ℕ) → ((match_by world text).status == 503) ≡ false
+match_by-fine world text =
+    elim (is_ok (spec_of text)) as (λ b. ((if b then match_reply world text else bad_spec).status == 503) ≡ false) [
       | true ↦ refl
       | false ↦ refl
     ]
-get_match-fine world None = refl
 
-dependencies_with-fine : (edges : List RootEdgeValue) (question : Question) (state : Result PortValue FaultAt) → ((dependencies_with edges question state).status == 503) ≡ false
-dependencies_with-fine edges question (Ok port) =
+dependencies_by-fine : (edges : List RootEdgeValue) (question : Question) (state : Option (Result PortValue FaultAt)) → ((dependencies_by edges question state).status == 503) ≡ false
+dependencies_by-fine edges question None = refl
+dependencies_by-fine edges question (Some (Err fault)) = refl
+dependencies_by-fine edges question (Some (Ok port)) =
     elim (has_named question.path.subpackage port) as (λ b. ((if b then json_reply 200 (dependencies_body_of edges question) else no_subpackage).status == 503) ≡ false) [
       | true ↦ refl
       | false ↦ refl
     ]
-dependencies_with-fine edges question (Err fault) = refl
 
-dependencies_of_root-fine : (edges : List RootEdgeValue) (question : Question) (root : Option RootValue) → ((dependencies_of_root edges question root).status == 503) ≡ false
-dependencies_of_root-fine edges question (Some root) = dependencies_with-fine edges question root.state
-dependencies_of_root-fine edges question None = refl
+reply_to-fine : (world : World) (direction : Direction) (question : Question) → ((reply_to (roots world) (edges world) direction question).status == 503) ≡ false
+reply_to-fine world Dependencies question =
+    dependencies_by-fine (edges world) question (option_map (λ (root : RootValue). root.state) (root_named (roots world) (port_path question.path)))
+reply_to-fine world Dependents question = refl
 
-dependencies_of-fine : (world : World) (question : Question) → ((dependencies_of world question).status == 503) ≡ false
-dependencies_of-fine world question = dependencies_of_root-fine (edges world) question (root_named (roots world) (port_path question.path))
-
-dependents_of-fine : (world : World) (question : Question) → ((dependents_of world question).status == 503) ≡ false
-dependents_of-fine world question = refl
-
--- a refusal of a question
-RefusesFinely : Result Question ReplyMessage → Type 0
-RefusesFinely (Ok question) = Unit {0}
-RefusesFinely (Err refused) = (refused.status == 503) ≡ false
-
-question_on-fine : (path : Result PathValue PkgPathFault) (kinds : Option Kinds) (depth : Option Depth) → RefusesFinely (question_on path kinds depth)
+question_on-fine : (path : Result PathValue ReplyMessage) (kinds : Option Kinds) (depth : Option Depth) → RefusesFinely path → RefusesFinely (question_on path kinds depth)
 unfolding RefusesFinely
-question_on-fine (Err fault) kinds depth = refl
-question_on-fine (Ok path) (Some kinds) (Some depth) = tt
-question_on-fine (Ok path) (Some kinds) None = refl
-question_on-fine (Ok path) None depth = refl
+question_on-fine (Err refused) kinds depth refuses = refuses
+question_on-fine (Ok path) (Some kinds) (Some depth) refuses = tt
+question_on-fine (Ok path) (Some kinds) None refuses = refl
+question_on-fine (Ok path) None depth refuses = refl
 
-question_of-fine : (path kind depth : Option (List ℕ)) → RefusesFinely (question_of path kind depth)
+question_of-fine : (path : Result PathValue ReplyMessage) (kind depth : Option (List ℕ)) → RefusesFinely path → RefusesFinely (question_of path kind depth)
 unfolding RefusesFinely
-question_of-fine (Some path) (Some kind) (Some depth) = question_on-fine (path_of path) (kinds_of kind) (depth_of depth)
-question_of-fine (Some path) (Some kind) None = refl
-question_of-fine (Some path) None depth = refl
-question_of-fine None kind depth = refl
+question_of-fine path (Some kind) (Some depth) refuses = question_on-fine path (kinds_of kind) (depth_of depth) refuses
+question_of-fine path (Some kind) None refuses = refl
+question_of-fine path None depth refuses = refl
 
-answered-fine : (answer : Question → ReplyMessage) → ((question : Question) → ((answer question).status == 503) ≡ false) → (plain_request : Result Question ReplyMessage) → RefusesFinely plain_request
-    → ((answered answer plain_request).status == 503) ≡ false
-unfolding RefusesFinely
-answered-fine answer fine (Ok question) refuses = fine question
-answered-fine answer fine (Err refused) refuses = refuses
-
-plain_request-fine : (answer : Question → ReplyMessage) → ((question : Question) → ((answer question).status == 503) ≡ false) → (query : List ℕ) → ((answered answer (question_in query)).status == 503) ≡ false
-plain_request-fine answer fine query =
-    answered-fine answer fine (question_in query) (question_of-fine (parameter (codes "path") query) (optional (codes "kind") query) (optional (codes "depth") query))
+get_dependencies-fine : (world : World) (direction : Direction) (query : List ℕ) → ((get_dependencies world direction query).status == 503) ≡ false
+get_dependencies-fine world direction query =
+    either-fine (reply_to (roots world) (edges world) direction) (reply_to-fine world direction) (question_in query)
+    (question_of-fine (path_in query) (optional (codes "kind") query) (optional (codes "depth") query) (path_in-fine (parameter (codes "path") query)))
 
 get_reply-fine : (world : World) (query : List ℕ) (route : Route) → ((get_reply world query route).status == 503) ≡ false
-get_reply-fine world query Deps = plain_request-fine (dependencies_of world) (dependencies_of-fine world) query
+get_reply-fine world query Deps = get_dependencies-fine world Dependencies query
 get_reply-fine world query Faults = refl
 get_reply-fine world query File = refl
-get_reply-fine world query AllPackages = get_list-fine world (optional (codes "where") query)
-get_reply-fine world query Match = get_match-fine world (parameter (codes "spec") query)
+get_reply-fine world query AllPackages = parameter-fine (λ text. list_by world (query_of text)) (λ text. list_by-fine world (query_of text)) (optional (codes "where") query)
+get_reply-fine world query Match = parameter-fine (match_by world) (match_by-fine world) (parameter (codes "spec") query)
 get_reply-fine world query Path = refl
-get_reply-fine world query Port = get_port-fine world (parameter (codes "path") query)
-get_reply-fine world query Rdeps = plain_request-fine (dependents_of world) (dependents_of-fine world) query
-get_reply-fine world query Var = get_variable-fine world (parameter (codes "path") query) (parameter (codes "name") query)
+get_reply-fine world query Port = with_path-fine (port_of world) (port_of-fine world) query
+get_reply-fine world query Rdeps = get_dependencies-fine world Dependents query
+get_reply-fine world query Var = get_variable-fine world query
 
 on_query-fine : (world : World) (query : List ℕ) (route : Route) (method : Method) → ((on_query world query route method).0.status == 503) ≡ false
 on_query-fine world query route Get = get_reply-fine world query route

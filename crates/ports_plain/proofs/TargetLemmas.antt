@@ -27,6 +27,6 @@ without_slash rest none =
     rw place (ap (λ behind. 47 ∷ behind) (sym (drop_all (length rest + 1) rest past)))
 
 -- the local part of a target that begins with the scheme
-pub behind_scheme : (target rest : List ℕ) (n : ℕ) → target ≡ scheme ++ drop n target → rest ≡ drop n target
+pub after_scheme : (target rest : List ℕ) (n : ℕ) → target ≡ scheme ++ drop n target → rest ≡ drop n target
     → local_part target ≡ 47 ∷ after_first is_slash rest
-behind_scheme target rest n begins is = ap local_part (begins ∙ ap (λ behind. scheme ++ behind) (sym is))
+after_scheme target rest n begins is = ap local_part (begins ∙ ap (λ behind. scheme ++ behind) (sym is))

@@ -8,8 +8,10 @@ pub mod PortBody
 pub mod ListBodies
 pub mod Subpackages
 pub mod Replies
+pub mod PathParameter
 pub mod Changing
 pub mod Trimming
-pub mod Lists
+pub mod IndexRoutes
 pub mod Plain
+pub mod Giving
 pub mod Refusing

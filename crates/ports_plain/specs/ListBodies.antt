@@ -8,7 +8,7 @@ use Rattle.pkg_path.specs.Paths.{PathValue, canonical}
 use Rattle.port_rules.specs.Depends.{word_of}
 use Rattle.port_deps.specs.Edges.{EdgeValue}
 use Rattle.port_rules.specs.Ports.{PortValue}
-use Rattle.port_deps.specs.Lists.{RootValue, RootEdgeValue}
+use Rattle.port_deps.specs.Roots.{RootValue, RootEdgeValue}
 use Rattle.port_deps.specs.Statuses.{word_of as status_word}
 use Rattle.ports_query.specs.Listing.{ListedValue}
 use Rattle.serde_json.specs.Data.{Data, string, number, unsigned, array, object, no_members, member}

@@ -1,6 +1,7 @@
 -- The plain service: the reply to one request over one tenant's world, and the world after it. It knows
 -- nothing of connections, of other tenants, of work that waits or is shared.
 use Rattle.std.specs.Prelude.{ℕ, if◌then◌else◌, List, Option, Some, None, Result, Ok, Err, option_map, codes}
+use Rattle.std.specs.Option.{option_map_or}
 use Rattle.std.specs.Str.{is_utf8}
 use Rattle.std.specs.FinMap.{get, contains_key}
 use Rattle.mk_paths.specs.FileName.{resolved}
@@ -14,8 +15,7 @@ use Rattle.mk_eval.specs.declared.outcome.Evaluated.{Evaluated}
 use Rattle.mk_eval.specs.declared.outcome.Failed.{Failed}
 use Rattle.mk_eval.specs.declared.outcome.Kind.{Kind}
 use Rattle.mk_eval.specs.declared.outcome.Kind.TheVariants as kinds
-use Rattle.pkg_path.specs.Paths.{PathValue, path_of}
-use Rattle.pkg_path.specs.declared.faults.PkgPathFault.{PkgPathFault}
+use Rattle.pkg_path.specs.Paths.{PathValue}
 use Rattle.port_rules.specs.Records.{record_of}
 use Rattle.port_rules.specs.declared.recording.Recorded.{Recorded}
 use Rattle.ports_http.specs.declared.method.Method.{Method}
@@ -23,12 +23,13 @@ use Rattle.ports_http.specs.declared.method.Method.TheVariants.{Get, Put, Delete
 use Rattle.ports_http.specs.Messages.{ReplyMessage}
 use Rattle.ports_plain.specs.declared.changing.Change.{Change}
 use Rattle.ports_plain.specs.declared.changing.Change.TheVariants.{PutFile, RemoveFile, SetPath}
-use Rattle.ports_plain.specs.declared.dependencies.Question.{Question}
+use Rattle.ports_plain.specs.declared.dependencies.Direction.TheVariants.{Dependencies, Dependents}
 use Rattle.ports_plain.specs.declared.routing.Route.{Route}
 use Rattle.ports_plain.specs.declared.routing.Route.TheVariants.{Deps, Faults, File, List as AllPackages, Match, Path, Port, Rdeps, Var}
 use Rattle.ports_plain.specs.Target.{path_of as target_path, query_of}
-use Rattle.ports_plain.specs.Lists.{get_list, get_match, get_faults, question_of, answered, dependencies_of, dependents_of}
-use Rattle.ports_plain.specs.Parameters.{parameter, optional}
+use Rattle.ports_plain.specs.IndexRoutes.{get_list, get_match, get_faults, get_dependencies}
+use Rattle.ports_plain.specs.Parameters.{parameter}
+use Rattle.ports_plain.specs.PathParameter.{path_in, reply_or_refusal}
 use Rattle.ports_plain.specs.Trimming.{trimmed}
 use Rattle.ports_plain.specs.Routes.{route_of}
 use Rattle.ports_plain.specs.Subpackages.{has_named}
@@ -95,24 +96,23 @@ value_after makefile name (Ok evaluated) = value_of evaluated.env makefile name
 value_after makefile name (Err failed) = Err failed
 
 -- the reply to a value, or to a fault met on the way to it
-abbrev pub valued : Result (Option Expanded) Failed → ReplyMessage
-valued (Ok value) = variable (option_map (λ (known : Expanded). known.text) value)
-valued (Err failed) = faulty failed.fault
+abbrev pub value_reply : Result (Option Expanded) Failed → ReplyMessage
+value_reply (Ok value) = variable (option_map (λ (known : Expanded). known.text) value)
+value_reply (Err failed) = faulty failed.fault
 
 -- the variable of a makefile, evaluated with these flavors or with none given
 abbrev pub variable_at : World → List ℕ → Option (List (List ℕ)) → Option (List ℕ) → ReplyMessage
-variable_at world name flavors (Some makefile) = valued (value_after makefile name (means world makefile flavors))
+variable_at world name flavors (Some makefile) = value_reply (value_after makefile name (means world makefile flavors))
 variable_at world name flavors None = no_port
 
 -- the variable of the port that a package path names; the path's subpackage doesn't count
-abbrev pub variable_of : World → List ℕ → Result PathValue PkgPathFault → ReplyMessage
-variable_of world name (Ok path) = variable_at world name path.flavors (place world path.directory)
-variable_of world name (Err refusal) = bad_path
+abbrev pub variable_of : World → List ℕ → PathValue → ReplyMessage
+variable_of world name path = variable_at world name path.flavors (place world path.directory)
 
 -- GET /v1/var?path=&name=
-abbrev pub get_variable : World → Option (List ℕ) → Option (List ℕ) → ReplyMessage
-get_variable world (Some path) (Some name) = variable_of world name (path_of path)
-get_variable world _ _ = bad_parameter
+abbrev pub get_variable : World → List ℕ → ReplyMessage
+get_variable world query =
+    option_map_or (λ name. reply_or_refusal (variable_of world name) (path_in query)) (parameter (codes "name") query) bad_parameter
 
 -- the record of a makefile of this kind, if it describes a port
 abbrev pub record_by : Kind → Result Recorded Failed → Result (Option Recorded) Failed
@@ -139,30 +139,24 @@ port_at world path (Some makefile) = port_reply path (record_after makefile (mea
 port_at world path None = no_port
 
 -- the port that a package path names
-abbrev pub port_of : World → Result PathValue PkgPathFault → ReplyMessage
-port_of world (Ok path) = port_at world path (place world path.directory)
-port_of world (Err refusal) = bad_path
+abbrev pub port_of : World → PathValue → ReplyMessage
+port_of world path = port_at world path (place world path.directory)
 
 -- GET /v1/port?path=
-abbrev pub get_port : World → Option (List ℕ) → ReplyMessage
-get_port world (Some path) = port_of world (path_of path)
-get_port world None = bad_parameter
-
--- what a query asks about a path's dependencies, or the refusal
-abbrev pub question_in : List ℕ → Result Question ReplyMessage
-question_in query = question_of (parameter (codes "path") query) (optional (codes "kind") query) (optional (codes "depth") query)
+abbrev pub get_port : World → List ℕ → ReplyMessage
+get_port world query = reply_or_refusal (port_of world) (path_in query)
 
 -- the reply to a GET on a route, by the query; a file and the search path aren't asked for in this way
 abbrev pub get_reply : World → List ℕ → Route → ReplyMessage
-get_reply world query Deps = answered (dependencies_of world) (question_in query)
+get_reply world query Deps = get_dependencies world Dependencies query
 get_reply world query Faults = get_faults world
 get_reply world query File = not_allowed File
-get_reply world query AllPackages = get_list world (optional (codes "where") query)
-get_reply world query Match = get_match world (parameter (codes "spec") query)
+get_reply world query AllPackages = get_list world query
+get_reply world query Match = get_match world query
 get_reply world query Path = not_allowed Path
-get_reply world query Port = get_port world (parameter (codes "path") query)
-get_reply world query Rdeps = answered (dependents_of world) (question_in query)
-get_reply world query Var = get_variable world (parameter (codes "path") query) (parameter (codes "name") query)
+get_reply world query Port = get_port world query
+get_reply world query Rdeps = get_dependencies world Dependents query
+get_reply world query Var = get_variable world query
 
 -- the answer on a route that is asked by a query, by the method
 abbrev pub on_query : World → List ℕ → Route → Method → Answer

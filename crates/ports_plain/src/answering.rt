@@ -1,11 +1,13 @@
 // Requests and their answers.
+ghost use Rattle.mk_paths.specs.FilesView.{world_of};
 ghost use Rattle.std.specs.Prelude.{◌≡◌, IfOk};
 ghost use Rattle.std.specs.Result.{result_err};
 ghost use Rattle.ports_plain.specs.Plain.{answer, plain_request, get_reply, on_query as on_query_of};
+ghost use Rattle.ports_plain.specs.Giving.{GivesReply, GivesAnswer};
 ghost use Rattle.ports_index.specs.Keeping.{Keeps};
 
 use crate::changing::Prepared;
-use crate::dependencies::{get_dependencies, get_dependents};
+use crate::dependencies::{Direction, get_dependencies};
 use crate::files::on_file;
 use crate::lists::{get_faults, get_list, get_match};
 use crate::paths::on_path;
@@ -79,7 +81,7 @@ impl Plain {
         body: Vec<u8>,
     ) -> Result<Prepared, FilesFault>
         ensures ok { IfOk result (λ prepared. (prepared.reply, prepared.change)
-            ≡ answer ((F.view files.old).files, settings.now)
+            ≡ answer (world_of (F.view files.old) settings.now)
             (plain_request method target.now body.items)) }
         ensures keeps { Keeps (result_err result) (F.view files.old) (F.view files.new) }
     {
@@ -111,9 +113,9 @@ fn on_query<F: Listing>(
     method: Method,
     query: &str,
 ) -> Result<Prepared, FilesFault>
-    ensures ok { IfOk result (λ prepared. (prepared.reply, prepared.change)
-        ≡ on_query_of ((F.view files.old).files, settings.now) query.now route method) }
-    ensures keeps { Keeps (result_err result) (F.view files.old) (F.view files.new) }
+    ensures { GivesAnswer result
+        (on_query_of (world_of (F.view files.old) settings.now) query.now route method)
+        (F.view files.old) (F.view files.new) }
 {
     match method {
         Method::Get => Ok(Prepared::reply_alone(get(alloc, files, settings, route, query)?)),
@@ -129,17 +131,16 @@ fn get<F: Listing>(
     route: Route,
     query: &str,
 ) -> Result<Reply, FilesFault>
-    ensures ok { IfOk result (λ reply. reply
-        ≡ get_reply ((F.view files.old).files, settings.now) query.now route) }
-    ensures keeps { Keeps (result_err result) (F.view files.old) (F.view files.new) }
+    ensures { GivesReply result (get_reply (world_of (F.view files.old) settings.now) query.now route)
+        (F.view files.old) (F.view files.new) }
 {
     match route {
-        Route::Deps => get_dependencies(alloc, files, settings, query),
+        Route::Deps => get_dependencies(alloc, files, settings, Direction::Dependencies, query),
         Route::Faults => get_faults(alloc, files, settings),
         Route::List => get_list(alloc, files, settings, query),
         Route::Match => get_match(alloc, files, settings, query),
         Route::Port => get_port(alloc, files, settings, query),
-        Route::Rdeps => get_dependents(alloc, files, settings, query),
+        Route::Rdeps => get_dependencies(alloc, files, settings, Direction::Dependents, query),
         Route::Var => get_variable(alloc, files, settings, query),
         Route::File | Route::Path => Ok(not_allowed(alloc, route)?),
     }

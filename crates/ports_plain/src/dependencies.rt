@@ -1,27 +1,35 @@
 // The routes of dependencies, both ways.
-ghost use Rattle.std.specs.Prelude.{◌≡◌, IfOk, Ok, Some, codes};
+ghost use Rattle.mk_paths.specs.FilesView.{world_of};
+ghost use Rattle.std.specs.Prelude.{◌≡◌, IfOk, Ok};
 ghost use Rattle.std.specs.Option.{option_copied};
-ghost use Rattle.std.specs.Result.{result_err};
 ghost use Rattle.serde_json.specs.View.{view};
 ghost use Rattle.ports_query.specs.Kinds.{kinds_of};
-ghost use Rattle.ports_plain.specs.Lists as lists;
-ghost use Rattle.ports_plain.specs.Parameters.{parameter as parameter_of, optional as optional_of};
-ghost use Rattle.ports_index.specs.Keeping.{Keeps};
+ghost use Rattle.ports_plain.specs.Giving.{GivesReply};
+ghost use Rattle.ports_plain.specs.IndexRoutes as routes;
 
 use crate::depth::Depth;
 use crate::list_bodies;
-use crate::parameters::{optional, parameter};
+use crate::parameters::{optional, path_in};
 use crate::ports::has_named;
 use crate::replies::{faulty, json_reply, refusal};
 use mk_files::Listing;
 use mk_paths::{FilesFault, Settings};
-use pkg_path::{PkgPath, PkgPathFault};
+use pkg_path::PkgPath;
 use port_deps::{Root, RootEdge};
 use ports_http::{Reply, StatusCode};
 use ports_index::{Index, index_files};
 use ports_query::{Kinds, edges_to, first_edges, reached, reaching};
 use serde_json::Value;
 use std::alloc::{AllocError, Global};
+
+// Which way dependencies are followed.
+#[derive(Clone, Copy)]
+pub enum Direction {
+    // From a port to what it depends on.
+    Dependencies,
+    // From a port to what depends on it.
+    Dependents,
+}
 
 // What is asked about a path's dependencies.
 #[derive(Drop)]
@@ -31,35 +39,39 @@ pub struct Question {
     pub depth: Depth,
 }
 
-// What a query asks about a path's dependencies, or the refusal.
-fn read_question(alloc: Global, query: &str) -> Result<Result<Question, Reply>, AllocError>
-    ensures { IfOk result (λ question. question
-        ≡ lists.question_of (parameter_of (codes "path") query.now)
-        (optional_of (codes "kind") query.now) (optional_of (codes "depth") query.now)) }
+// What a port depends on, or what depends on it.
+pub fn get_dependencies<F: Listing>(
+    alloc: Global,
+    files: &mut F,
+    settings: &Settings,
+    direction: Direction,
+    query: &str,
+) -> Result<Reply, FilesFault>
+    ensures { GivesReply result
+        (routes.get_dependencies (world_of (F.view files.old) settings.now) direction query.now)
+        (F.view files.old) (F.view files.new) }
 {
-    let path = parameter(alloc, query, "path")?;
-    let kind = optional(alloc, query, "kind")?;
-    let depth = optional(alloc, query, "depth")?;
-    match (&path, &kind, &depth) {
-        (Some(path), Some(kind), Some(depth)) => question_of(alloc, path, kind, depth),
-        _ => Ok(Err(refusal(alloc, StatusCode::BAD_REQUEST, "Parameter")?)),
+    match question_in(alloc, query)? {
+        Ok(question) => {
+            let index = index_files(alloc, files, settings)?;
+            Ok(reply_to(alloc, &index, direction, &question)?)
+        }
+        Err(refused) => Ok(refused),
     }
 }
 
-// The question that these texts ask, or the refusal.
-fn question_of(
-    alloc: Global,
-    path: &str,
-    kind: &str,
-    depth: &str,
-) -> Result<Result<Question, Reply>, AllocError>
-    ensures { IfOk result (λ question. question
-        ≡ lists.question_of (Some path.now) (Some kind.now) (Some depth.now)) }
+// What a query asks about a path's dependencies, or the refusal.
+fn question_in(alloc: Global, query: &str) -> Result<Result<Question, Reply>, AllocError>
+    ensures { IfOk result (λ question. question ≡ routes.question_in query.now) }
 {
-    match PkgPath::read(alloc, path) {
-        Ok(path) => question_on(alloc, path, kind, depth),
-        Err(PkgPathFault::Memory) => Err(AllocError),
-        Err(_) => Ok(Err(refusal(alloc, StatusCode::BAD_REQUEST, "Path")?)),
+    let kind = optional(alloc, query, "kind")?;
+    let depth = optional(alloc, query, "depth")?;
+    match (&kind, &depth) {
+        (Some(kind), Some(depth)) => match path_in(alloc, query)? {
+            Ok(path) => question_on(alloc, path, kind, depth),
+            Err(refused) => Ok(Err(refused)),
+        },
+        _ => Ok(Err(refusal(alloc, StatusCode::BAD_REQUEST, "Parameter")?)),
     }
 }
 
@@ -71,7 +83,7 @@ fn question_on(
     depth: &str,
 ) -> Result<Result<Question, Reply>, AllocError>
     ensures { IfOk result (λ question. question
-        ≡ lists.question_on (Ok path) (kinds_of kind.now) (lists.depth_of depth.now)) }
+        ≡ routes.question_on (Ok path) (kinds_of kind.now) (routes.depth_of depth.now)) }
 {
     match (Kinds::read(kind), Depth::read(depth)) {
         (Some(kinds), Some(depth)) => Ok(Ok(Question { path, kinds, depth })),
@@ -79,83 +91,36 @@ fn question_on(
     }
 }
 
-// What a port depends on.
-pub fn get_dependencies<F: Listing>(
+// What a port of an index depends on, or what depends on it.
+fn reply_to(
     alloc: Global,
-    files: &mut F,
-    settings: &Settings,
-    query: &str,
-) -> Result<Reply, FilesFault>
-    ensures ok { IfOk result (λ reply. reply
-        ≡ lists.answered (lists.dependencies_of ((F.view files.old).files, settings.now))
-        (lists.question_of (parameter_of (codes "path") query.now)
-        (optional_of (codes "kind") query.now) (optional_of (codes "depth") query.now))) }
-    ensures keeps { Keeps (result_err result) (F.view files.old) (F.view files.new) }
+    index: &Index,
+    direction: Direction,
+    question: &Question,
+) -> Result<Reply, AllocError>
+    ensures { IfOk result (λ reply. reply
+        ≡ routes.reply_to index.now.roots.items index.now.edges.items direction question.now) }
 {
-    match read_question(alloc, query)? {
-        Ok(question) => dependencies_of(alloc, files, settings, &question),
-        Err(reply) => Ok(reply),
+    match direction {
+        Direction::Dependencies => dependencies_in(alloc, index, question),
+        Direction::Dependents => {
+            let body = dependents_body(alloc, index.edges.as_slice(), question)?;
+            json_reply(alloc, StatusCode::OK, &body)
+        }
     }
 }
 
-// What depends on a port.
-pub fn get_dependents<F: Listing>(
-    alloc: Global,
-    files: &mut F,
-    settings: &Settings,
-    query: &str,
-) -> Result<Reply, FilesFault>
-    ensures ok { IfOk result (λ reply. reply
-        ≡ lists.answered (lists.dependents_of ((F.view files.old).files, settings.now))
-        (lists.question_of (parameter_of (codes "path") query.now)
-        (optional_of (codes "kind") query.now) (optional_of (codes "depth") query.now))) }
-    ensures keeps { Keeps (result_err result) (F.view files.old) (F.view files.new) }
-{
-    match read_question(alloc, query)? {
-        Ok(question) => dependents_of(alloc, files, settings, &question),
-        Err(reply) => Ok(reply),
-    }
-}
-
-fn dependencies_of<F: Listing>(
-    alloc: Global,
-    files: &mut F,
-    settings: &Settings,
-    question: &Question,
-) -> Result<Reply, FilesFault>
-    ensures ok { IfOk result (λ reply. reply
-        ≡ lists.dependencies_of ((F.view files.old).files, settings.now) question.now) }
-    ensures keeps { Keeps (result_err result) (F.view files.old) (F.view files.new) }
-{
-    let index = index_files(alloc, files, settings)?;
-    Ok(dependencies_in(alloc, &index, question)?)
-}
-
-fn dependents_of<F: Listing>(
-    alloc: Global,
-    files: &mut F,
-    settings: &Settings,
-    question: &Question,
-) -> Result<Reply, FilesFault>
-    ensures ok { IfOk result (λ reply. reply
-        ≡ lists.dependents_of ((F.view files.old).files, settings.now) question.now) }
-    ensures keeps { Keeps (result_err result) (F.view files.old) (F.view files.new) }
-{
-    let index = index_files(alloc, files, settings)?;
-    let body = dependents_body(alloc, index.edges.as_slice(), question)?;
-    Ok(json_reply(alloc, StatusCode::OK, &body)?)
-}
-
-// What a port of an index depends on.
+// What a port of an index depends on. The port must have the subpackage, if one is named.
 fn dependencies_in(alloc: Global, index: &Index, question: &Question) -> Result<Reply, AllocError>
     ensures { IfOk result (λ reply. reply
-        ≡ lists.dependencies_in index.now.roots.items index.now.edges.items question.now) }
+        ≡ routes.dependencies_in index.now.roots.items index.now.edges.items question.now) }
 {
     let path = question.path.port_path(alloc)?;
     let Some(root) = root_named(index.roots.as_slice(), path.as_str()) else {
         return refusal(alloc, StatusCode::NOT_FOUND, "NoPort");
     };
     match root.state() {
+        Err(fault) => faulty(alloc, fault),
         Ok(port) if !has_named(&question.path, port) => {
             refusal(alloc, StatusCode::NOT_FOUND, "NoSubpackage")
         }
@@ -163,13 +128,12 @@ fn dependencies_in(alloc: Global, index: &Index, question: &Question) -> Result<
             let body = dependencies_body(alloc, index.edges.as_slice(), question)?;
             json_reply(alloc, StatusCode::OK, &body)
         }
-        Err(fault) => faulty(alloc, fault),
     }
 }
 
 // The root at a canonical path, if there is one.
 fn root_named<'a>(roots: &'a [Root], path: &str) -> Option<&'a Root>
-    ensures { option_copied result ≡ lists.root_named roots.now path.now }
+    ensures { option_copied result ≡ routes.root_named roots.now path.now }
 {
     roots.iter().find(|root| root.path() == path)
 }
@@ -180,7 +144,7 @@ fn dependencies_body(
     question: &Question,
 ) -> Result<Value, AllocError>
     ensures { IfOk result (λ value. view value
-        ≡ lists.dependencies_body_of edges.now question.now) }
+        ≡ routes.dependencies_body_of edges.now question.now) }
 {
     let first = first_edges(alloc, question.kinds, &question.path, edges)?;
     match question.depth {
@@ -197,7 +161,7 @@ fn dependents_body(
     edges: &[RootEdge],
     question: &Question,
 ) -> Result<Value, AllocError>
-    ensures { IfOk result (λ value. view value ≡ lists.dependents_body_of edges.now question.now) }
+    ensures { IfOk result (λ value. view value ≡ routes.dependents_body_of edges.now question.now) }
 {
     match question.depth {
         Depth::Direct => {

@@ -1,6 +1,6 @@
 // How far dependencies are followed.
 ghost use Rattle.std.specs.Prelude.{◌≡◌};
-ghost use Rattle.ports_plain.specs.Lists.{depth_of};
+ghost use Rattle.ports_plain.specs.IndexRoutes.{depth_of};
 
 /// How far dependencies are followed.
 #[derive(Clone, Copy, Debug, PartialEq, Eq)]

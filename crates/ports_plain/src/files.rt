@@ -1,13 +1,12 @@
 // The route of files.
 ghost use Rattle.std.specs.Prelude.{◌≡◌, if◌then◌else◌, IfOk, Some, codes};
 ghost use Rattle.std.specs.FinMap.{get, contains_key};
-ghost use Rattle.std.specs.Result.{result_err};
 ghost use Rattle.ports_plain.specs.Plain.{Answer, on_file as on_file_of, on_named_file as on_named_file_of, content_shown, reply_alone};
 ghost use Rattle.ports_plain.specs.Parameters.{parameter as parameter_of};
 ghost use Rattle.ports_plain.specs.Replies.{refusal as refusal_of, no_file as no_file_reply};
 ghost use Rattle.ports_plain.specs.Replies.{removed as removed_reply, stored as stored_reply};
 ghost use Rattle.ports_plain.specs.declared.changing.Change.TheVariants.{PutFile, RemoveFile};
-ghost use Rattle.ports_index.specs.Keeping.{Keeps};
+ghost use Rattle.ports_plain.specs.Giving.{GivesAnswer};
 
 use crate::changing::{Change, Prepared};
 use crate::parameters::parameter;
@@ -25,10 +24,8 @@ pub fn on_file<F: Files>(
     query: &str,
     body: Vec<u8>,
 ) -> Result<Prepared, FilesFault>
-    ensures ok { IfOk result (λ prepared. (prepared.reply, prepared.change)
-        ≡ on_file_of (F.view files.old).files method body.items
-        (parameter_of (codes "name") query.now)) }
-    ensures keeps { Keeps (result_err result) (F.view files.old) (F.view files.new) }
+    ensures { GivesAnswer result (on_file_of (F.view files.old).files method body.items
+        (parameter_of (codes "name") query.now)) (F.view files.old) (F.view files.new) }
 {
     let Some(text) = parameter(alloc, query, "name")? else {
         return Ok(refused(alloc, StatusCode::BAD_REQUEST, "Parameter")?);
@@ -49,9 +46,8 @@ fn on_named_file<F: Files>(
     name: Name,
     body: Vec<u8>,
 ) -> Result<Prepared, FilesFault>
-    ensures ok { IfOk result (λ prepared. (prepared.reply, prepared.change)
-        ≡ on_named_file_of (F.view files.old).files method body.items name) }
-    ensures keeps { Keeps (result_err result) (F.view files.old) (F.view files.new) }
+    ensures { GivesAnswer result (on_named_file_of (F.view files.old).files method body.items name)
+        (F.view files.old) (F.view files.new) }
 {
     match method {
         Method::Get => show(alloc, files, &name),
@@ -62,9 +58,9 @@ fn on_named_file<F: Files>(
 
 // The file's bytes, if it is there.
 fn show<F: Files>(alloc: Global, files: &mut F, name: &Name) -> Result<Prepared, FilesFault>
-    ensures ok { IfOk result (λ prepared. (prepared.reply, prepared.change)
-        ≡ reply_alone (content_shown (get (F.view files.old).files name.now))) }
-    ensures keeps { Keeps (result_err result) (F.view files.old) (F.view files.new) }
+    ensures { GivesAnswer result
+        (reply_alone (content_shown (get (F.view files.old).files name.now)))
+        (F.view files.old) (F.view files.new) }
 {
     match files.read(name)? {
         Some(content) => Ok(Prepared::reply_alone(file_shown(alloc, content.as_slice())?)),
@@ -85,10 +81,9 @@ fn put(alloc: Global, name: Name, body: Vec<u8>) -> Result<Prepared, AllocError>
 
 // The change that removes a file, with its reply, if the file is there.
 fn remove<F: Files>(alloc: Global, files: &mut F, name: Name) -> Result<Prepared, FilesFault>
-    ensures ok { IfOk result (λ prepared. (prepared.reply, prepared.change)
-        ≡ if contains_key (F.view files.old).files name
-        then (removed_reply, Some (RemoveFile name)) else reply_alone no_file_reply) }
-    ensures keeps { Keeps (result_err result) (F.view files.old) (F.view files.new) }
+    ensures { GivesAnswer result (if contains_key (F.view files.old).files name
+        then (removed_reply, Some (RemoveFile name)) else reply_alone no_file_reply)
+        (F.view files.old) (F.view files.new) }
 {
     if !files.has(&name)? {
         return Ok(no_file(alloc)?);

@@ -1,11 +1,8 @@
 // The routes of lists: of packages, and of faults.
-ghost use Rattle.std.specs.Prelude.{◌≡◌, IfOk, codes};
-ghost use Rattle.std.specs.Result.{result_err};
-ghost use Rattle.ports_query.specs.Conditions.{query_of};
-ghost use Rattle.pkg_spec.specs.Alternatives.{spec_of};
-ghost use Rattle.ports_plain.specs.Lists as lists;
-ghost use Rattle.ports_plain.specs.Parameters.{parameter as parameter_of, optional as optional_of};
-ghost use Rattle.ports_index.specs.Keeping.{Keeps};
+ghost use Rattle.mk_paths.specs.FilesView.{world_of};
+ghost use Rattle.std.specs.Prelude.{◌≡◌, IfOk};
+ghost use Rattle.ports_plain.specs.Giving.{GivesReply};
+ghost use Rattle.ports_plain.specs.IndexRoutes as routes;
 
 use crate::list_bodies;
 use crate::parameters::{optional, parameter};
@@ -15,8 +12,8 @@ use mk_paths::{FilesFault, Settings};
 use pkg_spec::{Spec, SpecFault};
 use ports_http::{Reply, StatusCode};
 use ports_index::index_roots;
-use ports_query::{Query, QueryFault, admitted, answer};
-use std::alloc::Global;
+use ports_query::{Listed, Query, QueryFault, admitted, answer};
+use std::alloc::{AllocError, Global};
 
 // The packages that meet the conditions that the query gives.
 pub fn get_list<F: Listing>(
@@ -25,10 +22,8 @@ pub fn get_list<F: Listing>(
     settings: &Settings,
     query: &str,
 ) -> Result<Reply, FilesFault>
-    ensures ok { IfOk result (λ reply. reply
-        ≡ lists.get_list ((F.view files.old).files, settings.now)
-        (optional_of (codes "where") query.now)) }
-    ensures keeps { Keeps (result_err result) (F.view files.old) (F.view files.new) }
+    ensures { GivesReply result (routes.get_list (world_of (F.view files.old) settings.now) query.now)
+        (F.view files.old) (F.view files.new) }
 {
     let Some(text) = optional(alloc, query, "where")? else {
         return Ok(refusal(alloc, StatusCode::BAD_REQUEST, "Parameter")?);
@@ -47,14 +42,12 @@ fn list_by<F: Listing>(
     settings: &Settings,
     conditions: &Query,
 ) -> Result<Reply, FilesFault>
-    ensures ok { IfOk result (λ reply. reply
-        ≡ lists.list_reply ((F.view files.old).files, settings.now) conditions.now) }
-    ensures keeps { Keeps (result_err result) (F.view files.old) (F.view files.new) }
+    ensures { GivesReply result (routes.list_reply (world_of (F.view files.old) settings.now) conditions.now)
+        (F.view files.old) (F.view files.new) }
 {
     let roots = index_roots(alloc, files, settings)?;
     let packages = answer(alloc, conditions, roots.as_slice())?;
-    let body = list_bodies::packages(alloc, packages.as_slice())?;
-    Ok(json_reply(alloc, StatusCode::OK, &body)?)
+    Ok(packages_reply(alloc, packages.as_slice())?)
 }
 
 // The packages that are admitted by the spec that the query gives.
@@ -64,10 +57,8 @@ pub fn get_match<F: Listing>(
     settings: &Settings,
     query: &str,
 ) -> Result<Reply, FilesFault>
-    ensures ok { IfOk result (λ reply. reply
-        ≡ lists.get_match ((F.view files.old).files, settings.now)
-        (parameter_of (codes "spec") query.now)) }
-    ensures keeps { Keeps (result_err result) (F.view files.old) (F.view files.new) }
+    ensures { GivesReply result (routes.get_match (world_of (F.view files.old) settings.now) query.now)
+        (F.view files.old) (F.view files.new) }
 {
     let Some(text) = parameter(alloc, query, "spec")? else {
         return Ok(refusal(alloc, StatusCode::BAD_REQUEST, "Parameter")?);
@@ -86,14 +77,20 @@ fn match_by<F: Listing>(
     settings: &Settings,
     spec: &Spec,
 ) -> Result<Reply, FilesFault>
-    ensures ok { IfOk result (λ reply. reply
-        ≡ lists.matched_by ((F.view files.old).files, settings.now) spec.now) }
-    ensures keeps { Keeps (result_err result) (F.view files.old) (F.view files.new) }
+    ensures { GivesReply result (routes.match_reply (world_of (F.view files.old) settings.now) spec.now)
+        (F.view files.old) (F.view files.new) }
 {
     let roots = index_roots(alloc, files, settings)?;
     let packages = admitted(alloc, spec, roots.as_slice())?;
-    let body = list_bodies::packages(alloc, packages.as_slice())?;
-    Ok(json_reply(alloc, StatusCode::OK, &body)?)
+    Ok(packages_reply(alloc, packages.as_slice())?)
+}
+
+// The reply that lists packages.
+fn packages_reply(alloc: Global, packages: &[Listed]) -> Result<Reply, AllocError>
+    ensures { IfOk result (λ reply. reply ≡ routes.packages_reply packages.now) }
+{
+    let body = list_bodies::packages(alloc, packages)?;
+    json_reply(alloc, StatusCode::OK, &body)
 }
 
 // The faults of ports and lists.
@@ -102,9 +99,8 @@ pub fn get_faults<F: Listing>(
     files: &mut F,
     settings: &Settings,
 ) -> Result<Reply, FilesFault>
-    ensures ok { IfOk result (λ reply. reply
-        ≡ lists.get_faults ((F.view files.old).files, settings.now)) }
-    ensures keeps { Keeps (result_err result) (F.view files.old) (F.view files.new) }
+    ensures { GivesReply result (routes.get_faults (world_of (F.view files.old) settings.now))
+        (F.view files.old) (F.view files.new) }
 {
     let roots = index_roots(alloc, files, settings)?;
     let body = list_bodies::faults(alloc, roots.as_slice())?;

@@ -3,8 +3,12 @@ ghost use Rattle.std.specs.Prelude.{◌≡◌, IfOk, option_map};
 ghost use Rattle.std.specs.Cow.{cow_str_bytes};
 ghost use Rattle.ports_plain.specs.Parameters as parameters;
 ghost use Rattle.ports_plain.specs.ParametersSeen.{found_seen};
+ghost use Rattle.ports_plain.specs.PathParameter.{path_in as path_in_query};
 
+use crate::replies::refusal;
 use form_urlencoded::parse;
+use pkg_path::{PkgPath, PkgPathFault};
+use ports_http::{Reply, StatusCode};
 use std::alloc::{AllocError, Global};
 use std::borrow::CowStr;
 
@@ -45,6 +49,20 @@ pub fn optional<'a>(
         Found::Never => Ok(Some(CowStr::Borrowed(""))),
         Found::Once(value) => Ok(Some(value)),
         Found::Often => Ok(None),
+    }
+}
+
+// The package path that the parameter `path` names, or the refusal.
+pub fn path_in(alloc: Global, query: &str) -> Result<Result<PkgPath, Reply>, AllocError>
+    ensures { IfOk result (λ path. path ≡ path_in_query query.now) }
+{
+    let Some(text) = parameter(alloc, query, "path")? else {
+        return Ok(Err(refusal(alloc, StatusCode::BAD_REQUEST, "Parameter")?));
+    };
+    match PkgPath::read(alloc, text.as_str()) {
+        Ok(path) => Ok(Ok(path)),
+        Err(PkgPathFault::Memory) => Err(AllocError),
+        Err(_) => Ok(Err(refusal(alloc, StatusCode::BAD_REQUEST, "Path")?)),
     }
 }
 

@@ -1,16 +1,13 @@
 -- A part that stands somewhere in a text.
-use Rattle.std.proofs.Common.{◌≡◌, ◌∙◌, sym, ap, refl, ℕ, Bool, true, false, ◌||◌, ◌↔◌, List, [], ◌∷◌, ◌++◌, length, take, drop, nat_eq}
+use Rattle.std.proofs.Common.{◌≡◌, ◌∙◌, sym, ap, refl, ℕ, Bool, true, ◌↔◌, List, [], ◌∷◌, ◌++◌, length, take, drop, nat_eq}
 use Rattle.std.proofs.lemmas.Bool.{or_left, or_right}
 use Rattle.std.proofs.lemmas.List.{take-append-drop, take_at}
 use Rattle.std.proofs.lemmas.Slice.Eq.{bytes_eq-Decides}
 use Rattle.std.specs.List.{starts_with}
 use Rattle.std.specs.Str.Iter.{HasSubslice}
 use Rattle.std.specs.Cmp.{both_ways}
+use Rattle.general_facts.specs.Bools.{or_elim}
 use Rattle.ports_query.specs.Meeting.{has_part}
-
-or_cases : {P : Type 0} (a b : Bool) → (a || b) ≡ true → (a ≡ true → P) → (b ≡ true → P) → P
-or_cases true b is left right = left refl
-or_cases false b is left right = right is
 
 at_front : (text part : List ℕ) → starts_with nat_eq text part ≡ true → HasSubslice text part
 at_front text part begins =
@@ -22,7 +19,7 @@ pub part_stands : (text part : List ℕ) → has_part part text ≡ true → Has
 unfolding has_part
 part_stands [] part is = at_front [] part is
 part_stands (byte ∷ rest) part is =
-    or_cases (starts_with nat_eq (byte ∷ rest) part) (has_part part rest) is (at_front (byte ∷ rest) part)
+    or_elim (starts_with nat_eq (byte ∷ rest) part) (has_part part rest) is (at_front (byte ∷ rest) part)
     (λ further. let stands = part_stands rest part further in (byte ∷ stands.0, stands.1, ap (λ t. byte ∷ t) stands.2))
 
 begins_with : (part behind : List ℕ) → starts_with nat_eq (part ++ behind) part ≡ true
@@ -33,15 +30,15 @@ unfolding has_part
 from_front [] part begins = begins
 from_front (byte ∷ rest) part begins = or_left (starts_with nat_eq (byte ∷ rest) part) (has_part part rest) begins
 
-found_behind : (before part behind : List ℕ) → has_part part (before ++ (part ++ behind)) ≡ true
+found_after : (before part behind : List ℕ) → has_part part (before ++ (part ++ behind)) ≡ true
 unfolding has_part
-found_behind [] part behind = from_front (part ++ behind) part (begins_with part behind)
-found_behind (byte ∷ before) part behind =
-    or_right (starts_with nat_eq (byte ∷ (before ++ (part ++ behind))) part) (has_part part (before ++ (part ++ behind))) (found_behind before part behind)
+found_after [] part behind = from_front (part ++ behind) part (begins_with part behind)
+found_after (byte ∷ before) part behind =
+    or_right (starts_with nat_eq (byte ∷ (before ++ (part ++ behind))) part) (has_part part (before ++ (part ++ behind))) (found_after before part behind)
 
 -- it is found where it stands
 pub part_found : (text part : List ℕ) → HasSubslice text part → has_part part text ≡ true
-part_found text part (before, behind, is) = ap (has_part part) is ∙ found_behind before part behind
+part_found text part (before, behind, is) = ap (has_part part) is ∙ found_after before part behind
 
 -- an answer that is right both ways
 pub part_answer : (answer : Bool) (text part : List ℕ) → (answer ≡ true) ↔ HasSubslice text part → answer ≡ has_part part text

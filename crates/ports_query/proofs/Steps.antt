@@ -1,8 +1,8 @@
 -- Lists that are tested, mapped and filtered, one element more.
-use Rattle.std.proofs.Common.{◌≡◌, ◌∙◌, sym, ap, refl, ℕ, ◌+◌, ◌<◌, Bool, true, false, cond, ◌||◌, List, [], ◌∷◌, ◌++◌, map, take, length, get_or, Option, Some, None, append-nil}
+use Rattle.std.proofs.Common.{◌≡◌, ◌∙◌, sym, ap, refl, ℕ, ◌+◌, ◌<◌, Bool, true, false, cond, List, [], ◌∷◌, ◌++◌, map, take, length, get_or, Option, Some, None, append-nil}
 use Rattle.std.proofs.lemmas.List.{append_assoc, take_more, map-append}
-use Rattle.std.proofs.lemmas.List.Elements.{filter-append, filter_map-append}
-use Rattle.std.specs.List.{filter, filter_map, cons_option, list_any}
+use Rattle.std.proofs.lemmas.List.Elements.{filter-append}
+use Rattle.std.specs.List.{filter, filter_map, cons_option}
 use Rattle.std.specs.Option.{option_to_list}
 
 -- what one element more gives
@@ -13,23 +13,10 @@ gives_one h x = by (h x)
     by None = refl
     by (Some y) = refl
 
-pub filter_map-more : {X Y : Type 0} (h : X → Option Y) (xs : List X) (i : ℕ) (d : X) (before now : List Y) → i < length xs
-    → before ≡ filter_map h (take i xs) → now ≡ before ++ option_to_list (h (get_or xs i d)) → now ≡ filter_map h (take (i + 1) xs)
-filter_map-more h xs i d before now inside so_far more =
-    more ∙ ap (λ ys. ys ++ option_to_list (h (get_or xs i d))) so_far
-    ∙ ap (λ ys. filter_map h (take i xs) ++ ys) (sym (gives_one h (get_or xs i d)))
-    ∙ sym (filter_map-append h (take i xs) (get_or xs i d ∷ []))
-    ∙ ap (filter_map h) (sym (take_more xs i d inside))
-
 -- what is given of mapped elements
 pub filter_map-over : {X Y Z : Type 0} (h : Y → Option Z) (f : X → Y) (xs : List X) → filter_map h (map f xs) ≡ filter_map (λ x. h (f x)) xs
 filter_map-over h f [] = refl
 filter_map-over h f (x ∷ xs) = ap (cons_option (h (f x))) (filter_map-over h f xs)
-
--- a test of mapped elements
-pub any_mapped : {X Y : Type 0} (test : Y → Bool) (f : X → Y) (xs : List X) → list_any test (map f xs) ≡ list_any (λ x. test (f x)) xs
-any_mapped test f [] = refl
-any_mapped test f (x ∷ xs) = ap (λ rest. test (f x) || rest) (any_mapped test f xs)
 
 one_kept : {X Y : Type 0} (test : X → Bool) (f : X → Y) (x : X) (before : List Y) (passes : Bool) → test x ≡ passes
     → cond passes (before ++ f x ∷ []) before ≡ before ++ map f (filter test (x ∷ []))

@@ -5,8 +5,8 @@ use Rattle.pkg_path.specs.Paths.{PathValue, port_path}
 use Rattle.port_rules.specs.declared.depends.DependKind.{DependKind}
 use Rattle.port_rules.specs.declared.depends.DependKind.TheVariants.{Build, Lib, Run, Test}
 use Rattle.port_deps.specs.Edges.{EdgeValue}
-use Rattle.port_deps.specs.Lists.{RootEdgeValue}
-use Rattle.ports_query.specs.Kinds.{are_asked}
+use Rattle.port_deps.specs.Roots.{RootEdgeValue}
+use Rattle.ports_query.specs.Kinds.{has_kind}
 use Rattle.ports_query.specs.declared.kinds.Kinds.{Kinds}
 
 -- dependencies of these kinds are for the port as a whole: to be built and tested
@@ -27,7 +27,7 @@ is_of path edge = bytes_eq edge.root (port_path path) && keeps path.subpackage e
 
 -- the dependencies of these kinds that a path has, in their order
 abbrev pub first_edges_of : Kinds → PathValue → List RootEdgeValue → List RootEdgeValue
-first_edges_of kinds path edges = filter (λ (edge : RootEdgeValue). are_asked kinds edge.edge.kind && is_of path edge) edges
+first_edges_of kinds path edges = filter (λ (edge : RootEdgeValue). has_kind kinds edge.edge.kind && is_of path edge) edges
 
 -- if a path names a subpackage, the target names the same one
 abbrev pub names_it : Option (List ℕ) → Option (List ℕ) → Bool
@@ -46,4 +46,4 @@ is_target path target = is_at (port_path path) path.subpackage target
 
 -- the dependencies of these kinds, of whatever status, that lead to a path, in their order
 abbrev pub edges_to_of : Kinds → PathValue → List RootEdgeValue → List RootEdgeValue
-edges_to_of kinds path edges = filter (λ (edge : RootEdgeValue). are_asked kinds edge.edge.kind && is_target path edge.edge.target) edges
+edges_to_of kinds path edges = filter (λ (edge : RootEdgeValue). has_kind kinds edge.edge.kind && is_target path edge.edge.target) edges

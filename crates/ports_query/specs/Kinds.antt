@@ -25,6 +25,6 @@ same_kind Test Test = true
 same_kind kind other = false
 
 -- a kind is one of those
-abbrev pub are_asked : Kinds → DependKind → Bool
-are_asked All kind = true
-are_asked (One wanted) kind = same_kind wanted kind
+abbrev pub has_kind : Kinds → DependKind → Bool
+has_kind All kind = true
+has_kind (One wanted) kind = same_kind wanted kind

@@ -6,7 +6,7 @@ use Rattle.pkg_name.specs.Name.{name_text}
 use Rattle.pkg_spec.specs.Admitting.{admitted_by}
 use Rattle.port_rules.specs.Ports.{PortValue}
 use Rattle.port_rules.specs.Packages.{PackageValue}
-use Rattle.port_deps.specs.Lists.{RootValue}
+use Rattle.port_deps.specs.Roots.{RootValue}
 use Rattle.ports_query.specs.Conditions.{ConditionValue}
 use Rattle.ports_query.specs.Meeting.{meets_all}
 use Rattle.ports_query.specs.declared.listing.Test.{Test}

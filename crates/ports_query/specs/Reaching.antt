@@ -4,12 +4,12 @@
 use Rattle.std.specs.Prelude.{ℕ, ◌&&◌, if◌then◌else◌, Bool, true, false, List, Option, None, option_map, string_bytes}
 use Rattle.std.specs.List.{filter_map}
 use Rattle.pkg_path.specs.Paths.{PathValue, port_path}
-use Rattle.port_deps.specs.Lists.{RootEdgeValue}
+use Rattle.port_deps.specs.Roots.{RootEdgeValue}
 use Rattle.port_deps.specs.declared.statuses.Status.{Status}
 use Rattle.port_deps.specs.declared.statuses.Status.TheVariants as statuses
 use Rattle.text_graph.specs.Arrows.{ArrowValue}
 use Rattle.text_graph.specs.Listed.{reached_list, reaching_list}
-use Rattle.ports_query.specs.Kinds.{are_asked}
+use Rattle.ports_query.specs.Kinds.{has_kind}
 use Rattle.ports_query.specs.declared.kinds.Kinds.{Kinds}
 use Rattle.ports_query.specs.declared.reach.Step.{Step}
 
@@ -26,7 +26,7 @@ is_met statuses.Ok = true
 -- a dependency of these kinds that is met leads from its port to the port that it names
 abbrev pub arrow_of : Kinds → RootEdgeValue → Option ArrowValue
 arrow_of kinds edge =
-    if are_asked kinds edge.edge.kind
+    if has_kind kinds edge.edge.kind
     && is_met edge.edge.status
     then option_map (λ (target : PathValue). record { from = edge.root; to = port_path target }) edge.edge.target
     else None

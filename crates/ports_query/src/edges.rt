@@ -2,8 +2,8 @@
 ghost use Rattle.std.specs.Prelude.{◌≡◌, ◌&&◌, IfOk, map};
 ghost use Rattle.std.specs.Option.{option_copied};
 ghost use Rattle.std.specs.Str.{bytes_eq};
-ghost use Rattle.ports_query.specs.Edges as asked;
-ghost use Rattle.ports_query.specs.Kinds.{are_asked};
+ghost use Rattle.ports_query.specs.Edges as selection;
+ghost use Rattle.ports_query.specs.Kinds.{has_kind};
 
 use crate::kinds::Kinds;
 use pkg_path::PkgPath;
@@ -21,7 +21,7 @@ pub fn first_edges<'a>(
     edges: &'a [RootEdge],
 ) -> Result<Vec<&'a RootEdge>, AllocError>
     ensures { IfOk result (λ found. map (λ edge. edge.now) found.items
-        ≡ asked.first_edges_of kinds path.now edges.now) }
+        ≡ selection.first_edges_of kinds path.now edges.now) }
 {
     let root = path.port_path(alloc)?;
     let mut found = Vec::new(alloc);
@@ -43,7 +43,7 @@ pub fn edges_to<'a>(
     edges: &'a [RootEdge],
 ) -> Result<Vec<&'a RootEdge>, AllocError>
     ensures { IfOk result (λ found. map (λ edge. edge.now) found.items
-        ≡ asked.edges_to_of kinds path.now edges.now) }
+        ≡ selection.edges_to_of kinds path.now edges.now) }
 {
     let root = path.port_path(alloc)?;
     let mut found = Vec::new(alloc);
@@ -58,16 +58,16 @@ pub fn edges_to<'a>(
 /// Whether a dependency is of these kinds and of a port, and of its subpackage if one is named.
 fn is_first(kinds: Kinds, root: &str, subpackage: Option<&str>, edge: &RootEdge) -> bool
     ensures { result
-        ≡ (are_asked kinds edge.now.edge.kind
+        ≡ (has_kind kinds edge.now.edge.kind
         && (bytes_eq edge.now.root root.now
-        && asked.keeps (option_copied subpackage.entry) edge.now.edge)) }
+        && selection.keeps (option_copied subpackage.entry) edge.now.edge)) }
 {
     kinds.have(edge.edge().kind()) && edge.root() == root && keeps(subpackage, edge.edge())
 }
 
 /// Whether a dependency is kept for a subpackage. If none is named, each dependency is.
 fn keeps(subpackage: Option<&str>, edge: &Edge) -> bool
-    ensures { result ≡ asked.keeps (option_copied subpackage.entry) edge.now }
+    ensures { result ≡ selection.keeps (option_copied subpackage.entry) edge.now }
 {
     match subpackage {
         Some(name) => is_of_port(edge.kind()) || edge.subpackage() == name,
@@ -77,7 +77,7 @@ fn keeps(subpackage: Option<&str>, edge: &Edge) -> bool
 
 /// Whether dependencies of this kind are for the port as a whole.
 fn is_of_port(kind: DependKind) -> bool
-    ensures { result ≡ asked.is_of_port kind }
+    ensures { result ≡ selection.is_of_port kind }
 {
     matches!(kind, DependKind::Build | DependKind::Test)
 }
@@ -91,8 +91,8 @@ fn leads_to(
     edge: &RootEdge,
 ) -> Result<bool, AllocError>
     ensures { IfOk result (λ leads. leads
-        ≡ (are_asked kinds edge.now.edge.kind
-        && asked.is_at root.now (option_copied subpackage.entry) edge.now.edge.target)) }
+        ≡ (has_kind kinds edge.now.edge.kind
+        && selection.is_at root.now (option_copied subpackage.entry) edge.now.edge.target)) }
 {
     if !kinds.have(edge.edge().kind()) {
         return Ok(false);
@@ -106,7 +106,7 @@ fn leads_to(
 
 /// Whether a target names the same subpackage, if one is named.
 fn names_it(subpackage: Option<&str>, named: Option<&str>) -> bool
-    ensures { result ≡ asked.names_it (option_copied subpackage.entry) (option_copied named.entry) }
+    ensures { result ≡ selection.names_it (option_copied subpackage.entry) (option_copied named.entry) }
 {
     match (subpackage, named) {
         (None, _) => true,

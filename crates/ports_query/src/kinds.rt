@@ -31,7 +31,7 @@ impl Kinds {
 
     /// Whether a kind is one of them.
     pub(crate) fn have(self, kind: DependKind) -> bool
-        ensures { result ≡ kinds.are_asked self kind }
+        ensures { result ≡ kinds.has_kind self kind }
     {
         match self {
             Kinds::All => true,

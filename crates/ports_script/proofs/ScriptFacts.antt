@@ -1,6 +1,6 @@
 -- What scripts hold.
 use Rattle.std.proofs.Common.{◌≡◌, ℕ, zero, suc, ◌+◌, ◌<◌, ◌≤◌, Bool, true, false, ◌==◌, cond, List, [], ◌∷◌, ◌++◌, length, take, drop, map, refl, sym, subst, ap, ◌∙◌, arith, nat_lt, Option, Some, None, Result, Ok, Err, append_assoc}
-use Rattle.std.specs.List.{zip, slice_split, onto_first, position, position_or_len, slice_get, HoldsAt}
+use Rattle.std.specs.List.{zip, slice_split, position, position_or_len, slice_get, HoldsAt}
 use Rattle.std.specs.Result.{OnOk, OnErr, IfOk, IfErr}
 use Rattle.std.specs.Io.KnownBytes.{Consumes}
 use Rattle.std.proofs.KnownBytes.{Consumes-trans}
@@ -8,6 +8,7 @@ use Rattle.std.proofs.lemmas.List.Sums.{fails_before_first}
 use Rattle.std.proofs.lemmas.List.Splits.{slice_split_first, slice_split_none}
 use Rattle.std.proofs.lemmas.Bool.{true≢false}
 use Rattle.std.proofs.lemmas.Bool.Decides.{nat_tests}
+use Rattle.general_facts.specs.Lists.{slice_split-first}
 use Rattle.ports_core.specs.declared.event.Event.{Event}
 use Rattle.ports_script.specs.declared.script.Script.{Script}
 use Rattle.ports_script.specs.declared.script.ScriptFault.{ScriptFault}
@@ -33,14 +34,6 @@ IsFaultOf-before xs reading Memory h = tt
 pub with_line-event : (line : ℕ) (text : List ℕ) (event : Entry) (later : Reading) → is_passed_over text ≡ false → event_of text ≡ Some event → with_line line text later ≡ put_before ((line, event) ∷ []) later
 with_line-event line text event later other e = rw (other, e)
 
-split_cons : (p : ℕ → Bool) (xs : List ℕ) → (first : List ℕ) × (others : List (List ℕ)) × (slice_split p xs ≡ first ∷ others)
-split_cons p [] = ([], [], refl)
-split_cons p (x ∷ xs) = cases (p x) (split_cons p xs)
-  where
-    cases : (b : Bool) → (first : List ℕ) × (others : List (List ℕ)) × (slice_split p xs ≡ first ∷ others) → (first : List ℕ) × (others : List (List ℕ)) × (cond b ([] ∷ slice_split p xs) (onto_first x (slice_split p xs)) ≡ first ∷ others)
-    cases true h = ([], slice_split p xs, refl)
-    cases false h = (x ∷ h.0, h.1, rw h.2)
-
 events_from-cons : (whole : Bool) (line : ℕ) (text : List ℕ) (texts : List (List ℕ)) (first : List ℕ) (others : List (List ℕ)) → texts ≡ first ∷ others → events_from whole line (text ∷ texts) ≡ with_line line text (events_from whole (line + 1) texts)
 unfolding events_from
 events_from-cons whole line text texts first others e = rw e
@@ -48,7 +41,7 @@ events_from-cons whole line text texts first others e = rw e
 -- a line in front of others
 pub events_from-line : (whole : Bool) (line : ℕ) (text front later : List ℕ) → slice_split (λ byte. byte == 10) text ≡ front ∷ slice_split (λ byte. byte == 10) later → events_from whole line (slice_split (λ byte. byte == 10) text) ≡ with_line line front (events_from whole (line + 1) (slice_split (λ byte. byte == 10) later))
 events_from-line whole line text front later parts =
-    let more = split_cons (λ byte. byte == 10) later in
+    let more = slice_split-first (λ byte. byte == 10) later in
     rw parts (events_from-cons whole line front _ more.0 more.1 more.2)
 
 -- a last line of a whole text
@@ -137,7 +130,7 @@ never_read line first (next ∷ later) zs e =
 cut_unread : (text : List ℕ) (zs : List (ℕ × Entry)) → script_of false text ≡ Ok zs → ⊥
 unfolding script_of
 cut_unread text zs e =
-    let lines = split_cons (λ byte. byte == 10) text in
+    let lines = slice_split-first (λ byte. byte == 10) text in
     never_read 1 lines.0 lines.1 zs (rw lines.2 at e)
 
 pub reads : (old new : Option (List ℕ)) (whole : Bool) (text : List ℕ) (r : Result Script ScriptFault) → HasGiven old new whole text → IfOk r (λ script. script_of whole text ≡ Ok (numbered script)) → IfOk r (λ script. ReadsScript old new (numbered script))

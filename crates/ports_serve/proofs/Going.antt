@@ -1,5 +1,5 @@
 -- A wire and a service that go through one course behind another.
-use Rattle.std.proofs.Common.{◌≡◌, ◌≢◌, ◌⊎◌, inl, inr, ℕ, zero, suc, ◌<◌, ◌≤◌, ◌-◌, List, [], ◌∷◌, ◌++◌, Option, Some, None, map, refl, sym, ap, subst, ◌∙◌, append_assoc, arith, length, ◌+◌, ◌==◌, true, false, get_or, drop, drop-cons}
+use Rattle.std.proofs.Common.{◌≡◌, ◌≢◌, ◌⊎◌, inl, inr, ℕ, zero, suc, ◌<◌, ◌≤◌, ◌-◌, List, [], ◌∷◌, ◌++◌, Some, None, map, refl, sym, ap, subst, ◌∙◌, append_assoc, arith, length, ◌+◌, ◌==◌, true, false, get_or, drop, drop-cons}
 use Rattle.std.proofs.lemmas.Bool.{false≢true}
 use Rattle.std.proofs.lemmas.List.{append-nil, drop_all, nil_from_length}
 use Rattle.std.specs.Option.{option_to_list}
@@ -8,7 +8,7 @@ use Rattle.ports_core.specs.declared.event.Told.{Told}
 use Rattle.ports_core.specs.Effects.{Effect}
 use Rattle.ports_core.specs.declared.event.Event.TheVariants as events
 use Rattle.ports_core.specs.State.{State, keys_of, connections_of, next_of, room_at, pending_at}
-use Rattle.ports_core.specs.Steps.{Does}
+use Rattle.ports_core.specs.Steps.{keys_stay}
 use Rattle.ports_core.specs.Runs.{Happens, Run, sent_by}
 use Rattle.ports_serve.specs.declared.wire.Outcome.{Outcome}
 use Rattle.ports_serve.specs.declared.wire.Outcome.TheVariants.{Nothing, Got, End, Fault}
@@ -54,17 +54,6 @@ is_empty_list xs none = let no_length : length xs ≡ 0 = grind (arith, none) in
 pub has_items : (xs : List ℕ) → (length xs == 0) ≡ false → xs ≢ []
 has_items xs some none = absurd (false≢true (sym some ∙ ap (λ (ys : List ℕ). length ys == 0) none))
 
--- no event changes the tenants' keys
-keeps_keys : (event : Event) (told : Told) (old new : State) → Does event told old new → keys_of new ≡ keys_of old
-keeps_keys (events.Open c) told old new (inl is) = is.keys
-keeps_keys (events.Open c) told old new (inr is) = is.same.keeps.keys
-keeps_keys (events.Piece c bytes) told old new is = is.keeps.keys
-keeps_keys (events.End c) told old new is = is.keeps.keys
-keeps_keys (events.Fault c) told old new is = is.keeps.keys
-keeps_keys (events.Wrote c count) told old new is = is.keeps.keys
-keeps_keys (events.Turn t) told old new (inl is) = is.same.keeps.keys
-keeps_keys (events.Turn t) told old new (inr is) = is.keeps.keys
-
 -- where nothing came, no connection opens
 pub opens_none : (n : ℕ) (outcome : Outcome (Unit {0})) → (outcome ≡ Nothing) ⊎ ((outcome ≡ End) ⊎ (outcome ≡ Fault)) → opening n outcome ≡ None
 opens_none n outcome (inl is) = ap (opening n) is
@@ -104,9 +93,9 @@ module _ {W : Type 0} (After : W → Call → W → Type 0) where
       }
 
   -- a call, and then what its answer makes happen
-  pub behind_call : {P : State → Course → State → Type 0} → (old mid new : W) (state after_state : State) (call : Call) → After old call mid → Goes After P mid state new after_state
+  pub after_call : {P : State → Course → State → Type 0} → (old mid new : W) (state after_state : State) (call : Call) → After old call mid → Goes After P mid state new after_state
       → Goes After (λ s course t. (behind : Course) × P s behind t × (course ≡ joined (called call) behind)) old state new after_state
-  behind_call old mid new state after_state call after behind = record {
+  after_call old mid new state after_state call after behind = record {
     course = joined (called call) behind.course;
     goes = (behind.course, behind.goes, refl);
     wire = (mid, after, behind.wire);
@@ -136,7 +125,7 @@ module _ {W : Type 0} (After : W → Call → W → Type 0) where
   accepts_client old mid new state after_state n client is after went =
       subst (λ m. After old (Accept m (Got client)) mid → Goes After (HappensOn (events.Open m)) mid state new after_state → Goes After Accepts old state new after_state) (sym is)
       (λ after went. goes_as old new state after_state (λ course goes. (Got client, goes))
-      (behind_call old mid new state after_state (Accept (next_of state) (Got client)) after went))
+      (after_call old mid new state after_state (Accept (next_of state) (Got client)) after went))
       after went
 
   -- a connection without room isn't read
@@ -151,19 +140,19 @@ module _ {W : Type 0} (After : W → Call → W → Type 0) where
       → Goes After (HearsPiece c bytes) mid state new after_state → Goes After (Reads c) old state new after_state
   reads_piece c size bytes old mid new state after_state positive within after went =
       goes_as old new state after_state (λ course goes. inr (size, Got bytes, positive, within, goes))
-      (behind_call old mid new state after_state (Read c size (Got bytes)) after went)
+      (after_call old mid new state after_state (Read c size (Got bytes)) after went)
 
   pub reads_end : (c size : ℕ) (old mid new : W) (state after_state : State) → 0 < size → size ≤ room_at c state → After old (Read c size End) mid
       → Goes After (HappensOn (events.End c)) mid state new after_state → Goes After (Reads c) old state new after_state
   reads_end c size old mid new state after_state positive within after went =
       goes_as old new state after_state (λ course goes. inr (size, End, positive, within, goes))
-      (behind_call old mid new state after_state (Read c size End) after went)
+      (after_call old mid new state after_state (Read c size End) after went)
 
   pub reads_fault : (c size : ℕ) (old mid new : W) (state after_state : State) → 0 < size → size ≤ room_at c state → After old (Read c size Fault) mid
       → Goes After (HappensOn (events.Fault c)) mid state new after_state → Goes After (Reads c) old state new after_state
   reads_fault c size old mid new state after_state positive within after went =
       goes_as old new state after_state (λ course goes. inr (size, Fault, positive, within, goes))
-      (behind_call old mid new state after_state (Read c size Fault) after went)
+      (after_call old mid new state after_state (Read c size Fault) after went)
 
   -- a connection without pending bytes isn't written to
   pub writes_none : (c : ℕ) (wire : W) (state : State) → pending_at c state ≡ [] → Goes After (Writes c) wire state wire state
@@ -183,17 +172,17 @@ module _ {W : Type 0} (After : W → Call → W → Type 0) where
       → After old (Write c bytes (Got count)) mid → Goes After (HappensOn (events.Wrote c (Some count))) mid state new after_state → Goes After (Writes c) old state new after_state
   writes_count c count bytes old mid new state after_state is some after went =
       goes_as old new state after_state (λ course goes. inr (subst (λ bs. bs ≢ []) is some, Got count, goes))
-      (behind_call old mid new state after_state (Write c (pending_at c state) (Got count)) (subst (λ bs. After old (Write c bs (Got count)) mid) is after) went)
+      (after_call old mid new state after_state (Write c (pending_at c state) (Got count)) (subst (λ bs. After old (Write c bs (Got count)) mid) is after) went)
 
   pub writes_fault : (c : ℕ) (bytes : List ℕ) (old mid new : W) (state after_state : State) → bytes ≡ pending_at c state → bytes ≢ []
       → After old (Write c bytes Fault) mid → Goes After (HappensOn (events.Fault c)) mid state new after_state → Goes After (Writes c) old state new after_state
   writes_fault c bytes old mid new state after_state is some after went =
       goes_as old new state after_state (λ course goes. inr (subst (λ bs. bs ≢ []) is some, Fault, goes))
-      (behind_call old mid new state after_state (Write c (pending_at c state) Fault) (subst (λ bs. After old (Write c bs Fault) mid) is after) went)
+      (after_call old mid new state after_state (Write c (pending_at c state) Fault) (subst (λ bs. After old (Write c bs Fault) mid) is after) went)
 
   -- a turn leaves the tenants' keys
   pub turn_keeps_keys : (t : ℕ) (old new : W) (state after_state : State) → Goes After (HappensOn (events.Turn t)) old state new after_state → keys_of after_state ≡ keys_of state
-  turn_keeps_keys t old new state after_state went = keeps_keys (events.Turn t) went.goes.step.told state after_state went.goes.happens.does
+  turn_keeps_keys t old new state after_state went = keys_stay (events.Turn t) went.goes.step.told state after_state went.goes.happens.does
 
   -- a list is worked through: whatever goes on through what is left goes, from the beginning, through all of it
   pub record Underway (P : ℕ → State → Course → State → Type 0) (all left : List ℕ) (old_wire : W) (old : State) (wire : W) (now : State) : Type 0 where

@@ -1,23 +1,19 @@
 -- Finding a file of a tenant, and a tenant's account, among all of them.
-use Rattle.std.proofs.Common.{◌≡◌, ◌≢◌, ◌⊎◌, inl, inr, ℕ, ◌+◌, Bool, true, false, cond, not, ◌&&◌, eqb, List, [], ◌∷◌, ◌++◌, map, filter, find, Option, None, Some, Ordering, Equal, is_eq, refl, sym, ap, subst, ◌∙◌, true≢false, arith}
+use Rattle.std.proofs.Common.{◌≡◌, inl, inr, ℕ, Bool, true, false, cond, not, ◌&&◌, eqb, List, [], ◌∷◌, map, filter, find, None, Some, is_eq, refl, sym, ap, ◌∙◌, true≢false, arith}
 use Rattle.std.specs.Prelude.{option_map, ◌==◌}
 use Rattle.std.specs.Ordering.{nat_cmp}
 use Rattle.std.specs.Cmp.Lexicographic.{slice_cmp, nat_list_cmp_total}
 use Rattle.std.specs.FinMap as finite
 use Rattle.std.proofs.lemmas.Bool.{cases_Bool}
 use Rattle.std.proofs.lemmas.Bool.Decides.{nat_tests}
+use Rattle.general_facts.specs.Bools.{Equal_from_is_eq}
 use Rattle.sqlite_rules.specs.Lists.{Has}
 use Rattle.tenant_store.specs.Holdings.{File, Account, files_in, named_files, account_in}
 use Rattle.tenant_store.specs.Tables.{is_file}
 
-equal_is : (o : Ordering) → is_eq o ≡ true → o ≡ Equal
-equal_is Rattle.std.proofs.Common.Less e = absurd (true≢false (sym e))
-equal_is Equal e = refl
-equal_is Rattle.std.proofs.Common.Greater e = absurd (true≢false (sym e))
-
 -- the names that tie are one
 pub name_is : (a b : List ℕ) → is_eq (slice_cmp nat_cmp a b) ≡ true → a ≡ b
-name_is a b e = finite.slice_cmp-IsAntisymmetric finite.nat_cmp-IsAntisymmetric a b (equal_is _ e)
+name_is a b e = finite.slice_cmp-IsAntisymmetric finite.nat_cmp-IsAntisymmetric a b (Equal_from_is_eq _ e)
 
 pub tenant_is : (a b : ℕ) → eqb a b ≡ true → a ≡ b
 tenant_is a b e = grind (arith, nat_tests)

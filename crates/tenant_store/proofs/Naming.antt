@@ -1,5 +1,5 @@
 -- The names of a tenant's files: what the query shows, put in order, are the keys of its map.
-use Rattle.std.proofs.Common.{◌≡◌, inl, inr, ℕ, pos, Bool, true, false, cond, T, ◌&&◌, ◌||◌, List, [], ◌∷◌, map, Option, Some, is_some, is_lt, refl, sym, ap, subst, ◌∙◌, codes, IsTrue, Result, Ok, Err, IfOk, IfErr, true≢false, Ordering, Less, Equal, Greater}
+use Rattle.std.proofs.Common.{◌≡◌, inl, inr, ℕ, pos, Bool, true, false, cond, T, ◌&&◌, ◌||◌, List, [], ◌∷◌, map, Option, Some, is_some, refl, sym, ap, subst, ◌∙◌, codes, IsTrue, Result, Ok, Err, IfOk, IfErr, true≢false, Less}
 use Rattle.std.specs.Prelude.{Vec}
 use Rattle.std.specs.declared.alloc.Global.{Global}
 use Rattle.std.specs.FinMap as finite
@@ -10,6 +10,7 @@ use Rattle.std.specs.List.{AllByRecursion}
 use Rattle.std.specs.List.Sorted.{IsStrictlySortedBy}
 use Rattle.std.proofs.lemmas.Bool.{cases_Bool, and_parts}
 use Rattle.std.proofs.lemmas.Cmp.{tied_itself, nat_list_cmp_total}
+use Rattle.general_facts.specs.Bools.{or_true, Less_from_is_lt}
 use Rattle.sqlite_value.specs.declared.value.Value.TheVariants.{Int}
 use Rattle.sqlite_value.specs.Order.{Row}
 use Rattle.sqlite_sql.specs.Term.{col}
@@ -43,17 +44,13 @@ among_has q (x ∷ rows) e = elim (cases_Bool (is_eq (slice_cmp nat_cmp q (name_
       (more.0, inr more.1, more.2)
 ]
 
-or_right : (a : Bool) → (a || true) ≡ true
-or_right true = refl
-or_right false = refl
-
 has_among : (q : List ℕ) (rows : List Row) (x : Row) → Has rows x → q ≡ name_in x → among q (map name_in rows) ≡ true
 has_among q [] x h same = absurd h
 has_among q (y ∷ rows) x (inl here) same =
     ap (λ n. is_eq (slice_cmp nat_cmp q n) || among q (map name_in rows)) (sym (same ∙ ap name_in here))
     ∙ ap (λ b. b || among q (map name_in rows)) (same_itself q)
 has_among q (y ∷ rows) x (inr later) same =
-    ap (λ b. is_eq (slice_cmp nat_cmp q (name_in y)) || b) (has_among q rows x later same) ∙ or_right (is_eq (slice_cmp nat_cmp q (name_in y)))
+    ap (λ b. is_eq (slice_cmp nat_cmp q (name_in y)) || b) (has_among q rows x later same) ∙ or_true (is_eq (slice_cmp nat_cmp q (name_in y)))
 
 -- ---- what the query shows
 
@@ -116,17 +113,12 @@ and_right : (a b : Bool) → T (a && b) → T b
 and_right true b h = h
 and_right false b h = absurd h
 
-less_is : (o : Ordering) → T (is_lt o) → o ≡ Less
-less_is Less h = refl
-less_is Equal h = absurd h
-less_is Greater h = absurd h
-
 abbrev Entry : Type 0
 Entry = List ℕ × List ℕ
 
 above_all : (name : List ℕ) (es : List Entry) → T (below_all by_bytes name es) → AllByRecursion (λ other. by_bytes name other ≡ Less) (map (λ (e : Entry). e.0) es)
 above_all name [] h = tt
-above_all name (e ∷ es) h = (less_is _ (and_left _ _ h), above_all name es (and_right _ _ h))
+above_all name (e ∷ es) h = (Less_from_is_lt _ (and_left _ _ h), above_all name es (and_right _ _ h))
 
 keys_rise : (es : List Entry) → T (is_sorted by_bytes es) → IsStrictlySortedBy by_bytes (map (λ (e : Entry). e.0) es)
 unfolding IsStrictlySortedBy

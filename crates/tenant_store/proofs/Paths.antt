@@ -5,7 +5,7 @@ use Rattle.std.specs.Prelude.{◌==◌, nat_le}
 use Rattle.std.specs.List.{list_all}
 use Rattle.std.proofs.lemmas.Bool.{and_parts, and_from}
 use Rattle.std.proofs.lemmas.Bool.Decides.{nat_tests}
-use Rattle.text_parts.specs.Laws.{is_between, are_between, behind_marks}
+use Rattle.text_parts.specs.Laws.{is_between, are_between, after_marks}
 use Rattle.text_parts.proofs.PartTexts.{written_is_cut_again}
 use Rattle.mk_paths.specs.SearchPath.{colon, trees_of, may_be_in_part, is_part, is_tree, IsSearchPath}
 
@@ -31,7 +31,7 @@ all_bytes : (trees : List (List ℕ)) → list_all is_tree trees ≡ true → ar
 all_bytes [] h = refl
 all_bytes (tree ∷ trees) h = let parts = and_parts (is_tree tree) (list_all is_tree trees) h in and_from _ _ (tree_bytes tree parts.0) (all_bytes trees parts.1)
 
-pub path_trees : (first : List ℕ) (more : List (List ℕ)) → IsSearchPath (first ∷ more) → trees_of (first ++ behind_marks colon more) ≡ first ∷ more
+pub path_trees : (first : List ℕ) (more : List (List ℕ)) → IsSearchPath (first ∷ more) → trees_of (first ++ after_marks colon more) ≡ first ∷ more
 path_trees first more h =
     let parts = and_parts (nat_le 1 (length (first ∷ more)) && nat_le (length (first ∷ more)) 8) (list_all is_tree (first ∷ more)) h in
     written_is_cut_again colon any first more (all_bytes (first ∷ more) parts.1)
@@ -40,6 +40,6 @@ pub path_has_one : (trees : List (List ℕ)) → IsSearchPath trees → 1 ≤ le
 path_has_one [] h = absurd (true≢false (sym h))
 path_has_one (tree ∷ trees) h = omega arith
 
-pub text_trees : (trees : List (String Global)) (d : String Global) (text : List ℕ) → IsSearchPath (map string_bytes trees) → text ≡ string_bytes (get_or trees 0 d) ++ behind_marks colon (map string_bytes (drop 1 trees)) → trees_of text ≡ map string_bytes trees
+pub text_trees : (trees : List (String Global)) (d : String Global) (text : List ℕ) → IsSearchPath (map string_bytes trees) → text ≡ string_bytes (get_or trees 0 d) ++ after_marks colon (map string_bytes (drop 1 trees)) → trees_of text ≡ map string_bytes trees
 text_trees [] d text h e = absurd (true≢false (sym h))
 text_trees (tree ∷ trees) d text h e = ap trees_of e ∙ path_trees (string_bytes tree) (map string_bytes trees) h

@@ -7,10 +7,10 @@ use Rattle.std.specs.FinMap as finite
 use Rattle.std.proofs.lemmas.Bool.{cases_Bool, and_parts}
 use Rattle.std.proofs.lemmas.Bool.Decides.{nat_tests}
 use Rattle.std.proofs.lemmas.Cmp.{tied_itself}
+use Rattle.general_facts.specs.Maps.{same_map}
 use Rattle.tenant_store.specs.Holdings.{File, Account, files_in, account_in}
 use Rattle.tenant_store.specs.Tables.{is_file, file, accounts_after}
 use Rattle.tenant_store.proofs.Finding.{get-files_in, name_is, tenant_is, account_in-filter}
-use Rattle.tenant_store.proofs.Worlds.{same}
 
 abbrev content : Option File → Option (List ℕ)
 content = option_map (λ f. f.content)
@@ -35,10 +35,10 @@ abbrev Differs : ℕ → List ℕ → Option (List ℕ) → List File → List F
 Differs tenant name change old new = (q : List ℕ) → finite.get (files_in tenant new) q ≡ cond (eq_by_cmp (slice_cmp nat_cmp) q name) change (finite.get (files_in tenant old) q)
 
 pub inserted : (tenant : ℕ) (name c : List ℕ) (old new : List File) → Differs tenant name (Some c) old new → files_in tenant new ≡ finite.insert (files_in tenant old) name c
-inserted tenant name c old new h = same _ _ (λ q. h q ∙ sym (finite.get-insert nat_list_cmp_total (files_in tenant old) name c q))
+inserted tenant name c old new h = same_map _ _ (λ q. h q ∙ sym (finite.get-insert nat_list_cmp_total (files_in tenant old) name c q))
 
 pub removed : (tenant : ℕ) (name : List ℕ) (old new : List File) → Differs tenant name None old new → files_in tenant new ≡ finite.remove (files_in tenant old) name
-removed tenant name old new h = same _ _ (λ q. h q ∙ sym (finite.get-remove nat_list_cmp_total (files_in tenant old) name q))
+removed tenant name old new h = same_map _ _ (λ q. h q ∙ sym (finite.get-remove nat_list_cmp_total (files_in tenant old) name q))
 
 -- the test of a file of this tenant, of another name and of the other tenants
 own_test : (tenant : ℕ) (q name c : List ℕ) → is_file tenant q (file tenant name c) ≡ eq_by_cmp (slice_cmp nat_cmp) q name
@@ -67,7 +67,7 @@ add_own tenant name c files free = inserted tenant name c files (files ++ file t
     at_apart b (Some g) is = refl
 
 pub add_other : (other tenant : ℕ) (name c : List ℕ) (files : List File) → other ≢ tenant → files_in other (files ++ file tenant name c ∷ []) ≡ files_in other files
-add_other other tenant name c files differ = same _ _ (λ q.
+add_other other tenant name c files differ = same_map _ _ (λ q.
     get-files_in other q (files ++ file tenant name c ∷ []) ∙ ap content (push (is_file other q) files (file tenant name c))
     ∙ ap (λ b. content (elim (find (is_file other q) files) [ Some g ↦ Some g | None ↦ cond b (Some (file tenant name c)) None ])) (other_test other tenant q name c differ)
     ∙ settled (find (is_file other q) files) ∙ sym (get-files_in other q files))
@@ -104,7 +104,7 @@ module _ (tenant : ℕ) (name c : List ℕ) where
   passes : (p : File → Bool) (files : List File) (f : File) → find p files ≡ Some f → p f ≡ true
   passes p [] f e = absurd cc
   passes p (g ∷ files) f e = elim (cases_Bool (p g)) [
-    | inl here ↦ let same : g ≡ f = some_is (sym (ap (λ b. cond b (Some g) (find p files)) here) ∙ e) in ap p (sym same) ∙ here
+    | inl here ↦ let same_map : g ≡ f = some_is (sym (ap (λ b. cond b (Some g) (find p files)) here) ∙ e) in ap p (sym same_map) ∙ here
     | inr later ↦ passes p files f (sym (ap (λ b. cond b (Some g) (find p files)) later) ∙ e)
   ]
     where
@@ -139,7 +139,7 @@ module _ (tenant : ℕ) (name c : List ℕ) where
       ]
 
   pub replace_other : (other : ℕ) (files : List File) → other ≢ tenant → files_in other (map put_in files) ≡ files_in other files
-  replace_other other files differ = same _ _ (λ q.
+  replace_other other files differ = same_map _ _ (λ q.
       get-files_in other q (map put_in files) ∙ ap content (put_each other q files)
       ∙ kept (find (is_file other q) files) (λ f e. theirs f (and_parts _ _ (passes (is_file other q) files f e)).0) ∙ sym (get-files_in other q files))
     where
@@ -196,7 +196,7 @@ module _ (tenant : ℕ) (name : List ℕ) where
       ]
 
   pub remove_other : (other : ℕ) (files : List File) → other ≢ tenant → files_in other (left files) ≡ files_in other files
-  remove_other other files differ = same _ _ (λ q.
+  remove_other other files differ = same_map _ _ (λ q.
       get-files_in other q (left files)
       ∙ ap content (find-left (is_file other q) (λ f is. theirs f (and_parts _ _ is).0) files) ∙ sym (get-files_in other q files))
     where

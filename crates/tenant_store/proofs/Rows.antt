@@ -1,11 +1,12 @@
 -- What taking rows out of a table, replacing rows and adding a row make of its rows, as lists in the order of their rowids.
-use Rattle.std.proofs.Common.{◌≡◌, inl, inr, ℤ, pos, ◌+ℤ◌, ◌<ℤ◌, Bool, true, false, cond, not, List, [], ◌∷◌, ◌++◌, map, filter, fold, IsTrue, refl, sym, ap, subst, ◌∙◌, arith, Ordering, Less, Equal, Greater, is_eq, true≢false}
-use Rattle.std.proofs.lemmas.Bool.{cases_Bool, and_parts}
+use Rattle.std.proofs.Common.{◌≡◌, inl, inr, ℤ, pos, ◌+ℤ◌, ◌<ℤ◌, Bool, true, false, cond, not, List, [], ◌∷◌, ◌++◌, map, filter, fold, IsTrue, refl, sym, ap, subst, ◌∙◌, arith, Less, Equal, is_eq, true≢false}
+use Rattle.std.proofs.lemmas.Bool.{cases_Bool, and_parts, not-true}
 use Rattle.std.proofs.lemmas.Bool.Decides.{nat_tests}
 use Rattle.std.proofs.lemmas.Int.{ints}
 use Rattle.std.proofs.lemmas.Cmp.{tied_itself}
 use Rattle.std.specs.Ordering.{int_cmp, match_ordering}
 use Rattle.std.specs.List.{AllByRecursion}
+use Rattle.general_facts.specs.Bools.{Equal_from_is_eq}
 use Rattle.sqlite_value.specs.declared.value.Value.TheVariants.{Int}
 use Rattle.sqlite_value.specs.Order.{Row, value_cmp}
 use Rattle.sqlite_value.proofs.OrderLemmas.{value_cmp_total, value_cmp-Int}
@@ -23,11 +24,6 @@ use Rattle.sqlite_rules.proofs.ProbeLemmas.{has_mapped, mapped_has}
 -- the rows of a table: their rowids are integers that rise
 abbrev pub AreRows : List Row → Type 0
 AreRows rows = IsShaped Table rows
-
-equal_is : (o : Ordering) → is_eq o ≡ true → o ≡ Equal
-equal_is Less e = absurd (true≢false (sym e))
-equal_is Equal e = refl
-equal_is Greater e = absurd (true≢false (sym e))
 
 apart : (a b : Row) → value_cmp (rowid a) (rowid b) ≡ Less → a ≡ b → ⊥
 apart a b less same =
@@ -81,10 +77,6 @@ unfolding Lacks
 left_has [] rows x h lacks = h
 left_has (id ∷ ids) rows x h lacks = left_has ids (without_rowid id rows) x (has_kept (λ y. not (has_rowid id y)) rows x h (ap not (lacks id (inl refl)))) (λ other k. lacks other (inr k))
 
-not-true : (b : Bool) → not b ≡ true → b ≡ false
-not-true true e = absurd (true≢false (sym e))
-not-true false e = refl
-
 left_lacks : (ids : List ℤ) (rows : List Row) (x : Row) → Has (without_all rows ids) x → Lacks ids x
 unfolding Lacks
 left_lacks [] rows x h id none = absurd none
@@ -131,7 +123,7 @@ module _ (p : Row → Bool) (rows : List Row) (ids : List ℤ) (are : AreRows ro
   is_left x h fails = left_has ids rows x h (λ id k. elim (cases_Bool (has_rowid id x)) [
     | inl has ↦
         let r = picked.sound id k in
-        let tie : value_cmp (rowid x) (rowid r.0) ≡ Equal = subst (λ v. value_cmp (rowid x) v ≡ Equal) (ap Int r.3 ∙ sym (int_at r.0 r.1)) (equal_is _ has) in
+        let tie : value_cmp (rowid x) (rowid r.0) ≡ Equal = subst (λ v. value_cmp (rowid x) v ≡ Equal) (ap Int r.3 ∙ sym (int_at r.0 r.1)) (Equal_from_is_eq _ has) in
         let same = tied_same rows x r.0 are.0 h r.1 tie in
         absurd (true≢false (sym r.2 ∙ ap p (sym same) ∙ fails))
     | inr lacks ↦ lacks

@@ -1,5 +1,5 @@
 -- How many files a map has, and how many bytes, after a change.
-use Rattle.std.proofs.Common.{◌≡◌, ℕ, ◌+◌, ◌≤◌, Bool, true, false, cond, List, [], ◌∷◌, length, map, Option, None, Some, is_some, Ordering, Less, Equal, Greater, is_eq, is_lt, T, ◌&&◌, refl, sym, ap, subst, ◌∙◌, arith}
+use Rattle.std.proofs.Common.{◌≡◌, ℕ, ◌+◌, ◌≤◌, Bool, true, false, cond, List, [], ◌∷◌, length, map, Option, None, Some, is_some, Ordering, Less, Equal, Greater, is_eq, T, ◌&&◌, refl, sym, ap, subst, ◌∙◌, arith}
 use Rattle.std.specs.Prelude.{option_map, unwrap_or, sum_by}
 use Rattle.std.specs.Ordering.{nat_cmp, eq_by_cmp}
 use Rattle.std.specs.Cmp.Lexicographic.{slice_cmp, nat_list_cmp_total}
@@ -7,6 +7,9 @@ use Rattle.std.specs.FinMap as finite
 use Rattle.std.specs.FinMap.Entries as entries
 use Rattle.std.proofs.lemmas.Cmp.{tied_itself}
 use Rattle.std.proofs.lemmas.List.Sums.{sum_by-cons}
+use Rattle.std.proofs.lemmas.List.{nil_from_length}
+use Rattle.general_facts.specs.Bools.{Less_from_is_lt}
+use Rattle.general_facts.specs.Maps.{same_map}
 use Rattle.mk_paths.specs.World.{FileMap}
 use Rattle.tenant_store.specs.Holdings.{bytes_of, files_with, bytes_with}
 
@@ -19,17 +22,8 @@ Entry = List ℕ × List ℕ
 abbrev total : List Entry → ℕ
 total es = sum_by length (map (λ (e : Entry). e.1) es)
 
-none_of_length : (es : List Entry) → length es ≡ 0 → es ≡ []
-none_of_length [] e = refl
-none_of_length (x ∷ es) e = absurd (omega arith)
-
 pub bytes_of-empty : bytes_of finite.empty ≡ 0
-bytes_of-empty = ap total (none_of_length (finite.entries finite.empty) (sym (finite.len-entries finite.empty) ∙ finite.len-empty cmp (List ℕ)))
-
-less_is : (o : Ordering) → T (is_lt o) → o ≡ Less
-less_is Less h = refl
-less_is Equal h = absurd h
-less_is Greater h = absurd h
+bytes_of-empty = ap total (nil_from_length (finite.entries finite.empty) (sym (finite.len-entries finite.empty) ∙ finite.len-empty cmp (List ℕ)))
 
 and_left : (a b : Bool) → T (a && b) → T a
 and_left true b h = tt
@@ -43,7 +37,7 @@ and_right false b h = absurd h
 not_found : (k x : List ℕ) (es : List Entry) → cmp k x ≡ Less → T (entries.below_all cmp x es) → entries.find cmp k es ≡ None
 not_found k x [] low h = refl
 not_found k x (e ∷ es) low h =
-    let lower = nat_list_cmp_total.trans k x e.0 low (less_is _ (and_left _ _ h)) in
+    let lower = nat_list_cmp_total.trans k x e.0 low (Less_from_is_lt _ (and_left _ _ h)) in
     ap (λ o. cond (is_eq o) (Some e.1) (entries.find cmp k es)) lower ∙ not_found k x es low (and_right _ _ h)
 
 abbrev old_length : Option (List ℕ) → ℕ
@@ -92,12 +86,9 @@ len-insert_with files name content =
     finite.len-insert nat_list_cmp_total files name content
     ∙ elim (finite.get files name) as (λ o. cond (is_some o) (finite.len files) (finite.len files + 1) ≡ files_with (finite.len files) (option_map length o)) [ None ↦ refl | Some c ↦ refl ]
 
-pub same : (m n : FileMap) → ((q : List ℕ) → finite.get m q ≡ finite.get n q) → m ≡ n
-same m n h = finite.same_map nat_list_cmp_total (finite.slice_cmp-IsAntisymmetric finite.nat_cmp-IsAntisymmetric) m n h
-
 -- a file that is there is one that was put in beside the others
 put_back : (files : FileMap) (name content : List ℕ) → finite.get files name ≡ Some content → finite.insert (finite.remove files name) name content ≡ files
-put_back files name content there = same _ _ (λ q.
+put_back files name content there = same_map _ _ (λ q.
     finite.get-insert nat_list_cmp_total (finite.remove files name) name content q
     ∙ elim (eq_by_cmp cmp q name) as (λ b. eq_by_cmp cmp q name ≡ b → cond b (Some content) (finite.get (finite.remove files name) q) ≡ finite.get files q) [
       | true ↦ λ is. sym there ∙ finite.get_tied nat_list_cmp_total files q name (tie _ is)
@@ -129,7 +120,7 @@ len-remove_there files name content there =
 
 -- taking out a file that isn't there changes nothing
 pub remove_absent : (files : FileMap) (name : List ℕ) → finite.contains_key files name ≡ false → finite.remove files name ≡ files
-remove_absent files name absent = same _ _ (λ q. finite.get-remove nat_list_cmp_total files name q ∙ go q (cmp q name) refl)
+remove_absent files name absent = same_map _ _ (λ q. finite.get-remove nat_list_cmp_total files name q ∙ go q (cmp q name) refl)
   where
     none_is : (o : Option (List ℕ)) → is_some o ≡ false → o ≡ None
     none_is None e = refl

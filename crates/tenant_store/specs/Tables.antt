@@ -18,7 +18,10 @@ use Rattle.sqlite_trees.specs.View.{IsShaped}
 use Rattle.sqlite_trees.specs.declared.store.Shape.TheVariants as Shapes
 use Rattle.sqlite_rules.specs.Lists.{Has}
 use Rattle.sqlite.specs.Effect.{Database}
+use Rattle.sqlite.specs.Held.{Held, state}
 use Rattle.sqlite.specs.State.{State}
+use Rattle.sqlite.specs.Steps.{over_memory}
+use Rattle.sqlite_trees.specs.declared.memory.MemStore.{MemStore}
 use Rattle.tenant_store.specs.Holdings.{File, Account, Holdings, account_in, files_in, files_of, bytes_of}
 use Rattle.tenant_store.specs.declared.writing.Change.{Change}
 use Rattle.tenant_store.specs.declared.writing.Change.TheVariants.{Keep, Add, Replace, Remove}
@@ -141,9 +144,17 @@ account_of row =
 abbrev pub holdings_in : Trees → Holdings
 holdings_in trees = record { files = map file_of (trees files_at); accounts = map account_of (trees accounts_at) }
 
--- what the database of a connection holds
+-- what a database in this state holds
 abbrev pub held_in : State → Holdings
 held_in s = holdings_in s.now.trees
+
+-- the state of a connection's database, which is in memory
+abbrev pub state_of : Held MemStore → State
+state_of connection = state over_memory connection
+
+-- what a connection's database holds
+abbrev pub holdings_of : Held MemStore → Holdings
+holdings_of connection = held_in (state_of connection)
 
 -- rows that show what was looked for: if there are no rows, it isn't there; otherwise it is what each of
 -- them reads as

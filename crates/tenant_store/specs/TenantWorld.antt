@@ -29,7 +29,7 @@ pub record StaysOver (old new : TenantFiles) : Type 0 where
   pub held : new.store.now ≡ old.store.now
 
 -- the world of this tenant over what was lent of the store
-pub record StandsOver (world : TenantFiles) (store : MutBor Holdings) (tenant : ℕ) : Type 0 where
+pub record IsOverMemory (world : TenantFiles) (store : MutBor Holdings) (tenant : ℕ) : Type 0 where
   pub tenant_is : world.tenant ≡ tenant
   pub store_is : world.store.ghost_name ≡ store.ghost_name
   pub held : world.store.now ≡ store.now

@@ -3,12 +3,10 @@ ghost use Rattle.std.specs.Prelude.{◌≡◌, false, IfOk, OnOk, OnErr, IsTrue,
 ghost use Rattle.std.specs.Option.{option_map_or};
 ghost use Rattle.std.specs.FinMap.{get, insert, remove, contains_key};
 ghost use Rattle.mk_paths.specs.SearchPath.{trees_of, colon};
-ghost use Rattle.text_parts.specs.Laws.{behind_marks};
-ghost use Rattle.sqlite.specs.Held.{state};
-ghost use Rattle.sqlite.specs.Steps.{over_memory};
+ghost use Rattle.text_parts.specs.Laws.{after_marks};
 ghost use Rattle.tenant_store.specs.Holdings.{files_of, is_over, ChangesFiles, ChangesPath};
 ghost use Rattle.tenant_store.specs.Accounts.{IsAccountOf};
-ghost use Rattle.tenant_store.specs.Tables.{IsKept, Stays, held_in};
+ghost use Rattle.tenant_store.specs.Tables.{IsKept, Stays, state_of, holdings_of};
 
 use crate::reading::{Account, account_of, content_of};
 use crate::writing::{Change, write};
@@ -23,9 +21,9 @@ pub(crate) fn account_or_new(
     alloc: Global,
     tenant: u32,
 ) -> Result<Account, Error>
-    requires { IsKept (state over_memory conn.old) }
-    ensures account { IfOk result (IsAccountOf tenant (held_in (state over_memory conn.old))) }
-    ensures stays { Stays (state over_memory conn.old) (state over_memory conn.new) }
+    requires { IsKept (state_of conn.old) }
+    ensures account { IfOk result (IsAccountOf tenant (holdings_of conn.old)) }
+    ensures stays { Stays (state_of conn.old) (state_of conn.new) }
 {
     match account_of(conn, tenant)? {
         Some(account) => Ok(account),
@@ -44,13 +42,13 @@ fn look_up(
     tenant: u32,
     name: &str,
 ) -> Result<(Option<usize>, Account), Error>
-    requires { IsKept (state over_memory conn.old) }
+    requires { IsKept (state_of conn.old) }
     ensures length { IfOk result (λ seen. seen.0
         ≡ option_map length (get
-        (files_of tenant (held_in (state over_memory conn.old))) name.now)) }
+        (files_of tenant (holdings_of conn.old)) name.now)) }
     ensures account { IfOk result (λ seen. IsAccountOf tenant
-        (held_in (state over_memory conn.old)) seen.1) }
-    ensures stays { Stays (state over_memory conn.old) (state over_memory conn.new) }
+        (holdings_of conn.old) seen.1) }
+    ensures stays { Stays (state_of conn.old) (state_of conn.new) }
 {
     let old = content_of(conn, tenant, name)?;
     let account = account_or_new(conn, alloc, tenant)?;
@@ -68,20 +66,20 @@ pub(crate) fn put(
     name: &str,
     content: &[u8],
 ) -> Result<bool, Error>
-    requires { IsKept (state over_memory conn.old) }
+    requires { IsKept (state_of conn.old) }
     ensures stored { IfOk result (λ fits. IsTrue fits
-        → IsKept (state over_memory conn.new)
-        × ChangesFiles (held_in (state over_memory conn.old))
-        (held_in (state over_memory conn.new)) tenant
-        (insert (files_of tenant (held_in (state over_memory conn.old))) name.now content.now)) }
+        → IsKept (state_of conn.new)
+        × ChangesFiles (holdings_of conn.old)
+        (holdings_of conn.new) tenant
+        (insert (files_of tenant (holdings_of conn.old)) name.now content.now)) }
     ensures fits { IfOk result (λ fits. IsTrue fits
         → is_over (insert (files_of tenant
-        (held_in (state over_memory conn.old))) name.now content.now) ≡ false) }
+        (holdings_of conn.old)) name.now content.now) ≡ false) }
     ensures full { IfOk result (λ fits. fits ≡ false
         → IsTrue (is_over (insert
-        (files_of tenant (held_in (state over_memory conn.old))) name.now content.now))
-        × Stays (state over_memory conn.old) (state over_memory conn.new)) }
-    ensures err { OnErr result (Stays (state over_memory conn.old) (state over_memory conn.new)) }
+        (files_of tenant (holdings_of conn.old)) name.now content.now))
+        × Stays (state_of conn.old) (state_of conn.new)) }
+    ensures err { OnErr result (Stays (state_of conn.old) (state_of conn.new)) }
 {
     let (old, account) = look_up(conn, alloc, tenant, name)?;
     let Account { files, bytes, path } = account;
@@ -116,17 +114,17 @@ pub(crate) fn take(
     tenant: u32,
     name: &str,
 ) -> Result<bool, Error>
-    requires { IsKept (state over_memory conn.old) }
+    requires { IsKept (state_of conn.old) }
     ensures was_there { IfOk result (λ there. there
-        ≡ contains_key (files_of tenant (held_in (state over_memory conn.old))) name.now) }
+        ≡ contains_key (files_of tenant (holdings_of conn.old)) name.now) }
     ensures removed { IfOk result (λ there. IsTrue there
-        → IsKept (state over_memory conn.new)
-        × ChangesFiles (held_in (state over_memory conn.old))
-        (held_in (state over_memory conn.new)) tenant
-        (remove (files_of tenant (held_in (state over_memory conn.old))) name.now)) }
+        → IsKept (state_of conn.new)
+        × ChangesFiles (holdings_of conn.old)
+        (holdings_of conn.new) tenant
+        (remove (files_of tenant (holdings_of conn.old)) name.now)) }
     ensures absent { IfOk result (λ there. there ≡ false
-        → Stays (state over_memory conn.old) (state over_memory conn.new)) }
-    ensures err { OnErr result (Stays (state over_memory conn.old) (state over_memory conn.new)) }
+        → Stays (state_of conn.old) (state_of conn.new)) }
+    ensures err { OnErr result (Stays (state_of conn.old) (state_of conn.new)) }
 {
     let (old, account) = look_up(conn, alloc, tenant, name)?;
     let Some(length) = old else {
@@ -144,11 +142,11 @@ pub(crate) fn set(
     tenant: u32,
     path: &SearchPath,
 ) -> Result<(), Error>
-    requires { IsKept (state over_memory conn.old) }
-    ensures path { OnOk result (IsKept (state over_memory conn.new)
-        × ChangesPath (held_in (state over_memory conn.old))
-        (held_in (state over_memory conn.new)) tenant path.now) }
-    ensures err { OnErr result (Stays (state over_memory conn.old) (state over_memory conn.new)) }
+    requires { IsKept (state_of conn.old) }
+    ensures path { OnOk result (IsKept (state_of conn.new)
+        × ChangesPath (holdings_of conn.old)
+        (holdings_of conn.new) tenant path.now) }
+    ensures err { OnErr result (Stays (state_of conn.old) (state_of conn.new)) }
 {
     let account = account_or_new(conn, alloc, tenant)?;
     let next = Account {
@@ -170,7 +168,7 @@ fn path_text(alloc: Global, path: &SearchPath) -> Result<String, AllocError>
 // The first text, and each other text after a colon.
 fn joined(alloc: Global, first: &str, more: &[String]) -> Result<String, AllocError>
     ensures { IfOk result (λ text. string_bytes text ≡ first.now
-        ++ behind_marks colon (map string_bytes more.now)) }
+        ++ after_marks colon (map string_bytes more.now)) }
 {
     let mut text = String::from_str(alloc, first)?;
     for tree in more {

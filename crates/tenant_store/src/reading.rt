@@ -1,10 +1,9 @@
 // The statements that read.
 ghost use Rattle.std.specs.Prelude.{◌≡◌, ◌+◌, ◌≤◌, ℕ, IfOk, map, option_map, string_bytes};
 ghost use Rattle.std.specs.FinMap.{get, keys};
-ghost use Rattle.sqlite.specs.Held.{state};
-ghost use Rattle.sqlite.specs.Steps.{over_memory};
 ghost use Rattle.tenant_store.specs.Holdings.{files_of, account_in};
-ghost use Rattle.tenant_store.specs.Tables.{IsFormed, IsSettled, Stays, Shows, IsContent, IsAccount, AreNames, name_in, held_in};
+ghost use Rattle.tenant_store.specs.Tables.{IsFormed, IsSettled, Stays, Shows, IsContent, IsAccount};
+ghost use Rattle.tenant_store.specs.Tables.{AreNames, name_in, state_of, holdings_of};
 ghost use Rattle.tenant_store.specs.Accounts.{shown_account};
 
 use sqlite::{Connection, Error, MemStore, Row, params};
@@ -20,11 +19,11 @@ pub(crate) struct Account {
 }
 
 fn content_rows(conn: &mut Connection<MemStore>, tenant: u32, name: &str) -> Result<Vec<Row>, Error>
-    requires settled { IsSettled (state over_memory conn.old) }
-    requires formed { IsFormed (state over_memory conn.old).now }
+    requires settled { IsSettled (state_of conn.old) }
+    requires formed { IsFormed (state_of conn.old).now }
     ensures rows { IfOk result (λ rows. Shows IsContent rows.items
-        (get (files_of tenant (held_in (state over_memory conn.old))) name.now)) }
-    ensures stays { Stays (state over_memory conn.old) (state over_memory conn.new) }
+        (get (files_of tenant (holdings_of conn.old)) name.now)) }
+    ensures stays { Stays (state_of conn.old) (state_of conn.new) }
 {
     conn.query_all(
         "SELECT content FROM file WHERE tenant = ?1 AND name = ?2",
@@ -56,11 +55,11 @@ pub(crate) fn content_of(
     tenant: u32,
     name: &str,
 ) -> Result<Option<Vec<u8>>, Error>
-    requires settled { IsSettled (state over_memory conn.old) }
-    requires formed { IsFormed (state over_memory conn.old).now }
+    requires settled { IsSettled (state_of conn.old) }
+    requires formed { IsFormed (state_of conn.old).now }
     ensures content { IfOk result (λ found. option_map (λ bytes. bytes.items) found
-        ≡ get (files_of tenant (held_in (state over_memory conn.old))) name.now) }
-    ensures stays { Stays (state over_memory conn.old) (state over_memory conn.new) }
+        ≡ get (files_of tenant (holdings_of conn.old)) name.now) }
+    ensures stays { Stays (state_of conn.old) (state_of conn.new) }
 {
     let rows = content_rows(conn, tenant, name)?;
     match rows.first() {
@@ -70,11 +69,11 @@ pub(crate) fn content_of(
 }
 
 fn account_rows(conn: &mut Connection<MemStore>, tenant: u32) -> Result<Vec<Row>, Error>
-    requires settled { IsSettled (state over_memory conn.old) }
-    requires formed { IsFormed (state over_memory conn.old).now }
+    requires settled { IsSettled (state_of conn.old) }
+    requires formed { IsFormed (state_of conn.old).now }
     ensures rows { IfOk result (λ rows. Shows (IsAccount tenant) rows.items
-        (account_in tenant (held_in (state over_memory conn.old)).accounts)) }
-    ensures stays { Stays (state over_memory conn.old) (state over_memory conn.new) }
+        (account_in tenant (holdings_of conn.old).accounts)) }
+    ensures stays { Stays (state_of conn.old) (state_of conn.new) }
 {
     conn.query_all(
         "SELECT files, bytes, path FROM account WHERE tenant = ?1",
@@ -97,11 +96,11 @@ pub(crate) fn account_of(
     conn: &mut Connection<MemStore>,
     tenant: u32,
 ) -> Result<Option<Account>, Error>
-    requires settled { IsSettled (state over_memory conn.old) }
-    requires formed { IsFormed (state over_memory conn.old).now }
+    requires settled { IsSettled (state_of conn.old) }
+    requires formed { IsFormed (state_of conn.old).now }
     ensures account { IfOk result (λ found. option_map (shown_account tenant) found
-        ≡ account_in tenant (held_in (state over_memory conn.old)).accounts) }
-    ensures stays { Stays (state over_memory conn.old) (state over_memory conn.new) }
+        ≡ account_in tenant (holdings_of conn.old).accounts) }
+    ensures stays { Stays (state_of conn.old) (state_of conn.new) }
 {
     let rows = account_rows(conn, tenant)?;
     match rows.first() {
@@ -111,11 +110,11 @@ pub(crate) fn account_of(
 }
 
 fn name_rows(conn: &mut Connection<MemStore>, tenant: u32) -> Result<Vec<Row>, Error>
-    requires settled { IsSettled (state over_memory conn.old) }
-    requires formed { IsFormed (state over_memory conn.old).now }
+    requires settled { IsSettled (state_of conn.old) }
+    requires formed { IsFormed (state_of conn.old).now }
     ensures rows { IfOk result (λ rows. AreNames
-        (files_of tenant (held_in (state over_memory conn.old))) (map name_in rows.items)) }
-    ensures stays { Stays (state over_memory conn.old) (state over_memory conn.new) }
+        (files_of tenant (holdings_of conn.old)) (map name_in rows.items)) }
+    ensures stays { Stays (state_of conn.old) (state_of conn.new) }
 {
     conn.query_all("SELECT name FROM file WHERE tenant = ?1", params![tenant])
 }
@@ -137,11 +136,11 @@ pub(crate) fn names_of(
     alloc: Global,
     tenant: u32,
 ) -> Result<Vec<String>, Error>
-    requires settled { IsSettled (state over_memory conn.old) }
-    requires formed { IsFormed (state over_memory conn.old).now }
+    requires settled { IsSettled (state_of conn.old) }
+    requires formed { IsFormed (state_of conn.old).now }
     ensures names { IfOk result (λ names. map string_bytes names.items
-        ≡ keys (files_of tenant (held_in (state over_memory conn.old)))) }
-    ensures stays { Stays (state over_memory conn.old) (state over_memory conn.new) }
+        ≡ keys (files_of tenant (holdings_of conn.old))) }
+    ensures stays { Stays (state_of conn.old) (state_of conn.new) }
 {
     let rows = name_rows(conn, tenant)?;
     let mut names = names_in(alloc, &rows)?;

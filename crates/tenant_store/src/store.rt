@@ -2,10 +2,8 @@
 ghost use Rattle.std.specs.Prelude.{◌≡◌, false, map, string_bytes, IfOk, IsErrOf, IsTrue, OnOk, OnErr};
 ghost use Rattle.std.specs.FinMap.{get, insert, keys, remove, contains_key};
 ghost use Rattle.mk_paths.specs.SearchPath.{trees_of};
-ghost use Rattle.sqlite.specs.Held.{state};
-ghost use Rattle.sqlite.specs.Steps.{over_memory};
 ghost use Rattle.tenant_store.specs.Holdings.{nothing, files_of, path_of, is_over, ChangesFiles, ChangesPath};
-ghost use Rattle.tenant_store.specs.Tables.{IsKept, Stays, held_in};
+ghost use Rattle.tenant_store.specs.Tables.{IsKept, Stays, state_of, holdings_of};
 
 use crate::changing::{put, set, take};
 use crate::faults::{PutFault, fault_of};
@@ -201,10 +199,10 @@ fn shared_content(
     tenant: u32,
     name: &str,
 ) -> Result<Option<Content>, FilesFault>
-    requires { IsKept (state over_memory conn.old) }
+    requires { IsKept (state_of conn.old) }
     ensures content { IfOk result (λ content. content
-        ≡ get (files_of tenant (held_in (state over_memory conn.old))) name.now) }
-    ensures stays { Stays (state over_memory conn.old) (state over_memory conn.new) }
+        ≡ get (files_of tenant (holdings_of conn.old)) name.now) }
+    ensures stays { Stays (state_of conn.old) (state_of conn.new) }
 {
     match content_of(conn, tenant, name) {
         Ok(Some(bytes)) => Ok(Some(Content::new(alloc, bytes)?)),
@@ -219,10 +217,10 @@ fn settings_of(
     alloc: Global,
     tenant: u32,
 ) -> Result<Settings, FilesFault>
-    requires { IsKept (state over_memory conn.old) }
+    requires { IsKept (state_of conn.old) }
     ensures path { IfOk result (λ settings. settings.path
-        ≡ path_of tenant (held_in (state over_memory conn.old))) }
-    ensures stays { Stays (state over_memory conn.old) (state over_memory conn.new) }
+        ≡ path_of tenant (holdings_of conn.old)) }
+    ensures stays { Stays (state_of conn.old) (state_of conn.new) }
 {
     match account_of(conn, tenant) {
         Ok(Some(account)) => Ok(Settings {

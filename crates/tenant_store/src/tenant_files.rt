@@ -19,11 +19,11 @@ pub struct TenantFiles<'s> {
 }
 
 impl<'s> TenantFiles<'s> {
-    ghost use Rattle.tenant_store.specs.TenantWorld.{view_of, StaysOver, StandsOver};
+    ghost use Rattle.tenant_store.specs.TenantWorld.{view_of, StaysOver, IsOverMemory};
 
     /// The files of this tenant, with no failure yet.
     pub fn new(alloc: Global, store: &'s mut TenantStore, tenant: u32) -> TenantFiles<'s>
-        ensures over { StandsOver result store.entry tenant }
+        ensures over { IsOverMemory result store.entry tenant }
         ensures world { view_of result
             ≡ record { files = files_of tenant store.old; log = None; failures = 0 } }
     {

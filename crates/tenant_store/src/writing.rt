@@ -1,14 +1,17 @@
 // The statements that write, and the one transaction that they are in.
 ghost use Rattle.std.specs.Prelude.{◌≡◌, [], ◌∷◌, ◌++◌, map, filter, not, ◌==◌, if◌then◌else◌, IfOk, OnOk, OnErr, IsTrue, None};
 ghost use Rattle.std.specs.FinMap.{get};
-ghost use Rattle.sqlite.specs.Held.{state};
-ghost use Rattle.sqlite.specs.Steps.{over_memory};
+ghost use Rattle.sqlite.specs.State.{ExecutesInside};
+ghost use Rattle.sqlite.specs.Values.{bound};
 ghost use Rattle.tenant_store.specs.Holdings.{files_in, account_in};
 ghost use Rattle.tenant_store.specs.Accounts.{shown_account};
-ghost use Rattle.tenant_store.specs.Tables.{IsFormed, IsSettled, Stays, Suits, held_in, file, is_file, files_after};
+ghost use Rattle.tenant_store.specs.Tables.{IsFormed, IsSettled, Stays, Suits, file, is_file};
+ghost use Rattle.tenant_store.specs.Tables.{files_after, accounts_after, KeepsCommit, MakesFiles};
+ghost use Rattle.tenant_store.specs.Tables.{MakesAccounts, Makes, state_of, holdings_of};
 ghost use Rattle.tenant_store.specs.Tables.{accounts_after, KeepsCommit, MakesFiles, MakesAccounts, Makes};
 
 use crate::reading::Account;
+use sqlite::types::ValueRef;
 use sqlite::{Connection, Error, MemStore, Transaction, params};
 
 /// What a call does to one file of a tenant.
@@ -24,25 +27,39 @@ pub(crate) enum Change<'a> {
     Remove(&'a str),
 }
 
+// Runs one statement of a transaction. What was committed last stays as it was.
+fn run(
+    tx: &mut Transaction<'_, MemStore>,
+    sql: &str,
+    params: &[ValueRef<'_>],
+) -> Result<usize, Error>
+    requires { IsTrue (state_of tx.old.conn.now).in_transaction }
+    ensures same_reference { tx.new.conn.ghost_name ≡ tx.old.conn.ghost_name }
+    ensures kept { KeepsCommit (state_of tx.old.conn.now) (state_of tx.new.conn.now) }
+    ensures ran { ExecutesInside 0 sql.now (bound params.now) (state_of tx.old.conn.now)
+        (state_of tx.new.conn.now) result }
+{
+    tx.execute(sql, params)
+}
+
 fn insert_file<'x>(
     tx: &mut Transaction<'_, MemStore>,
     tenant: u32,
     name: &'x str,
     content: &'x [u8],
 ) -> Result<(), Error>
-    requires inside { IsTrue (state over_memory tx.old.conn.now).in_transaction }
-    requires formed { IsFormed (state over_memory tx.old.conn.now).now }
+    requires inside { IsTrue (state_of tx.old.conn.now).in_transaction }
+    requires formed { IsFormed (state_of tx.old.conn.now).now }
     requires free { get (files_in tenant
-        (held_in (state over_memory tx.old.conn.now)).files) name.now ≡ None }
+        (holdings_of tx.old.conn.now).files) name.now ≡ None }
     ensures same_reference { tx.new.conn.ghost_name ≡ tx.old.conn.ghost_name }
-    ensures kept { KeepsCommit (state over_memory tx.old.conn.now)
-        (state over_memory tx.new.conn.now) }
-    ensures made { OnOk result (MakesFiles (state over_memory tx.old.conn.now)
-        (state over_memory tx.new.conn.now)
-        ((held_in (state over_memory tx.old.conn.now)).files
+    ensures kept { KeepsCommit (state_of tx.old.conn.now) (state_of tx.new.conn.now) }
+    ensures made { OnOk result (MakesFiles (state_of tx.old.conn.now) (state_of tx.new.conn.now)
+        ((holdings_of tx.old.conn.now).files
         ++ file tenant name.now content.now ∷ [])) }
 {
-    tx.execute(
+    run(
+        tx,
         "INSERT INTO file (tenant, name, content) VALUES (?1, ?2, ?3)",
         params![tenant, name, content],
     )?;
@@ -55,17 +72,16 @@ fn update_file<'x>(
     name: &'x str,
     content: &'x [u8],
 ) -> Result<(), Error>
-    requires inside { IsTrue (state over_memory tx.old.conn.now).in_transaction }
-    requires formed { IsFormed (state over_memory tx.old.conn.now).now }
+    requires inside { IsTrue (state_of tx.old.conn.now).in_transaction }
+    requires formed { IsFormed (state_of tx.old.conn.now).now }
     ensures same_reference { tx.new.conn.ghost_name ≡ tx.old.conn.ghost_name }
-    ensures kept { KeepsCommit (state over_memory tx.old.conn.now)
-        (state over_memory tx.new.conn.now) }
-    ensures made { OnOk result (MakesFiles (state over_memory tx.old.conn.now)
-        (state over_memory tx.new.conn.now)
+    ensures kept { KeepsCommit (state_of tx.old.conn.now) (state_of tx.new.conn.now) }
+    ensures made { OnOk result (MakesFiles (state_of tx.old.conn.now) (state_of tx.new.conn.now)
         (map (λ f. if is_file tenant name.now f then file tenant name.now content.now else f)
-        (held_in (state over_memory tx.old.conn.now)).files)) }
+        (holdings_of tx.old.conn.now).files)) }
 {
-    tx.execute(
+    run(
+        tx,
         "UPDATE file SET content = ?3 WHERE tenant = ?1 AND name = ?2",
         params![tenant, name, content],
     )?;
@@ -73,17 +89,16 @@ fn update_file<'x>(
 }
 
 fn delete_file(tx: &mut Transaction<'_, MemStore>, tenant: u32, name: &str) -> Result<(), Error>
-    requires inside { IsTrue (state over_memory tx.old.conn.now).in_transaction }
-    requires formed { IsFormed (state over_memory tx.old.conn.now).now }
+    requires inside { IsTrue (state_of tx.old.conn.now).in_transaction }
+    requires formed { IsFormed (state_of tx.old.conn.now).now }
     ensures same_reference { tx.new.conn.ghost_name ≡ tx.old.conn.ghost_name }
-    ensures kept { KeepsCommit (state over_memory tx.old.conn.now)
-        (state over_memory tx.new.conn.now) }
-    ensures made { OnOk result (MakesFiles (state over_memory tx.old.conn.now)
-        (state over_memory tx.new.conn.now)
+    ensures kept { KeepsCommit (state_of tx.old.conn.now) (state_of tx.new.conn.now) }
+    ensures made { OnOk result (MakesFiles (state_of tx.old.conn.now) (state_of tx.new.conn.now)
         (filter (λ f. not (is_file tenant name.now f))
-        (held_in (state over_memory tx.old.conn.now)).files)) }
+        (holdings_of tx.old.conn.now).files)) }
 {
-    tx.execute(
+    run(
+        tx,
         "DELETE FROM file WHERE tenant = ?1 AND name = ?2",
         params![tenant, name],
     )?;
@@ -91,17 +106,15 @@ fn delete_file(tx: &mut Transaction<'_, MemStore>, tenant: u32, name: &str) -> R
 }
 
 fn delete_account(tx: &mut Transaction<'_, MemStore>, tenant: u32) -> Result<(), Error>
-    requires inside { IsTrue (state over_memory tx.old.conn.now).in_transaction }
-    requires formed { IsFormed (state over_memory tx.old.conn.now).now }
+    requires inside { IsTrue (state_of tx.old.conn.now).in_transaction }
+    requires formed { IsFormed (state_of tx.old.conn.now).now }
     ensures same_reference { tx.new.conn.ghost_name ≡ tx.old.conn.ghost_name }
-    ensures kept { KeepsCommit (state over_memory tx.old.conn.now)
-        (state over_memory tx.new.conn.now) }
-    ensures made { OnOk result (MakesAccounts (state over_memory tx.old.conn.now)
-        (state over_memory tx.new.conn.now)
+    ensures kept { KeepsCommit (state_of tx.old.conn.now) (state_of tx.new.conn.now) }
+    ensures made { OnOk result (MakesAccounts (state_of tx.old.conn.now) (state_of tx.new.conn.now)
         (filter (λ a. not (a.tenant == tenant))
-        (held_in (state over_memory tx.old.conn.now)).accounts)) }
+        (holdings_of tx.old.conn.now).accounts)) }
 {
-    tx.execute("DELETE FROM account WHERE tenant = ?1", params![tenant])?;
+    run(tx, "DELETE FROM account WHERE tenant = ?1", params![tenant])?;
     Ok(())
 }
 
@@ -110,19 +123,18 @@ fn insert_account(
     tenant: u32,
     account: &Account,
 ) -> Result<(), Error>
-    requires inside { IsTrue (state over_memory tx.old.conn.now).in_transaction }
-    requires formed { IsFormed (state over_memory tx.old.conn.now).now }
-    requires free { account_in tenant (held_in (state over_memory tx.old.conn.now)).accounts
+    requires inside { IsTrue (state_of tx.old.conn.now).in_transaction }
+    requires formed { IsFormed (state_of tx.old.conn.now).now }
+    requires free { account_in tenant (holdings_of tx.old.conn.now).accounts
         ≡ None }
     ensures same_reference { tx.new.conn.ghost_name ≡ tx.old.conn.ghost_name }
-    ensures kept { KeepsCommit (state over_memory tx.old.conn.now)
-        (state over_memory tx.new.conn.now) }
-    ensures made { OnOk result (MakesAccounts (state over_memory tx.old.conn.now)
-        (state over_memory tx.new.conn.now)
-        ((held_in (state over_memory tx.old.conn.now)).accounts
+    ensures kept { KeepsCommit (state_of tx.old.conn.now) (state_of tx.new.conn.now) }
+    ensures made { OnOk result (MakesAccounts (state_of tx.old.conn.now) (state_of tx.new.conn.now)
+        ((holdings_of tx.old.conn.now).accounts
         ++ (shown_account tenant account.now) ∷ [])) }
 {
-    tx.execute(
+    run(
+        tx,
         "INSERT INTO account (tenant, files, bytes, path) VALUES (?1, ?2, ?3, ?4)",
         params![tenant, account.files, account.bytes, &account.path],
     )?;
@@ -134,15 +146,13 @@ fn change_files(
     tenant: u32,
     change: Change<'_>,
 ) -> Result<(), Error>
-    requires inside { IsTrue (state over_memory tx.old.conn.now).in_transaction }
-    requires formed { IsFormed (state over_memory tx.old.conn.now).now }
-    requires suits { Suits tenant change (held_in (state over_memory tx.old.conn.now)).files }
+    requires inside { IsTrue (state_of tx.old.conn.now).in_transaction }
+    requires formed { IsFormed (state_of tx.old.conn.now).now }
+    requires suits { Suits tenant change (holdings_of tx.old.conn.now).files }
     ensures same_reference { tx.new.conn.ghost_name ≡ tx.old.conn.ghost_name }
-    ensures kept { KeepsCommit (state over_memory tx.old.conn.now)
-        (state over_memory tx.new.conn.now) }
-    ensures made { OnOk result (MakesFiles (state over_memory tx.old.conn.now)
-        (state over_memory tx.new.conn.now)
-        (files_after tenant change.entry (held_in (state over_memory tx.old.conn.now)).files)) }
+    ensures kept { KeepsCommit (state_of tx.old.conn.now) (state_of tx.new.conn.now) }
+    ensures made { OnOk result (MakesFiles (state_of tx.old.conn.now) (state_of tx.new.conn.now)
+        (files_after tenant change.entry (holdings_of tx.old.conn.now).files)) }
 {
     match change {
         Change::Keep => Ok(()),
@@ -157,15 +167,13 @@ fn change_account(
     tenant: u32,
     account: &Account,
 ) -> Result<(), Error>
-    requires inside { IsTrue (state over_memory tx.old.conn.now).in_transaction }
-    requires formed { IsFormed (state over_memory tx.old.conn.now).now }
+    requires inside { IsTrue (state_of tx.old.conn.now).in_transaction }
+    requires formed { IsFormed (state_of tx.old.conn.now).now }
     ensures same_reference { tx.new.conn.ghost_name ≡ tx.old.conn.ghost_name }
-    ensures kept { KeepsCommit (state over_memory tx.old.conn.now)
-        (state over_memory tx.new.conn.now) }
-    ensures made { OnOk result (MakesAccounts (state over_memory tx.old.conn.now)
-        (state over_memory tx.new.conn.now)
+    ensures kept { KeepsCommit (state_of tx.old.conn.now) (state_of tx.new.conn.now) }
+    ensures made { OnOk result (MakesAccounts (state_of tx.old.conn.now) (state_of tx.new.conn.now)
         (accounts_after (shown_account tenant account.now)
-        (held_in (state over_memory tx.old.conn.now)).accounts)) }
+        (holdings_of tx.old.conn.now).accounts)) }
 {
     delete_account(tx, tenant)?;
     insert_account(tx, tenant, account)
@@ -178,17 +186,17 @@ pub(crate) fn write(
     change: Change<'_>,
     account: &Account,
 ) -> Result<(), Error>
-    requires settled { IsSettled (state over_memory conn.old) }
-    requires formed { IsFormed (state over_memory conn.old).now }
-    requires suits { Suits tenant change (held_in (state over_memory conn.old)).files }
-    ensures ok { OnOk result (Makes (state over_memory conn.new)
+    requires settled { IsSettled (state_of conn.old) }
+    requires formed { IsFormed (state_of conn.old).now }
+    requires suits { Suits tenant change (holdings_of conn.old).files }
+    ensures ok { OnOk result (Makes (state_of conn.new)
         (record {
           files = files_after tenant change.entry
-              (held_in (state over_memory conn.old)).files;
+              (holdings_of conn.old).files;
           accounts = accounts_after (shown_account tenant account.now)
-              (held_in (state over_memory conn.old)).accounts;
+              (holdings_of conn.old).accounts;
         })) }
-    ensures err { OnErr result (Stays (state over_memory conn.old) (state over_memory conn.new)) }
+    ensures err { OnErr result (Stays (state_of conn.old) (state_of conn.new)) }
 {
     let mut tx = conn.transaction();
     change_files(&mut tx, tenant, change)?;

@@ -13,14 +13,14 @@ use std::fmt::Write;
 pub fn condition(alloc: Global, given: &[Vec<u8>]) -> Result<Answer, Trouble> {
     let text = one_text(given)?;
     match read_condition(alloc, text) {
-        Ok(condition) => condition_told(alloc, text, &condition),
+        Ok(condition) => condition_answer(alloc, text, &condition),
         Err(ConditionError::Unclosed) => Ok(Answer::of_word(alloc, "unclosed")),
         Err(ConditionError::Unreadable) => Ok(Answer::of_word(alloc, "unreadable")),
         Err(ConditionError::Memory) => Err(Trouble::Memory),
     }
 }
 
-fn condition_told(alloc: Global, text: &str, condition: &Condition) -> Result<Answer, Trouble> {
+fn condition_answer(alloc: Global, text: &str, condition: &Condition) -> Result<Answer, Trouble> {
     let mut out = String::new(alloc);
     show_condition(&mut out, text, condition)?;
     Ok(Answer::of_word(alloc, out.as_str()))

@@ -10,13 +10,13 @@ use std::cmp::Ordering;
 /// the number of its refusal.
 pub fn canonical_path(alloc: Global, given: &[Vec<u8>]) -> Result<Answer, Trouble> {
     match PkgPath::read(alloc, one_text(given)?) {
-        Ok(path) => canonical_told(alloc, &path),
+        Ok(path) => canonical_answer(alloc, &path),
         Err(PkgPathFault::Memory) => Err(Trouble::Memory),
         Err(fault) => Ok(refused(alloc, fault.number())),
     }
 }
 
-fn canonical_told(alloc: Global, path: &PkgPath) -> Result<Answer, Trouble> {
+fn canonical_answer(alloc: Global, path: &PkgPath) -> Result<Answer, Trouble> {
     let canonical = path.canonical(alloc)?;
     let mut answer = Answer::of_text(alloc, canonical.as_str());
     if path_of(alloc, canonical.as_str())? != *path {
@@ -72,10 +72,10 @@ pub fn same_path(alloc: Global, given: &[Vec<u8>]) -> Result<Answer, Trouble> {
     };
     let one = path_of(alloc, as_text(one)?)?;
     let other = path_of(alloc, as_text(other)?)?;
-    same_told(alloc, &one, &other)
+    same_answer(alloc, &one, &other)
 }
 
-fn same_told(alloc: Global, one: &PkgPath, other: &PkgPath) -> Result<Answer, Trouble> {
+fn same_answer(alloc: Global, one: &PkgPath, other: &PkgPath) -> Result<Answer, Trouble> {
     let printed = format!(in alloc; "{one}")?;
     let alike = printed == format!(in alloc; "{other}")?;
     if alike != (one == other) {
@@ -88,13 +88,13 @@ fn same_told(alloc: Global, one: &PkgPath, other: &PkgPath) -> Result<Answer, Tr
 pub fn package_name(alloc: Global, given: &[Vec<u8>]) -> Result<Answer, Trouble> {
     let text = one_text(given)?;
     match PkgName::split(alloc, text) {
-        Ok(name) => name_told(alloc, &name, text),
+        Ok(name) => name_answer(alloc, &name, text),
         Err(NameFault::NoName) => Ok(Answer::of_word(alloc, "NoName")),
         Err(NameFault::Memory) => Err(Trouble::Memory),
     }
 }
 
-fn name_told(alloc: Global, name: &PkgName, text: &str) -> Result<Answer, Trouble> {
+fn name_answer(alloc: Global, name: &PkgName, text: &str) -> Result<Answer, Trouble> {
     let mut answer = Answer::of_text(alloc, name.stem());
     answer.text(name.version().as_str().as_bytes());
     add_texts(&mut answer, name.flavors());
@@ -109,13 +109,13 @@ fn name_told(alloc: Global, name: &PkgName, text: &str) -> Result<Answer, Troubl
 /// `version TEXT`: the version as it prints, or `NoVersion`.
 pub fn version(alloc: Global, given: &[Vec<u8>]) -> Result<Answer, Trouble> {
     match Version::read(alloc, one_text(given)?) {
-        Ok(version) => version_told(alloc, &version),
+        Ok(version) => version_answer(alloc, &version),
         Err(VersionFault::NoVersion) => Ok(Answer::of_word(alloc, "NoVersion")),
         Err(VersionFault::Memory) => Err(Trouble::Memory),
     }
 }
 
-fn version_told(alloc: Global, version: &Version) -> Result<Answer, Trouble> {
+fn version_answer(alloc: Global, version: &Version) -> Result<Answer, Trouble> {
     if format!(in alloc; "{version}")?.as_str() == version.as_str() {
         Ok(Answer::of_text(alloc, version.as_str()))
     } else {
@@ -138,10 +138,10 @@ pub fn version_order(alloc: Global, given: &[Vec<u8>]) -> Result<Answer, Trouble
     for text in given {
         versions.push(version_of(alloc, text)?)?;
     }
-    Ok(order_told(alloc, versions.as_slice()))
+    Ok(order_answer(alloc, versions.as_slice()))
 }
 
-fn order_told(alloc: Global, versions: &[Version]) -> Answer {
+fn order_answer(alloc: Global, versions: &[Version]) -> Answer {
     for (place, one) in versions.iter().enumerate() {
         for (other_place, other) in versions.iter().enumerate() {
             if !is_ordered(one, other, place.cmp(&other_place)) {
@@ -168,13 +168,18 @@ pub fn spec(alloc: Global, given: &[Vec<u8>]) -> Result<Answer, Trouble> {
     };
     let text = as_text(text)?;
     match Spec::read(alloc, text) {
-        Ok(spec) => spec_told(alloc, &spec, text, names),
+        Ok(spec) => spec_answer(alloc, &spec, text, names),
         Err(SpecFault::Memory) => Err(Trouble::Memory),
         Err(fault) => Ok(refused(alloc, fault.number())),
     }
 }
 
-fn spec_told(alloc: Global, spec: &Spec, text: &str, names: &[Vec<u8>]) -> Result<Answer, Trouble> {
+fn spec_answer(
+    alloc: Global,
+    spec: &Spec,
+    text: &str,
+    names: &[Vec<u8>],
+) -> Result<Answer, Trouble> {
     let mut answer = Answer::new(alloc);
     for name in names {
         if is_admitted(alloc, spec, name)? {

@@ -59,7 +59,7 @@ pub fn blanks(alloc: Global) -> Answer {
 pub fn pieces_of(alloc: Global, given: &[Vec<u8>]) -> Result<Answer, Trouble> {
     let text = one_text(given)?;
     match pieces(alloc, text) {
-        Ok(found) => Ok(told_pieces(alloc, text, found.as_slice())),
+        Ok(found) => Ok(pieces_answer(alloc, text, found.as_slice())),
         Err(PiecesFault::Unclosed { at }) => {
             let mut answer = Answer::of_word(alloc, "unclosed at");
             answer.number(at as u64);
@@ -69,7 +69,7 @@ pub fn pieces_of(alloc: Global, given: &[Vec<u8>]) -> Result<Answer, Trouble> {
     }
 }
 
-fn told_pieces(alloc: Global, text: &str, pieces: &[Piece]) -> Answer {
+fn pieces_answer(alloc: Global, text: &str, pieces: &[Piece]) -> Answer {
     let mut answer = Answer::new(alloc);
     for piece in pieces {
         add_piece(&mut answer, text, *piece);
@@ -241,16 +241,16 @@ fn shown_parts(alloc: Global, parts: &[Part]) -> Result<String, AllocError> {
 /// assignment with its name and value.
 pub fn kind_of_line(alloc: Global, given: &[Vec<u8>]) -> Result<Answer, Trouble> {
     let kind = line_kind(alloc, one_text(given)?)?;
-    Ok(kind_told(alloc, kind))
+    Ok(kind_answer(alloc, kind))
 }
 
 /// `plain line TEXT`: the same of a line that can be neither a command nor a directive.
 pub fn plain_kind_of_line(alloc: Global, given: &[Vec<u8>]) -> Result<Answer, Trouble> {
     let kind = plain_kind(alloc, one_text(given)?)?;
-    Ok(kind_told(alloc, kind))
+    Ok(kind_answer(alloc, kind))
 }
 
-fn kind_told(alloc: Global, kind: LineKind<'_>) -> Answer {
+fn kind_answer(alloc: Global, kind: LineKind<'_>) -> Answer {
     let mut answer = Answer::new(alloc);
     match kind {
         LineKind::Command => answer.word("command"),

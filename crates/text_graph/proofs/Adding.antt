@@ -6,14 +6,9 @@ use Rattle.std.proofs.lemmas.List.Folds.{list_any-append}
 use Rattle.std.proofs.lemmas.Map.Keys.{IsDistinct-push}
 use Rattle.std.specs.List.{IsDistinct}
 use Rattle.std.specs.Str.{bytes_eq}
+use Rattle.general_facts.specs.Bools.{or_swap}
 use Rattle.text_graph.specs.Searching.{is_among, added, all_added}
 use Rattle.text_graph.proofs.Members.{equal_texts}
-
-or_last : (a b : Bool) → (a || (b || false)) ≡ (b || a)
-or_last true true = refl
-or_last true false = refl
-or_last false true = refl
-or_last false false = refl
 
 or_known : (a b : Bool) → (b ≡ true → a ≡ true) → a ≡ (b || a)
 or_known a true known = known refl
@@ -27,7 +22,7 @@ or_regroup false b c = refl
 among-added_by : (text more : List ℕ) (texts : List (List ℕ)) (known : Bool) → is_among more texts ≡ known
     → is_among text (cond known texts (texts ++ more ∷ [])) ≡ (bytes_eq text more || is_among text texts)
 among-added_by text more texts true is = or_known (is_among text texts) (bytes_eq text more) (λ same. ap (λ t. is_among t texts) (equal_texts text more same) ∙ is)
-among-added_by text more texts false is = list_any-append (bytes_eq text) texts (more ∷ []) ∙ or_last (is_among text texts) (bytes_eq text more)
+among-added_by text more texts false is = list_any-append (bytes_eq text) texts (more ∷ []) ∙ or_swap (is_among text texts) (bytes_eq text more)
 
 pub among-added : (text more : List ℕ) (texts : List (List ℕ)) → is_among text (added texts more) ≡ (bytes_eq text more || is_among text texts)
 among-added text more texts = among-added_by text more texts (is_among more texts) refl

@@ -1,12 +1,12 @@
 -- What the code keeps: texts behind references, the set of known texts, and texts that are put in order.
 use Rattle.std.proofs.Common.{◌≡◌, ◌∙◌, sym, ap, refl, ℕ, Bool, true, false, cond, ◌||◌, List, [], ◌∷◌, ◌++◌, Bor, map, filter, ◌↔◌}
-use Rattle.std.proofs.lemmas.Cmp.{nat_list_eq_equiv}
 use Rattle.std.proofs.lemmas.List.Folds.{list_any-append}
-use Rattle.std.proofs.lemmas.Map.Text.{is_eq-slice_cmp}
 use Rattle.std.specs.BTreeSet.{BTreeSet, UpdatesBy, contains_by}
 use Rattle.std.specs.Cmp.Lexicographic.{slice_cmp}
 use Rattle.std.specs.Ordering.{nat_cmp}
 use Rattle.std.specs.Str.{bytes_eq}
+use Rattle.general_facts.specs.Maps.{contains_by-put}
+use Rattle.general_facts.specs.Bools.{or_swap}
 use Rattle.text_parts.specs.Cuts.{now_all}
 use Rattle.text_parts.specs.Order.{in_order}
 use Rattle.text_parts.specs.Ordered.{in_order-sorted, among-in_order}
@@ -14,7 +14,7 @@ use Rattle.text_graph.specs.declared.arrow.Arrow.{Arrow}
 use Rattle.text_graph.specs.Arrows.{ArrowValue, arrow_seen, arrows_seen}
 use Rattle.text_graph.specs.Reaching.{ListsJust}
 use Rattle.text_graph.specs.Searching.{is_among, next_of, IsFrom, FindsAll}
-use Rattle.text_graph.proofs.Members.{among_from, stands_from}
+use Rattle.text_graph.proofs.Members.{among_from, among_by_equal}
 
 next_seen_by : (text : List ℕ) (arrow : Arrow) (arrows : List Arrow) (b : Bool) → now_all (map (λ (a : Arrow). a.to) (filter (λ (a : Arrow). bytes_eq text a.from.now) arrows)) ≡ next_of (arrows_seen arrows) text
     → now_all (map (λ (a : Arrow). a.to) (cond b (arrow ∷ filter (λ (a : Arrow). bytes_eq text a.from.now) arrows) (filter (λ (a : Arrow). bytes_eq text a.from.now) arrows)))
@@ -27,38 +27,15 @@ pub next_seen : (text : List ℕ) (arrows : List Arrow) → now_all (map (λ (a 
 next_seen text [] = refl
 next_seen text (arrow ∷ arrows) = next_seen_by text arrow arrows (bytes_eq text arrow.from.now) (next_seen text arrows)
 
-put-cases : (is held : Bool) → cond is true held ≡ (is || held)
-put-cases true held = refl
-put-cases false held = refl
-
--- the reference to a text
-abbrev to : List ℕ → Bor (List ℕ)
-to text = record { ref_ptr = (0, 0); now = text }
-
--- what a set of texts holds once one is put in
-pub held-put : (old new : BTreeSet (Bor (List ℕ))) (put other : List ℕ)
-    → UpdatesBy (λ x y. slice_cmp nat_cmp x.now y.now) (λ q. slice_cmp nat_cmp put q.now) old new true
-    → contains_by (λ held. slice_cmp nat_cmp other held.now) new ≡ (bytes_eq other put || contains_by (λ held. slice_cmp nat_cmp other held.now) old)
-held-put old new put other updates =
-    updates.0 (to other)
-    ∙ ap (λ is. cond is true (contains_by (λ held. slice_cmp nat_cmp other held.now) old)) (is_eq-slice_cmp put other ∙ nat_list_eq_equiv.symm put other)
-    ∙ put-cases (bytes_eq other put) (contains_by (λ held. slice_cmp nat_cmp other held.now) old)
-
-or_last : (a b : Bool) → (b || a) ≡ (a || (b || false))
-or_last true true = refl
-or_last true false = refl
-or_last false true = refl
-or_last false false = refl
-
 -- a text that the set hadn't is put behind the texts
 pub also-known : (old new : BTreeSet (Bor (List ℕ))) (texts : List (List ℕ)) (put : List ℕ)
     → ((text : List ℕ) → contains_by (λ held. slice_cmp nat_cmp text held.now) old ≡ is_among text texts)
     → UpdatesBy (λ x y. slice_cmp nat_cmp x.now y.now) (λ q. slice_cmp nat_cmp put q.now) old new true
     → (text : List ℕ) → contains_by (λ held. slice_cmp nat_cmp text held.now) new ≡ is_among text (texts ++ put ∷ [])
 also-known old new texts put knows updates = λ text.
-    held-put old new put text updates
+    contains_by-put old new put text updates
     ∙ ap (λ held. bytes_eq text put || held) (knows text)
-    ∙ or_last (is_among text texts) (bytes_eq text put)
+    ∙ sym (or_swap (is_among text texts) (bytes_eq text put))
     ∙ sym (list_any-append (bytes_eq text) texts (put ∷ []))
 
 -- all texts that a search found, put in order
@@ -69,6 +46,6 @@ lists_just starts arrows P found texts means finds is = record {
   just = λ text.
       let same : is_among text texts ≡ is_among text found = ap (is_among text) is ∙ among-in_order (bytes_eq text) found in (
         λ stands. (means text).0 ((finds text).0 (sym same ∙ among_from text texts stands)),
-        λ holds. stands_from text texts (same ∙ (finds text).1 ((means text).1 holds)),
+        λ holds. among_by_equal text texts (same ∙ (finds text).1 ((means text).1 holds)),
       );
 }

@@ -13,7 +13,7 @@ use Rattle.text_graph.specs.Arrows.{ArrowValue, Lead, Way}
 use Rattle.text_graph.specs.Reaching.{IsReached, Reaches, ListsJust}
 use Rattle.text_graph.specs.Searching.{is_among, IsFrom}
 use Rattle.text_graph.specs.Listed.{next_to, within, reached_list, reaching_list}
-use Rattle.text_graph.proofs.Members.{here, nothing_in, head_or_tail, in_map, from_map, in_filter, from_filter, among_from, stands_from}
+use Rattle.text_graph.proofs.Members.{here, nothing_in, head_or_tail, in_map, from_map, in_filter, from_filter, among_from, among_by_equal}
 use Rattle.text_graph.proofs.Short.{short}
 use Rattle.text_graph.proofs.Ways.{stay, first_of, behind_first, in_front}
 
@@ -25,7 +25,7 @@ reached_next arrows texts text later =
     let stands = from_filter (λ (arrow : ArrowValue). is_among arrow.from texts) arrows begun.element begun.stands in
     record {
       start = begun.element.from;
-      is_start = stands_from begun.element.from texts stands.1;
+      is_start = among_by_equal begun.element.from texts stands.1;
       way = in_front arrows begun.element text stands.0 (subst (λ from. Way arrows from text) (sym begun.gives) later.way);
     }
 
@@ -66,7 +66,7 @@ among_by_order q (text ∷ texts) = ap (λ same. same || among q texts) (is_eq-s
 among_others : (texts others : List (List ℕ)) → ((q : List ℕ) → Contains texts q ↔ Contains others q) → (q : List ℕ) → is_among q texts ≡ is_among q others
 among_others texts others same q =
     one_answer (is_among q texts) (is_among q others)
-    ((λ e. among_from q others ((same q).0 (stands_from q texts e))), (λ e. among_from q texts ((same q).1 (stands_from q others e))))
+    ((λ e. among_from q others ((same q).0 (among_by_equal q texts e))), (λ e. among_from q texts ((same q).1 (among_by_equal q others e))))
     ((λ e. e), (λ e. e))
 
 in_order-same : (texts : List (List ℕ)) (q : List ℕ) → is_among q (in_order texts) ≡ is_among q texts
@@ -77,8 +77,8 @@ lists_in_order : (P : List ℕ → Type 0) (texts : List (List ℕ)) → ((text 
 lists_in_order P texts just = record {
   in_order = in_order-sorted texts;
   just = λ text. (
-    (λ stands. (just text).0 (stands_from text texts (sym (in_order-same texts text) ∙ among_from text (in_order texts) stands))),
-    (λ holds. stands_from text (in_order texts) (in_order-same texts text ∙ among_from text texts ((just text).1 holds))),
+    (λ stands. (just text).0 (among_by_equal text texts (sym (in_order-same texts text) ∙ among_from text (in_order texts) stands))),
+    (λ holds. among_by_equal text (in_order texts) (in_order-same texts text ∙ among_from text texts ((just text).1 holds))),
   );
 }
 
@@ -127,7 +127,7 @@ listed_reaching arrows goal =
             start = begun.element;
             is_arrow = kept.0;
             begins = begun.gives;
-            further = to_goal arrows goal begun.element (from_within (length arrows) arrows (begun.element.to ∷ []) goal (stands_from goal _ kept.1));
+            further = to_goal arrows goal begun.element (from_within (length arrows) arrows (begun.element.to ∷ []) goal (among_by_equal goal _ kept.1));
           }),
       (λ reaches.
           let found = all_within arrows (reaches.start.to ∷ []) goal (record { start = reaches.start.to; is_start = here reaches.start.to []; way = reaches.further }) in

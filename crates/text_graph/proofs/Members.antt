@@ -73,5 +73,5 @@ equal_itself text = (bytes_eq-Decides text text).1 refl
 pub among_from : (text : List ℕ) (texts : List (List ℕ)) → Contains texts text → is_among text texts ≡ true
 among_from text texts stands = list_any-from_Contains nat_list_eq_equiv text texts stands
 
-pub stands_from : (text : List ℕ) (texts : List (List ℕ)) → is_among text texts ≡ true → Contains texts text
-stands_from text texts among = Contains-from_any equal_texts text texts among
+pub among_by_equal : (text : List ℕ) (texts : List (List ℕ)) → is_among text texts ≡ true → Contains texts text
+among_by_equal text texts among = Contains-from_any equal_texts text texts among

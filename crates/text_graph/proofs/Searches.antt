@@ -1,5 +1,5 @@
 -- What a search keeps from text to text, and what it has at its end.
-use Rattle.std.proofs.Common.{◌≡◌, ◌∙◌, sym, ap, refl, subst, ℕ, ◌+◌, ◌<◌, ◌≤◌, Bool, true, false, ◌||◌, List, [], ◌∷◌, ◌++◌, map, take, length, get_or, arith, length-append}
+use Rattle.std.proofs.Common.{◌≡◌, ◌∙◌, sym, ap, refl, subst, ℕ, ◌+◌, ◌<◌, ◌≤◌, true, false, ◌||◌, List, [], ◌∷◌, ◌++◌, map, take, length, get_or, arith, length-append}
 use Rattle.std.proofs.lemmas.Bool.{or_left, or_right}
 use Rattle.std.proofs.lemmas.Cmp.{nat_list_eq_equiv}
 use Rattle.std.proofs.lemmas.List.{take_all, take_more, length-map}
@@ -7,11 +7,12 @@ use Rattle.std.proofs.lemmas.List.Folds.{list_any-append}
 use Rattle.std.proofs.lemmas.Map.Made.{length-le_from_is_member}
 use Rattle.std.specs.List.{Contains, All, IsDistinct}
 use Rattle.std.specs.Str.{bytes_eq}
+use Rattle.general_facts.specs.Bools.{or_elim}
 use Rattle.text_graph.specs.Arrows.{ArrowValue, Lead}
 use Rattle.text_graph.specs.Searching.{is_among, all_added, next_of, found_texts, KnowsItsTexts, IsFrom, FindsAll}
 use Rattle.text_graph.specs.declared.searching.Found.{Found}
 use Rattle.text_graph.proofs.Adding.{among-all_added, all_apart, same_front, no_shorter}
-use Rattle.text_graph.proofs.Members.{in_map, from_map, in_filter, from_filter, among_from, stands_from, equal_texts, equal_itself}
+use Rattle.text_graph.proofs.Members.{in_map, from_map, in_filter, from_filter, among_from, among_by_equal, equal_texts, equal_itself}
 use Rattle.text_graph.proofs.Ways.{stay, farther, first_of, behind_first}
 
 -- where arrows end
@@ -27,13 +28,9 @@ pub record Searched (starts : List (List ℕ)) (arrows : List ArrowValue) (found
   pub is_from : (text : List ℕ) → is_among text found ≡ true → IsFrom starts arrows text
   pub passed : place ≤ length found
 
-or_cases : {P : Type 0} (a b : Bool) → (a || b) ≡ true → (a ≡ true → P) → (b ≡ true → P) → P
-or_cases true b is left right = left refl
-or_cases false b is left right = right is
-
 -- a text that is added is one of the new ones, or was there
 new_or_there : {P : Type 0} (text : List ℕ) (texts more : List (List ℕ)) → is_among text (all_added texts more) ≡ true → (is_among text more ≡ true → P) → (is_among text texts ≡ true → P) → P
-new_or_there text texts more among = or_cases (is_among text more) (is_among text texts) (sym (among-all_added text texts more) ∙ among)
+new_or_there text texts more among = or_elim (is_among text more) (is_among text texts) (sym (among-all_added text texts more) ∙ among)
 
 is_new : (text : List ℕ) (texts more : List (List ℕ)) → is_among text more ≡ true → is_among text (all_added texts more) ≡ true
 is_new text texts more among = among-all_added text texts more ∙ or_left (is_among text more) (is_among text texts) among
@@ -50,7 +47,7 @@ record Next (arrows : List ArrowValue) (text to : List ℕ) : Type 0 where
 
 next_from : (arrows : List ArrowValue) (text to : List ℕ) → is_among to (next_of arrows text) ≡ true → Next arrows text to
 next_from arrows text to among =
-    let origin = from_map (λ (arrow : ArrowValue). arrow.to) _ to (stands_from to (next_of arrows text) among) in
+    let origin = from_map (λ (arrow : ArrowValue). arrow.to) _ to (among_by_equal to (next_of arrows text) among) in
     let kept = from_filter (λ (arrow : ArrowValue). bytes_eq text arrow.from) arrows origin.element origin.stands in
     record { arrow = origin.element; is_arrow = kept.0; begins = sym (equal_texts text origin.element.from kept.1); ends = origin.gives }
 
@@ -70,7 +67,7 @@ search-begins starts arrows = record {
   begun = λ text is. is_new text [] starts is;
   gone_on = λ arrow stands none. cc;
   is_from = λ text among. new_or_there text [] starts among
-      (λ is. record { start = text; is_start = stands_from text starts is; way = stay arrows text text refl })
+      (λ is. record { start = text; is_start = among_by_equal text starts is; way = stay arrows text text refl })
       (λ none. cc);
   passed = omega arith;
 }
@@ -93,10 +90,10 @@ search-goes_on starts arrows found place text so_far inside is =
           (so_far.within other);
       begun = λ other among. was_there other found more (so_far.begun other among);
       gone_on = λ arrow stands among.
-          or_cases (is_among arrow.from (take place found)) (bytes_eq arrow.from text || false)
+          or_elim (is_among arrow.from (take place found)) (bytes_eq arrow.from text || false)
           (sym (list_any-append (bytes_eq arrow.from) (take place found) (text ∷ [])) ∙ ap (is_among arrow.from) (sym here) ∙ among)
           (λ before. was_there arrow.to found more (so_far.gone_on arrow stands before))
-          (λ last. or_cases (bytes_eq arrow.from text) false last
+          (λ last. or_elim (bytes_eq arrow.from text) false last
           (λ same. is_new arrow.to found more (leads_next arrows text arrow stands (equal_texts arrow.from text same)))
           (λ none. cc));
       is_from = λ other among. new_or_there other found more among

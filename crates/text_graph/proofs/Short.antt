@@ -1,16 +1,12 @@
 -- Beside a way that is longer than there are arrows there is a shorter one: it goes over some arrow twice, and what lies between is left out.
-use Rattle.std.proofs.Common.{◌≡◌, ◌∙◌, sym, ap, refl, subst, ℕ, zero, suc, ◌≤◌, ◌<◌, Bool, true, false, not, ◌&&◌, ◌||◌, cond, List, [], ◌∷◌, length, arith, ◌⊎◌, inl, inr}
-use Rattle.std.proofs.lemmas.Bool.{cases_Bool, false≢true}
+use Rattle.std.proofs.Common.{◌≡◌, ◌∙◌, sym, ap, refl, subst, ℕ, zero, suc, ◌≤◌, ◌<◌, Bool, true, false, not, ◌&&◌, ◌||◌, cond, List, [], ◌∷◌, length, arith, inl, inr}
+use Rattle.std.proofs.lemmas.Bool.{cases_Bool, false≢true, and_parts}
 use Rattle.std.proofs.lemmas.List.Elements.{All-cons, All-nil}
 use Rattle.std.specs.List.{Contains, All, filter, list_any}
 use Rattle.std.specs.Str.{bytes_eq}
 use Rattle.text_graph.specs.Arrows.{ArrowValue, Lead}
 use Rattle.text_graph.proofs.Members.{nothing_in, head_or_tail, in_filter, from_filter, equal_texts, equal_itself}
 use Rattle.text_graph.proofs.Ways.{first_of, behind_first}
-
-both : (p q : Bool) → p && q ≡ true → (p ≡ true) × (q ≡ true)
-both true q h = (refl, h)
-both false q h = absurd (false≢true h)
 
 neither : (p q : Bool) → p || q ≡ false → (p ≡ false) × (q ≡ false)
 neither true q h = absurd (false≢true (sym h))
@@ -22,7 +18,7 @@ same_arrow a b = bytes_eq a.from b.from && bytes_eq a.to b.to
 
 one_arrow : (a b : ArrowValue) → same_arrow a b ≡ true → a ≡ b
 one_arrow a b same =
-    let ends = both (bytes_eq a.from b.from) (bytes_eq a.to b.to) same in
+    let ends = and_parts (bytes_eq a.from b.from) (bytes_eq a.to b.to) same in
     λ i. record { from = equal_texts a.from b.from ends.0 i; to = equal_texts a.to b.to ends.1 i }
 
 same_itself : (a : ArrowValue) → same_arrow a a ≡ true

@@ -10,8 +10,8 @@ use Rattle.text_graph.proofs.Searches.{ends}
 use Rattle.text_graph.proofs.Ways.{begun, ended, turned_back}
 
 -- where the first arrows end the search starts
-pub reached_behind : (first arrows : List ArrowValue) (text : List ℕ) → IsFrom (ends first) arrows text ↔ IsReached first arrows text
-reached_behind first arrows text = (
+pub reached_after : (first arrows : List ArrowValue) (text : List ℕ) → IsFrom (ends first) arrows text ↔ IsReached first arrows text
+reached_after first arrows text = (
   λ from.
       let origin = from_map (λ (arrow : ArrowValue). arrow.to) first from.start from.is_start in
       record { start = origin.element; is_first = origin.stands; further = subst (λ t. Way arrows t text) (sym origin.gives) from.way },

@@ -78,10 +78,6 @@ or_turned true true c = refl
 or_turned true false c = refl
 or_turned false b c = refl
 
-or_true : (b : Bool) → (b || true) ≡ true
-or_true true = refl
-or_true false = refl
-
 among_inserted_by : (p : List ℕ → Bool) (k x : List ℕ) (xs : List (List ℕ)) (o : Ordering) → by_bytes k x ≡ o
     → list_any p (insert_key by_bytes xs k) ≡ (p k || list_any p xs)
     → list_any p (match_ordering o (k ∷ x ∷ xs) (x ∷ xs) (x ∷ insert_key by_bytes xs k)) ≡ (p k || (p x || list_any p xs))

@@ -1,6 +1,6 @@
 //! What holds of every cut, and of texts and their parts. Each function does nothing: its clause is the
 //! law.
-ghost use Rattle.text_parts.specs.Laws.{CutIsItsText, PartsAreBetween, WrittenIsCutAgain, WrittenStands};
+ghost use Rattle.text_parts.specs.Laws.{CutIsItsText, PartsAreBetween, WrittenIsCutAgain, WrittenPartsMayOccur};
 
 /// The two parts of a cut, with the mark put between them, are the text again.
 pub fn cut_is_its_text()
@@ -18,6 +18,6 @@ pub fn written_is_cut_again()
 {}
 
 /// If a mark is allowed, so are all bytes of allowed parts that are written with marks between.
-pub fn written_stands()
-    ensures { WrittenStands }
+pub fn written_parts_may_occur()
+    ensures { WrittenPartsMayOccur }
 {}

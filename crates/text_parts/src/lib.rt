@@ -8,6 +8,6 @@ mod ordering;
 mod parts;
 
 pub use cutting::cut_where;
-pub use laws::{cut_is_its_text, parts_are_between, written_is_cut_again, written_stands};
+pub use laws::{cut_is_its_text, parts_are_between, written_is_cut_again, written_parts_may_occur};
 pub use ordering::put_in_order;
 pub use parts::{copies_of, split_at};

@@ -2,7 +2,7 @@
 ghost use Rattle.std.specs.Prelude.{ℕ};
 ghost use Rattle.ports_serve.specs.Calls.{Call};
 
-use crate::service::{bytes_told, service_of_one};
+use crate::service::{bytes_answer, service_of_one};
 use case_lines::{Answer, Trouble};
 use mio::net::TcpStream;
 use ports_host::{Loopback, Sockets};
@@ -83,7 +83,7 @@ pub fn answered(alloc: Global, net: &impl Net, given: &[Vec<u8>]) -> Result<Answ
     let service = service_of_one(alloc)?;
     let mut pair = Pair::new(alloc, net, sent.as_slice())?;
     let _service = serve(alloc, &mut pair, service, ROUNDS)?;
-    let mut answer = bytes_told(alloc, pair.taken.as_slice());
+    let mut answer = bytes_answer(alloc, pair.taken.as_slice());
     answer.word(if pair.is_closed { "closed" } else { "open" });
     Ok(answer)
 }

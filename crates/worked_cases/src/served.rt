@@ -1,6 +1,6 @@
 //! The service over its store: requests in a row, each on a connection of its own.
-use crate::service::{StoredService, reply_told};
-use crate::stores::{MOST_LIMITS, filled, stops_told};
+use crate::service::{StoredService, reply_answer};
+use crate::stores::{MOST_LIMITS, filled, stops_answer};
 use case_lines::{Answer, Trouble, as_number, as_text};
 use http::StatusCode;
 use ports_core::{Config, Event, Service};
@@ -12,21 +12,21 @@ const KEYS: [&str; 2] = ["alpha", "beta"];
 
 /// What a tenant asks.
 #[derive(Clone, Copy)]
-struct Asked<'a> {
+struct CaseRequest<'a> {
     tenant: usize,
     method: Method,
     target: &'a str,
     body: &'a [u8],
 }
 
-impl<'a> Asked<'a> {
+impl<'a> CaseRequest<'a> {
     fn read(
         method: Method,
         tenant: &[u8],
         target: &'a [u8],
         body: &'a [u8],
-    ) -> Result<Asked<'a>, Trouble> {
-        Ok(Asked {
+    ) -> Result<CaseRequest<'a>, Trouble> {
+        Ok(CaseRequest {
             tenant: as_number(tenant)? as usize,
             method,
             target: as_text(target)?,
@@ -57,9 +57,9 @@ pub fn answer(
     given: &[Vec<u8>],
 ) -> Result<Answer, Trouble> {
     match call {
-        "service GET" => asked_told(alloc, service, Method::Get, given),
-        "service PUT" => asked_told(alloc, service, Method::Put, given),
-        "service DELETE" => asked_told(alloc, service, Method::Delete, given),
+        "service GET" => asked_answer(alloc, service, Method::Get, given),
+        "service PUT" => asked_answer(alloc, service, Method::Put, given),
+        "service DELETE" => asked_answer(alloc, service, Method::Delete, given),
         "service fill" => fill(alloc, service, given),
         "service PUT stopped by" => stopped(alloc, service, Method::Put, given),
         "service DELETE stopped by" => stopped(alloc, service, Method::Delete, given),
@@ -69,30 +69,34 @@ pub fn answer(
 
 /// `service GET TENANT TARGET`, `service PUT TENANT TARGET BODY`, `service DELETE TENANT TARGET`: the
 /// reply.
-fn asked_told(
+fn asked_answer(
     alloc: Global,
     service: &mut StoredService,
     method: Method,
     given: &[Vec<u8>],
 ) -> Result<Answer, Trouble> {
-    let asked = match (method, given) {
-        (Method::Put, [tenant, target, body]) => Asked::read(method, tenant, target, body)?,
+    let request = match (method, given) {
+        (Method::Put, [tenant, target, body]) => CaseRequest::read(method, tenant, target, body)?,
         (Method::Get | Method::Delete, [tenant, target]) => {
-            Asked::read(method, tenant, target, &[])?
+            CaseRequest::read(method, tenant, target, &[])?
         }
         _ => return Err(Trouble::NoCase),
     };
-    let reply = ask(alloc, service, asked)?;
-    Ok(reply_told(alloc, &reply))
+    let reply = ask(alloc, service, request)?;
+    Ok(reply_answer(alloc, &reply))
 }
 
 /// The reply to a request on a new connection, which is lost after the request.
-fn ask(alloc: Global, service: &mut StoredService, asked: Asked<'_>) -> Result<Reply, Trouble> {
+fn ask(
+    alloc: Global,
+    service: &mut StoredService,
+    request: CaseRequest<'_>,
+) -> Result<Reply, Trouble> {
     let conn = service.next_conn();
-    let piece = Event::Piece(conn, stream_of(alloc, asked)?);
+    let piece = Event::Piece(conn, stream_of(alloc, request)?);
     happen(service, &Event::Open(conn))?;
     happen(service, &piece)?;
-    let reply = happen(service, &Event::Turn(asked.tenant))?;
+    let reply = happen(service, &Event::Turn(request.tenant))?;
     happen(service, &Event::Fault(conn))?;
     reply.ok_or(Trouble::NoCase)
 }
@@ -106,16 +110,16 @@ fn happen(service: &mut StoredService, event: &Event) -> Result<Option<Reply>, T
 }
 
 /// The bytes of a request.
-fn stream_of(alloc: Global, asked: Asked<'_>) -> Result<Vec<u8>, Trouble> {
-    let Some(key) = KEYS.get(asked.tenant) else {
+fn stream_of(alloc: Global, request: CaseRequest<'_>) -> Result<Vec<u8>, Trouble> {
+    let Some(key) = KEYS.get(request.tenant) else {
         return Err(Trouble::NoCase);
     };
-    let (method, target, length) = (asked.method.as_str(), asked.target, asked.body.len());
+    let (method, target, length) = (request.method.as_str(), request.target, request.body.len());
     let head = format!(in alloc;
         "{method} {target} HTTP/1.1\r\nHost: x\r\nX-Ports-Key: {key}\r\nContent-Length: {length}\r\n\r\n"
     )?;
     let mut bytes = Vec::from_slice(alloc, head.as_bytes())?;
-    bytes.extend_from_slice(asked.body)?;
+    bytes.extend_from_slice(request.body)?;
     Ok(bytes)
 }
 
@@ -128,8 +132,8 @@ fn fill(alloc: Global, service: &mut StoredService, given: &[Vec<u8>]) -> Result
     let count = as_number(count)?;
     for number in 0..count {
         let target = format!(in alloc; "/v1/file?name=/f/{number}")?;
-        let asked = Asked::read(Method::Put, tenant, target.as_bytes(), body)?;
-        let reply = ask(alloc, service, asked)?;
+        let request = CaseRequest::read(Method::Put, tenant, target.as_bytes(), body)?;
+        let reply = ask(alloc, service, request)?;
         if reply.status != StatusCode::OK {
             let mut answer = filled(alloc, number, reply.status.as_str());
             answer.text(reply.body());
@@ -153,25 +157,25 @@ fn stopped(
         (Method::Delete, [tenant, target, probe]) => (tenant, target, b"".as_slice(), probe),
         _ => return Err(Trouble::NoCase),
     };
-    let asked = Asked::read(method, tenant, target, body)?;
-    let probe = Asked::read(Method::Get, tenant, probe, &[])?;
-    stopped_by(alloc, service, asked, probe)
+    let request = CaseRequest::read(method, tenant, target, body)?;
+    let probe = CaseRequest::read(Method::Get, tenant, probe, &[])?;
+    stopped_by(alloc, service, request, probe)
 }
 
 fn stopped_by(
     alloc: Global,
     service: &mut StoredService,
-    asked: Asked<'_>,
-    probe: Asked<'_>,
+    request: CaseRequest<'_>,
+    probe: CaseRequest<'_>,
 ) -> Result<Answer, Trouble> {
     let was = ask(alloc, service, probe)?;
     let mut is_kept = true;
     for limit in 1..MOST_LIMITS {
         service.limit_steps(Some(limit));
-        let reply = ask(alloc, service, asked)?;
+        let reply = ask(alloc, service, request)?;
         service.limit_steps(None);
         if reply.status != StatusCode::SERVICE_UNAVAILABLE {
-            return Ok(stops_told(alloc, limit, is_kept, reply.status.as_str()));
+            return Ok(stops_answer(alloc, limit, is_kept, reply.status.as_str()));
         }
         is_kept = is_kept && ask(alloc, service, probe)?.body() == was.body();
     }

@@ -64,7 +64,7 @@ pub fn file_reply(alloc: Global, given: &[Vec<u8>]) -> Result<Answer, Trouble> {
         return Err(Trouble::NoCase);
     };
     let reply = Reply::of_bytes(StatusCode::OK, Some(Content::Octets), bytes.clone()?);
-    Ok(bytes_told(alloc, write_reply(alloc, &reply, false)?.as_slice()))
+    Ok(bytes_answer(alloc, write_reply(alloc, &reply, false)?.as_slice()))
 }
 
 /// `reply method`: a 405 of a route that has every method, after which the connection closes.
@@ -75,7 +75,7 @@ pub fn method_reply(alloc: Global) -> Result<Answer, Trouble> {
         Some(Content::Json),
         text,
     ).with_allow(&[Method::Get, Method::Put, Method::Delete]);
-    Ok(bytes_told(alloc, write_reply(alloc, &reply, true)?.as_slice()))
+    Ok(bytes_answer(alloc, write_reply(alloc, &reply, true)?.as_slice()))
 }
 
 /// `reply head`: a head that is too large.
@@ -83,7 +83,7 @@ pub fn method_reply(alloc: Global) -> Result<Answer, Trouble> {
 pub fn head_reply(alloc: Global) -> Result<Answer, Trouble> {
     let mut out = Vec::with_capacity(alloc, 256)?;
     write_fixed(&HeadFault::HeadTooLarge.reply(), true, &mut out);
-    Ok(bytes_told(alloc, out.as_slice()))
+    Ok(bytes_answer(alloc, out.as_slice()))
 }
 
 /// `reply key`: a request without a known key.
@@ -91,7 +91,7 @@ pub fn head_reply(alloc: Global) -> Result<Answer, Trouble> {
 pub fn key_reply(alloc: Global) -> Result<Answer, Trouble> {
     let mut out = Vec::with_capacity(alloc, 256)?;
     write_fixed(&Reply::unknown_key(), false, &mut out);
-    Ok(bytes_told(alloc, out.as_slice()))
+    Ok(bytes_answer(alloc, out.as_slice()))
 }
 
 /// `reply store`: a request for which there was no memory.
@@ -99,11 +99,11 @@ pub fn key_reply(alloc: Global) -> Result<Answer, Trouble> {
 pub fn store_reply(alloc: Global) -> Result<Answer, Trouble> {
     let mut out = Vec::with_capacity(alloc, 256)?;
     write_fixed(&Reply::store_failed(), false, &mut out);
-    Ok(bytes_told(alloc, out.as_slice()))
+    Ok(bytes_answer(alloc, out.as_slice()))
 }
 
 /// An answer of one text that may be no UTF-8.
-pub fn bytes_told(alloc: Global, bytes: &[u8]) -> Answer {
+pub fn bytes_answer(alloc: Global, bytes: &[u8]) -> Answer {
     let mut answer = Answer::new(alloc);
     answer.text(bytes);
     answer
@@ -126,7 +126,7 @@ pub fn request(
     let World { files, settings } = world;
     let target = as_text(target)?;
     let Prepared { reply, change } = plain.prepare(alloc, files, settings, method, target, body)?;
-    let answer = reply_told(alloc, &reply);
+    let answer = reply_answer(alloc, &reply);
     if let Some(change) = change {
         carry_out(world, change)?;
     }
@@ -146,7 +146,7 @@ fn carry_out(world: &mut World, change: Change) -> Result<(), AllocError> {
 }
 
 /// The status of a reply, with its phrase, and its body.
-pub fn reply_told(alloc: Global, reply: &Reply) -> Answer {
+pub fn reply_answer(alloc: Global, reply: &Reply) -> Answer {
     let mut answer = Answer::of_word(alloc, reply.status.as_str());
     answer.word(reply.status.canonical_reason().unwrap_or(""));
     answer.text(reply.body());
@@ -201,14 +201,14 @@ pub fn run(alloc: Global, given: &[Vec<u8>]) -> Result<Answer, Trouble> {
         return Err(Trouble::NoCase);
     };
     let ran = run_program(alloc, as_text(words)?, input)?;
-    let mut answer = status_told(alloc, ran.status);
+    let mut answer = status_answer(alloc, ran.status);
     answer.text(ran.printed.as_slice());
     answer.text(ran.said.as_slice());
     Ok(answer)
 }
 
 /// The status with which a program ended.
-pub fn status_told(alloc: Global, status: u8) -> Answer {
+pub fn status_answer(alloc: Global, status: u8) -> Answer {
     let mut answer = Answer::of_word(alloc, "status");
     answer.number(u64::from(status));
     answer

@@ -1,6 +1,6 @@
 //! The store of all tenants: calls in a row.
 use case_lines::{Answer, Trouble, as_number};
-use make_cases::{given_name, given_path, trees_told, two_told};
+use make_cases::{given_name, given_path, trees_answer, two_answer};
 use mk_files::Files;
 use mk_paths::{FilesFault, Name, Names, SearchPath};
 use std::alloc::Global;
@@ -26,12 +26,12 @@ pub fn answer(
     given: &[Vec<u8>],
 ) -> Result<Answer, Trouble> {
     match call {
-        "store put" => put_told(alloc, store, given),
+        "store put" => put_answer(alloc, store, given),
         "store fill" => fill(alloc, store, given),
-        "store remove" => remove_told(alloc, store, given),
-        "store get" => get_told(alloc, store, given),
-        "store path" => set_told(alloc, store, given),
-        "store settings" => settings_told(alloc, store, given),
+        "store remove" => remove_answer(alloc, store, given),
+        "store get" => get_answer(alloc, store, given),
+        "store path" => set_answer(alloc, store, given),
+        "store settings" => settings_answer(alloc, store, given),
         "store put stopped" => put_stopped(alloc, store, given),
         "store remove stopped" => remove_stopped(alloc, store, given),
         "store path stopped" => path_stopped(alloc, store, given),
@@ -40,7 +40,11 @@ pub fn answer(
 }
 
 /// `store put TENANT NAME BYTES`
-fn put_told(alloc: Global, store: &mut TenantStore, given: &[Vec<u8>]) -> Result<Answer, Trouble> {
+fn put_answer(
+    alloc: Global,
+    store: &mut TenantStore,
+    given: &[Vec<u8>],
+) -> Result<Answer, Trouble> {
     let [tenant, name, bytes] = given else {
         return Err(Trouble::NoCase);
     };
@@ -50,7 +54,7 @@ fn put_told(alloc: Global, store: &mut TenantStore, given: &[Vec<u8>]) -> Result
 }
 
 /// `store remove TENANT NAME`
-fn remove_told(
+fn remove_answer(
     alloc: Global,
     store: &mut TenantStore,
     given: &[Vec<u8>],
@@ -64,7 +68,11 @@ fn remove_told(
 }
 
 /// `store get TENANT NAME`
-fn get_told(alloc: Global, store: &mut TenantStore, given: &[Vec<u8>]) -> Result<Answer, Trouble> {
+fn get_answer(
+    alloc: Global,
+    store: &mut TenantStore,
+    given: &[Vec<u8>],
+) -> Result<Answer, Trouble> {
     let [tenant, name] = given else {
         return Err(Trouble::NoCase);
     };
@@ -73,7 +81,11 @@ fn get_told(alloc: Global, store: &mut TenantStore, given: &[Vec<u8>]) -> Result
 }
 
 /// `store path TENANT TEXT`
-fn set_told(alloc: Global, store: &mut TenantStore, given: &[Vec<u8>]) -> Result<Answer, Trouble> {
+fn set_answer(
+    alloc: Global,
+    store: &mut TenantStore,
+    given: &[Vec<u8>],
+) -> Result<Answer, Trouble> {
     let [tenant, text] = given else {
         return Err(Trouble::NoCase);
     };
@@ -83,7 +95,7 @@ fn set_told(alloc: Global, store: &mut TenantStore, given: &[Vec<u8>]) -> Result
 }
 
 /// `store settings TENANT`: the trees of its search path.
-fn settings_told(
+fn settings_answer(
     alloc: Global,
     store: &mut TenantStore,
     given: &[Vec<u8>],
@@ -177,7 +189,7 @@ fn got(
     drop(files);
     let held = store.get_file(alloc, tenant, name)?;
     Ok(match (held, read) {
-        (Some(held), Some(read)) if has => two_told(alloc, held.as_slice(), read.as_slice()),
+        (Some(held), Some(read)) if has => two_answer(alloc, held.as_slice(), read.as_slice()),
         (None, None) if !has => Answer::of_word(alloc, "absent"),
         _ => Answer::of_word(alloc, "both"),
     })
@@ -186,7 +198,7 @@ fn got(
 /// The trees of a search path that is held.
 fn settings(alloc: Global, store: &mut TenantStore, tenant: u32) -> Result<Answer, Trouble> {
     let settings = store.settings(alloc, tenant)?;
-    Ok(trees_told(alloc, &settings.path))
+    Ok(trees_answer(alloc, &settings.path))
 }
 
 /// `store put stopped TENANT NAME BYTES`: the put under a limit of 1, 2, 3 .. steps until it isn't stopped.
@@ -208,7 +220,7 @@ fn put_stopped(
         let told = put(alloc, store, tenant, &name, bytes)?;
         store.limit_steps(None);
         if told != "Store" {
-            return Ok(stops_told(alloc, limit, is_kept, told));
+            return Ok(stops_answer(alloc, limit, is_kept, told));
         }
         is_kept = is_kept && got(alloc, store, tenant, &name)?.is_same(&was)?;
     }
@@ -233,7 +245,7 @@ fn remove_stopped(
         let told = remove(alloc, store, tenant, &name)?;
         store.limit_steps(None);
         if told != "Store" {
-            return Ok(stops_told(alloc, limit, is_kept, told));
+            return Ok(stops_answer(alloc, limit, is_kept, told));
         }
         is_kept = is_kept && got(alloc, store, tenant, &name)?.is_same(&was)?;
     }
@@ -258,7 +270,7 @@ fn path_stopped(
         let told = set(alloc, store, tenant, &path)?;
         store.limit_steps(None);
         if told != "Store" {
-            return Ok(stops_told(alloc, limit, is_kept, told));
+            return Ok(stops_answer(alloc, limit, is_kept, told));
         }
         is_kept = is_kept && settings(alloc, store, tenant)?.is_same(&was)?;
     }
@@ -266,7 +278,7 @@ fn path_stopped(
 }
 
 /// `never` if the first call wasn't stopped, else `kept` or `changed`; and the answer to the last call.
-pub fn stops_told(alloc: Global, limit: u64, is_kept: bool, told: &str) -> Answer {
+pub fn stops_answer(alloc: Global, limit: u64, is_kept: bool, told: &str) -> Answer {
     let mut answer = Answer::of_word(
         alloc,
         match (limit, is_kept) {

@@ -1,6 +1,6 @@
 //! Inputs and outputs that fail, and steps that no run can be made to take.
 use crate::quiet::QuietPorts;
-use crate::service::{Ran, config_of_one, status_told};
+use crate::service::{Ran, config_of_one, status_answer};
 use case_lines::{Answer, FailingReader, FailingWriter, Trouble, as_number};
 use ports_core::{Refused, Step, Tell, Told};
 use ports_http::Reply;
@@ -80,7 +80,7 @@ pub fn narrow_serving(alloc: Global, given: &[Vec<u8>]) -> Result<Answer, Troubl
         &mut out,
         &mut said,
     );
-    let mut answer = status_told(alloc, status);
+    let mut answer = status_answer(alloc, status);
     answer.text(out.taken.as_slice());
     answer.text(said.as_slice());
     Ok(answer)

@@ -1,14 +1,14 @@
 use Rattle.std.proofs.Common.{◌≡◌, ◌+◌, ◌*◌, length, map}
-use Rattle.cond_grammar.specs.Reading.{behind_or, behind_and, read_not, read_and, operands}
+use Rattle.cond_grammar.specs.Reading.{after_or, after_and, read_not, read_and, operands}
 use Rattle.cond_grammar.specs.Views.{conjunction_tree, term_tree}
 use Rattle.cond_grammar.proofs.Chains.{continued}
 use Rattle.cond_grammar.proofs.reading.+reading.Given as goal
 
-abbrev pub decreases-grouped : goal.decreases-grouped
-decreases-grouped l = 6 * l.levels
+abbrev pub decreases-group : goal.decreases-group
+decreases-group l = 6 * l.levels
 
-abbrev pub decreases-negated : goal.decreases-negated
-decreases-negated l = 6 * l.levels
+abbrev pub decreases-negation : goal.decreases-negation
+decreases-negation l = 6 * l.levels
 
 abbrev pub decreases-read_not : goal.decreases-read_not
 decreases-read_not l = 6 * l.levels + 1
@@ -27,14 +27,14 @@ decreases-read_or l = 6 * l.levels + 5
 
 abbrev pub invariant-later_nots-loop-behind : goal.invariant-later_nots-loop-behind
 invariant-later_nots-loop-behind l =
-    continued behind_and (read_not l.levels) (map term_tree l.more.items) l.rest ≡ operands behind_and (read_not l.levels) l.tokens
+    continued after_and (read_not l.levels) (map term_tree l.more.items) l.rest ≡ operands after_and (read_not l.levels) l.tokens
 
 abbrev pub decreases-later_nots-loop-behind : goal.decreases-later_nots-loop-behind
 decreases-later_nots-loop-behind l = length l.rest
 
 abbrev pub invariant-later_ands-loop-behind : goal.invariant-later_ands-loop-behind
 invariant-later_ands-loop-behind l =
-    continued behind_or (read_and l.levels) (map conjunction_tree l.more.items) l.rest ≡ operands behind_or (read_and l.levels) l.tokens
+    continued after_or (read_and l.levels) (map conjunction_tree l.more.items) l.rest ≡ operands after_or (read_and l.levels) l.tokens
 
 abbrev pub decreases-later_ands-loop-behind : goal.decreases-later_ands-loop-behind
 decreases-later_ands-loop-behind l = length l.rest

@@ -1,6 +1,6 @@
 use Rattle.std.proofs.Common.{◌≡◌, not, drop}
 use Rattle.mk_text.specs.Blanks.{is_blank}
-use Rattle.cond_grammar.specs.Tokens.{first_or_end}
+use Rattle.cond_grammar.specs.Scanning.{first_or_end}
 use Rattle.cond_grammar.proofs.scanning.blanks_end.Given as goal
 
 abbrev pub invariant-loop-at : goal.invariant-loop-at

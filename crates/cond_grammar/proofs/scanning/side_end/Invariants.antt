@@ -1,5 +1,6 @@
 use Rattle.std.proofs.Common.{◌≡◌, drop}
-use Rattle.cond_grammar.specs.Tokens.{first_or_end, is_stop}
+use Rattle.cond_grammar.specs.Tokens.{is_stop}
+use Rattle.cond_grammar.specs.Scanning.{first_or_end}
 use Rattle.cond_grammar.proofs.scanning.side_end.Given as goal
 
 abbrev pub invariant-loop-at : goal.invariant-loop-at

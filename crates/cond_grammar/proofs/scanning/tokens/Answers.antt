@@ -1,6 +1,7 @@
 use Rattle.std.proofs.Common.{◌++◌, Some, option_map, sym, ap, ◌∙◌, arith, drop, append-nil}
-use Rattle.cond_grammar.specs.Tokens.{walk}
+use Rattle.cond_grammar.specs.Scanning.{walk}
 use Rattle.cond_grammar.proofs.Scans.{walk-blank, walk-token, walk-refused, walk-done, token-added}
+use Rattle.cond_grammar.proofs.Pieces.{walk-tokens}
 use Rattle.cond_grammar.proofs.scanning.tokens.Goals as goal
 
 pub loop-at-preserved-then-is_blank : goal.loop-at-preserved-then-is_blank
@@ -22,10 +23,10 @@ loop-at-preserved c =
 pub returns-in_default : goal.returns-in_default
 returns-in_default c =
     sym (ap (option_map (λ later. c.loop-at.found.items ++ later)) (walk-refused c.args.bytes.now c.loop-at.at c.loop-at-test.true c.if-is_blank.ensures c.in_default.ensures.token))
-    ∙ c.loop-at.invariant.0
+    ∙ c.loop-at.invariant.0 ∙ walk-tokens c.args.bytes.now
 
 pub returns : goal.returns
 returns c =
     ap Some (sym (append-nil c.loop-at.found.items))
     ∙ sym (ap (option_map (λ later. c.loop-at.found.items ++ later)) (walk-done c.args.bytes.now c.loop-at.at c.loop-at-test.false))
-    ∙ c.loop-at.invariant.0
+    ∙ c.loop-at.invariant.0 ∙ walk-tokens c.args.bytes.now

@@ -1,12 +1,12 @@
 use Rattle.std.proofs.Common.{◌≡◌}
 use Rattle.mk_text.specs.Lines.{logical_lines}
 use Rattle.mk_ast.specs.declared.nodes.TheConstants.{BLOCKS}
-use Rattle.mk_ast.specs.Blocks.{nothing_held, read_on}
-use Rattle.mk_ast.specs.ReaderViews.{held_of}
+use Rattle.mk_ast.specs.Blocks.{start_state, read_on}
+use Rattle.mk_ast.specs.ReaderViews.{state_of}
 use Rattle.mk_ast.proofs.parsing.parse_text.Given as goal
 
 abbrev pub invariant-loop-line : goal.invariant-loop-line
 invariant-loop-line l =
     (goal.iterator-loop-line).can_next l.line-iterator ×
     (goal.iterator-loop-line).is_finite l.line-iterator ×
-    (read_on BLOCKS nothing_held (logical_lines l.text) ≡ read_on BLOCKS (held_of l.reader) l.line-iterator.rest.items)
+    (read_on BLOCKS start_state (logical_lines l.text) ≡ read_on BLOCKS (state_of l.reader) l.line-iterator.rest.items)

@@ -1,5 +1,5 @@
 -- A text of which no tree is one has none that is read.
-use Rattle.std.proofs.Common.{◌≡◌, ◌∙◌, ℕ, List, [], Option, Some, None, Err, refl, ap, subst}
+use Rattle.std.proofs.Common.{◌≡◌, ◌∙◌, ℕ, List, [], Option, Some, None, Err, refl, ap, subst, rules}
 use Rattle.mk_base.specs.declared.faults.FaultKind.TheVariants as kinds
 use Rattle.mk_base.specs.Outcome.{after}
 use Rattle.mk_ref.specs.Units.{left_of}
@@ -21,8 +21,12 @@ unread : (s : Surroundings) (a : Account) → left_of s.text ≡ [] → tree_in 
 unfolding condition_truth
 unread s a ends none = ap (λ left. after (tree_read s.text left a) (or_truth s)) ends ∙ ap (λ found. after (readable found a) (or_truth s)) none
 
-pub returns-in-Err-Unreadable-clause-gives : goal.returns-in-Err-Unreadable-clause-gives
-returns-in-Err-Unreadable-clause-gives g c =
+pub returns-in-Err-Unreadable : goal.returns-in-Err-Unreadable
+returns-in-Err-Unreadable g c =
     let text = c.args.setting.text.now in
     let fault = subst (IsFaultOf text) c.in-Err-Unreadable.field-0-is c.in-Err-Unreadable.ensures.fault in
-    unread _ _ fault.0 (none_read c.conditions_are_read.ensures text (tree_in (outside text)) fault.0 fault.1 refl)
+    record {
+      gives = unread _ _ fault.0 (none_read c.conditions_are_read.ensures text (tree_in (outside text)) fault.0 fault.1 refl);
+      asks = search rules;
+      later = search rules;
+    }

@@ -1,14 +1,12 @@
 -- A reference among the pieces is one of the text.
-use Rattle.std.proofs.Common.{◌≡◌, ◌≢◌, ◌∙◌, ℕ, List, [], ◌∷◌, ◌||◌, length, map, true, refl, sym, ap, subst, arith}
+use Rattle.std.proofs.Common.{◌≡◌, ◌≢◌, ◌∙◌, ℕ, List, [], ◌∷◌, ◌||◌, map, true, refl, sym, ap}
 use Rattle.std.specs.List.{list_any}
-use Rattle.std.proofs.lemmas.List.{length-drop}
+use Rattle.mk_ref.specs.UnitFacts.{IsFaultOf-left}
 use Rattle.mk_ref.specs.declared.cutting.Piece.{Piece}
 use Rattle.mk_ref.specs.declared.cutting.Piece.TheVariants as v
-use Rattle.mk_ref.specs.declared.cutting.PiecesFault.{PiecesFault}
-use Rattle.mk_ref.specs.declared.cutting.PiecesFault.TheVariants as faults
 use Rattle.mk_ref.specs.Units.{units_of, left_of}
 use Rattle.mk_ref.specs.Pieces.{TextPiece, pieces_of}
-use Rattle.mk_ref.specs.Places.{shown, IsUnclosedAt, IsFaultOf}
+use Rattle.mk_ref.specs.Places.{shown}
 use Rattle.mk_cond.specs.Leaves.{is_reference, is_reference_piece, refers, has_reference}
 use Rattle.mk_cond.proofs.sides.has_reference.Goals as goal
 
@@ -33,11 +31,6 @@ cut_short : (text : List ℕ) → left_of text ≢ [] → true ≡ has_reference
 unfolding has_reference
 cut_short text some = some_left (left_of text) (pieces_of (units_of text)) some
 
-unclosed : (text : List ℕ) (fault : PiecesFault) (at : ℕ) → IsFaultOf text fault → fault ≡ faults.Unclosed at → left_of text ≢ []
-unclosed text fault at told is =
-    let here : IsUnclosedAt text at = subst (IsFaultOf text) is told in
-    λ none. omega (arith, here.inside, length-drop at text, ap length (sym here.left ∙ none))
-
 pub returns-in-Ok : goal.returns-in-Ok
 returns-in-Ok c =
     let text = c.args.text.now in
@@ -45,4 +38,4 @@ returns-in-Ok c =
     c.refers.ensures ∙ ap (list_any is_reference_piece) c.as_slice.ensures.value ∙ same_pieces text found ∙ whole text (map (shown text) found) c.in-Ok.ensures.whole c.in-Ok.ensures.pieces
 
 pub returns-in-Err-Unclosed : goal.returns-in-Err-Unclosed
-returns-in-Err-Unclosed c = cut_short c.args.text.now (unclosed c.args.text.now c.in-Err-Unclosed.field-0 c.in-Err-Unclosed.field-0-0 c.in-Err-Unclosed.ensures.fault c.in-Err-Unclosed.field-0-is)
+returns-in-Err-Unclosed c = cut_short c.args.text.now (IsFaultOf-left c.args.text.now c.in-Err-Unclosed.field-0 c.in-Err-Unclosed.field-0-0 c.in-Err-Unclosed.ensures.fault c.in-Err-Unclosed.field-0-is)

@@ -6,7 +6,7 @@ use Rattle.std.proofs.lemmas.Result.{err_from_is_err_and}
 use Rattle.mk_base.specs.Meter.{IsLater-on}
 use Rattle.mk_base.specs.Outcome.{each, after}
 use Rattle.mk_base.specs.Each.{each-value, each-stop, each-end}
-use Rattle.mk_base.specs.Stopping.{StopsAt, StopsAt-whole, Gives}
+use Rattle.mk_base.specs.Stopping.{StopsPurelyAt, StopsPurelyAt-whole, GivesPurely}
 use Rattle.mk_ref.specs.Places.{shown}
 use Rattle.mk_text.specs.declared.limits.TheConstants.{TEXT_LIMIT}
 use Rattle.mk_mods.specs.Actions.{Whole, Reference, action_of, symbols_of}
@@ -22,7 +22,7 @@ apply_modifiers-returns-in_err-value-clause-gives t c =
     let turn = meaning.modified (references_in c.args.scope) in
     let p = err_from_is_err_and c.from_residual.result c.from_residual.ensures.1 in
     rw (p.1, p.2)
-    (StopsAt-whole c.in_err-value.field-0.0 c.apply_modifier.new.budget _ _
+    (StopsPurelyAt-whole c.in_err-value.field-0.0 c.apply_modifier.new.budget _ _
     (λ end stops.
     c.loop-modifier.invariant.goes ∙
     each-stop turn action_of (string_bytes c.loop-modifier.value) c.args.modifiers.now c.loop-modifier.modifier-index _ c.modifier-item.result c.loop-modifier.budget end (omega arith) c.modifier-item.is
@@ -56,7 +56,7 @@ expand_parts-returns-in_err-join_part-clause-gives t c =
     ap (flat_map symbols_of) (drop_more parts c.loop-part.part-index c.part-item.result (omega arith)) ∙ ap (λ part. symbols_of part ++ later) (sym c.part-item.is) in
     let p = err_from_is_err_and c.from_residual.result c.from_residual.ensures.1 in
     rw (p.1, p.2)
-    (StopsAt-whole c.in_err-join_part.field-0.0 c.join_part.new.budget _ _
+    (StopsPurelyAt-whole c.in_err-join_part.field-0.0 c.join_part.new.budget _ _
     (λ end stops. c.loop-part.invariant.goes ∙ each-front-stop turn (string_bytes c.loop-part.joined) _ (symbols_of c.part-item.result) later c.loop-part.budget end next stops)
     c.in_err-join_part.ensures.gives)
 
@@ -95,7 +95,7 @@ expand_text-returns-in_err-join_piece-clause-gives t c =
     let pieces = c.deref-piece-items.result.now in
     let p = err_from_is_err_and c.from_residual-in_err-join_piece.result c.from_residual-in_err-join_piece.ensures.1 in
     rw (p.1, p.2)
-    (StopsAt-whole c.in_err-join_piece.field-0.0 c.join_piece.new.budget _ _
+    (StopsPurelyAt-whole c.in_err-join_piece.field-0.0 c.join_piece.new.budget _ _
     (λ end stops.
     text_meaning-pieces references text (map (shown text) pieces) c.args.budget.now c.in_ok-cut.ensures.whole (ap (map (shown text)) c.deref-piece-items.ensures.value ∙ c.in_ok-cut.ensures.pieces) ∙
     c.loop-piece.invariant.goes ∙
@@ -130,7 +130,7 @@ join_part-returns-in_err-found-in-Reference-clause-gives t c =
     let symbol = Reference (string_bytes c.in-Reference.source) in
     let p = err_from_is_err_and c.from_residual.result c.from_residual.ensures.1 in
     rw (p.1, p.2)
-    (StopsAt-whole c.in_err-found-in-Reference.field-0.0 c.expand_text.new.budget _ _
+    (StopsPurelyAt-whole c.in_err-found-in-Reference.field-0.0 c.expand_text.new.budget _ _
     (λ end stops.
     ap (λ part. each (meaning.join_symbol references old) joined (symbols_of part) c.args.budget.now) c.in-Reference.is ∙
     join-stops references old joined symbol c.args.budget.now end (ap (λ source. meaning.text_meaning references source c.args.budget.now) (sym c.as_str-in-Reference.ensures.value) ∙ stops))
@@ -180,7 +180,7 @@ expand_reference-returns-then-mention-le-TEXT_LIMIT-clause-gives t c =
     let value = text_meaning-small (references active) name c.begin_reference.new.budget (sym c.has_dollar.ensures ∙ c.if-not-has_dollar.true) c.if-mention-le-TEXT_LIMIT.true in
     let whole = reference-name scope.undefined scope.levels variables active written name modifiers c.args.budget.now c.begin_reference.new.budget tt c.in_ok-begin_reference.ensures.inside c.in_ok-begin_reference.ensures.gives
     ∙ ap (λ end. after end (meaning.by_name scope.undefined references variables active written modifiers)) value in
-    subst (λ outcome. Gives string_bytes c.expand_by_name.result c.expand_by_name.new.budget outcome) (sym whole) c.expand_by_name.ensures.gives
+    subst (λ outcome. GivesPurely string_bytes c.expand_by_name.result c.expand_by_name.new.budget outcome) (sym whole) c.expand_by_name.ensures.gives
 
 pub expand_reference-returns-in_err-begin_reference-clause-gives : goal.expand_reference-returns-in_err-begin_reference-clause-gives
 expand_reference-returns-in_err-begin_reference-clause-gives t c =
@@ -188,7 +188,7 @@ expand_reference-returns-in_err-begin_reference-clause-gives t c =
     let mention = c.args.mention in
     let p = err_from_is_err_and c.from_residual.result c.from_residual.ensures.1 in
     rw (p.1, p.2)
-    (StopsAt-whole c.in_err-begin_reference.field-0.0 c.begin_reference.new.budget _ _
+    (StopsPurelyAt-whole c.in_err-begin_reference.field-0.0 c.begin_reference.new.budget _ _
     (λ end stops. reference-unbegun scope.undefined scope.levels scope.variables.now (names_of scope.active) mention.written.now mention.name.now (option_map (λ text. text.now) mention.modifiers) c.args.budget.now end stops)
     c.in_err-begin_reference.ensures.gives)
 
@@ -201,11 +201,11 @@ expand_reference-returns-in_err-name-clause-gives t c =
     let modifiers = option_map (λ text. text.now) c.args.mention.modifiers in
     let p = err_from_is_err_and c.from_residual-in_err-name.result c.from_residual-in_err-name.ensures.1 in
     rw (p.1, p.2)
-    (StopsAt-whole c.in_err-name.field-0.0 c.expand_text.new.budget _ _
+    (StopsPurelyAt-whole c.in_err-name.field-0.0 c.expand_text.new.budget _ _
     (λ end stops.
     reference-name scope.undefined scope.levels variables active written c.args.mention.name.now modifiers c.args.budget.now c.begin_reference.new.budget tt c.in_ok-begin_reference.ensures.inside c.in_ok-begin_reference.ensures.gives ∙
     ap (λ end'. after end' (meaning.by_name scope.undefined (meaning.reference kept.Empty (scope.levels - 1) variables) variables active written modifiers)) stops)
-    (subst (λ inside. StopsAt c.in_err-name.field-0.0 c.expand_text.new.budget (meaning.text_meaning (references_in inside) c.args.mention.name.now c.begin_reference.new.budget)) c.inside.ensures c.in_err-name.ensures.gives))
+    (subst (λ inside. StopsPurelyAt c.in_err-name.field-0.0 c.expand_text.new.budget (meaning.text_meaning (references_in inside) c.args.mention.name.now c.begin_reference.new.budget)) c.inside.ensures c.in_err-name.ensures.gives))
 
 pub expand_reference-returns-clause-gives : goal.expand_reference-returns-clause-gives
 expand_reference-returns-clause-gives t c =
@@ -220,12 +220,12 @@ expand_reference-returns-clause-gives t c =
     let value = subst (λ inside. meaning.text_meaning (references_in inside) c.args.mention.name.now c.begin_reference.new.budget ≡ Ok (found, c.expand_text.new.budget)) c.inside.ensures c.in_ok-name.ensures.gives in
     let whole = reference-name scope.undefined scope.levels variables active written c.args.mention.name.now modifiers c.args.budget.now c.begin_reference.new.budget tt c.in_ok-begin_reference.ensures.inside c.in_ok-begin_reference.ensures.gives
     ∙ ap (λ end. after end behind) value in
-    subst (λ outcome. Gives string_bytes c.expand_by_name-2.result c.expand_by_name-2.new.budget outcome)
+    subst (λ outcome. GivesPurely string_bytes c.expand_by_name-2.result c.expand_by_name-2.new.budget outcome)
     (ap (λ name. behind name c.expand_text.new.budget) c.as_str.ensures.value ∙ sym whole)
     c.expand_by_name-2.ensures.gives
 
 pub expand_text-returns-then-not-has_dollar-clause-gives : goal.expand_text-returns-then-not-has_dollar-clause-gives
 expand_text-returns-then-not-has_dollar-clause-gives t c =
-    subst (λ outcome. Gives string_bytes c.copy_bounded.result c.args.budget.now outcome)
+    subst (λ outcome. GivesPurely string_bytes c.copy_bounded.result c.args.budget.now outcome)
     (sym (text_meaning-plain (references_in c.args.scope) c.args.text.now c.args.budget.now (sym c.has_dollar.ensures ∙ c.if-not-has_dollar.true)))
     (c.copy_bounded.ensures.gives c.args.budget.now)

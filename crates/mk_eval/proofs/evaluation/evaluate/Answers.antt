@@ -8,12 +8,12 @@ use Rattle.mk_eval.proofs.evaluation.evaluate.Goals as goal
 pub returns-in-Ok : goal.returns-in-Ok
 returns-in-Ok g c =
     let view = g.F.Names.view in
-    let end = Ok (c.in-Ok.standing, account c.run.new.budget (view c.run.new.files)) in
+    let end = Ok (c.in-Ok.state, account c.run.new.budget (view c.run.new.files)) in
     record {
       means = means-ended c.args.settings.now c.args.name.now (flavors_in c.args.flavors) (view c.args.files.now) (view c.run.new.files) c.new-budget.result end c.new-budget.ensures c.in-Ok.ensures.gives
-          ∙ ap (λ cost. Ok (record { kind = c.in-Ok.standing.kind; env = c.in-Ok.standing.variables; cost = cost })) (sym c.spent.ensures);
+          ∙ ap (λ cost. Ok (record { kind = c.in-Ok.state.kind; env = c.in-Ok.state.variables; cost = cost })) (sym c.spent.ensures);
       files = files-ended c.args.settings.now c.args.name.now (flavors_in c.args.flavors) (view c.args.files.now) (view c.run.new.files) c.new-budget.result c.spent.result end c.new-budget.ensures c.in-Ok.ensures.gives
-          refl (sym c.spent.ensures) c.in-Ok.ensures.asked;
+          refl (sym c.spent.ensures) c.in-Ok.ensures.asks;
     }
 
 pub returns-in-Err : goal.returns-in-Err
@@ -25,5 +25,5 @@ returns-in-Err g c =
       means = fails-with c.args.settings.now c.args.name.now (flavors_in c.args.flavors) (view c.args.files.now) (view c.run.new.files) c.new-budget.result c.run.new.budget c.spent-in-Err.result c.new-budget.ensures spends
           c.in-Err.stop c.with_cost.result c.with_cost.ensures c.in-Err.ensures.gives;
       files = leaves-at c.args.settings.now c.args.name.now (flavors_in c.args.flavors) (view c.args.files.now) (view c.run.new.files) c.new-budget.result c.run.new.budget c.spent-in-Err.result c.new-budget.ensures spends
-          g.F.Names.fails_with c.in-Err.stop c.with_cost.result c.with_cost.ensures c.in-Err.ensures.gives c.in-Err.ensures.stops;
+          g.F.Names.fails_with c.in-Err.stop c.with_cost.result c.with_cost.ensures c.in-Err.ensures.gives c.in-Err.ensures.asks;
     }

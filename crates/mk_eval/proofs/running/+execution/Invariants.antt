@@ -39,8 +39,8 @@ invariant-execute_block-loop-node g l =
     let view = g.F.Names.view in
     let works = works_of l.here (view l.fn.files).files in
     record {
-      goes : execute works (block_of l.nodes) (loops_of l.scope) l.initial.standing (account l.initial.budget (view l.initial.files))
-          ≡ execute works (block_of (drop l.node-index l.nodes)) (loops_of l.scope) l.standing (account l.budget (view l.files));
+      goes : execute works (block_of l.nodes) (loops_of l.scope) l.initial.state (account l.initial.budget (view l.initial.files))
+          ≡ execute works (block_of (drop l.node-index l.nodes)) (loops_of l.scope) l.state (account l.budget (view l.files));
       asked : AfterQuestions (view l.fn.files) (view l.files);
       later : IsLater l.fn.budget l.budget;
     }
@@ -52,8 +52,8 @@ invariant-execute_branches-loop-branch g l =
     let works = works_of l.here (view l.fn.files).files in
     let last = last_branch (option_map (λ block. block_of block.value.items) l.otherwise) in
     record {
-      goes : execute_branches works (branches_from (map branch_of l.branches) last) (loops_of l.scope) l.initial.standing (account l.initial.budget (view l.initial.files))
-          ≡ execute_branches works (branches_from (map branch_of (drop l.branch-index l.branches)) last) (loops_of l.scope) l.standing (account l.budget (view l.files));
+      goes : execute_branches works (branches_from (map branch_of l.branches) last) (loops_of l.scope) l.initial.state (account l.initial.budget (view l.initial.files))
+          ≡ execute_branches works (branches_from (map branch_of (drop l.branch-index l.branches)) last) (loops_of l.scope) l.state (account l.budget (view l.files));
       asked : AfterQuestions (view l.fn.files) (view l.files);
       later : IsLater l.fn.budget l.budget;
     }
@@ -65,8 +65,8 @@ invariant-execute_loop-loop-index g l =
     let works = works_of l.here (view l.fn.files).files in
     let turn = turn_of (works.begins l.head) (execute works (block_of l.body)) (loops_of l.scope) in
     record {
-      goes : each turn l.initial.standing (turns_in l.turns) (account l.initial.budget (view l.initial.files))
-          ≡ each turn l.standing (drop l.index (turns_in l.turns)) (account l.budget (view l.files));
+      goes : each turn l.initial.state (turns_in l.turns) (account l.initial.budget (view l.initial.files))
+          ≡ each turn l.state (drop l.index (turns_in l.turns)) (account l.budget (view l.files));
       asked : AfterQuestions (view l.fn.files) (view l.files);
       later : IsLater l.fn.budget l.budget;
       behind : IsLater l.initial.budget l.budget;

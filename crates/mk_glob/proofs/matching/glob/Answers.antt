@@ -1,12 +1,12 @@
 use Rattle.std.proofs.Common.{true, false, sym, ap, ◌∙◌, subst, Some, ◌<◌}
 use Rattle.mk_glob.specs.Signs.{signs_of}
-use Rattle.mk_glob.proofs.EndLemmas.{UnclosedWithin-behind}
+use Rattle.mk_glob.proofs.EndLemmas.{UnclosedWithin-after}
 use Rattle.mk_glob.proofs.LoopLemmas.{Goes, by_back, Goes-run, Goes-one, Goes-further, fits-over, fits-stuck, by_back-word_over, cut_where_fits, left, left-run, left-one, left-further}
 use Rattle.mk_glob.proofs.matching.glob.Goals as goal
 
 pub step-requires : goal.step-requires
 step-requires c = record {
-  known = UnclosedWithin-behind (signs_of c.args.pattern.now) (signs_of c.loop-behind.rest.pattern.now) c.loop-behind.unclosed
+  known = UnclosedWithin-after (signs_of c.args.pattern.now) (signs_of c.loop-behind.rest.pattern.now) c.loop-behind.unclosed
       c.loop-behind.invariant.within c.loop-behind.invariant.known;
 }
 

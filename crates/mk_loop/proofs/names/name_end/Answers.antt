@@ -1,7 +1,7 @@
 use Rattle.std.proofs.Common.{◌+◌, Some, sym, ap, ◌∙◌, inl, inr, refl}
 use Rattle.std.proofs.lemmas.Bool.{ne_eqb}
 use Rattle.mk_ref.specs.Units.{Byte, EscapedDollar}
-use Rattle.mk_loop.proofs.Standing.{stands-byte, stands-pair}
+use Rattle.mk_loop.proofs.UnitPlaces.{byte-at-place, pair-at-place}
 use Rattle.mk_loop.proofs.NameSteps.{name-more, name-ends, name-letter, name-marked, name-open}
 use Rattle.mk_loop.proofs.names.name_end.Goals as goal
 use Rattle.mk_loop.proofs.names.name_end.Goals.{then-bytes-at-via-then-bytes-at, then-bytes-at-via-else-bytes-at+then-bytes-at-eq58}
@@ -19,14 +19,14 @@ loop-at-preserved-in-None c =
     let text = c.args.bytes.now in
     let at = c.loop-at.at in
     name-more text c.args.start c.args.closing at (at + 1) (Byte _) c.loop-at.invariant c.loop-at-test.true c.if-bytes-at.false
-    (stands-byte text at c.loop-at-test.true (sym c.in-None.ensures.opening)) refl (ne_eqb _ 58 c.if-bytes-at-eq58.false)
+    (byte-at-place text at c.loop-at-test.true (sym c.in-None.ensures.opening)) refl (ne_eqb _ 58 c.if-bytes-at-eq58.false)
 
 pub loop-at-preserved : goal.loop-at-preserved
 loop-at-preserved c =
     let text = c.args.bytes.now in
     let at = c.loop-at.at in
     name-more text c.args.start c.args.closing at (at + 2) EscapedDollar c.loop-at.invariant c.loop-at-test.true c.if-bytes-at.false
-    (stands-pair text at c.in-Some-Doubled.ensures.inside (sym c.in-Some-Doubled.ensures.opening ∙ ap Some c.in-Some-Doubled.field-0-is)) refl refl
+    (pair-at-place text at c.in-Some-Doubled.ensures.inside (sym c.in-Some-Doubled.ensures.opening ∙ ap Some c.in-Some-Doubled.field-0-is)) refl refl
 
 pub returns-in-Some-Letter : goal.returns-in-Some-Letter
 returns-in-Some-Letter c =

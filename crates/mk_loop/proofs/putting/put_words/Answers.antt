@@ -2,11 +2,13 @@ use Rattle.std.proofs.Common.{All, refl, sym, subst, ◌∙◌, arith}
 use Rattle.std.specs.Str.{IsCharBoundary}
 use Rattle.std.proofs.lemmas.Str.{IsCharBoundary-start}
 use Rattle.std.proofs.lemmas.List.Elements.{All-nil}
-use Rattle.mk_base.specs.Stopping.{Gives}
+use Rattle.mk_base.specs.Meter.{IsLater-on}
+use Rattle.mk_base.specs.Stopping.{GivesPurely}
 use Rattle.mk_ref.specs.Units.{units_of}
 use Rattle.mk_loop.specs.Scopes.{words_in}
-use Rattle.mk_loop.specs.Places.{Outermost, HasAsciiMark, text_of}
+use Rattle.mk_loop.specs.Places.{Outermost, HasAsciiMark, IsKept, text_of}
 use Rattle.mk_loop.proofs.WholeLine.{stands-first, goes-first, goes-last}
+use Rattle.mk_loop.proofs.Paying.{made-unspent}
 use Rattle.mk_loop.proofs.putting.put_words.Goals as goal
 
 pub loop-alloc-init : goal.loop-alloc-init
@@ -23,16 +25,35 @@ loop-alloc-init c =
         starts = subst (IsCharBoundary line) (sym new.copied) (IsCharBoundary-start line c.utf8.line);
         marks = subst (All HasAsciiMark) (sym new.around) (All-nil HasAsciiMark);
         untouched = λ _. new.joined;
+        kept = λ _. subst (All IsKept) (sym new.around) (All-nil IsKept);
       };
+      paid = (λ _. refl, λ some. absurd (some new.copied));
       left = Outermost (units_of line);
       stands = stands-first line pass c.in_ok-check_closed.ensures.whole new.around new.at;
       goes = goes-first (words_in c.args.words) c.args.variables.now line pass c.args.budget.now c.in_ok-check_closed.ensures.whole new.joined new.copied new.at;
+    }
+
+pub loop-alloc-preserved : goal.loop-alloc-preserved
+loop-alloc-preserved c =
+    let invariant = c.loop-alloc.invariant in
+    let step = c.in_ok-pass.ensures in
+    let next = step.goes invariant.left invariant.stands in
+    record {
+      later = IsLater-on invariant.later step.later;
+      placed = step.placed;
+      paid = step.paid c.args.budget.now invariant.paid;
+      left = next.0;
+      stands = next.1.0;
+      goes = invariant.goes ∙ next.1.1;
     }
 
 pub returns-clause-gives : goal.returns-clause-gives
 returns-clause-gives c =
     let line = c.args.line.now in
     let invariant = c.loop-alloc.invariant in
-    subst (λ outcome. Gives (text_of line) c.finished.result c.loop-alloc.budget outcome)
+    subst (λ outcome. GivesPurely (text_of line) c.finished.result c.loop-alloc.budget outcome)
     (sym (invariant.goes ∙ goes-last (words_in c.args.words) c.args.variables.now line c.loop-alloc.pass invariant.left c.loop-alloc.budget (omega arith) invariant.stands))
     (c.finished.ensures.gives c.loop-alloc.budget)
+
+pub returns-clause-none : goal.returns-clause-none
+returns-clause-none c = made-unspent c.args.budget.now c.loop-alloc.budget c.loop-alloc.pass.copied c.finished.result c.loop-alloc.invariant.paid c.finished.ensures.none

@@ -2,15 +2,16 @@ use Rattle.std.proofs.Common.{◌≡◌, ◌-◌, length}
 use Rattle.mk_base.specs.Meter.{IsLater}
 use Rattle.mk_loop.specs.Putting as putting
 use Rattle.mk_loop.specs.Scopes.{words_in}
-use Rattle.mk_loop.specs.Places.{Left, IsPlaced, Stands, here, goes}
+use Rattle.mk_loop.specs.Places.{Left, IsPlaced, IsPaid, HasLeft, here, goes}
 use Rattle.mk_loop.proofs.putting.put_words.Given as goal
 
 abbrev pub invariant-loop-alloc : goal.invariant-loop-alloc
 invariant-loop-alloc l = record {
   later : IsLater l.initial.budget l.budget;
   placed : IsPlaced l.line l.pass;
+  paid : IsPaid l.initial.budget l.pass.copied l.budget;
   left : Left;
-  stands : Stands l.line l.pass left;
+  stands : HasLeft l.line l.pass left;
   goes : putting.put_words (words_in l.words) l.variables l.line l.initial.budget ≡ goes (words_in l.words) l.variables left (here l.line l.pass) l.budget;
 }
 

@@ -2,7 +2,7 @@ use Rattle.std.proofs.Common.{◌++◌, zero, length, Some, None, string_bytes, 
 use Rattle.std.proofs.lemmas.Result.{err_from_is_err_and}
 use Rattle.mk_mods.specs.Substituted.{all_replaced}
 use Rattle.mk_mods.proofs.JoinSteps.{too_long-over}
-use Rattle.mk_mods.proofs.Replacing.{cut-of, behind-utf8, all_replaced-cut, all_replaced-end}
+use Rattle.mk_mods.proofs.Replacing.{cut-of, after-utf8, all_replaced-cut, all_replaced-end}
 use Rattle.mk_mods.proofs.substituting.all_replaced.Goals as goal
 
 pub loop-front-preserved : goal.loop-front-preserved
@@ -14,7 +14,7 @@ loop-front-preserved c =
     let made = string_bytes c.loop-front.made in
     let cut = all_replaced-cut old new c.loop-front.rest.now front behind c.requires (cut-of old c.loop-front.rest.now (Some (c.in-Some.front, c.in-Some.behind)) c.in-Some.ensures.cases) in
     record {
-      text = behind-utf8 old c.loop-front.rest.now c.in-Some.front c.in-Some.behind c.in-Some.ensures.cases c.loop-front.invariant.text;
+      text = after-utf8 old c.loop-front.rest.now c.in-Some.front c.in-Some.behind c.in-Some.ensures.cases c.loop-front.invariant.text;
       small = c.in_ok-add_text-2.ensures.ok.0;
       goes = ap (λ l. l ++ all_replaced old new zero behind) (c.in_ok-add_text-2.ensures.ok.1 ∙ ap (λ l. l ++ new) c.in_ok-add_text.ensures.ok.1)
           ∙ append_assoc (made ++ front) new (all_replaced old new zero behind) ∙ append_assoc made front (new ++ all_replaced old new zero behind)

@@ -1,7 +1,7 @@
 use Rattle.std.proofs.Common.{◌++◌, ◌∷◌, [], Some, None, string_bytes, sym, ap, lit<, ◌∙◌}
 use Rattle.std.proofs.lemmas.Str.Pattern.{split_parts, strip_suffix_char}
 use Rattle.mk_text.specs.Lines.{without_comment}
-use Rattle.mk_text.proofs.CutComments.{behind_utf8, escaped_step, without_comment-cut, without_comment-none}
+use Rattle.mk_text.proofs.CutComments.{after_utf8, escaped_step, without_comment-cut, without_comment-none}
 use Rattle.mk_text.proofs.comments.without_comment.Goals as goal
 
 pub loop-front-preserved : goal.loop-front-preserved
@@ -14,7 +14,7 @@ loop-front-preserved c =
     let mark = strip_suffix_char 92 front (Some kept) c.in-Some-strip_suffix.ensures.cases (lit< tt) in
     let sign = c.in_ok-push-in-Some-strip_suffix.ensures.ascii (lit< tt) in
     let pushed = c.in_ok-push-in-Some-strip_suffix.ensures.bytes ∙ ap (λ l. string_bytes c.push_str.new.self ++ l) sign ∙ ap (λ l. l ++ 35 ∷ []) c.in_ok-push_str-in-Some-strip_suffix.ensures.bytes in (
-      behind_utf8 rest front behind parts.0 c.loop-front.invariant.0,
+      after_utf8 rest front behind parts.0 c.loop-front.invariant.0,
       ap (λ l. l ++ without_comment behind) pushed
           ∙ escaped_step (string_bytes c.loop-front.plain) rest front behind kept.now (without_comment c.args.line.now) c.loop-front.invariant.1 parts.0 parts.1 mark,
     )

@@ -1,7 +1,7 @@
 -- The parts that were compared tie, and one text has no part behind them.
 use Rattle.std.proofs.Common.{[], sym, ◌∙◌}
 use Rattle.pkg_name.specs.Order.{part_key, part_keys}
-use Rattle.pkg_name.proofs.PartCuts.{none_before, some_behind, tied_first, tie_from}
+use Rattle.pkg_name.proofs.PartCuts.{none_before, some_after, tied_first, tie_from}
 use Rattle.pkg_name.proofs.order.compare_parts.Goals as goal
 
 pub returns-in-None-Some : goal.returns-in-None-Some
@@ -24,4 +24,4 @@ returns-in-Some-None c =
     sym (c.loop-behind.invariant.2
     ∙ tied_first (part_keys c.loop-behind.text.now) (part_keys c.loop-behind.other.now) (part_key c.first_part.result.0.now) (part_key c.first_part-in-loop-behind.result.0.now)
     behind [] mine theirs (sym c.compare_part-ordering.ensures ∙ tie)
-    ∙ some_behind c.in-Some-None.field-0-0.now)
+    ∙ some_after c.in-Some-None.field-0-0.now)

@@ -13,5 +13,5 @@ returns-else-end-text-clause-parts c =
 pub returns-else-end-text-clause-short : goal.returns-else-end-text-clause-short
 returns-else-end-text-clause-short c = short-take c.dot_or_end-end.result c.args.text.now c.requires.short
 
-pub returns-else-end-text-clause-behind_short : goal.returns-else-end-text-clause-behind_short
-returns-else-end-text-clause-behind_short c = short-take _ _ (short-drop _ c.args.text.now c.requires.short)
+pub returns-else-end-text-clause-after_short : goal.returns-else-end-text-clause-after_short
+returns-else-end-text-clause-after_short c = short-take _ _ (short-drop _ c.args.text.now c.requires.short)

@@ -2,7 +2,7 @@
 use Rattle.std.proofs.Common.{◌≡◌, ◌∙◌, ap, sym, refl, ℕ, true, not, ◌&&◌, ◌||◌, List, [], ◌∷◌}
 use Rattle.std.specs.Borrow.{Bor}
 use Rattle.std.specs.List.{list_any, list_all}
-use Rattle.pkg_path.specs.Paths.{is_bare_dash, is_well_cut, is_directory, may_stand}
+use Rattle.pkg_path.specs.Paths.{is_bare_dash, is_well_cut, is_directory, may_occur}
 use Rattle.text_parts.specs.Cuts.{now_all}
 use Rattle.pkg_path.proofs.elements.is_well_written.Goals as goal
 use Rattle.pkg_path.proofs.elements.is_well_written.Goals.{then-has_path_bytes, else-has_path_bytes}
@@ -12,7 +12,7 @@ bare_now : (choices : List (Bor (List ℕ))) → list_any is_bare_dash (now_all 
 bare_now [] = refl
 bare_now (choice ∷ choices) = ap (λ b. is_bare_dash choice.now || b) (bare_now choices)
 
-all_three : (text directory : List ℕ) (choices : List (Bor (List ℕ))) → list_all may_stand text ≡ true → is_directory directory ≡ true
+all_three : (text directory : List ℕ) (choices : List (Bor (List ℕ))) → list_all may_occur text ≡ true → is_directory directory ≡ true
     → not (list_any (λ choice. is_bare_dash choice.now) choices) ≡ is_well_cut text directory (now_all choices)
 all_three text directory choices a b = sym (ap (λ t. (t && is_directory directory) && not (list_any is_bare_dash (now_all choices))) a ∙ ap (λ t. t && not (list_any is_bare_dash (now_all choices))) b ∙ ap not (bare_now choices))
 

@@ -4,12 +4,12 @@ use Rattle.port_rules.specs.Depends.{add_depends}
 use Rattle.port_rules.proofs.Exits.{exit}
 use Rattle.port_rules.proofs.depends.add_depends.Goals as goal
 
-pub returns-in_err-run-clause-gives : goal.returns-in_err-run-clause-gives
+pub returns-in_err-run : goal.returns-in_err-run
 unfolding add_depends
-returns-in_err-run-clause-gives c =
+returns-in_err-run c =
     let p = err_from_is_err_and c.from_residual-in_err-run.result c.from_residual-in_err-run.ensures.1 in
-    rw (c.in_ok-lib.ensures.gives) (exit _ _ _ _ _ _ (p.1 ∙ ap Err p.2) c.in_err-run.ensures.gives)
+    rw (c.in_ok-lib.ensures) (exit _ _ _ _ _ _ (p.1 ∙ ap Err p.2) c.in_err-run.ensures)
 
-pub returns-clause-gives : goal.returns-clause-gives
+pub returns : goal.returns
 unfolding add_depends
-returns-clause-gives c = rw (c.in_ok-lib.ensures.gives, c.in_ok-run.ensures.gives) (search rules)
+returns c = rw (c.in_ok-lib.ensures, c.in_ok-run.ensures) (search rules)

@@ -4,21 +4,21 @@ use Rattle.port_rules.specs.Depends.{add_depends}
 use Rattle.port_rules.proofs.Exits.{told, walk-on, walk-stops, walk-ends}
 use Rattle.port_rules.proofs.depends.add_each.Goals as goal
 
-pub returns-in_err-add_depends-clause-gives : goal.returns-in_err-add_depends-clause-gives
-returns-in_err-add_depends-clause-gives c =
+pub returns-in_err-add_depends : goal.returns-in_err-add_depends
+returns-in_err-add_depends c =
     let p = err_from_is_err_and c.from_residual.result c.from_residual.ensures.1 in
     told _ _ _ _ _ (p.1 ∙ ap Err p.2)
     (rw c.loop-subpackage.invariant
     (walk-stops (add_depends c.args.variables.now) c.args.subpackages.now c.loop-subpackage.subpackage-index c.loop-subpackage.found.items c.subpackage-item.result c.deref.result.now c.loop-subpackage.budget
-    c.in_err-add_depends.field-0.0 c.add_depends.new.budget c.loop-subpackage-test.true c.subpackage-item.is c.deref.ensures c.in_err-add_depends.ensures.gives))
+    c.in_err-add_depends.field-0.0 c.add_depends.new.budget c.loop-subpackage-test.true c.subpackage-item.is c.deref.ensures c.in_err-add_depends.ensures))
 
 pub loop-subpackage-preserved : goal.loop-subpackage-preserved
 loop-subpackage-preserved c =
     c.loop-subpackage.invariant
     ∙ walk-on (add_depends c.args.variables.now) c.args.subpackages.now c.loop-subpackage.subpackage-index c.loop-subpackage.found.items c.add_depends.new.found.items c.subpackage-item.result c.deref.result.now
-    c.loop-subpackage.budget c.add_depends.new.budget c.loop-subpackage-test.true c.subpackage-item.is c.deref.ensures c.in_ok-add_depends.ensures.gives
+    c.loop-subpackage.budget c.add_depends.new.budget c.loop-subpackage-test.true c.subpackage-item.is c.deref.ensures c.in_ok-add_depends.ensures
 
-pub returns-clause-gives : goal.returns-clause-gives
-returns-clause-gives c =
+pub returns : goal.returns
+returns c =
     c.loop-subpackage.invariant
     ∙ walk-ends (add_depends c.args.variables.now) c.args.subpackages.now c.loop-subpackage.subpackage-index c.loop-subpackage.found.items c.loop-subpackage.budget c.loop-subpackage-test.false

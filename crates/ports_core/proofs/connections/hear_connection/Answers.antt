@@ -5,7 +5,7 @@ use Rattle.ports_core.specs.Connections.{is_ready}
 use Rattle.ports_core.specs.Opened.{OpenAnd, connection_in}
 use Rattle.ports_core.specs.Places.{HasPlace}
 use Rattle.ports_core.proofs.OpenedLemmas.{is_eq-nat_cmp_other, hears_on}
-use Rattle.ports_core.proofs.PlaceLemmas.{ready_behind}
+use Rattle.ports_core.proofs.PlaceLemmas.{ready_after}
 use Rattle.ports_core.proofs.connections.hear_connection.Goals as goal
 
 -- a connection that is ready waits for nothing, so each tenant has a place
@@ -14,7 +14,7 @@ take_next-reply-requires-clause-places c = λ ready.
     let P : Connection → Type 0 = λ connection. connection.waits ≡ None → All HasPlace c.args.queues.now in
     let at : connection_in c.args.conn c.args.connections.now.entries ≡ Some c.unwrap-connection.result.now = sym c.get_mut.ensures.value ∙ ap option_copied_mut c.unwrap-connection.ensures in
     let places : P c.unwrap-connection.result.now = subst (λ o. OpenAnd o P) at c.requires.places in
-    places (ready_behind c.args.event.now c.unwrap-connection.result.now (subst (λ (connection : Connection). is_ready connection ≡ true) c.hear.ensures ready))
+    places (ready_after c.args.event.now c.unwrap-connection.result.now (subst (λ (connection : Connection). is_ready connection ≡ true) c.hear.ensures ready))
 
 pub returns-clause-count : goal.returns-clause-count
 returns-clause-count c = let kept = (c.get_mut.follows.holds c.take_next-reply.new.connection).2 in omega (arith, kept, c.close_done-closed.ensures.count)

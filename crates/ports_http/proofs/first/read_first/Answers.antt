@@ -3,9 +3,9 @@ use Rattle.ports_http.specs.Limits.{head_limit, field_limit}
 use Rattle.ports_http.proofs.StreamLemmas.{covers_front, head_waits}
 use Rattle.ports_http.proofs.first.read_first.Goals as goal
 
-pub behind_head-requires : goal.behind_head-requires
+pub after_head-requires : goal.after_head-requires
 unfolding field_limit
-behind_head-requires c =
+after_head-requires c =
     let within = rw (c.in-Ok-Complete.field-0-is, c.front.ensures) at c.in-Ok-Complete.ensures.within in
     let at = rw (c.in-Ok-Complete.field-0-is, c.front.ensures) at c.in-Ok-Complete.ensures.complete in
     (at.0, covers_front c.args.unread.now c.parse_request.new.headers c.in-Ok-Complete.spans at.0 c.parse_request.auto.headers within at.1)

@@ -1,7 +1,7 @@
 use Rattle.std.proofs.Common.{[], subst}
 use Rattle.ports_http.specs.Puts.{Puts}
 use Rattle.ports_http.specs.Replies.{line, reply_head}
-use Rattle.ports_http.proofs.PutLemmas.{appends_both, puts_behind}
+use Rattle.ports_http.proofs.PutLemmas.{appends_both, puts_after}
 use Rattle.ports_http.proofs.write.put_head.Goals as goal
 
 pub returns : goal.returns
@@ -12,4 +12,4 @@ returns c =
     let allow = c.in_ok-put_allow.ensures in
     let close = c.in_ok-put_close.ensures in
     subst (λ v. Puts c.args.out.now (reply_head v c.args.close c.args.size) c.put_line-2.result c.put_line-2.new.out) c.reply.view_is
-    (puts_behind c.put_line-2.new.out (line []) c.put_line-2.result (appends_both (appends_both (appends_both (appends_both status content) size) allow) close) c.put_line-2.ensures)
+    (puts_after c.put_line-2.new.out (line []) c.put_line-2.result (appends_both (appends_both (appends_both (appends_both status content) size) allow) close) c.put_line-2.ensures)

@@ -5,4 +5,4 @@ use Rattle.ports_index.specs.Seen.{known_in, item_seen}
 use Rattle.ports_index.proofs.depending.edges_of_all.Given as goal
 
 abbrev pub invariant-loop-rooted : goal.invariant-loop-rooted
-invariant-loop-rooted g l = l.found.items ≡ map (edge_at (known_in (g.R.Rows.held l.rows))) (map item_seen l.yielded)
+invariant-loop-rooted g l = l.found.items ≡ map (edge_at (known_in (g.R.Rows.entries l.rows))) (map item_seen l.yielded)

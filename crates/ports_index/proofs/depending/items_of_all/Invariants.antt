@@ -5,4 +5,4 @@ use Rattle.ports_index.specs.Seen.{known_in, item_seen}
 use Rattle.ports_index.proofs.depending.items_of_all.Given as goal
 
 abbrev pub invariant-loop-path : goal.invariant-loop-path
-invariant-loop-path g l = map item_seen l.found.items ≡ items_among (known_in (g.R.Rows.held l.rows)) (map string_bytes (take l.path-index l.paths))
+invariant-loop-path g l = map item_seen l.found.items ≡ items_among (known_in (g.R.Rows.entries l.rows)) (map string_bytes (take l.path-index l.paths))

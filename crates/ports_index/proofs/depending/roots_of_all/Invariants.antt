@@ -5,4 +5,4 @@ use Rattle.ports_index.proofs.depending.roots_of_all.Given as goal
 
 abbrev pub invariant-loop-path : goal.invariant-loop-path
 invariant-loop-path g l =
-    l.found.items ++ taken (g.R.Rows.held l.rows) (map string_bytes (drop l.path-index l.paths)) ≡ taken (g.R.Rows.held l.initial.rows) (map string_bytes l.paths)
+    l.found.items ++ taken (g.R.Rows.entries l.rows) (map string_bytes (drop l.path-index l.paths)) ≡ taken (g.R.Rows.entries l.initial.rows) (map string_bytes l.paths)

@@ -10,17 +10,17 @@ use Rattle.ports_index.proofs.filling.fill.Goals as goal
 pub loop-path-preserved : goal.loop-path-preserved
 loop-path-preserved g c =
     let view = g.F.Names.view in
-    let held = g.R.Rows.held in
+    let entries = g.R.Rows.entries in
     let settings = c.args.settings.now in
     let world : World = ((view c.args.files.now).files, settings) in
     let item = c.path-item.result in
-    let one = subst (λ text. Fills world (text ∷ []) (held c.loop-path.rows) (held c.fill_one.new.rows)) c.deref.ensures
-    (subst (λ files. Fills (files, settings) (c.deref.result.now ∷ []) (held c.loop-path.rows) (held c.fill_one.new.rows)) c.loop-path.invariant.keeps.files c.in_ok-fill_one.ensures.fills) in
+    let one = subst (λ text. Fills world (text ∷ []) (entries c.loop-path.rows) (entries c.fill_one.new.rows)) c.deref.ensures
+    (subst (λ files. Fills (files, settings) (c.deref.result.now ∷ []) (entries c.loop-path.rows) (entries c.fill_one.new.rows)) c.loop-path.invariant.keeps.files c.in_ok-fill_one.ensures.fills) in
     record {
-      right = subst (λ files. AreRight (files, settings) (held c.fill_one.new.rows)) c.loop-path.invariant.keeps.files c.in_ok-fill_one.ensures.right;
-      stay = Stay-on (held c.args.rows.now) (held c.loop-path.rows) (held c.fill_one.new.rows) c.loop-path.invariant.stay c.in_ok-fill_one.ensures.stay;
-      fills = subst (λ paths. Fills world paths (held c.args.rows.now) (held c.fill_one.new.rows)) (sym (map-more string_bytes c.args.paths.now c.loop-path.path-index item c.loop-path-test.true c.path-item.is))
-          (Fills-on world (map string_bytes (take c.loop-path.path-index c.args.paths.now)) (string_bytes item ∷ []) (held c.args.rows.now) (held c.loop-path.rows) (held c.fill_one.new.rows)
+      right = subst (λ files. AreRight (files, settings) (entries c.fill_one.new.rows)) c.loop-path.invariant.keeps.files c.in_ok-fill_one.ensures.right;
+      stay = Stay-on (entries c.args.rows.now) (entries c.loop-path.rows) (entries c.fill_one.new.rows) c.loop-path.invariant.stay c.in_ok-fill_one.ensures.stay;
+      fills = subst (λ paths. Fills world paths (entries c.args.rows.now) (entries c.fill_one.new.rows)) (sym (map-more string_bytes c.args.paths.now c.loop-path.path-index item c.loop-path-test.true c.path-item.is))
+          (Fills-on world (map string_bytes (take c.loop-path.path-index c.args.paths.now)) (string_bytes item ∷ []) (entries c.args.rows.now) (entries c.loop-path.rows) (entries c.fill_one.new.rows)
           c.loop-path.invariant.fills one);
       keeps = Keeps-on None (view c.args.files.now) (view c.loop-path.files) (view c.fill_one.new.files) c.loop-path.invariant.keeps c.in_ok-fill_one.ensures.keeps;
     }

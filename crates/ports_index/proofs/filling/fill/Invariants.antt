@@ -6,8 +6,8 @@ use Rattle.ports_index.proofs.filling.fill.Given as goal
 
 abbrev pub invariant-loop-path : goal.invariant-loop-path
 invariant-loop-path g l = record {
-  right : AreRight ((g.F.Names.view l.initial.files).files, l.settings) (g.R.Rows.held l.rows);
-  stay : Stay (g.R.Rows.held l.initial.rows) (g.R.Rows.held l.rows);
-  fills : Fills ((g.F.Names.view l.initial.files).files, l.settings) (map string_bytes (take l.path-index l.paths)) (g.R.Rows.held l.initial.rows) (g.R.Rows.held l.rows);
+  right : AreRight ((g.F.Names.view l.initial.files).files, l.settings) (g.R.Rows.entries l.rows);
+  stay : Stay (g.R.Rows.entries l.initial.rows) (g.R.Rows.entries l.rows);
+  fills : Fills ((g.F.Names.view l.initial.files).files, l.settings) (map string_bytes (take l.path-index l.paths)) (g.R.Rows.entries l.initial.rows) (g.R.Rows.entries l.rows);
   keeps : Keeps None (g.F.Names.view l.initial.files) (g.F.Names.view l.files);
 }

@@ -7,8 +7,8 @@ use Rattle.ports_index.specs.PathOutcomes.{outcome_at}
 use Rattle.ports_index.specs.Naming.{directories, named_at}
 use Rattle.ports_index.specs.Depending.{items_among, target_of, edge_at, roots_among}
 use Rattle.ports_index.specs.Filling.{IsListed}
-use Rattle.ports_index.specs.Index.{listed}
-use Rattle.ports_index.specs.Seen.{known_in, held_in}
+use Rattle.ports_index.specs.Index.{listed_paths}
+use Rattle.ports_index.specs.Seen.{known_in, entries_in}
 use Rattle.ports_index.proofs.Filled.{known-first, known-second}
 use Rattle.ports_index.proofs.Known.{roots-known, edges-known}
 use Rattle.ports_index.proofs.indexing.index_files.Goals as goal
@@ -22,18 +22,18 @@ roots_of_all-requires g c =
 pub returns-clause-roots : goal.returns-clause-roots
 returns-clause-roots g c =
     let world : World = ((g.F.Names.view c.args.files.now).files, c.args.settings.now) in
-    let held = held_in c.walk.new.rows in
-    let targets = filter_map target_of (items_among (outcome_at world) (listed world)) in
+    let entries = entries_in c.walk.new.rows in
+    let targets = filter_map target_of (items_among (outcome_at world) (listed_paths world)) in
     c.in_ok-roots.ensures
-    ∙ ap (λ paths. roots_among (known_in held) (map string_bytes paths)) c.deref.ensures.value
-    ∙ ap (roots_among (known_in held)) c.in_ok-walked.ensures.paths
-    ∙ roots-known world held (listed world) (known-first world (listed world) targets _ held c.in_ok-walked.ensures.fills)
+    ∙ ap (λ paths. roots_among (known_in entries) (map string_bytes paths)) c.deref.ensures.value
+    ∙ ap (roots_among (known_in entries)) c.in_ok-walked.ensures.paths
+    ∙ roots-known world entries (listed_paths world) (known-first world (listed_paths world) targets _ entries c.in_ok-walked.ensures.fills)
 
 pub returns-clause-edges : goal.returns-clause-edges
 returns-clause-edges g c =
     let world : World = ((g.F.Names.view c.args.files.now).files, c.args.settings.now) in
-    let held = held_in c.walk.new.rows in
-    let items = items_among (outcome_at world) (listed world) in
+    let entries = entries_in c.walk.new.rows in
+    let items = items_among (outcome_at world) (listed_paths world) in
     c.in_ok-edges.ensures
-    ∙ ap (map (edge_at (known_in held))) c.in_ok-walked.ensures.items
-    ∙ edges-known world held items (known-second world (listed world) (filter_map target_of items) _ held c.in_ok-walked.ensures.fills)
+    ∙ ap (map (edge_at (known_in entries))) c.in_ok-walked.ensures.items
+    ∙ edges-known world entries items (known-second world (listed_paths world) (filter_map target_of items) _ entries c.in_ok-walked.ensures.fills)

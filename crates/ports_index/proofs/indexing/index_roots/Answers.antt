@@ -7,8 +7,8 @@ use Rattle.ports_index.specs.PathOutcomes.{outcome_at}
 use Rattle.ports_index.specs.Naming.{directories, named_at}
 use Rattle.ports_index.specs.Depending.{roots_among}
 use Rattle.ports_index.specs.Filling.{IsListed}
-use Rattle.ports_index.specs.Index.{listed}
-use Rattle.ports_index.specs.Seen.{known_in, held_in}
+use Rattle.ports_index.specs.Index.{listed_paths}
+use Rattle.ports_index.specs.Seen.{known_in, entries_in}
 use Rattle.ports_index.proofs.Filled.{known-filled}
 use Rattle.ports_index.proofs.Known.{roots-known}
 use Rattle.ports_index.proofs.indexing.index_roots.Goals as goal
@@ -22,8 +22,8 @@ roots_of_all-requires g c =
 pub returns-clause-roots : goal.returns-clause-roots
 returns-clause-roots g c =
     let world : World = ((g.F.Names.view c.args.files.now).files, c.args.settings.now) in
-    let held = held_in c.list.new.rows in
+    let entries = entries_in c.list.new.rows in
     c.in_ok-roots.ensures
-    ∙ ap (λ paths. roots_among (known_in held) (map string_bytes paths)) c.deref.ensures.value
-    ∙ ap (roots_among (known_in held)) c.in_ok-paths.ensures.listed
-    ∙ roots-known world held (listed world) (known-filled world (listed world) _ held c.in_ok-paths.ensures.fills)
+    ∙ ap (λ paths. roots_among (known_in entries) (map string_bytes paths)) c.deref.ensures.value
+    ∙ ap (roots_among (known_in entries)) c.in_ok-paths.ensures.listed
+    ∙ roots-known world entries (listed_paths world) (known-filled world (listed_paths world) _ entries c.in_ok-paths.ensures.fills)

@@ -6,4 +6,4 @@ use Rattle.ports_index.specs.Seen.{known_in}
 use Rattle.ports_index.proofs.naming.named_by_all.Given as goal
 
 abbrev pub invariant-loop-directory : goal.invariant-loop-directory
-invariant-loop-directory g l = map string_bytes l.found.items ≡ flat_map (named_at (known_in (g.R.Rows.held l.rows))) (map string_bytes (take l.directory-index l.directories))
+invariant-loop-directory g l = map string_bytes l.found.items ≡ flat_map (named_at (known_in (g.R.Rows.entries l.rows))) (map string_bytes (take l.directory-index l.directories))

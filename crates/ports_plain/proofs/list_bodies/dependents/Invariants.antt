@@ -1,7 +1,7 @@
 -- The values so far are the dependencies up to here.
 use Rattle.std.proofs.Common.{◌≡◌, map, take, Bor}
 use Rattle.serde_json.specs.View.{view}
-use Rattle.port_deps.specs.Lists.{RootEdgeValue}
+use Rattle.port_deps.specs.Roots.{RootEdgeValue}
 use Rattle.ports_plain.specs.ListBodies.{dependent_body}
 use Rattle.ports_plain.proofs.list_bodies.dependents.Given as goal
 

@@ -1,9 +1,9 @@
 -- A root more.
 use Rattle.std.proofs.Common.{◌∙◌, ap, map, ◌++◌}
 use Rattle.std.specs.Option.{option_to_list}
+use Rattle.general_facts.specs.Lists.{filter_map-more}
 use Rattle.serde_json.specs.View.{view}
 use Rattle.ports_plain.specs.ListBodies.{fault_at}
-use Rattle.ports_plain.proofs.FilterSteps.{filter_map-more}
 use Rattle.ports_plain.proofs.list_bodies.faults.Goals as goal
 
 pub loop-root-preserved : goal.loop-root-preserved

@@ -1,6 +1,6 @@
 -- The dependencies up to here that lead to the path.
 use Rattle.std.proofs.Common.{◌≡◌, Bor, map, take}
-use Rattle.port_deps.specs.Lists.{RootEdgeValue}
+use Rattle.port_deps.specs.Roots.{RootEdgeValue}
 use Rattle.ports_query.specs.Edges.{edges_to_of}
 use Rattle.ports_query.proofs.edges.edges_to.Given as goal
 

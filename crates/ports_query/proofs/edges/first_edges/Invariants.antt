@@ -1,6 +1,6 @@
 -- The dependencies up to here that the path has.
 use Rattle.std.proofs.Common.{◌≡◌, Bor, map, take}
-use Rattle.port_deps.specs.Lists.{RootEdgeValue}
+use Rattle.port_deps.specs.Roots.{RootEdgeValue}
 use Rattle.ports_query.specs.Edges.{first_edges_of}
 use Rattle.ports_query.proofs.edges.first_edges.Given as goal
 

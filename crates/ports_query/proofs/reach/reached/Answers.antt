@@ -3,7 +3,7 @@ use Rattle.std.proofs.Common.{◌≡◌, ◌∙◌, ap, map, Bor, string_bytes}
 use Rattle.text_parts.specs.Cuts.{now_all}
 use Rattle.text_graph.specs.Arrows.{arrows_seen}
 use Rattle.text_graph.specs.Listed.{reached_list}
-use Rattle.port_deps.specs.Lists.{RootEdgeValue}
+use Rattle.port_deps.specs.Roots.{RootEdgeValue}
 use Rattle.ports_query.specs.Reaching.{arrows_of, step_seen}
 use Rattle.ports_query.proofs.reach.reached.Goals as goal
 

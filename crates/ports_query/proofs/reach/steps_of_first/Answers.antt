@@ -1,9 +1,10 @@
 -- A dependency more.
 use Rattle.std.proofs.Common.{◌∙◌, sym, ap, map, take, ◌++◌, ◌+◌, Bor}
 use Rattle.std.specs.Option.{option_to_list}
-use Rattle.port_deps.specs.Lists.{RootEdgeValue}
+use Rattle.general_facts.specs.Lists.{filter_map-more}
+use Rattle.port_deps.specs.Roots.{RootEdgeValue}
 use Rattle.ports_query.specs.Reaching.{arrow_of, step_seen}
-use Rattle.ports_query.proofs.Steps.{filter_map-more, filter_map-over}
+use Rattle.ports_query.proofs.Steps.{filter_map-over}
 use Rattle.ports_query.proofs.reach.steps_of_first.Goals as goal
 
 pub loop-edge-preserved : goal.loop-edge-preserved

@@ -1,6 +1,6 @@
 -- The steps over the dependencies up to here.
 use Rattle.std.proofs.Common.{◌≡◌, Bor, map, take}
-use Rattle.port_deps.specs.Lists.{RootEdgeValue}
+use Rattle.port_deps.specs.Roots.{RootEdgeValue}
 use Rattle.ports_query.specs.Reaching.{arrows_of, step_seen}
 use Rattle.ports_query.proofs.reach.steps_of_first.Given as goal
 

@@ -4,7 +4,8 @@ use Rattle.std.specs.Char.{is_ascii_digit}
 use Rattle.std.proofs.lemmas.Iterator.{YieldsList-from_slice}
 use Rattle.std.proofs.lemmas.Iterator.Search.{all_from_yields_List}
 use Rattle.std.proofs.lemmas.Str.Parse.{parse_digits}
-use Rattle.ports_script.proofs.NumeralFacts.{own, number_of-long, number_of-other, number_of-parsed}
+use Rattle.general_facts.specs.Texts.{decimal_numerals}
+use Rattle.ports_script.proofs.NumeralFacts.{number_of-long, number_of-other, number_of-parsed}
 use Rattle.ports_script.proofs.numerals.read_number.Goals.{then-text-gt20-via-then-text-gt20, then-text-gt20-via-else-text-gt20+then-not-all}
 use Rattle.ports_script.proofs.numerals.read_number.Goals as goal
 
@@ -21,4 +22,4 @@ pub returns : goal.returns
 returns c =
     let all : c.all.result ≡ list_all is_ascii_digit c.args.text.now = all_from_yields_List is_ascii_digit _ _ _ c.all.ensures.ran (YieldsList-from_slice c.args.text.now cc) (λ x b q k. search (rules, tests)) in
     let digits : list_all is_ascii_digit c.args.text.now ≡ true = cc in
-    rw c.ok.ensures.value (number_of-parsed c.args.text.now _ digits (omega arith) (parse_digits own 64 c.args.text.now _ c.parse.ensures.value.0 digits))
+    rw c.ok.ensures.value (number_of-parsed c.args.text.now _ digits (omega arith) (parse_digits decimal_numerals 64 c.args.text.now _ c.parse.ensures.value.0 digits))

@@ -1,7 +1,7 @@
 -- The text is cut into the trees again.
 use Rattle.std.proofs.Common.{◌≡◌, ◌∙◌, ap, subst, sym, ◌++◌, map, drop, string_bytes, take, length, ◌-◌, arith}
 use Rattle.std.proofs.lemmas.Grind.{common_steps}
-use Rattle.text_parts.specs.Laws.{behind_marks}
+use Rattle.text_parts.specs.Laws.{after_marks}
 use Rattle.mk_paths.specs.SearchPath.{colon, IsSearchPath}
 use Rattle.tenant_store.proofs.Making.{if_ok_then}
 use Rattle.tenant_store.proofs.Paths.{text_trees}
@@ -14,5 +14,5 @@ returns c =
     let whole : take (length trees - 1) (drop 1 trees) ≡ drop 1 trees = grind (arith, common_steps) in
     if_ok_then c.joined.result
     (λ text e. text_trees trees c.index-trees-0.result (string_bytes text) (subst IsSearchPath (sym c.trees-trees.ensures.trees) c.trees-trees.ensures.is_path)
-    (e ∙ ap (λ these. c.as_str.result.now ++ behind_marks colon (map string_bytes these)) whole ∙ ap (λ bytes. bytes ++ behind_marks colon (map string_bytes (drop 1 trees))) first) ∙ c.trees-trees.ensures.trees)
+    (e ∙ ap (λ these. c.as_str.result.now ++ after_marks colon (map string_bytes these)) whole ∙ ap (λ bytes. bytes ++ after_marks colon (map string_bytes (drop 1 trees))) first) ∙ c.trees-trees.ensures.trees)
     c.joined.ensures

@@ -1,24 +1,12 @@
 -- What the statement makes.
-use Rattle.std.proofs.Common.{refl, string_bytes}
-use Rattle.sqlite.specs.Held.{state}
-use Rattle.sqlite.specs.Steps.{over_memory}
-use Rattle.sqlite.proofs.Callers.{memory_is_clean}
-use Rattle.tenant_store.proofs.Making.{inside_commit, inserts_account}
+use Rattle.std.proofs.Common.{string_bytes}
+use Rattle.tenant_store.specs.Tables.{state_of}
+use Rattle.tenant_store.proofs.Making.{inserts_account}
 use Rattle.tenant_store.proofs.writing.insert_account.Goals as goal
-
-pub returns-in_err-execute-clause-kept : goal.returns-in_err-execute-clause-kept
-returns-in_err-execute-clause-kept c =
-    let new = c.execute.new.self.conn.now in
-    record { committed = inside_commit _ _ (state over_memory c.args.tx.now.conn.now) (state over_memory new) c.execute.result refl (c.execute.ensures.runs (memory_is_clean new) c.requires.inside) }
-
-pub returns-clause-kept : goal.returns-clause-kept
-returns-clause-kept c =
-    let new = c.execute.new.self.conn.now in
-    record { committed = inside_commit _ _ (state over_memory c.args.tx.now.conn.now) (state over_memory new) c.execute.result refl (c.execute.ensures.runs (memory_is_clean new) c.requires.inside) }
 
 pub returns-clause-made : goal.returns-clause-made
 returns-clause-made c =
-    let new = c.execute.new.self.conn.now in
-    let ran = rw (c.params-to_sql.ensures, c.params-to_sql-2.ensures, c.params-to_sql-3.ensures, c.params-to_sql-4.ensures) at (c.in_ok-execute.ensures.runs (memory_is_clean new) c.requires.inside) in
-    let made = inserts_account c.args.tenant (state over_memory c.args.tx.now.conn.now) (state over_memory new) c.requires.formed c.args.account.now.files c.args.account.now.bytes (string_bytes c.args.account.now.path) c.requires.free c.in_ok-execute.field-0 ran.0 in
+    let new = c.run.new.tx.conn.now in
+    let ran = rw (c.params-to_sql.ensures, c.params-to_sql-2.ensures, c.params-to_sql-3.ensures, c.params-to_sql-4.ensures) at (c.in_ok-run.ensures.ran) in
+    let made = inserts_account c.args.tenant (state_of c.args.tx.now.conn.now) (state_of new) c.requires.formed c.args.account.now.files c.args.account.now.bytes (string_bytes c.args.account.now.path) c.requires.free c.in_ok-run.field-0 ran.0 in
     record { on = record { inside = ran.1.mode; formed = made.0 }; made = made.1 }

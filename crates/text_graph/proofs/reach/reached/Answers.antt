@@ -7,7 +7,7 @@ use Rattle.text_graph.specs.Searching.{FindsAll}
 use Rattle.text_graph.proofs.Keeping.{lists_just}
 use Rattle.text_graph.proofs.Listed.{told_reached}
 use Rattle.text_graph.proofs.Searches.{ends}
-use Rattle.text_graph.proofs.Turning.{reached_behind}
+use Rattle.text_graph.proofs.Turning.{reached_after}
 use Rattle.text_graph.proofs.reach.reached.Goals as goal
 
 pub returns : goal.returns
@@ -17,6 +17,6 @@ returns c =
     let found = now_all c.in_ok-texts.texts.items in
     let texts = now_all c.put_in_order.new.texts.items in
     told_reached first arrows texts
-    (lists_just (ends first) arrows (IsReached first arrows) found texts (reached_behind first arrows)
+    (lists_just (ends first) arrows (IsReached first arrows) found texts (reached_after first arrows)
     (subst (λ starts. FindsAll starts arrows found) (ap now_all c.deref.ensures.value ∙ c.in_ok-starts.ensures) c.in_ok-texts.ensures)
     c.put_in_order.ensures)

@@ -2,7 +2,7 @@ use Rattle.std.proofs.Common.{sym}
 use Rattle.std.specs.Str.{chars}
 use Rattle.mk_glob.specs.Signs.{signs_of}
 use Rattle.mk_glob.proofs.SignLemmas.{signs_of-empty, chars-empty}
-use Rattle.mk_glob.proofs.StepLemmas.{fits-pattern_over, fits-word_over, fits-refused, known-behind, Learns-behind}
+use Rattle.mk_glob.proofs.StepLemmas.{fits-pattern_over, fits-word_over, fits-refused, known-after, Learns-after}
 use Rattle.mk_glob.proofs.matching.Rest.step.Goals as goal
 
 pub returns-in-None-clause-step : goal.returns-in-None-clause-step
@@ -19,12 +19,12 @@ returns-in_default-first_char-clause-step c =
 
 pub item_allows-allowed-requires-clause-known : goal.item_allows-allowed-requires-clause-known
 item_allows-allowed-requires-clause-known c =
-    known-behind (signs_of c.args.self.pattern.now) c.in-Some.sign (signs_of c.in-Some.pattern.now) c.args.unclosed.now
+    known-after (signs_of c.args.self.pattern.now) c.in-Some.sign (signs_of c.in-Some.pattern.now) c.args.unclosed.now
     c.in-Some.ensures.reads c.requires.known
 
 pub returns-then-allowed-clause-learns : goal.returns-then-allowed-clause-learns
 returns-then-allowed-clause-learns c =
-    Learns-behind (signs_of c.args.self.pattern.now) c.in-Some.sign (signs_of c.in-Some.pattern.now) c.args.unclosed.now
+    Learns-after (signs_of c.args.self.pattern.now) c.in-Some.sign (signs_of c.in-Some.pattern.now) c.args.unclosed.now
     c.item_allows-allowed.new.unclosed c.in-Some.ensures.reads c.item_allows-allowed.ensures.learns
 
 pub returns-else-allowed-clause-step : goal.returns-else-allowed-clause-step
@@ -35,5 +35,5 @@ returns-else-allowed-clause-step c =
 
 pub returns-else-allowed-clause-learns : goal.returns-else-allowed-clause-learns
 returns-else-allowed-clause-learns c =
-    Learns-behind (signs_of c.args.self.pattern.now) c.in-Some.sign (signs_of c.in-Some.pattern.now) c.args.unclosed.now
+    Learns-after (signs_of c.args.self.pattern.now) c.in-Some.sign (signs_of c.in-Some.pattern.now) c.args.unclosed.now
     c.item_allows-allowed.new.unclosed c.in-Some.ensures.reads c.item_allows-allowed.ensures.learns

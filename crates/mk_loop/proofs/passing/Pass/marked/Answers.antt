@@ -1,12 +1,13 @@
-use Rattle.std.proofs.Common.{◌+◌, drop, Some, None, ap, sym, subst, ◌∙◌, get_or}
+use Rattle.std.proofs.Common.{◌+◌, drop, Some, None, ap, sym, subst, ◌∙◌, get_or, arith}
 use Rattle.std.proofs.lemmas.Result.{err_from_is_err_and}
-use Rattle.mk_base.specs.declared.stopping.Stop.TheVariants as stops
+use Rattle.mk_base.specs.declared.stopping.PureStop.TheVariants as pure
 use Rattle.mk_ref.specs.declared.opening.Opening.TheVariants.{Marked}
 use Rattle.mk_ref.specs.Units.{before_colon}
 use Rattle.mk_ref.proofs.PieceSteps.{may_cut}
 use Rattle.mk_loop.specs.Scopes.{words_in}
 use Rattle.mk_loop.specs.Places.{EndsName}
-use Rattle.mk_loop.proofs.PassSteps.{ascii-mark, named-none, kept-placed, behind-placed, put-placed, pass-keep, marked-put, marked-unpaid, marked-replace, name-word}
+use Rattle.mk_loop.proofs.PassSteps.{ascii-mark, named-none, kept-placed, after-placed, put-placed, pass-keep, marked-put, marked-unpaid, marked-replace, name-word}
+use Rattle.mk_loop.proofs.Paying.{same-paid, step-paid, put-paid}
 use Rattle.mk_loop.proofs.passing.Pass.marked.Goals as goal
 
 pub returns-in_default-clause-placed : goal.returns-in_default-clause-placed
@@ -55,7 +56,7 @@ returns-in_err-pay-clause-goes c =
     let p = err_from_is_err_and c.from_residual-in_err-pay.result c.from_residual-in_err-pay.ensures.1 in
     rw (p.1, p.2)
     (λ left stands.
-    marked-unpaid (words_in c.args.body.words) c.args.body.variables.now line c.args.self c.args.mark c.in-Some.end left c.in-Some-word.word.now c.range.result.now c.args.budget.now c.pay.new.self (stops.Fault c.in_err-pay.field-0.0)
+    marked-unpaid (words_in c.args.body.words) c.args.body.variables.now line c.args.self c.args.mark c.in-Some.end left c.in-Some-word.word.now c.range.result.now c.args.budget.now c.pay.new.self (pure.Fault c.in_err-pay.field-0.0)
     c.requires.room c.requires.opens c.requires.stays ends c.range.ensures.value c.in-Some-word.ensures c.in_err-pay.ensures.gives stands)
 
 pub returns-then-bytes-end-clause-placed : goal.returns-then-bytes-end-clause-placed
@@ -80,7 +81,7 @@ returns-in_ok-replace-clause-placed c =
     let line = c.args.body.line.now in
     let start = c.args.self.at + 2 in
     let ends : EndsName line start c.args.mark (Some c.in-Some.end) = subst (λ l. EndsName l start c.args.mark (Some c.in-Some.end)) c.as_bytes-bytes.ensures.value c.in-Some.ensures in
-    behind-placed line c.in_ok-replace.field-0 c.in-Some.end c.requires.placed.text ends.1 ends.2 k.marks k.copied k.at
+    after-placed line c.in_ok-replace.field-0 c.in-Some.end c.requires.placed.text ends.1 ends.2 k.marks k.copied k.at
 
 pub returns-in_ok-replace-clause-goes : goal.returns-in_ok-replace-clause-goes
 returns-in_ok-replace-clause-goes c = λ left stands.
@@ -91,3 +92,15 @@ returns-in_ok-replace-clause-goes c = λ left stands.
     marked-replace (words_in c.args.body.words) c.args.body.variables.now line c.args.self c.in_ok-replace.field-0 c.args.mark c.in-Some.end left c.in-Some-word.word.now c.range.result.now c.args.budget.now c.pay.new.self tt
     c.requires.room c.requires.opens c.requires.stays ends (λ shut. c.if-bytes-end.false (ap (λ l. get_or l c.in-Some.end 0) c.as_bytes-bytes.ensures.value ∙ shut)) c.range.ensures.value c.in-Some-word.ensures c.in_ok-pay.ensures.gives
     k.joined k.around k.copied k.at stands
+
+pub returns-in_default-clause-paid : goal.returns-in_default-clause-paid
+returns-in_default-clause-paid c = same-paid c.args.self c.in_ok-keep.field-0 c.args.budget.now c.in_ok-keep.ensures.copied
+
+pub returns-in_default-word-clause-paid : goal.returns-in_default-word-clause-paid
+returns-in_default-word-clause-paid c = same-paid c.args.self c.in_ok-keep-2.field-0 c.args.budget.now c.in_ok-keep-2.ensures.copied
+
+pub returns-then-bytes-end-clause-paid : goal.returns-then-bytes-end-clause-paid
+returns-then-bytes-end-clause-paid c = put-paid c.args.self (c.in-Some.end + 1) c.args.budget.now c.pay.new.self tt c.put.result c.in_ok-pay.ensures.gives (omega arith) c.put.ensures.copied
+
+pub returns-in_ok-replace-clause-paid : goal.returns-in_ok-replace-clause-paid
+returns-in_ok-replace-clause-paid c = step-paid c.args.self c.in_ok-replace.field-0 c.args.budget.now c.pay.new.self tt c.in_ok-pay.ensures.gives (omega (arith, c.in_ok-replace.ensures.copied))

@@ -17,9 +17,9 @@ regrouped : (a b c : Bool) → ((a && b) && c) ≡ (a && (b && c))
 regrouped true b c = refl
 regrouped false b c = refl
 
-behind_stem : (alternative : Alternative) (name : NameParts) (stem : Bool) → with_stem (string_bytes alternative.stem) name ≡ stem
+after_stem : (alternative : Alternative) (name : NameParts) (stem : Bool) → with_stem (string_bytes alternative.stem) name ≡ stem
     → set_of_alternative (alternative_seen alternative) name ≡ (stem && (list_all (λ comparison. meeting (comparison_seen comparison) name) alternative.comparisons.items && admits_flavors alternative name))
-behind_stem alternative name stem is =
+after_stem alternative name stem is =
     let in_set : NameSet → Bool = λ s. s name in
     let comparisons = map meeting (map comparison_seen alternative.comparisons.items) in
     let wanted = map having (map string_bytes alternative.wanted.items) in
@@ -33,4 +33,4 @@ behind_stem alternative name stem is =
 
 pub returns-then-fits_stem : goal.returns-then-fits_stem
 returns-then-fits_stem c =
-    c.admits_behind_stem.ensures ∙ sym (behind_stem c.args.self.now c.args.name.now true (ap (λ stem. with_stem stem c.args.name.now) (sym c.as_str.ensures.value) ∙ sym c.fits_stem.ensures ∙ c.if-fits_stem.true))
+    c.admits_after_stem.ensures ∙ sym (after_stem c.args.self.now c.args.name.now true (ap (λ stem. with_stem stem c.args.name.now) (sym c.as_str.ensures.value) ∙ sym c.fits_stem.ensures ∙ c.if-fits_stem.true))

@@ -1,5 +1,0 @@
-use Rattle.mk_ref.proofs.Covering.{length-outside, outside-at}
-use Rattle.mk_ref.proofs.laws.outside_stands_in_place.Goals as goal
-
-pub returns : goal.returns
-returns c = λ text. (length-outside text, outside-at text)

@@ -1,0 +1,140 @@
+-- The routes over all ports of a world: which packages they list, and which dependencies.
+use Rattle.std.specs.Prelude.{ℕ, if◌then◌else◌, ◌||◌, List, [], Option, Some, None, Result, Ok, Err, option_map, find}
+use Rattle.std.specs.Prelude.{codes}
+use Rattle.std.specs.Option.{option_map_or}
+use Rattle.std.specs.Result.{is_ok}
+use Rattle.std.specs.Str.{bytes_eq}
+use Rattle.mk_base.specs.FaultAt.{FaultAt}
+use Rattle.mk_paths.specs.World.{World}
+use Rattle.pkg_path.specs.Paths.{PathValue, port_path}
+use Rattle.pkg_spec.specs.Alternatives.{spec_of}
+use Rattle.port_rules.specs.Ports.{PortValue}
+use Rattle.port_deps.specs.Roots.{RootValue, RootEdgeValue}
+use Rattle.ports_index.specs.Index.{roots, edges}
+use Rattle.ports_query.specs.Conditions.{ConditionValue, query_of}
+use Rattle.ports_query.specs.Listing.{ListedValue, answer_of, admitted_of}
+use Rattle.ports_query.specs.Kinds.{kinds_of}
+use Rattle.ports_query.specs.Edges.{first_edges_of, edges_to_of}
+use Rattle.ports_query.specs.Reaching.{reached_of, reaching_of}
+use Rattle.ports_query.specs.declared.kinds.Kinds.{Kinds}
+use Rattle.serde_json.specs.Data.{Data}
+use Rattle.ports_http.specs.Messages.{ReplyMessage}
+use Rattle.ports_plain.specs.declared.dependencies.Direction.{Direction}
+use Rattle.ports_plain.specs.declared.dependencies.Direction.TheVariants.{Dependencies, Dependents}
+use Rattle.ports_plain.specs.declared.dependencies.Question.{Question}
+use Rattle.ports_plain.specs.declared.depth.Depth.{Depth}
+use Rattle.ports_plain.specs.declared.depth.Depth.TheVariants.{Direct, All}
+use Rattle.ports_plain.specs.Parameters.{parameter, optional}
+use Rattle.ports_plain.specs.PathParameter.{path_in, reply_or_refusal}
+use Rattle.ports_plain.specs.Subpackages.{has_named}
+use Rattle.ports_plain.specs.Replies.{json_reply, refusal, bad_parameter, no_port, no_subpackage, faulty}
+use Rattle.ports_plain.specs.ListBodies.{packages_body, dependencies_body, dependents_body, reached_body, reaching_body, faults_body}
+
+-- refusals: the text is no query; it is no spec; it names no kinds of dependencies, or no depth
+abbrev pub bad_query : ReplyMessage
+bad_query = refusal 400 (codes "Query")
+
+abbrev pub bad_spec : ReplyMessage
+bad_spec = refusal 400 (codes "Spec")
+
+abbrev pub bad_kind : ReplyMessage
+bad_kind = refusal 400 (codes "Kind")
+
+-- the reply that lists packages
+abbrev pub packages_reply : List ListedValue → ReplyMessage
+packages_reply packages = json_reply 200 (packages_body packages)
+
+-- the packages that meet conditions
+abbrev pub list_reply : World → List ConditionValue → ReplyMessage
+list_reply world conditions = packages_reply (answer_of conditions (roots world))
+
+-- the same, given the conditions that a text is, if it is a query
+abbrev pub list_by : World → Option (List ConditionValue) → ReplyMessage
+list_by world conditions = option_map_or (list_reply world) conditions bad_query
+
+-- GET /v1/list?where=
+abbrev pub get_list : World → List ℕ → ReplyMessage
+get_list world query = option_map_or (λ text. list_by world (query_of text)) (optional (codes "where") query) bad_parameter
+
+-- the packages that a spec admits
+abbrev pub match_reply : World → List ℕ → ReplyMessage
+match_reply world spec = packages_reply (admitted_of spec (roots world))
+
+-- the same, given a text that may be a spec
+abbrev pub match_by : World → List ℕ → ReplyMessage
+match_by world text = if is_ok (spec_of text) then match_reply world text else bad_spec
+
+-- GET /v1/match?spec=
+abbrev pub get_match : World → List ℕ → ReplyMessage
+get_match world query = option_map_or (match_by world) (parameter (codes "spec") query) bad_parameter
+
+-- GET /v1/faults
+abbrev pub get_faults : World → ReplyMessage
+get_faults world = json_reply 200 (faults_body (roots world))
+
+-- how far dependencies are followed: an empty text is `1`
+abbrev pub depth_of : List ℕ → Option Depth
+depth_of text =
+    if bytes_eq text []
+    || bytes_eq text (codes "1") then Some Direct else if bytes_eq text (codes "all") then Some All else None
+
+-- the question about the dependencies of a path, or the refusal: the path is looked at first
+abbrev pub question_on : Result PathValue ReplyMessage → Option Kinds → Option Depth → Result Question ReplyMessage
+question_on (Err refused) kinds depth = Err refused
+question_on (Ok path) (Some kinds) (Some depth) = Ok (record { path = path; kinds = kinds; depth = depth })
+question_on (Ok path) (Some kinds) None = Err bad_kind
+question_on (Ok path) None depth = Err bad_kind
+
+-- the same, given the texts of the parameters, if each is there once or not at all
+abbrev pub question_of : Result PathValue ReplyMessage → Option (List ℕ) → Option (List ℕ) → Result Question ReplyMessage
+question_of path (Some kind) (Some depth) = question_on path (kinds_of kind) (depth_of depth)
+question_of path (Some kind) None = Err bad_parameter
+question_of path None depth = Err bad_parameter
+
+-- the question of a query: ?path=&kind=&depth=
+abbrev pub question_in : List ℕ → Result Question ReplyMessage
+question_in query = question_of (path_in query) (optional (codes "kind") query) (optional (codes "depth") query)
+
+-- what a port depends on: its own dependencies, or all ports that are reached over those that are met
+abbrev pub dependencies_at : List RootEdgeValue → PathValue → Kinds → Depth → Data
+dependencies_at edges path kinds Direct = dependencies_body (first_edges_of kinds path edges)
+dependencies_at edges path kinds All = reached_body (reached_of kinds (first_edges_of kinds path edges) edges)
+
+abbrev pub dependencies_body_of : List RootEdgeValue → Question → Data
+dependencies_body_of edges question = dependencies_at edges question.path question.kinds question.depth
+
+-- the root at a canonical path
+abbrev pub root_named : List RootValue → List ℕ → Option RootValue
+root_named roots path = find (λ (root : RootValue). bytes_eq root.path path) roots
+
+-- the reply by the state of the root at the path, if there is one: it must be a port, and must have the
+-- subpackage, if the path names one
+abbrev pub dependencies_by : List RootEdgeValue → Question → Option (Result PortValue FaultAt) → ReplyMessage
+dependencies_by edges question None = no_port
+dependencies_by edges question (Some (Err fault)) = faulty fault
+dependencies_by edges question (Some (Ok port)) =
+    if has_named question.path.subpackage port
+    then json_reply 200 (dependencies_body_of edges question) else no_subpackage
+
+-- what the port that the question names depends on, by these roots
+abbrev pub dependencies_in : List RootValue → List RootEdgeValue → Question → ReplyMessage
+dependencies_in roots edges question =
+    dependencies_by edges question (option_map (λ (root : RootValue). root.state) (root_named roots (port_path question.path)))
+
+-- what depends on a port: the dependencies that lead to it, of whatever status, or all ports that reach
+-- it over those that are met
+abbrev pub dependents_at : List RootEdgeValue → PathValue → Kinds → Depth → Data
+dependents_at edges path kinds Direct = dependents_body (edges_to_of kinds path edges)
+dependents_at edges path kinds All = reaching_body (reaching_of kinds path edges)
+
+abbrev pub dependents_body_of : List RootEdgeValue → Question → Data
+dependents_body_of edges question = dependents_at edges question.path question.kinds question.depth
+
+-- the reply to a question about dependencies, or about dependents
+abbrev pub reply_to : List RootValue → List RootEdgeValue → Direction → Question → ReplyMessage
+reply_to roots edges Dependencies question = dependencies_in roots edges question
+reply_to roots edges Dependents question = json_reply 200 (dependents_body_of edges question)
+
+-- GET /v1/deps and GET /v1/rdeps
+abbrev pub get_dependencies : World → Direction → List ℕ → ReplyMessage
+get_dependencies world direction query = reply_or_refusal (reply_to (roots world) (edges world) direction) (question_in query)

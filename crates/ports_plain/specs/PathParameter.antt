@@ -1,0 +1,26 @@
+-- The parameter `path` of a query: the package path that it names, or the refusal.
+use Rattle.std.specs.Prelude.{ℕ, List, Option, Some, None, Result, Ok, Err, codes}
+use Rattle.pkg_path.specs.Paths.{PathValue, path_of}
+use Rattle.pkg_path.specs.declared.faults.PkgPathFault.{PkgPathFault}
+use Rattle.ports_http.specs.Messages.{ReplyMessage}
+use Rattle.ports_plain.specs.Parameters.{parameter}
+use Rattle.ports_plain.specs.Replies.{bad_parameter, bad_path}
+
+-- what a text names as a package path, or the refusal
+abbrev pub path_or_refusal : Result PathValue PkgPathFault → Result PathValue ReplyMessage
+path_or_refusal (Ok path) = Ok path
+path_or_refusal (Err fault) = Err bad_path
+
+-- the same of a parameter that must be there
+abbrev pub path_of_parameter : Option (List ℕ) → Result PathValue ReplyMessage
+path_of_parameter (Some text) = path_or_refusal (path_of text)
+path_of_parameter None = Err bad_parameter
+
+-- the package path that a query names
+abbrev pub path_in : List ℕ → Result PathValue ReplyMessage
+path_in query = path_of_parameter (parameter (codes "path") query)
+
+-- the reply to what was read of a query, or the refusal
+abbrev pub reply_or_refusal : {A : Type 0} → (A → ReplyMessage) → Result A ReplyMessage → ReplyMessage
+reply_or_refusal reply (Ok value) = reply value
+reply_or_refusal reply (Err refused) = refused
