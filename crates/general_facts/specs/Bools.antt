@@ -1,18 +1,6 @@
 -- Booleans, and the answers of comparisons.
 use Rattle.std.proofs.Common.{◌≡◌, refl, Bool, true, false, not, cond, ◌||◌, ◌&&◌, T, is_lt, is_eq, Ordering, Less, Equal, Greater}
 
-pub or_true : (b : Bool) → (b || true) ≡ true
-or_true true = refl
-or_true false = refl
-
-pub or_false : (b : Bool) → (b || false) ≡ b
-or_false true = refl
-or_false false = refl
-
-pub or_assoc : (a b c : Bool) → ((a || b) || c) ≡ (a || (b || c))
-or_assoc true b c = refl
-or_assoc false b c = refl
-
 pub or_swap : (a b : Bool) → (a || (b || false)) ≡ (b || a)
 or_swap true true = refl
 or_swap true false = refl
@@ -23,13 +11,17 @@ pub or_elim : {P : Type 0} (a b : Bool) → (a || b) ≡ true → (a ≡ true �
 or_elim true b is left right = left refl
 or_elim false b is left right = right is
 
-pub and_false : (b : Bool) → (b && false) ≡ false
-and_false true = refl
-and_false false = refl
-
 pub not-and : (a b : Bool) → (not a || not b) ≡ not (a && b)
 not-and true b = refl
 not-and false b = refl
+
+pub T-left : (a b : Bool) → T (a && b) → T a
+T-left true b h = tt
+T-left false b h = absurd h
+
+pub T-right : (a b : Bool) → T (a && b) → T b
+T-right true b h = h
+T-right false b h = absurd h
 
 pub cond-or : (a b : Bool) → cond a true b ≡ (a || b)
 cond-or true b = refl

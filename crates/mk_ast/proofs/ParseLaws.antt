@@ -1,7 +1,8 @@
 -- What bytes are parsed as, and nothing else.
 use Rattle.std.proofs.Common.{◌≡◌, inl, inr, ℕ, Bool, true, false, cond, List, Result, Ok, Err, refl, sym, ap, subst, ◌∙◌}
 use Rattle.std.specs.Str.{is_utf8, IsUtf8}
-use Rattle.std.proofs.lemmas.Str.{is_utf8-from_IsUtf8, IsUtf8-from_is_utf8}
+use Rattle.std.proofs.lemmas.Str.{is_utf8-from_IsUtf8}
+use Rattle.general_facts.specs.Texts.{is_utf8-not}
 use Rattle.mk_text.specs.Lines.{logical_lines}
 use Rattle.mk_ast.specs.declared.nodes.TheConstants.{BLOCKS}
 use Rattle.mk_ast.specs.declared.parsing.ParseFault.{ParseFault}
@@ -22,12 +23,8 @@ by_test bytes b is = ap (λ test. cond test (with_kind (blocks_of BLOCKS (logica
 pub parsed-good : (bytes : List ℕ) → IsUtf8 bytes → parsed bytes ≡ with_kind (blocks_of BLOCKS (logical_lines bytes))
 parsed-good bytes good = by_test bytes true (is_utf8-from_IsUtf8 bytes good)
 
-refuted : (bytes : List ℕ) (b : Bool) → is_utf8 bytes ≡ b → ¬ (IsUtf8 bytes) → is_utf8 bytes ≡ false
-refuted bytes true is bad = absurd (bad (IsUtf8-from_is_utf8 bytes is))
-refuted bytes false is bad = is
-
 pub parsed-bad : (bytes : List ℕ) → ¬ (IsUtf8 bytes) → parsed bytes ≡ Err (utf8_fault bytes)
-parsed-bad bytes bad = by_test bytes false (refuted bytes (is_utf8 bytes) refl bad)
+parsed-bad bytes bad = by_test bytes false (is_utf8-not bytes bad)
 
 parses-with_kind : (bytes : List ℕ) (reading : Result Block ℕ) → is_utf8 bytes ≡ true → Reads BLOCKS (logical_lines bytes) reading → IsParse bytes (with_kind reading)
 parses-with_kind bytes (Ok block) good reads = (good, reads)

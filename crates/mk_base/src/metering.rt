@@ -1,4 +1,4 @@
-ghost use Rattle.std.specs.Prelude.{◌≡◌};
+ghost use Rattle.std.specs.Prelude.{◌≡◌, ◌≤◌};
 ghost use Rattle.mk_base.specs.Meter.{full, pay, question, IsLater};
 ghost use Rattle.mk_base.specs.Stopping.{GivesOnly};
 
@@ -44,9 +44,10 @@ impl Budget {
         }
     }
 
-    /// The number of units spent so far.
+    /// The number of units spent so far, at most the limit.
     pub fn spent(&self) -> u64
-        ensures { result ≡ self.now.spent }
+        ensures units { result ≡ self.now.spent }
+        ensures within { result ≤ self.now.limit }
     {
         self.spent
     }

@@ -14,7 +14,7 @@ use Rattle.mk_paths.specs.declared.asking.FilesFault.{FilesFault}
 use Rattle.mk_paths.specs.declared.search_path.Settings.{Settings}
 use Rattle.mk_files.specs.Asking.{Account, account, beside}
 use Rattle.mk_files.specs.Looking.{AfterQuestions, LeavesAtStop}
-use Rattle.mk_eval.specs.Telling.{FailsWith, LeavesAsked, with_cost}
+use Rattle.mk_eval.specs.Telling.{FailsWith, LeavesAsked, CostsAtMost, with_cost}
 use Rattle.mk_eval.specs.declared.outcome.Failed.{Failed}
 use Rattle.mk_eval.specs.declared.state.EvalState.{EvalState}
 use Rattle.mk_eval.specs.Meaning.{evaluation, evaluated, fresh, means, questions_asked}
@@ -135,3 +135,10 @@ module _ (settings : Settings) (name : List ℕ) (flavors : Option (List (List �
         rw same (files-ended begun spent (Err (fault, account end new)) is ends refl (sym cost) leaves)
     leaves-at may stops.Store told same ends leaves = rw same leaves
     leaves-at may stops.Memory told same ends leaves = rw same leaves
+
+-- a stop to which the units that were spent are given costs these
+pub costs-with : {R : Type 0} (cost : R → ℕ) (most spent : ℕ) (stop : Stop FaultAt) (told : Stop Failed) → told ≡ with_cost spent stop → spent ≤ most
+    → CostsAtMost cost most (Err told)
+costs-with cost most spent (stops.Fault fault) told is low = subst (λ t. CostsAtMost cost most (Err t)) (sym is) low
+costs-with cost most spent stops.Store told is low = subst (λ t. CostsAtMost cost most (Err t)) (sym is) tt
+costs-with cost most spent stops.Memory told is low = subst (λ t. CostsAtMost cost most (Err t)) (sym is) tt

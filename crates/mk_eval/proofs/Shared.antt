@@ -7,7 +7,7 @@ use Rattle.mk_paths.specs.World.{FileMap}
 use Rattle.std.specs.FinMap.{get, contains_key}
 use Rattle.mk_paths.specs.FilesView.{Reply, Presence, Contents, Question, IsReply}
 use Rattle.mk_files.specs.Asking.{Account, beside, quietly, answered, look_read, ask_has, ask_read}
-use Rattle.mk_eval.specs.Sharing.{Agrees}
+use Rattle.mk_eval.specs.Sharing.{Agrees, Agrees-first, Agrees-rest}
 use Rattle.mk_eval.proofs.Steady.{Steady, steady-give, steady-fail, steady-question, steady-bind, steady-tell, told_left, first_within, under, lowered}
 
 -- a log, if there is one, with these questions behind it
@@ -21,15 +21,6 @@ with-nothing (Some log) = ap Some (append-nil log)
 pub with-both : (log : Option (List Question)) (first second : List Question) → with_questions (with_questions log first) second ≡ with_questions log (first ++ second)
 with-both None first second = refl
 with-both (Some log) first second = ap Some (append_assoc log first second)
-
--- more questions agree where those in front and those behind do
-pub agrees-front : (files : FileMap) (first second : List Question) → Agrees files (first ++ second) → Agrees files first
-agrees-front files [] second agrees = tt
-agrees-front files (one ∷ first) second agrees = (agrees.0, agrees-front files first second agrees.1)
-
-pub agrees-after : (files : FileMap) (first second : List Question) → Agrees files (first ++ second) → Agrees files second
-agrees-after files [] second agrees = agrees
-agrees-after files (one ∷ first) second agrees = agrees-after files first second agrees.1
 
 -- work among some files, and the same work among other files
 pub record Shared {A F : Type 0} (other : FileMap) (work again : Work Account F A) : Type 0 where
@@ -120,8 +111,8 @@ module _ {A B F : Type 0} (other : FileMap) (work again : Work Account F A) (nex
       → (again >>= onward) (record { meter = m; log = log }) ≡ (work >>= next) (record { meter = m; log = log })
   both_shared m log agrees =
       let here = with_questions log (first.asks m) in
-      ap (λ r. after r onward) (first.shared m log (agrees-front other (first.asks m) (behind (first.ends m)) agrees) ∙ first.is m log)
-      ∙ follows here (first.ends m) (agrees-after other (first.asks m) (behind (first.ends m)) agrees)
+      ap (λ r. after r onward) (first.shared m log (Agrees-first other (first.asks m) (behind (first.ends m)) agrees) ∙ first.is m log)
+      ∙ follows here (first.ends m) (Agrees-rest other (first.asks m) (behind (first.ends m)) agrees)
       ∙ ap (λ r. after r next) (sym (first.is m log))
 
   pub shared-bind : Shared other (work >>= next) (again >>= onward)

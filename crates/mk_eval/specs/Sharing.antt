@@ -1,6 +1,6 @@
 -- When what was learnt of a makefile in one world holds in another: if the other world gives the answers
 -- that the first one gave.
-use Rattle.std.specs.Prelude.{◌≡◌, ℕ, List, [], ◌∷◌, Option, Result, Ok, Err}
+use Rattle.std.specs.Prelude.{◌≡◌, ℕ, List, [], ◌∷◌, ◌++◌, Option, Result, Ok, Err}
 use Rattle.mk_paths.specs.World.{FileMap}
 use Rattle.mk_paths.specs.FilesView.{Question, IsReply}
 use Rattle.mk_paths.specs.declared.search_path.Settings.{Settings}
@@ -13,6 +13,16 @@ use Rattle.mk_eval.specs.Meaning.{means, questions_asked}
 abbrev pub Agrees : FileMap → List Question → Type 0
 Agrees files [] = Unit {0}
 Agrees files (question ∷ questions) = IsReply files question.0 question.1 × Agrees files questions
+
+-- the files agree with the first of some questions
+pub Agrees-first : (files : FileMap) (first rest : List Question) → Agrees files (first ++ rest) → Agrees files first
+Agrees-first files [] rest agrees = tt
+Agrees-first files (one ∷ first) rest agrees = (agrees.0, Agrees-first files first rest agrees.1)
+
+-- and with the rest of them
+pub Agrees-rest : (files : FileMap) (first rest : List Question) → Agrees files (first ++ rest) → Agrees files rest
+Agrees-rest files [] rest agrees = agrees
+Agrees-rest files (one ∷ first) rest agrees = Agrees-rest files first rest agrees.1
 
 -- what an evaluation cost, in units
 abbrev pub cost_of : Result Evaluated Failed → ℕ

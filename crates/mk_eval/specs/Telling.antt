@@ -1,4 +1,4 @@
-use Rattle.std.specs.Prelude.{◌≡◌, ◌⊎◌, ℕ, List, Result, Ok, Err}
+use Rattle.std.specs.Prelude.{◌≡◌, ◌≤◌, ◌⊎◌, ℕ, List, Result, Ok, Err}
 use Rattle.mk_base.specs.declared.stopping.PureStop.{PureStop}
 use Rattle.mk_base.specs.declared.stopping.PureStop.TheVariants as pure
 use Rattle.mk_base.specs.declared.stopping.Stop.{Stop}
@@ -30,6 +30,19 @@ FailsPurelyWith pure.Memory meaning = Unit {0}
 abbrev pub TellsPurely : {R A F : Type 0} → (R → A) → Result R (PureStop F) → Result A F → Type 0
 TellsPurely view (Ok x) meaning = meaning ≡ Ok (view x)
 TellsPurely view (Err stop) meaning = FailsPurelyWith stop meaning
+
+-- What a function answered cost at most so many units, up to its fault if it has one.
+abbrev pub CostsAtMost : {R : Type 0} → (R → ℕ) → ℕ → Result R (Stop Failed) → Type 0
+CostsAtMost cost most (Ok x) = cost x ≤ most
+CostsAtMost cost most (Err (stops.Fault failed)) = failed.cost ≤ most
+CostsAtMost cost most (Err stops.Store) = Unit {0}
+CostsAtMost cost most (Err stops.Memory) = Unit {0}
+
+-- The same for work that looks at no file.
+abbrev pub CostsPurelyAtMost : {R : Type 0} → (R → ℕ) → ℕ → Result R (PureStop Failed) → Type 0
+CostsPurelyAtMost cost most (Ok x) = cost x ≤ most
+CostsPurelyAtMost cost most (Err (pure.Fault failed)) = failed.cost ≤ most
+CostsPurelyAtMost cost most (Err pure.Memory) = Unit {0}
 
 -- the stop of work that looks at no file; a fault gets the units that were spent
 abbrev pub with_units : ℕ → PureStop FaultAt → PureStop Failed

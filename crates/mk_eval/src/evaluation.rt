@@ -6,7 +6,9 @@ ghost use Rattle.mk_files.specs.Working.{Asks};
 ghost use Rattle.mk_base.specs.Stopping.{Gives};
 ghost use Rattle.mk_eval.specs.Meaning as meaning;
 ghost use Rattle.mk_eval.specs.Meaning.{means, questions_asked, value_of};
-ghost use Rattle.mk_eval.specs.Telling.{Tells, TellsPurely, LeavesAsked};
+ghost use Rattle.mk_eval.specs.Telling.{Tells, TellsPurely, LeavesAsked, CostsAtMost, CostsPurelyAtMost};
+ghost use Rattle.mk_eval.specs.Expanded.{value_cost};
+ghost use Rattle.mk_base.specs.declared.metering.TheConstants.{UNITS};
 ghost use Rattle.mk_eval.specs.Views.{flavors_in};
 
 use crate::including::ExecutedFile;
@@ -68,6 +70,7 @@ pub fn evaluate<F: Files>(
     ensures files { LeavesAsked F.fails_with (F.view files.old) (F.view files.new)
         (questions_asked (world_of (F.view files.old) settings.now) name.now
         (flavors_in flavors.entry)) result }
+    ensures within { CostsAtMost (λ evaluated. evaluated.cost) UNITS result }
 {
     let mut budget = Budget::new(UNITS);
     let mut parses = Anew::new(alloc);
@@ -135,6 +138,7 @@ pub fn value(
     variable: &str,
 ) -> Result<Option<Valued>, PureStop<Failed>>
     ensures means { TellsPurely (λ x. x) result (value_of evaluated.now.env name.now variable.now) }
+    ensures within { CostsPurelyAtMost value_cost UNITS result }
 {
     if !evaluated.env.defined(variable) {
         return Ok(None);

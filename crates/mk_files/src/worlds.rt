@@ -24,6 +24,13 @@ pub trait Files: Names {
         ensures kind { IfErr result Self.fails_with };
 }
 
+// Files that are lent are read as by their owner.
+impl<F: Files> Files for &mut F {
+    fn read(&mut self, name: &Name) -> Result<Option<Content>, FilesFault> {
+        (**self).read(name)
+    }
+}
+
 /// A world of files that can be listed too.
 pub trait Listing: Files {
     /// The names of all files, in the order of their bytes.

@@ -2,6 +2,7 @@
 use Rattle.std.proofs.Common.{◌≡◌, ℕ, ◌≤◌, Bool, true, false, ◌&&◌, ◌||◌, eqb, leb, List, [], ◌∷◌, length, refl, ap, sym, ◌∙◌, arith, inl, inr, Option, Some, None}
 use Rattle.std.proofs.lemmas.Bool.{cond-true, cond-false, cond_both, cases_Bool, eqb-true, both_ways, and_left, true≢false}
 use Rattle.std.proofs.lemmas.Bool.Decides.{nat_tests}
+use Rattle.std.proofs.Math.Bool.{or-false}
 use Rattle.std.specs.Option.{option_map, unwrap_or}
 use Rattle.std.specs.Str.{IsUtf8, chars}
 use Rattle.mk_glob.specs.declared.signs.PatternSign.{PatternSign}
@@ -30,17 +31,13 @@ first_at-exactly (Bare c) rest run one opens =
 same_is_within : (a b : ℕ) → eqb a b ≡ (leb a b && leb b a)
 same_is_within a b = grind (arith, nat_tests)
 
-or_nothing : (x : Bool) → x ≡ (x || false)
-or_nothing true = refl
-or_nothing false = refl
-
 pub TellsOne-exactly : (sign : PatternSign) (rest : List PatternSign) (c own : ℕ) → is_bare 42 sign ≡ false → is_bare 63 sign ≡ false
     → (is_bare 91 sign ≡ true → bracket rest ≡ None) → own ≡ character sign → TellsOne sign rest c (eqb own c) rest
 TellsOne-exactly sign rest c own run one opens e = record {
   negated = false;
   ranges = alone (character sign) ∷ [];
   stands = first_at-exactly sign rest run one opens;
-  tells = ap (λ n. eqb n c) e ∙ same_is_within (character sign) c ∙ or_nothing (is_within (character sign) (character sign) c);
+  tells = ap (λ n. eqb n c) e ∙ same_is_within (character sign) c ∙ sym (or-false (is_within (character sign) (character sign) c));
 }
 
 -- where no more bytes are left than are known to hold no closed bracket

@@ -9,7 +9,7 @@ use Rattle.std.proofs.lemmas.List.Folds.{list_any-append}
 use Rattle.std.proofs.Math.ListN.{drop_of_length-le}
 use Rattle.std.proofs.lemmas.Option.{none-some, same_Some}
 use Rattle.std.proofs.lemmas.Grind.{flat_map-append}
-use Rattle.general_facts.specs.Bools.{or_true}
+use Rattle.std.proofs.Math.Bool.{or-true}
 use Rattle.mk_ref.specs.declared.opening.Opening.TheVariants.{Letter, Marked}
 use Rattle.mk_ref.specs.Units.{TextUnit, Byte, Reference, source, sources, is_colon, before_colon, following_colon, opening_of, marked_first, unit_before, with_more, up_to_mark, first_unit}
 use Rattle.mk_ref.proofs.UnitSteps.{up_to-nil, up_to-cons}
@@ -147,7 +147,7 @@ name-ends text start mark at h ascii near behind = (
 
 any-here : (units more : List TextUnit) (unit : TextUnit) → is_reference unit ≡ true → list_any is_reference (units ++ unit ∷ more) ≡ true
 any-here [] more unit is = ap (λ t. t || list_any is_reference more) is
-any-here (first ∷ units) more unit is = ap (λ t. is_reference first || t) (any-here units more unit is) ∙ or_true (is_reference first)
+any-here (first ∷ units) more unit is = ap (λ t. is_reference first || t) (any-here units more unit is) ∙ or-true (is_reference first)
 
 reference-here : (text : List ℕ) (start mark at : ℕ) (unit : TextUnit) (behind : List ℕ) → NameSoFar text start mark at → at < length text → get_or text at 0 ≢ mark
     → first_unit (drop at text) ≡ Some (unit, behind) → is_reference unit ≡ true → is_colon unit ≡ false → EndsName text start mark None

@@ -1,7 +1,7 @@
 -- Patterns and flags read from marks, one on.
 use Rattle.std.proofs.Common.{◌≡◌, ℕ, ◌++◌, Bool, true, false, not, ◌&&◌, ◌||◌, cond, List, [], ◌∷◌, sym, ap, ap₂, ◌∙◌, append_assoc, append-nil}
 use Rattle.std.proofs.lemmas.Bool.{cond-true, cond-false}
-use Rattle.general_facts.specs.Bools.{or_true, or_false}
+use Rattle.std.proofs.Math.Bool.{or-true, or-false}
 use Rattle.mk_mods.specs.Marks.{TextMark, is_char, mark_source}
 use Rattle.mk_mods.specs.Grammar.{pattern_from, in_pattern, Flags, flags_of}
 
@@ -40,7 +40,7 @@ flags-every whole every once mark rest marks so_far next is =
     so_far ∙ ap (λ l. flags_after every once (flags_of l)) next
     ∙ ap (flags_after every once)
     (cond-true (is_char 103 mark) (record later { every = true }) (cond (is_char 49 mark) (record later { once = true }) (record { every = false; once = false; behind = mark ∷ marks })) is)
-    ∙ ap (λ b. record { every = b; once = once || later.once; behind = later.behind }) (or_true every)
+    ∙ ap (λ b. record { every = b; once = once || later.once; behind = later.behind }) (or-true every)
 
 pub flags-once : (whole : Flags) (every once : Bool) (mark : TextMark) (rest marks : List TextMark) → whole ≡ flags_after every once (flags_of rest) → rest ≡ mark ∷ marks
     → is_char 103 mark ≡ false → is_char 49 mark ≡ true → whole ≡ flags_after every true (flags_of marks)
@@ -51,7 +51,7 @@ flags-once whole every once mark rest marks so_far next other is =
     ∙ ap (flags_after every once)
     (cond-false (is_char 103 mark) (record later { every = true }) (cond (is_char 49 mark) (record later { once = true }) none) other
     ∙ cond-true (is_char 49 mark) (record later { once = true }) none is)
-    ∙ ap (λ b. record { every = every || later.every; once = b; behind = later.behind }) (or_true once)
+    ∙ ap (λ b. record { every = every || later.every; once = b; behind = later.behind }) (or-true once)
 
 pub flags-all : (whole : Flags) (every once : Bool) (mark : TextMark) (rest marks : List TextMark) → whole ≡ flags_after every once (flags_of rest) → rest ≡ mark ∷ marks
     → is_char 103 mark ≡ false → is_char 49 mark ≡ false → whole ≡ record { every = every; once = once; behind = rest }
@@ -62,10 +62,10 @@ flags-all whole every once mark rest marks so_far next other more =
     ∙ ap (flags_after every once)
     (cond-false (is_char 103 mark) (record later { every = true }) (cond (is_char 49 mark) (record later { once = true }) none) other
     ∙ cond-false (is_char 49 mark) (record later { once = true }) none more)
-    ∙ ap₂ (λ a b. record { every = a; once = b; behind = mark ∷ marks }) (or_false every) (or_false once)
+    ∙ ap₂ (λ a b. record { every = a; once = b; behind = mark ∷ marks }) (or-false every) (or-false once)
     ∙ ap (λ l. record { every = every; once = once; behind = l }) (sym next)
 
 pub flags-end : (whole : Flags) (every once : Bool) (rest : List TextMark) → whole ≡ flags_after every once (flags_of rest) → rest ≡ []
     → whole ≡ record { every = every; once = once; behind = [] }
 flags-end whole every once rest so_far none =
-    so_far ∙ ap (λ l. flags_after every once (flags_of l)) none ∙ ap₂ (λ a b. record { every = a; once = b; behind = [] }) (or_false every) (or_false once)
+    so_far ∙ ap (λ l. flags_after every once (flags_of l)) none ∙ ap₂ (λ a b. record { every = a; once = b; behind = [] }) (or-false every) (or-false once)

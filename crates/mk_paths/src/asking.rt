@@ -49,3 +49,14 @@ pub trait Names {
         ensures fault { OnErr result (Fails (view self.old) (view self.new)) }
         ensures kind { IfErr result fails_with };
 }
+
+// Files that are lent answer as they do for their owner.
+impl<N: Names> Names for &mut N {
+    ghost view = { λ lent. N.view lent.now };
+
+    ghost fails_with = { N.fails_with };
+
+    fn has(&mut self, name: &Name) -> Result<bool, FilesFault> {
+        (**self).has(name)
+    }
+}

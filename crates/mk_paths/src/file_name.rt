@@ -112,6 +112,15 @@ impl Name {
         self.text.as_str()
     }
 
+    /// The same name once more. It fails only if memory runs out.
+    pub fn copy(&self, alloc: Global) -> Result<Name, AllocError>
+        ensures { IfOk result (λ name. name ≡ self.now) }
+    {
+        Ok(Name {
+            text: String::from_str(alloc, self.as_str())?,
+        })
+    }
+
     /// The directory that the file is in: what is before the last slash of its name.
     pub fn directory(&self) -> &str
         ensures { result.now ≡ directory_of self.now }

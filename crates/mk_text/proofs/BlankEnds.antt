@@ -7,7 +7,7 @@ use Rattle.std.proofs.lemmas.Str.{encode_ascii, len_utf8_bounds}
 use Rattle.std.proofs.lemmas.Str.Pattern.{drop_at_char}
 use Rattle.std.specs.Char.{IsScalar, char_set_contains}
 use Rattle.std.specs.Str.Pattern.{FindsPrefixBy, FindsSuffixBy, HasPassingCharAt, CutsPrefixes, CutsSuffixes, IsTrimStartMatches, IsTrimEndMatches}
-use Rattle.general_facts.specs.Bools.{or_false}
+use Rattle.std.proofs.Math.Bool.{or-false}
 use Rattle.mk_text.specs.Blanks.{is_blank, skip_blanks}
 
 flip : (a b : ℕ) → eqb a b ≡ eqb b a
@@ -18,7 +18,7 @@ flip a b =
 
 -- the blanks as the list of characters that the code has
 pub blank_set : (c : ℕ) → char_set_contains (32 ∷ 9 ∷ []) c ≡ is_blank c
-blank_set c = ap₂ (λ x y. x || y) (flip 32 c) (or_false (eqb 9 c) ∙ flip 9 c)
+blank_set c = ap₂ (λ x y. x || y) (flip 32 c) (or-false (eqb 9 c) ∙ flip 9 c)
 
 pub blank_is : (c : ℕ) → is_blank c ≡ true → (c ≡ 32) ⊎ (c ≡ 9)
 blank_is c h = ⊎_elim (λ t. inl (eqb-true c 32 t)) (λ t. inr (eqb-true c 9 t)) (or_cases (eqb c 32) (eqb c 9) h)

@@ -3,6 +3,7 @@ use Rattle.std.proofs.Common.{◌≡◌, ◌∙◌, sym, ap, subst, refl, ℕ, B
 use Rattle.std.proofs.lemmas.Bool.{false≢true, and_parts, and_from, or_parts, not-true}
 use Rattle.std.proofs.lemmas.Grind.{common_steps, flat_map-append}
 use Rattle.std.proofs.lemmas.List.Folds.{list_all-append}
+use Rattle.general_facts.specs.Bools.{not-and}
 use Rattle.text_parts.specs.Laws.{is_between}
 use Rattle.text_parts.proofs.PartTexts.{parts_are_between, written_is_cut_again, written_parts_may_occur}
 use Rattle.std.specs.List.{list_all, list_any, filter, find}
@@ -44,11 +45,7 @@ of_not false e = sym e
 -- each passes where none fails
 fails_none : (p : List ℕ → Bool) (xs : List (List ℕ)) → list_any (λ x. not (p x)) xs ≡ not (list_all p xs)
 fails_none p [] = refl
-fails_none p (x ∷ xs) = ap (λ b. not (p x) || b) (fails_none p xs) ∙ by (p x) (list_all p xs)
-  where
-    by : (a b : Bool) → (not a || not b) ≡ not (a && b)
-    by true b = refl
-    by false b = refl
+fails_none p (x ∷ xs) = ap (λ b. not (p x) || b) (fails_none p xs) ∙ not-and (p x) (list_all p xs)
 
 all_in_order : (p : List ℕ → Bool) (xs : List (List ℕ)) → list_all p xs ≡ true → list_all p (in_order xs) ≡ true
 all_in_order p xs a =

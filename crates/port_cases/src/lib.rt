@@ -2,6 +2,7 @@
 #![tactic(auto)]
 
 mod dependencies;
+mod paths;
 mod records;
 
 use case_lines::{Answer, Trouble};
@@ -20,6 +21,8 @@ pub fn answer(
     match call {
         "record" => records::record_answer(alloc, world, given),
         "index" => dependencies::index(alloc, world),
+        "path" => paths::path_answer(alloc, world, given),
+        "agrees" => paths::agrees_answer(alloc, world, given),
         "items" => dependencies::items_answer(alloc, world),
         "statuses" => dependencies::statuses(alloc, world, given),
         "first" | "to" | "reached" | "reaching" => {

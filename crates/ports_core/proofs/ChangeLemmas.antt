@@ -1,7 +1,7 @@
 -- What each event does to the slices and to the connections: all that proofs about runs see of it.
 use Rattle.std.proofs.Common.{◌≡◌, ◌<◌, ◌≤◌, ℕ, Bool, false, List, ◌∷◌, ◌++◌, Option, Some, None, refl, sym, ap, subst, ◌∙◌, inl, inr, arith}
 use Rattle.std.specs.Prelude.{◌⊎◌, ◌&&◌, MatchBool, MatchOption, is_none, option_map}
-use Rattle.general_facts.specs.Bools.{and_false}
+use Rattle.std.proofs.Math.Bool.{and-false}
 use Rattle.ports_core.specs.declared.event.Event.{Event}
 use Rattle.ports_core.specs.declared.event.Event.TheVariants.{Open, Piece, End, Fault, Wrote, Turn}
 use Rattle.ports_core.specs.declared.event.Told.{Told}
@@ -64,7 +64,7 @@ lost_and_stays : (c : ℕ) (told : Told) (old new : State) (h : Hears (Fault c) 
 lost_and_stays c told old new h =
     let connection : Connection = hears (Fault c) h.hears.connection in
     let P : Bool → Type 0 = λ b. MatchBool b (TakesOff connection.stream h.taken h.hears.takes.stream) ((h.taken ≡ Nothing) × (h.hears.takes.stream ≡ connection.stream)) in
-    let busy : P false = subst P (and_false (is_none connection.waits && is_empty connection.pending)) h.hears.takes.stands in
+    let busy : P false = subst P (and-false (is_none connection.waits && is_empty connection.pending)) h.hears.takes.stands in
     record {
       nothing = busy.0;
       silent = h.hears.takes.told_is ∙ ap (refused_at_once (keys_of old) c) busy.0;

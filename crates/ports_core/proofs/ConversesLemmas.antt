@@ -1,7 +1,7 @@
 -- One connection in a run: what each event does to what it asked and was told.
 use Rattle.std.proofs.Common.{◌≡◌, ◌≢◌, ◌<◌, ◌≤◌, ℕ, Bool, true, false, List, [], ◌∷◌, ◌++◌, refl, sym, ap, subst, ◌∙◌, inl, inr, append-nil, arith, eq-eqb, ⊎_elim, Option, Some, None}
-use Rattle.std.specs.Prelude.{◌⊎◌, MatchBool, MatchOption, option_map, if◌then◌else◌}
-use Rattle.std.proofs.lemmas.Bool.{false≢true, cases_Bool, and_parts, MatchBool-at_true}
+use Rattle.std.specs.Prelude.{◌⊎◌, not, MatchBool, MatchOption, option_map, if◌then◌else◌}
+use Rattle.std.proofs.lemmas.Bool.{false≢true, cases_Bool, and_parts, and_from, MatchBool-at_true}
 use Rattle.std.proofs.lemmas.Bool.Decides.{nat_tests}
 use Rattle.general_facts.specs.Options.{None_from_is_none}
 use Rattle.ports_core.proofs.Numbers.{other_number}
@@ -59,6 +59,7 @@ pub record ConversesShut (keys : List (List ℕ)) (Plain : ℕ → QueuedRequest
   pub left : Incoming
   pub talk : Talk keys Plain c came sent tells [] [] left
   pub fresh : next_of state ≤ c → (left ≡ opening) × (came ≡ [])
+  pub idle : came ≢ [] → TakesOff left Nothing left
   pub queued : Queued c state None []
 
 -- a connection that isn't lost
@@ -85,6 +86,7 @@ settles keys Plain c came sent tells after state at below idle is =
             left = after.stream;
             talk = subst (λ ws. Talk keys Plain c came sent tells [] ws after.stream) waiting (subst (λ p. Talk keys Plain c came sent tells p is.waiting after.stream) pending is.talk);
             fresh = λ above. absurd (omega (arith, below, above));
+            idle = λ some. idle some (and_from _ (not after.lost) front (ap not is.alive));
             queued = λ u slice was. is.queued u slice was ∙ ap (λ w. queued_requests_at c u w is.waiting) waits;
           })
       | false ↦ λ done some. inl (record { connection = after; at = some; below = below; idle = idle; is_connection = is })

@@ -168,6 +168,7 @@ module _ (keys : List (List ℕ)) (Plain : ℕ → QueuedRequest → ReplyMessag
     left = is.left;
     talk = is.talk;
     fresh = λ above. is.fresh (omega (arith, above, h.next));
+    idle = is.idle;
     queued = queued_on h None [] is.queued;
   })
 

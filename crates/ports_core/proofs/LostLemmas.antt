@@ -5,7 +5,7 @@ use Rattle.std.specs.Prelude.{◌==◌, ◌&&◌, not, map, is_none, option_map,
 use Rattle.std.specs.declared.alloc.Global.{Global}
 use Rattle.std.proofs.lemmas.Bool.{cases_eq, and_parts}
 use Rattle.general_facts.specs.Options.{None_from_is_none}
-use Rattle.general_facts.specs.Bools.{and_false}
+use Rattle.std.proofs.Math.Bool.{and-false}
 use Rattle.ports_http.specs.Messages.{RequestMessage, ReplyMessage}
 use Rattle.ports_http.specs.Limits.{unread_limit}
 use Rattle.ports_http.specs.Incoming.{room_of}
@@ -94,7 +94,7 @@ lost_kept connection o is lost =
 lost_taken : (keys : List (List ℕ)) (c : ℕ) (taken : Taken) (told : Option Tell) (connection after : Connection) → IsLostConnection connection → TakesNext keys c taken told connection after → (taken ≡ Nothing) × (told ≡ None) × (after ≡ connection)
 lost_taken keys c taken told connection after is takes =
     let front : Bool = is_none connection.waits && is_empty connection.pending in
-    let busy : is_ready connection ≡ false = ap (λ b. front && not b) is.lost ∙ and_false front in
+    let busy : is_ready connection ≡ false = ap (λ b. front && not b) is.lost ∙ and-false front in
     let stays = subst (λ b. MatchBool b (TakesOff connection.stream taken takes.stream) ((taken ≡ Nothing) × (takes.stream ≡ connection.stream))) busy takes.stands in (
       stays.0,
       takes.told_is ∙ ap (refused_at_once keys c) stays.0,

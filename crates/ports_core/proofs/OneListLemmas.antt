@@ -21,7 +21,7 @@ use Rattle.ports_core.specs.Keys.{tenant_of}
 use Rattle.ports_core.specs.Connections.{new_connection, hears, answered, kept, is_ready, with_pending}
 use Rattle.ports_core.specs.Telling.{at_once}
 use Rattle.ports_core.specs.Taking.{Taken, Nothing, Whole, Refusal, Lost, TakesOff, IsTaken, told_of_tenant, refused_at_once, connection_after, entering}
-use Rattle.ports_core.specs.Opened.{Book, no_connections, KeepsConnections, KeepsOthers}
+use Rattle.ports_core.specs.Opened.{Book, KeepsConnections, KeepsOthers}
 use Rattle.ports_core.specs.Books.{HearsOn, TellsOn, BookStep, conn_of, TakesIn, OneListIsTaken}
 use Rattle.ports_core.proofs.Lists.{none_some, some_same}
 
@@ -177,4 +177,4 @@ same_lists keys t (event ∷ events) (step ∷ steps) old was all others same (t
     ∙ sym others_is
 
 pub one_list : OneListIsTaken
-one_list keys t events steps all others a b = same_lists keys t events steps no_connections no_connections all others (λ d. refl) a b
+one_list keys t book events steps all others a b = same_lists keys t events steps book book all others (λ d. refl) a b

@@ -3,7 +3,7 @@ use Rattle.std.proofs.Common.{◌≡◌, ℕ, zero, suc, Bool, true, false, List
 use Rattle.std.specs.Prelude.{◌||◌, not, map, MatchBool, option_map, unwrap_or, slice_get}
 use Rattle.std.specs.List.{flat_map}
 use Rattle.std.proofs.lemmas.Bool.{cases_eq, false≢true, and_parts}
-use Rattle.general_facts.specs.Bools.{or_assoc}
+use Rattle.std.proofs.Math.Bool.{or-false, or_assoc}
 use Rattle.ports_http.specs.Messages.{RequestMessage, ReplyMessage}
 use Rattle.ports_http.specs.Streams as streams
 use Rattle.ports_http.specs.Incoming.{opening}
@@ -16,6 +16,7 @@ use Rattle.ports_core.specs.Effects.{Effect}
 use Rattle.ports_core.specs.Slices.{Queue, waiting_of}
 use Rattle.ports_core.specs.State.{State, new_state, keys_of, world_at, queue_at, connection_of, pending_at}
 use Rattle.ports_core.specs.Runs.{Run}
+use Rattle.ports_core.specs.Taking.{Nothing, TakesOff}
 use Rattle.ports_core.specs.Conversations.{came_in, came_on, sent_in, sent_on, told_in, told_on, loses, is_lost_in, written, refusal_written, IsLeft, IsServedOut, WaitsFor, IsPlainOr503, AreWritten, ConversesPlainly, EachConnectionConverses}
 use Rattle.ports_core.proofs.Numbers.{other_number}
 use Rattle.ports_core.proofs.Lists.{none_some, some_same}
@@ -62,15 +63,11 @@ run_moves : (lost : Bool) (keys : List (List ℕ)) (Plain : ℕ → QueuedReques
     → (run : Run old events steps new) → EachPlain Plain events steps old new run → ConversesSo lost keys Plain c came sent tells old
     → ConversesSo (lost || is_lost_in c events) keys Plain c (came ++ came_on c events) (sent ++ sent_on c events steps) (tells ++ told_on c steps) new
 run_moves lost keys Plain c came sent tells [] [] old new keys_are same plain stands =
-    subst (λ b. ConversesSo b keys Plain c (came ++ []) (sent ++ []) (tells ++ []) new) (or_nothing lost)
+    subst (λ b. ConversesSo b keys Plain c (came ++ []) (sent ++ []) (tells ++ []) new) (sym (or-false lost))
     (subst (λ (s : State). ConversesSo lost keys Plain c (came ++ []) (sent ++ []) (tells ++ []) s) (sym same)
     (subst (λ bs. ConversesSo lost keys Plain c bs (sent ++ []) (tells ++ []) old) (sym (append-nil came))
     (subst (λ bs. ConversesSo lost keys Plain c came bs (tells ++ []) old) (sym (append-nil sent))
     (subst (λ ts. ConversesSo lost keys Plain c came sent ts old) (sym (append-nil tells)) stands))))
-  where
-    or_nothing : (b : Bool) → b ≡ (b || false)
-    or_nothing true = refl
-    or_nothing false = refl
 run_moves lost keys Plain c came sent tells [] (step ∷ steps) old new keys_are run plain stands = absurd run
 run_moves lost keys Plain c came sent tells (event ∷ events) [] old new keys_are run plain stands = absurd run
 run_moves lost keys Plain c came sent tells (event ∷ events) (step ∷ steps) old new keys_are run plain stands =
@@ -100,6 +97,7 @@ begins keys Plain c = inr (record {
   left = opening;
   talk = none_came keys Plain c [] [] [] opening refl refl refl refl;
   fresh = λ above. (refl, refl);
+  idle = λ some. absurd (some refl);
   queued = λ u slice was. ap (queued_requests_of c) (new_queue keys u (waiting_of slice) (slice_parts (world_at u (new_state keys)) (queue_at u (new_state keys)) slice was).1);
 })
 
@@ -118,7 +116,7 @@ module _ (keys : List (List ℕ)) (c : ℕ) (events : List Event) (steps : List 
     bytes = written_all alive _ _ _ (ap (λ (o : Option Connection). sent_on c events steps ++ unwrap_or (option_map (λ (l : Connection). l.pending) o) []) is.at ∙ is.is_connection.talk.bytes);
     waits = is.is_connection.waiting;
     cut = is.is_connection.talk.cut;
-    served = λ some. subst IsServedOut (sym is.at) (is.idle some);
+    served = λ goes some. subst (λ o. IsServedOut o is.is_connection.talk.end) (sym is.at) (is.idle some);
     stays = subst (λ (o : Option Connection). IsLeft keys o is.is_connection.waiting is.is_connection.talk.end) (sym is.at) (λ here. is.is_connection.talk.left_is, waits_for keys is.connection.waits is.is_connection.waiting is.connection.pending is.connection.stream.over is.is_connection.holds);
   }
   alive_converses alive (inr is) = record {
@@ -129,7 +127,7 @@ module _ (keys : List (List ℕ)) (c : ℕ) (events : List Event) (steps : List 
     bytes = written_all alive _ _ _ (ap (λ (o : Option Connection). sent_on c events steps ++ unwrap_or (option_map (λ (l : Connection). l.pending) o) []) is.at ∙ is.talk.bytes);
     waits = [];
     cut = is.talk.cut;
-    served = λ some. subst IsServedOut (sym is.at) tt;
+    served = λ goes some. subst (λ o. IsServedOut o is.talk.end) (sym is.at) (subst (λ s. TakesOff s Nothing s) is.talk.left_is (is.idle some));
     stays = subst (λ (o : Option Connection). IsLeft keys o [] is.talk.end) (sym is.at) refl;
   }
 
@@ -137,11 +135,6 @@ module _ (keys : List (List ℕ)) (c : ℕ) (events : List Event) (steps : List 
   lost_pending : (o : Option Connection) (waits : Option ℕ) → LostAt o waits → unwrap_or (option_map (λ (l : Connection). l.pending) o) [] ≡ []
   lost_pending None waits at = refl
   lost_pending (Some connection) waits at = at.0.pending
-
-  -- nor is it ready
-  lost_served : (o : Option Connection) (waits : Option ℕ) → LostAt o waits → IsServedOut o
-  lost_served None waits at = tt
-  lost_served (Some connection) waits at = λ ready. absurd (false≢true (let lost = (and_parts _ _ ready).1 in sym (ap not at.0.lost) ∙ lost))
 
   lost_left : (o : Option Connection) (waits : Option ℕ) (waiting : List RequestMessage) (end : streams.End) → LostAt o waits → WaitsFor keys waits waiting → IsLeft keys o waiting end
   lost_left None waits waiting end at request = subst (λ w. WaitsFor keys w waiting) at request
@@ -156,7 +149,7 @@ module _ (keys : List (List ℕ)) (c : ℕ) (events : List Event) (steps : List 
     bytes = subst (λ b. AreWritten b (sent_on c events steps) (pending_at c service) (flat_map written is.talk.exchanges ++ refusal_written is.talk.end)) (sym lost) (is.talk.front, lost_pending (connection_of c service) is.waits is.at);
     waits = is.waiting;
     cut = is.talk.cut;
-    served = λ some. lost_served (connection_of c service) is.waits is.at;
+    served = λ goes some. absurd (false≢true (sym goes ∙ lost));
     stays = lost_left (connection_of c service) is.waits is.waiting is.talk.end is.at is.request;
   }
 

@@ -10,7 +10,7 @@ use Rattle.ports_core.specs.declared.queue.QueuedRequest.{QueuedRequest}
 use Rattle.ports_core.specs.Effects.{Effect}
 use Rattle.ports_core.specs.Connections.{new_connection, hears, answered, kept, closing}
 use Rattle.ports_core.specs.Taking.{Taken, Nothing, TakesNext, entering}
-use Rattle.ports_core.specs.Opened.{Book, no_connections, KeepsConnections, KeepsOthers}
+use Rattle.ports_core.specs.Opened.{Book, KeepsConnections, KeepsOthers}
 
 -- a connection opens, unless a refusal was told
 abbrev pub BookOpens : ℕ → Told → Book → Book → Type 0
@@ -67,7 +67,8 @@ TakesIn keys t book (event ∷ events) (step ∷ steps) all =
 TakesIn keys t book [] (step ∷ steps) all = ⊥
 TakesIn keys t book (event ∷ events) [] all = ⊥
 
--- the requests of a tenant that events take are one list, read off the events and what was told
+-- The requests of a tenant that events take, from any connections on, are one list. It is read off these
+-- connections, the events and what was told.
 abbrev pub OneListIsTaken : Type 0
-OneListIsTaken = (keys : List (List ℕ)) (t : ℕ) (events : List Event) (steps : List Effect) (all others : List QueuedRequest)
-    → TakesIn keys t no_connections events steps all → TakesIn keys t no_connections events steps others → all ≡ others
+OneListIsTaken = (keys : List (List ℕ)) (t : ℕ) (book : Book) (events : List Event) (steps : List Effect) (all others : List QueuedRequest)
+    → TakesIn keys t book events steps all → TakesIn keys t book events steps others → all ≡ others

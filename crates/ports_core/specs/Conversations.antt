@@ -142,17 +142,18 @@ abbrev pub IsLeft : List (List ℕ) → Option Connection → List RequestMessag
 IsLeft keys None waits end = waits ≡ []
 IsLeft keys (Some connection) waits end = (connection.lost ≡ false → connection.stream ≡ left_of end) × WaitsFor keys connection.waits waits
 
--- if nothing waits and nothing is pending on a connection, there is nothing more to take off it
-abbrev pub IsServedOut : Option Connection → Type 0
-IsServedOut None = Unit {0}
-IsServedOut (Some connection) = is_ready connection ≡ true → TakesOff connection.stream Nothing connection.stream
+-- If nothing waits and nothing is pending on an open connection, there is nothing more to take off it. If
+-- a connection has closed, there was nothing more to take off it.
+abbrev pub IsServedOut : Option Connection → End → Type 0
+IsServedOut None end = TakesOff (left_of end) Nothing (left_of end)
+IsServedOut (Some connection) end = is_ready connection ≡ true → TakesOff connection.stream Nothing connection.stream
 
 -- A connection in a run, in bytes. Its whole stream, however it came in pieces, is cut into the requests
 -- that were answered and the one that still waits. Then it goes on or has ended. The replies told to it
 -- answer these requests one for one, and then the head refusal if one ended the stream. What was sent, and
 -- what is pending, is these replies as they are written, in order. If the connection was lost, what was
--- sent before is a front of them, and nothing is pending. Once nothing of it waits or is pending, what is
--- unread begins with no whole request and no head refusal.
+-- sent before is a front of them, and nothing is pending. If it was not lost, then once nothing of it waits
+-- or is pending, and once it has closed, what is unread begins with no whole request and no head refusal.
 pub record ConversesPlainly (keys : List (List ℕ)) (c : ℕ) (events : List Event) (steps : List Effect) (service : State) : Type 0 where
   pub exchanges : List Exchange
   pub waits : List RequestMessage
@@ -163,7 +164,7 @@ pub record ConversesPlainly (keys : List (List ℕ)) (c : ℕ) (events : List Ev
   pub bytes : AreWritten (is_lost_in c events) (sent_on c events steps) (pending_at c service)
       (flat_map written exchanges ++ refusal_written end)
   pub stays : IsLeft keys (connection_of c service) waits end
-  pub served : came_on c events ≢ [] → IsServedOut (connection_of c service)
+  pub served : is_lost_in c events ≡ false → came_on c events ≢ [] → IsServedOut (connection_of c service) end
 
 -- in every run from the beginning, each connection converses plainly
 abbrev pub EachConnectionConverses : Type 0

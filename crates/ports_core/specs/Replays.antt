@@ -1,5 +1,5 @@
 -- What a replay gives.
-use Rattle.std.specs.Prelude.{◌≡◌, ℕ, ◌<◌, false, List, length, take}
+use Rattle.std.specs.Prelude.{◌≡◌, ℕ, ◌<◌, true, false, List, length, take}
 use Rattle.ports_core.specs.declared.event.Event.{Event}
 use Rattle.ports_core.specs.declared.history.ReplayFault.{ReplayFault}
 use Rattle.ports_core.specs.declared.history.ReplayFault.TheVariants.{NotAllowed, New, Memory}
@@ -33,11 +33,11 @@ StopsAt config events index steps service =
     × ConversesOnEach config (take index events) steps service × Stops events index service
 
 -- Why a run ends early. An event may not happen, and the transcript is that of the events before it. Or the
--- service can't begin, since its config isn't fit, its store failed, or memory ran out. Or there is no
--- memory for the transcript.
+-- service can't begin, since its config isn't fit. Or the config is fit, and its store failed, or memory ran
+-- out for the service or for the transcript.
 abbrev pub EndsEarly : {W : Type 0} → Config → List Event → ReplayFault W → Type 0
 EndsEarly config events (NotAllowed index done) = StopsAt config events index done.steps.items done.service
 EndsEarly config events (New new.Config) = is_fit config ≡ false
-EndsEarly config events (New new.Memory) = Unit {0}
-EndsEarly config events (New new.Store) = Unit {0}
-EndsEarly config events Memory = Unit {0}
+EndsEarly config events (New new.Memory) = is_fit config ≡ true
+EndsEarly config events (New new.Store) = is_fit config ≡ true
+EndsEarly config events Memory = is_fit config ≡ true

@@ -81,7 +81,8 @@ impl<K: Tenants, T: Drop> From<AllocFailed<T>> for ReplayFault<K> {
 /// and nothing more is written.
 ///
 /// The result is the transcript. The error is `NotAllowed` at the first event that isn't allowed, `New` if
-/// the service can't begin, and `Memory` if there is none for the transcript.
+/// the service can't begin, and `Memory` if there is none for the transcript. If the config isn't fit, the
+/// error is that of the service, `Config`.
 pub fn replay<K: Tenants>(
     alloc: Global,
     config: Config,

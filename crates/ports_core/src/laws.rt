@@ -41,8 +41,9 @@ pub fn each_connection_converses()
     ensures { EachConnectionConverses }
 {}
 
-/// The requests of a tenant that a run takes off its connections are one list. It is read off the events
-/// and what was told, even if a head may be refused in two ways or waited for.
+/// The requests of a tenant that events take off their connections are one list, from any connections on.
+/// It is read off these connections, the events and what was told, even if a head may be refused in two
+/// ways or waited for.
 pub fn one_list_is_taken()
     ensures { OneListIsTaken }
 {}

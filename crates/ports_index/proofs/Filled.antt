@@ -4,7 +4,7 @@ use Rattle.std.proofs.lemmas.Bool.{false≢true, or_right}
 use Rattle.std.proofs.lemmas.Slice.Eq.{bytes_eq-Decides}
 use Rattle.std.specs.List.{AllByRecursion}
 use Rattle.std.specs.Str.{bytes_eq}
-use Rattle.general_facts.specs.Bools.{or_true}
+use Rattle.std.proofs.Math.Bool.{or-true}
 use Rattle.text_parts.specs.Order.{in_order}
 use Rattle.text_parts.specs.Ordered.{among-in_order}
 use Rattle.mk_paths.specs.World.{World}
@@ -42,7 +42,7 @@ one_of-in_order : (path : List ℕ) (paths more : List (List ℕ)) → is_one_of
 one_of-in_order path paths more = among-in_order (λ one. bytes_eq one path) (paths ++ more) ∙ one_of-append path paths more
 
 absorbed : (a b c : Bool) → b ≡ (c || a) → (a || b) ≡ b
-absorbed true b c is = sym (is ∙ or_true c)
+absorbed true b c is = sym (is ∙ or-true c)
 absorbed false b c is = refl
 
 -- paths before a list that has them

@@ -5,3 +5,5 @@ pub mod Taking
 pub mod More
 pub mod Lookups
 pub mod Names
+pub mod SamePaths
+pub mod NamedPaths

@@ -9,15 +9,17 @@ use Rattle.port_deps.specs.Statuses.{FoundValue}
 use Rattle.port_deps.specs.Statuses as found
 use Rattle.port_deps.specs.Edges.{edge_of}
 use Rattle.port_deps.specs.Roots.{RootValue, RootEdgeValue}
-use Rattle.ports_index.specs.PathOutcomes.{PathOutcome, Absent, Faulty, Port, Lists, BadList, Other}
+use Rattle.ports_index.specs.PathOutcomes.{PathOutcome, Absent, Faulty, Port, BadPort, Lists, BadList, FlavoredList, Other}
 
--- the root at a path, by what the path leads to: a port, or a fault, that of SUBDIR too
+-- the root at a path, by what the path leads to: a port, or a fault, that of its record or of SUBDIR too
 abbrev pub state_of : PathOutcome → Option (Result PortValue FaultAt)
 state_of Absent = None
 state_of (Faulty fault) = Some (Err fault)
 state_of (Port port) = Some (Ok port)
+state_of (BadPort fault) = Some (Err fault)
 state_of (Lists words) = None
 state_of (BadList fault) = Some (Err fault)
+state_of FlavoredList = None
 state_of Other = None
 
 abbrev pub root_with : List ℕ → Option (Result PortValue FaultAt) → Option RootValue
@@ -62,8 +64,10 @@ abbrev pub found_of : PathOutcome → FoundValue
 found_of Absent = found.NotThere
 found_of (Faulty fault) = found.Faulted fault.kind
 found_of (Port port) = found.Port port
+found_of (BadPort fault) = found.Faulted fault.kind
 found_of (Lists words) = found.NotPort
 found_of (BadList fault) = found.NotPort
+found_of FlavoredList = found.NotPort
 found_of Other = found.NotPort
 
 abbrev pub found_at : (List ℕ → PathOutcome) → Option (List ℕ) → FoundValue

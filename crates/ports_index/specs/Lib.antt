@@ -1,5 +1,7 @@
 pub mod Keeping
 pub mod PathOutcomes
+pub mod PathQuestions
+pub mod PathLaws
 pub mod Naming
 pub mod Depending
 pub mod Index

@@ -5,7 +5,8 @@ use Rattle.ports_index.specs.PathOutcomes.{PathOutcome}
 use Rattle.ports_index.specs.PathOutcomes as seen
 use Rattle.ports_index.specs.Depending.{RootItemValue}
 use Rattle.ports_index.specs.declared.evaluating.Row.{Row}
-use Rattle.ports_index.specs.declared.evaluating.Row.TheVariants.{Absent, Faulty, Port, Lists, BadList, Other}
+use Rattle.ports_index.specs.declared.evaluating.Row.TheVariants.{Absent, Faulty, Port, BadPort, Lists, BadList, FlavoredList, Other}
+use Rattle.ports_index.specs.declared.evaluating.Finding.{Finding}
 use Rattle.ports_index.specs.declared.keeping.MemoryRows.{MemoryRows}
 use Rattle.ports_index.specs.declared.depending.RootItem.{RootItem}
 
@@ -14,9 +15,15 @@ abbrev pub row_seen : Row → PathOutcome
 row_seen Absent = seen.Absent
 row_seen (Faulty fault) = seen.Faulty fault
 row_seen (Port port) = seen.Port port
+row_seen (BadPort fault) = seen.BadPort fault
 row_seen (Lists words) = seen.Lists (map string_bytes words.items)
 row_seen (BadList fault) = seen.BadList fault
+row_seen FlavoredList = seen.FlavoredList
 row_seen Other = seen.Other
+
+-- a finding
+abbrev pub finding_seen : Finding → seen.Finding
+finding_seen found = record { outcome = row_seen found.row; cost = found.cost }
 
 -- what rows in memory hold
 abbrev pub entries_in : MemoryRows → List ℕ → Option PathOutcome

@@ -134,8 +134,8 @@ fn found_as(row: Option<&Row>) -> Found<'_>
 {
     match row {
         Some(Row::Port(port)) => Found::Port(port),
-        Some(Row::Faulty(fault)) => Found::Faulted(fault.kind()),
-        Some(Row::Lists(_) | Row::BadList(_) | Row::Other) => Found::NotPort,
+        Some(Row::Faulty(fault) | Row::BadPort(fault)) => Found::Faulted(fault.kind()),
+        Some(Row::Lists(_) | Row::BadList(_) | Row::FlavoredList | Row::Other) => Found::NotPort,
         Some(Row::Absent) | None => Found::NotThere,
     }
 }
@@ -181,7 +181,7 @@ fn state_of(row: Option<Row>) -> Option<Result<PortRecord, Fault>>
 {
     match row {
         Some(Row::Port(port)) => Some(Ok(port)),
-        Some(Row::Faulty(fault) | Row::BadList(fault)) => Some(Err(fault)),
-        Some(Row::Absent | Row::Lists(_) | Row::Other) | None => None,
+        Some(Row::Faulty(fault) | Row::BadPort(fault) | Row::BadList(fault)) => Some(Err(fault)),
+        Some(Row::Absent | Row::Lists(_) | Row::FlavoredList | Row::Other) | None => None,
     }
 }

@@ -1,14 +1,16 @@
 //! What a path of a ports tree leads to.
-ghost use Rattle.mk_paths.specs.FilesView.{world_of};
-ghost use Rattle.std.specs.Prelude.{◌≡◌, IfOk, codes};
+ghost use Rattle.mk_paths.specs.FilesView.{world_of, noted};
+ghost use Rattle.std.specs.Prelude.{◌≡◌, IfOk, OnOk, codes};
 ghost use Rattle.std.specs.Result.{result_err};
 ghost use Rattle.mk_eval.specs.Meaning.{means, value_of};
+ghost use Rattle.mk_eval.specs.Sharing.{questions_of};
 ghost use Rattle.port_rules.specs.Records.{record_of};
 ghost use Rattle.mk_eval.specs.Views.{flavors_in};
 ghost use Rattle.mk_paths.specs.Place.{place};
 ghost use Rattle.ports_index.specs.Keeping.{Keeps};
 ghost use Rattle.ports_index.specs.PathOutcomes as outcomes;
-ghost use Rattle.ports_index.specs.Seen.{row_seen};
+ghost use Rattle.ports_index.specs.PathQuestions as asked;
+ghost use Rattle.ports_index.specs.Seen.{finding_seen};
 
 use mk_base::{Fault, PureStop, Stop};
 use mk_eval::{Evaluated, Kind, evaluate, value};
@@ -23,124 +25,194 @@ use std::alloc::{AllocError, Global};
 pub enum Row {
     /// There is no such makefile.
     Absent,
-    /// The makefile's evaluation, or the record of its port, has this fault.
+    /// The makefile's evaluation has this fault.
     Faulty(Fault),
     /// This port.
     Port(PortRecord),
+    /// A port whose record has this fault.
+    BadPort(Fault),
     /// A list of ports' directories: the words of SUBDIR.
     Lists(Vec<String>),
     /// A list of ports' directories whose SUBDIR has this fault.
     BadList(Fault),
-    /// Neither a port nor a list; or a list of directories, evaluated with flavors.
+    /// A list of ports' directories that was evaluated with flavors, and so lists nothing.
+    FlavoredList,
+    /// Neither a port nor a list.
     Other,
+}
+
+/// What a path leads to, and what it cost to learn that.
+#[derive(Debug, Drop)]
+pub struct Finding {
+    /// What the path leads to.
+    pub row: Row,
+    /// The units spent: those of the evaluation, and then of the record, or of SUBDIR.
+    pub cost: u64,
 }
 
 /// What a path leads to in these files under these settings. The path is in its canonical form, without a
 /// subpackage; `.` is the trees' own directory.
 ///
 /// The makefile that the path names is evaluated with the flavors of the path. If the text is no path, it
-/// leads to nothing: `Row::Absent`. It fails if the files fail, or if memory runs out.
-#[tactic(auto, unfolding(crate::specs::PathOutcomes::outcome_at))]
+/// leads to nothing: `Row::Absent`. The files are asked for the place of the directory, tree by tree up to
+/// the first that has its makefile, and then what the evaluation asks.
+///
+/// It fails if the files fail, or if memory runs out.
+#[tactic(auto, unfolding(crate::specs::PathOutcomes::finding_at, crate::specs::PathQuestions::questions_at))]
 pub fn evaluate_path<F: Files>(
     alloc: Global,
     files: &mut F,
     settings: &Settings,
     path: &str,
-) -> Result<Row, FilesFault>
-    ensures row { IfOk result (λ row. row_seen row
-        ≡ outcomes.outcome_at (world_of (F.view files.old) settings.now) path.now) }
+) -> Result<Finding, FilesFault>
+    ensures finding { IfOk result (λ found. finding_seen found
+        ≡ outcomes.finding_at (world_of (F.view files.old) settings.now) path.now) }
+    ensures asks { OnOk result (F.view files.new ≡ noted (F.view files.old)
+        (asked.questions_at (world_of (F.view files.old) settings.now) path.now)) }
     ensures keeps { Keeps (result_err result) (F.view files.old) (F.view files.new) }
 {
     if path == "." {
-        return row_in(alloc, files, settings, path, None);
+        return finding_in(alloc, files, settings, path, None);
     }
     match PkgPath::read_if_one(alloc, path)? {
-        Some(path) => row_in(alloc, files, settings, path.directory(), path.flavors()),
-        None => Ok(Row::Absent),
+        Some(path) => finding_in(alloc, files, settings, path.directory(), path.flavors()),
+        None => Ok(Finding::nothing()),
+    }
+}
+
+impl Finding {
+    // There is no makefile, and that cost nothing.
+    fn nothing() -> Finding
+        ensures { finding_seen result ≡ outcomes.nothing_found }
+    {
+        Finding {
+            row: Row::Absent,
+            cost: 0,
+        }
     }
 }
 
 // What a directory leads to, evaluated with these flavors or with none given.
-fn row_in<F: Files>(
+fn finding_in<F: Files>(
     alloc: Global,
     files: &mut F,
     settings: &Settings,
     directory: &str,
     flavors: Option<&[String]>,
-) -> Result<Row, FilesFault>
-    ensures row { IfOk result (λ row. row_seen row
-        ≡ outcomes.outcome_in (world_of (F.view files.old) settings.now) directory.now
+) -> Result<Finding, FilesFault>
+    ensures finding { IfOk result (λ found. finding_seen found
+        ≡ outcomes.finding_in (world_of (F.view files.old) settings.now) directory.now
         (flavors_in flavors.entry)) }
+    ensures asks { OnOk result (F.view files.new ≡ noted (F.view files.old)
+        (asked.questions_in (world_of (F.view files.old) settings.now) directory.now
+        (flavors_in flavors.entry))) }
     ensures keeps { Keeps (result_err result) (F.view files.old) (F.view files.new) }
 {
     match find(alloc, files, &settings.path, directory)? {
-        Some(makefile) => row_of(alloc, files, settings, &makefile, flavors),
-        None => Ok(Row::Absent),
+        Some(makefile) => finding_of(alloc, files, settings, &makefile, flavors),
+        None => Ok(Finding::nothing()),
     }
 }
 
 // What a makefile describes.
-fn row_of<F: Files>(
+fn finding_of<F: Files>(
     alloc: Global,
     files: &mut F,
     settings: &Settings,
     makefile: &Name,
     flavors: Option<&[String]>,
-) -> Result<Row, FilesFault>
-    ensures row { IfOk result (λ row. row_seen row
-        ≡ outcomes.outcome_of_evaluation makefile.now (flavors_in flavors.entry)
+) -> Result<Finding, FilesFault>
+    ensures finding { IfOk result (λ found. finding_seen found
+        ≡ outcomes.finding_of_evaluation makefile.now (flavors_in flavors.entry)
         (means (world_of (F.view files.old) settings.now) makefile.now (flavors_in flavors.entry))) }
+    ensures asks { OnOk result (F.view files.new ≡ noted (F.view files.old)
+        (questions_of (F.view files.old).files settings.now makefile.now (flavors_in flavors.entry))) }
     ensures keeps { Keeps (result_err result) (F.view files.old) (F.view files.new) }
 {
     match evaluate(alloc, files, settings, makefile, flavors) {
-        Ok(evaluated) => Ok(row_after(alloc, &evaluated, makefile, flavors)?),
-        Err(Stop::Fault(failed)) => Ok(Row::Faulty(failed.fault)),
+        Ok(evaluated) => Ok(finding_after(alloc, &evaluated, makefile, flavors)?),
+        Err(Stop::Fault(failed)) => Ok(Finding {
+            row: Row::Faulty(failed.fault),
+            cost: failed.cost,
+        }),
         Err(Stop::Store) => Err(FilesFault::Store),
         Err(Stop::Memory) => Err(FilesFault::Memory),
     }
 }
 
 // What an evaluated makefile describes.
-fn row_after(
+fn finding_after(
     alloc: Global,
     evaluated: &Evaluated,
     makefile: &Name,
     flavors: Option<&[String]>,
-) -> Result<Row, AllocError>
-    ensures { IfOk result (λ row. row_seen row
-        ≡ outcomes.outcome_after makefile.now (flavors_in flavors.entry) evaluated.now) }
+) -> Result<Finding, AllocError>
+    ensures { IfOk result (λ found. finding_seen found
+        ≡ outcomes.finding_after makefile.now (flavors_in flavors.entry) evaluated.now) }
 {
     match evaluated.kind {
-        Kind::Port => port_row(alloc, evaluated, makefile),
+        Kind::Port => port_finding(alloc, evaluated, makefile),
         Kind::List => match flavors {
-            Some(_names) => Ok(Row::Other),
-            None => list_row(alloc, evaluated, makefile),
+            Some(_names) => Ok(Finding {
+                row: Row::FlavoredList,
+                cost: evaluated.cost,
+            }),
+            None => list_finding(alloc, evaluated, makefile),
         },
-        Kind::Other => Ok(Row::Other),
+        Kind::Other => Ok(Finding {
+            row: Row::Other,
+            cost: evaluated.cost,
+        }),
     }
 }
 
 // A port, or the fault of its record.
-fn port_row(alloc: Global, evaluated: &Evaluated, makefile: &Name) -> Result<Row, AllocError>
-    ensures { IfOk result (λ row. row_seen row
-        ≡ outcomes.port_outcome (record_of evaluated.now.env makefile.now)) }
+fn port_finding(
+    alloc: Global,
+    evaluated: &Evaluated,
+    makefile: &Name,
+) -> Result<Finding, AllocError>
+    ensures { IfOk result (λ found. finding_seen found
+        ≡ outcomes.port_finding evaluated.now.cost (record_of evaluated.now.env makefile.now)) }
 {
     match record(alloc, evaluated, makefile) {
-        Ok(recorded) => Ok(Row::Port(recorded.port)),
-        Err(PureStop::Fault(failed)) => Ok(Row::Faulty(failed.fault)),
+        Ok(recorded) => Ok(Finding {
+            row: Row::Port(recorded.port),
+            cost: evaluated.cost.saturating_add(recorded.cost),
+        }),
+        Err(PureStop::Fault(failed)) => Ok(Finding {
+            row: Row::BadPort(failed.fault),
+            cost: evaluated.cost.saturating_add(failed.cost),
+        }),
         Err(PureStop::Memory) => Err(AllocError),
     }
 }
 
 // A list of directories, or the fault of its SUBDIR.
-fn list_row(alloc: Global, evaluated: &Evaluated, makefile: &Name) -> Result<Row, AllocError>
-    ensures { IfOk result (λ row. row_seen row
-        ≡ outcomes.list_outcome (value_of evaluated.now.env makefile.now (codes "SUBDIR"))) }
+fn list_finding(
+    alloc: Global,
+    evaluated: &Evaluated,
+    makefile: &Name,
+) -> Result<Finding, AllocError>
+    ensures { IfOk result (λ found. finding_seen found
+        ≡ outcomes.list_finding evaluated.now.cost
+        (value_of evaluated.now.env makefile.now (codes "SUBDIR"))) }
 {
     match value(alloc, evaluated, makefile, "SUBDIR") {
-        Ok(Some(found)) => Ok(Row::Lists(words_in(alloc, found.text())?)),
-        Ok(None) => Ok(Row::Lists(Vec::new(alloc))),
-        Err(PureStop::Fault(failed)) => Ok(Row::BadList(failed.fault)),
+        Ok(found) => {
+            let (words, more) = match found {
+                Some(found) => (words_in(alloc, found.text())?, found.cost()),
+                None => (Vec::new(alloc), 0),
+            };
+            Ok(Finding {
+                row: Row::Lists(words),
+                cost: evaluated.cost.saturating_add(more),
+            })
+        }
+        Err(PureStop::Fault(failed)) => Ok(Finding {
+            row: Row::BadList(failed.fault),
+            cost: evaluated.cost.saturating_add(failed.cost),
+        }),
         Err(PureStop::Memory) => Err(AllocError),
     }
 }

@@ -53,8 +53,8 @@ pub(crate) fn fill_one<F: Files, R: Rows>(
     if rows.get(path).is_some() {
         return Ok(());
     }
-    let row = evaluate_path(alloc, files, settings, path)?;
+    let found = evaluate_path(alloc, files, settings, path)?;
     let key = String::from_str(alloc, path)?;
-    rows.put(key, row)?;
+    rows.put(key, found.row)?;
     Ok(())
 }

@@ -7,9 +7,11 @@ mod evaluating;
 mod filling;
 mod indexing;
 mod keeping;
+mod laws;
 mod naming;
 
-pub use evaluating::{Row, evaluate_path};
+pub use evaluating::{Finding, Row, evaluate_path};
 pub use filling::fill;
 pub use indexing::{Index, index_files, index_roots};
 pub use keeping::{MemoryRows, Rows};
+pub use laws::path_is_the_same_where_answered;

@@ -1,7 +1,8 @@
 -- What the body of a request sets as the search path, as it is UTF-8 or not.
 use Rattle.std.proofs.Common.{◌≡◌, ℕ, Bool, true, false, List, refl, sym, ap, ◌∙◌, if◌then◌else◌}
 use Rattle.std.specs.Str.{is_utf8, IsUtf8}
-use Rattle.std.proofs.lemmas.Str.{is_utf8-from_IsUtf8, IsUtf8-from_is_utf8}
+use Rattle.std.proofs.lemmas.Str.{is_utf8-from_IsUtf8}
+use Rattle.general_facts.specs.Texts.{is_utf8-not}
 use Rattle.mk_paths.specs.SearchPath.{search_path}
 use Rattle.ports_plain.specs.Trimming.{trimmed}
 use Rattle.ports_plain.specs.Plain.{set_path, set_text, set_trees, reply_alone}
@@ -14,9 +15,5 @@ by_test body text b is test = ap set_text (sym is) ∙ ap (λ good. if good then
 pub good_body : (body text : List ℕ) → text ≡ trimmed body → IsUtf8 text → set_path body ≡ set_trees text (search_path text)
 good_body body text is good = by_test body text true is (is_utf8-from_IsUtf8 text good)
 
-refuted : (text : List ℕ) (b : Bool) → is_utf8 text ≡ b → ¬ (IsUtf8 text) → is_utf8 text ≡ false
-refuted text true is bad = absurd (bad (IsUtf8-from_is_utf8 text is))
-refuted text false is bad = is
-
 pub bad_body : (body text : List ℕ) → text ≡ trimmed body → ¬ (IsUtf8 text) → set_path body ≡ reply_alone bad_path
-bad_body body text is bad = by_test body text false is (refuted text (is_utf8 text) refl bad)
+bad_body body text is bad = by_test body text false is (is_utf8-not text bad)

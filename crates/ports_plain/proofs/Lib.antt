@@ -5,5 +5,4 @@ pub mod NeverFails
 mod RouteTable
 mod TargetLemmas
 mod TrimmingLemmas
-mod FilterSteps
 mod ListFloats

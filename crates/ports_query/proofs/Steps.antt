@@ -5,14 +5,6 @@ use Rattle.std.proofs.lemmas.List.Elements.{filter-append}
 use Rattle.std.specs.List.{filter, filter_map, cons_option}
 use Rattle.std.specs.Option.{option_to_list}
 
--- what one element more gives
-gives_one : {X Y : Type 0} (h : X → Option Y) (x : X) → filter_map h (x ∷ []) ≡ option_to_list (h x)
-gives_one h x = by (h x)
-  where
-    by : {Y : Type 0} (y : Option Y) → filter_map (λ y. y) (y ∷ []) ≡ option_to_list y
-    by None = refl
-    by (Some y) = refl
-
 -- what is given of mapped elements
 pub filter_map-over : {X Y Z : Type 0} (h : Y → Option Z) (f : X → Y) (xs : List X) → filter_map h (map f xs) ≡ filter_map (λ x. h (f x)) xs
 filter_map-over h f [] = refl

@@ -1,6 +1,7 @@
 -- What the tables' definitions make.
 use Rattle.std.proofs.Common.{◌≡◌, ◌⊎◌, inl, inr, ℕ, false, cond, List, [], None, Result, Ok, Err, refl, sym, ap, subst, ◌∙◌}
 use Rattle.std.specs.FinMap as finite
+use Rattle.general_facts.specs.Options.{same_Ok}
 use Rattle.sqlite_value.specs.Order.{Row}
 use Rattle.sqlite_schema.specs.declared.schema.Schema.{Schema}
 use Rattle.sqlite_schema.specs.declared.schema.Table.{Table}
@@ -16,14 +17,8 @@ use Rattle.tenant_store.specs.Holdings.{nothing, bytes_of}
 use Rattle.std.proofs.Common.{map}
 use Rattle.tenant_store.specs.Tables.{IsCounted, file_of, account_of, create_file, create_account, no_schema, file_schema, file_table, account_table, AreFilled, IsKept, held_in}
 use Rattle.tenant_store.proofs.Worlds.{bytes_of-empty}
+use Rattle.tenant_store.proofs.Statements.{went_on}
 use Rattle.tenant_store.proofs.Fixed.{create_file_text, create_account_text}
-
-went : {B E R : Type 0} {b : B} {Stops : E → Type 0} → ((stop : E) × Stops stop × (Ok b ≡ Err stop)) ⊎ R → R
-went (inl stopped) = absurd (let e = stopped.2 in cc)
-went (inr on) = on
-
-same_value : {B E : Type 0} {a b : B} → ◌≡◌ {A = Result B E} (Ok a) (Ok b) → a ≡ b
-same_value e = cc
 
 -- CREATE TABLE adds an empty table, and is committed
 pub record Creates (old new : State) (schema : Schema) (table : Table) : Type 0 where
@@ -38,14 +33,14 @@ pub creates : (sql : List ℕ) (old new : State) (schema : Schema) (table : Tabl
     → Creates old new schema table
 creates sql old new schema table has auto command text defined plain bare count h =
     let w = subst (λ t. Writes old new None CreateTable t [] count) text (runs_as sql [] old new schema has CreateTable command plain count h) in
-    let all = went w.changed in
-    let first = went all.1 in
+    let all = went_on w.changed in
+    let first = went_on all.1 in
     let made = first.1 in
     let both : Ok made.table ≡ Ok table = sym made.defined ∙ defined in
     let same : made.table ≡ table = cc in
     let schema_is : first.0.schema ≡ created schema table = made.is ∙ ap (λ s. created s made.table) has ∙ ap (created schema) same in
     let plainly : lacks_sequence first.0.schema ≡ false = ap lacks_sequence schema_is ∙ bare in
-    let now : new.now ≡ first.0 = ap (λ (p : Tally × Database). p.1) (same_value all.2) ∙ same_value (rw plainly at first.2) in
+    let now : new.now ≡ first.0 = ap (λ (p : Tally × Database). p.1) (same_Ok all.2) ∙ same_Ok (rw plainly at first.2) in
     record {
       schema_is = ap (λ (d : Database). d.schema) now ∙ schema_is;
       empty = ap (λ (d : Database). d.trees (next_tree schema)) now ∙ subst (λ s. first.0.trees (next_tree s) ≡ []) has made.empty;

@@ -10,7 +10,8 @@ use Rattle.std.specs.List.{AllByRecursion}
 use Rattle.std.specs.List.Sorted.{IsStrictlySortedBy}
 use Rattle.std.proofs.lemmas.Bool.{cases_Bool, and_parts}
 use Rattle.std.proofs.lemmas.Cmp.{tied_itself, nat_list_cmp_total}
-use Rattle.general_facts.specs.Bools.{or_true, Less_from_is_lt}
+use Rattle.std.proofs.Math.Bool.{or-true}
+use Rattle.general_facts.specs.Bools.{Less_from_is_lt, T-left, T-right}
 use Rattle.sqlite_value.specs.declared.value.Value.TheVariants.{Int}
 use Rattle.sqlite_value.specs.Order.{Row}
 use Rattle.sqlite_sql.specs.Term.{col}
@@ -50,7 +51,7 @@ has_among q (y ∷ rows) x (inl here) same =
     ap (λ n. is_eq (slice_cmp nat_cmp q n) || among q (map name_in rows)) (sym (same ∙ ap name_in here))
     ∙ ap (λ b. b || among q (map name_in rows)) (same_itself q)
 has_among q (y ∷ rows) x (inr later) same =
-    ap (λ b. is_eq (slice_cmp nat_cmp q (name_in y)) || b) (has_among q rows x later same) ∙ or_true (is_eq (slice_cmp nat_cmp q (name_in y)))
+    ap (λ b. is_eq (slice_cmp nat_cmp q (name_in y)) || b) (has_among q rows x later same) ∙ or-true (is_eq (slice_cmp nat_cmp q (name_in y)))
 
 -- ---- what the query shows
 
@@ -105,25 +106,17 @@ names_end tenant old new (Err e) formed at live ok err =
 
 -- ---- the keys of a map
 
-and_left : (a b : Bool) → T (a && b) → T a
-and_left true b h = tt
-and_left false b h = absurd h
-
-and_right : (a b : Bool) → T (a && b) → T b
-and_right true b h = h
-and_right false b h = absurd h
-
 abbrev Entry : Type 0
 Entry = List ℕ × List ℕ
 
 above_all : (name : List ℕ) (es : List Entry) → T (below_all by_bytes name es) → AllByRecursion (λ other. by_bytes name other ≡ Less) (map (λ (e : Entry). e.0) es)
 above_all name [] h = tt
-above_all name (e ∷ es) h = (Less_from_is_lt _ (and_left _ _ h), above_all name es (and_right _ _ h))
+above_all name (e ∷ es) h = (Less_from_is_lt _ (T-left _ _ h), above_all name es (T-right _ _ h))
 
 keys_rise : (es : List Entry) → T (is_sorted by_bytes es) → IsStrictlySortedBy by_bytes (map (λ (e : Entry). e.0) es)
 unfolding IsStrictlySortedBy
 keys_rise [] h = tt
-keys_rise (e ∷ es) h = (above_all e.0 es (and_left _ _ h), keys_rise es (and_right _ _ h))
+keys_rise (e ∷ es) h = (above_all e.0 es (T-left _ _ h), keys_rise es (T-right _ _ h))
 
 is_some-cond : (b : Bool) (v : List ℕ) (o : Option (List ℕ)) → is_some (cond b (Some v) o) ≡ (b || is_some o)
 is_some-cond true v o = refl

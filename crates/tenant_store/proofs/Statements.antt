@@ -4,6 +4,7 @@ use Rattle.std.specs.List.{AllByRecursion, list_all}
 use Rattle.std.specs.Ordering.{int_cmp}
 use Rattle.std.specs.Prelude.{IsPermutation, if◌then◌else◌, MatchBool}
 use Rattle.std.proofs.lemmas.List.Sorted.{IsPermutation-sym}
+use Rattle.general_facts.specs.Options.{same_Ok}
 use Rattle.sqlite_trees.proofs.ListLemmas.{all-permutation}
 use Rattle.sqlite_value.specs.declared.value.Value.TheVariants.{Null, Int}
 use Rattle.sqlite_value.specs.declared.keys.Key.{Key}
@@ -158,12 +159,9 @@ pub record Changes (schema : Schema) (old new : Database) (tree : ℕ) (rows : L
   pub others : AllByRecursion (λ t. t.tree ≢ tree → new.trees t.tree ≡ old.trees t.tree) schema.tables
 
 -- a part that gave a value did not stop on the way
-went : {B E R : Type 0} {b : B} {Stops : E → Type 0} → ((stop : E) × Stops stop × (Ok b ≡ Err stop)) ⊎ R → R
-went (inl stopped) = absurd (let e = stopped.2 in cc)
-went (inr on) = on
-
-same_value : {B E : Type 0} {a b : B} → ◌≡◌ {A = Result B E} (Ok a) (Ok b) → a ≡ b
-same_value e = cc
+pub went_on : {B E R : Type 0} {b : B} {Stops : E → Type 0} → ((stop : E) × Stops stop × (Ok b ≡ Err stop)) ⊎ R → R
+went_on (inl stopped) = absurd (let e = stopped.2 in cc)
+went_on (inr on) = on
 
 -- no foreign key acts on the rows of a table
 abbrev pub IsFree : Schema → ℕ → Type 0
@@ -185,10 +183,10 @@ module _ (sql : List ℕ) (params : Row) (old new : State) (schema : Schema) (at
       let here = subst (λ s. Does old.step_limit (mode_of old) params (record old.now { schema = s }) text None command (Ok (tally, new.now))) has did in
       let placed = subst (λ P. P) (is (Ok (tally, new.now))) here in
       let ran = subst (λ o. AtPlace (λ t. OnRows (record { limit = old.step_limit; keys = Enforced; schema = schema; table = t; params = params }) (mode_of old) None command old.now.trees) o (Ok (tally, new.now))) listed placed in
-      let done = went ran in
-      let tested = went done.2 in
-      let told = went tested.2 in
-      (done.0, done.1, ap (λ (p : Tally × Database). p.1) (same_value told.2))
+      let done = went_on ran in
+      let tested = went_on done.2 in
+      let told = went_on tested.2 in
+      (done.0, done.1, ap (λ (p : Tally × Database). p.1) (same_Ok told.2))
 
   -- the database after an edit of the table
   made : (edit : Edit) (next : Trees) (rows : List Row) → new.now ≡ record { schema = schema; trees = next } → edit.table ≡ table → Applies schema Enforced old.now.trees edit next → edited old.now.trees edit ≡ rows
@@ -209,12 +207,12 @@ module _ (sql : List ℕ) (params : Row) (old new : State) (schema : Schema) (at
       let db = old.now.trees in
       let w = runs_as sql params old new schema has (Delete at q) command plain count h in
       let it = on_rows (Delete at q) (statement_of sql (understood schema sql)) w.tally (λ _. refl) w.changed in
-      let queried = went it.1 in
+      let queried = went_on it.1 in
       let rows = queried.0 in
-      let edited = went queried.2 in
+      let edited = went_on queried.2 in
       let edit = edit_of db table (ids_of rows) Given 0 [] in
       let applies = applied edit edited.0 refl edited.1 in
-      let trees : it.0.trees ≡ edited.0 = ap (λ (w : Written). w.trees) (same_value edited.2) in
+      let trees : it.0.trees ≡ edited.0 = ap (λ (w : Written). w.trees) (same_Ok edited.2) in
       let found = subst (λ these. AreSeen tests (col 1 0 ∷ []) params these rows) whole (answer_seen table.tree tests (col 1 0 ∷ []) [] (overlay db []) params rows (queried.1.answer Null)) in
       let left = without_picked (passes tests params) (db table.tree) (ids_of rows) are (ids_are tests (col 1 0 ∷ []) params (db table.tree) rows (λ _. refl) found) in
       made edit edited.0 (filter (λ r. not (passes tests params r)) (db table.tree)) (it.2 ∙ ap (λ trees. record { schema = schema; trees = trees }) trees) refl applies left
@@ -230,12 +228,12 @@ module _ (sql : List ℕ) (params : Row) (old new : State) (schema : Schema) (at
       let db = old.now.trees in
       let w = runs_as sql params old new schema has (Update at q) command plain count h in
       let it = on_rows (Update at q) (statement_of sql (understood schema sql)) w.tally (λ _. refl) w.changed in
-      let queried = went it.1 in
+      let queried = went_on it.1 in
       let rows = queried.0 in
-      let edited = went queried.2 in
+      let edited = went_on queried.2 in
       let edit = edit_of db table (ids_of rows) Given 1 rows in
       let applies = applied edit edited.0 refl edited.1 in
-      let trees : it.0.trees ≡ edited.0 = ap (λ (w : Written). w.trees) (same_value edited.2) in
+      let trees : it.0.trees ≡ edited.0 = ap (λ (w : Written). w.trees) (same_Ok edited.2) in
       let found = subst (λ these. AreSeen tests shown params these rows) whole (answer_seen table.tree tests shown [] (overlay db []) params rows (queried.1.answer Null)) in
       let cast = λ (s : Row). cast_row table (drop 1 s) in
       let news : edit.news ≡ map cast rows = given (without_all (db table.tree) (ids_of rows)) (map cast rows) in
@@ -257,16 +255,16 @@ module _ (sql : List ℕ) (params : Row) (old new : State) (schema : Schema) (at
       let db = old.now.trees in
       let w = runs_as sql params old new schema has (Insert at from) command plain count h in
       let it = on_rows (Insert at from) (statement_of sql (understood schema sql)) w.tally (λ _. refl) w.changed in
-      let sourced = went it.1 in
+      let sourced = went_on it.1 in
       let rows : sourced.0 ≡ source ∷ [] = sourced.1.1 ∙ sources in
-      let counter = went sourced.2 in
-      let edited = went counter.2 in
-      let counted = went edited.2 in
+      let counter = went_on sourced.2 in
+      let edited = went_on counter.2 in
+      let counted = went_on edited.2 in
       let edit = edit_of db table [] (rowids_for table (count_of counter.0)) 0 sourced.0 in
       let applies = applied edit edited.0 refl edited.1 in
       let top = fold higher (count_of counter.0) edit.news in
-      let still : counted.0 ≡ edited.0 = same_value (subst (λ b. MatchBool (if b then is_lt (int_cmp (count_of counter.0) top) else false) (CountsIn task edited.0 counter.0 top (sequence schema) (Ok counted.0)) (◌≡◌ {A = Result Trees (Option Error)} (Ok counted.0) (Ok edited.0))) uncounted counted.1) in
-      let trees : it.0.trees ≡ edited.0 = ap (λ (w : Written). w.trees) (same_value counted.2) ∙ still in
+      let still : counted.0 ≡ edited.0 = same_Ok (subst (λ b. MatchBool (if b then is_lt (int_cmp (count_of counter.0) top) else false) (CountsIn task edited.0 counter.0 top (sequence schema) (Ok counted.0)) (◌≡◌ {A = Result Trees (Option Error)} (Ok counted.0) (Ok edited.0))) uncounted counted.1) in
+      let trees : it.0.trees ≡ edited.0 = ap (λ (w : Written). w.trees) (same_Ok counted.2) ∙ still in
       let new_row = Int (next_rowid (db table.tree)) ∷ drop 1 (cast_row table source) in
       let news : edit.news ≡ new_row ∷ [] =
       ap (λ b. numbered (if b then Above (count_of counter.0) else Chosen) (db table.tree) (map (λ s. cast_row table (drop 0 s)) sourced.0)) uncounted

@@ -8,7 +8,7 @@ use Rattle.std.specs.FinMap.Entries as entries
 use Rattle.std.proofs.lemmas.Cmp.{tied_itself}
 use Rattle.std.proofs.lemmas.List.Sums.{sum_by-cons}
 use Rattle.std.proofs.lemmas.List.{nil_from_length}
-use Rattle.general_facts.specs.Bools.{Less_from_is_lt}
+use Rattle.general_facts.specs.Bools.{Less_from_is_lt, T-left, T-right}
 use Rattle.general_facts.specs.Maps.{same_map}
 use Rattle.mk_paths.specs.World.{FileMap}
 use Rattle.tenant_store.specs.Holdings.{bytes_of, files_with, bytes_with}
@@ -25,20 +25,12 @@ total es = sum_by length (map (λ (e : Entry). e.1) es)
 pub bytes_of-empty : bytes_of finite.empty ≡ 0
 bytes_of-empty = ap total (nil_from_length (finite.entries finite.empty) (sym (finite.len-entries finite.empty) ∙ finite.len-empty cmp (List ℕ)))
 
-and_left : (a b : Bool) → T (a && b) → T a
-and_left true b h = tt
-and_left false b h = absurd h
-
-and_right : (a b : Bool) → T (a && b) → T b
-and_right true b h = h
-and_right false b h = absurd h
-
 -- what is below all keys isn't found
 not_found : (k x : List ℕ) (es : List Entry) → cmp k x ≡ Less → T (entries.below_all cmp x es) → entries.find cmp k es ≡ None
 not_found k x [] low h = refl
 not_found k x (e ∷ es) low h =
-    let lower = nat_list_cmp_total.trans k x e.0 low (Less_from_is_lt _ (and_left _ _ h)) in
-    ap (λ o. cond (is_eq o) (Some e.1) (entries.find cmp k es)) lower ∙ not_found k x es low (and_right _ _ h)
+    let lower = nat_list_cmp_total.trans k x e.0 low (Less_from_is_lt _ (T-left _ _ h)) in
+    ap (λ o. cond (is_eq o) (Some e.1) (entries.find cmp k es)) lower ∙ not_found k x es low (T-right _ _ h)
 
 abbrev old_length : Option (List ℕ) → ℕ
 old_length found = unwrap_or (option_map length found) 0
@@ -49,12 +41,12 @@ total-cons e es = sum_by-cons length e.1 (map (λ (x : Entry). x.1) es)
 -- an entry that is put in adds its bytes, less those of the one that it replaces
 put_total : (k v : List ℕ) (es : List Entry) → T (entries.is_sorted cmp es) → total (entries.put cmp k v es) + old_length (entries.find cmp k es) ≡ total es + length v
 put_total k v [] h = omega (arith, total-cons (k, v) [])
-put_total k v (e ∷ es) h = go (cmp k e.0) refl (put_total k v es (and_right _ _ h))
+put_total k v (e ∷ es) h = go (cmp k e.0) refl (put_total k v es (T-right _ _ h))
   where
     go : (o : Ordering) → cmp k e.0 ≡ o → total (entries.put cmp k v es) + old_length (entries.find cmp k es) ≡ total es + length v
         → total (entries.by_order o ((k, v) ∷ e ∷ es) ((e.0, v) ∷ es) (e ∷ entries.put cmp k v es)) + old_length (cond (is_eq o) (Some e.1) (entries.find cmp k es)) ≡ total (e ∷ es) + length v
     go Less is more =
-        let none = not_found k e.0 es is (and_left _ _ h) in
+        let none = not_found k e.0 es is (T-left _ _ h) in
         let all : total ((k, v) ∷ e ∷ es) + 0 ≡ total (e ∷ es) + length v = omega (arith, total-cons (k, v) (e ∷ es)) in
         ap (λ o. total ((k, v) ∷ e ∷ es) + old_length o) none ∙ all
     go Equal is more =

@@ -4,23 +4,22 @@
 //! a list of its calls on top.
 #![tactic(auto)]
 
-mod bench;
-mod cases;
 mod loopback;
 mod quiet;
 mod served;
 mod service;
-mod stores;
 mod streams;
+mod subjects;
 mod trickle;
 
-use cases::Cases;
+use case_lines::Cases;
 use ports_host::words_given;
 use std::{fs, io};
+use subjects::Subjects;
 
 fn main(rt: HostRuntime) -> io::Result<()> {
     let words = words_given(&rt)?;
-    let mut cases = Cases::new(rt.alloc())?;
+    let mut cases = Cases::new(rt.alloc(), Subjects::new(rt.alloc(), &rt)?);
     if words.len() < 2 {
         let input = io::read_to_string(rt.alloc(), rt.reader())?;
         take_file(&rt, &mut cases, "standard input", input.as_str())?;
@@ -35,12 +34,17 @@ fn main(rt: HostRuntime) -> io::Result<()> {
 }
 
 /// Takes each line of a file, and prints what is wrong.
-fn take_file(rt: &HostRuntime, cases: &mut Cases, name: &str, input: &str) -> io::Result<()> {
+fn take_file(
+    rt: &HostRuntime,
+    cases: &mut Cases<Subjects<'_, HostRuntime>>,
+    name: &str,
+    input: &str,
+) -> io::Result<()> {
     cases.begin_file(name)?;
     for line in input.lines() {
-        tell(rt, cases.take(rt, line)?)?;
+        tell(rt, cases.take(line)?)?;
     }
-    tell(rt, cases.end_file(rt)?)
+    tell(rt, cases.end_file()?)
 }
 
 fn tell(rt: &HostRuntime, wrong: Option<String>) -> io::Result<()> {

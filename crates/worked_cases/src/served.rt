@@ -1,11 +1,11 @@
 //! The service over its store: requests in a row, each on a connection of its own.
 use crate::service::{StoredService, reply_answer};
-use crate::stores::{MOST_LIMITS, filled, stops_answer};
 use case_lines::{Answer, Trouble, as_number, as_text};
 use http::StatusCode;
 use ports_core::{Config, Event, Service};
 use ports_http::{Method, Reply};
 use std::alloc::Global;
+use store_cases::{MOST_LIMITS, filled, stops_answer};
 
 /// The keys of the tenants, by their numbers.
 const KEYS: [&str; 2] = ["alpha", "beta"];
@@ -57,12 +57,12 @@ pub fn answer(
     given: &[Vec<u8>],
 ) -> Result<Answer, Trouble> {
     match call {
-        "service GET" => asked_answer(alloc, service, Method::Get, given),
-        "service PUT" => asked_answer(alloc, service, Method::Put, given),
-        "service DELETE" => asked_answer(alloc, service, Method::Delete, given),
-        "service fill" => fill(alloc, service, given),
-        "service PUT stopped by" => stopped(alloc, service, Method::Put, given),
-        "service DELETE stopped by" => stopped(alloc, service, Method::Delete, given),
+        "GET" => asked_answer(alloc, service, Method::Get, given),
+        "PUT" => asked_answer(alloc, service, Method::Put, given),
+        "DELETE" => asked_answer(alloc, service, Method::Delete, given),
+        "fill" => fill(alloc, service, given),
+        "PUT stopped by" => stopped(alloc, service, Method::Put, given),
+        "DELETE stopped by" => stopped(alloc, service, Method::Delete, given),
         _ => Err(Trouble::NoCase),
     }
 }

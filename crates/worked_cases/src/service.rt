@@ -1,6 +1,6 @@
 //! The layers of the service: streams, replies, requests over a tenant's files, whole runs.
 use crate::quiet::QuietPorts;
-use case_lines::{Answer, Trouble, as_number, as_text};
+use case_lines::{Answer, Ran, Trouble, as_number, as_text};
 use http::StatusCode;
 use make_cases::World;
 use ports_core::{Config, Service, Transcript, replay};
@@ -151,21 +151,6 @@ pub fn reply_answer(alloc: Global, reply: &Reply) -> Answer {
     answer.word(reply.status.canonical_reason().unwrap_or(""));
     answer.text(reply.body());
     answer
-}
-
-/// What a run of the program gave.
-#[derive(Drop)]
-pub struct Ran {
-    pub status: u8,
-    pub printed: Vec<u8>,
-    pub said: Vec<u8>,
-}
-
-impl Ran {
-    /// Whether it ended with this status, printed just these bytes and said just those.
-    pub fn is(&self, status: u8, printed: &[u8], said: &[u8]) -> bool {
-        self.status == status && self.printed.as_slice() == printed && self.said.as_slice() == said
-    }
 }
 
 /// Runs the program on an input, with these words of its command line after its own name.

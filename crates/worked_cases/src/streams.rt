@@ -1,7 +1,7 @@
 //! Inputs and outputs that fail, and steps that no run can be made to take.
 use crate::quiet::QuietPorts;
-use crate::service::{Ran, config_of_one, status_answer};
-use case_lines::{Answer, FailingReader, FailingWriter, Trouble, as_number};
+use crate::service::{config_of_one, status_answer};
+use case_lines::{Answer, FailingReader, FailingWriter, Ran, Trouble, as_number};
 use ports_core::{Refused, Step, Tell, Told};
 use ports_http::Reply;
 use ports_program::{Serving, run_config, run_serving};

@@ -2,18 +2,15 @@
 use Rattle.std.proofs.Common.{◌≡◌, ◌∙◌, ap, sym, refl, ℕ, Bool, true, false, not, cond, ◌||◌, ◌&&◌, List, [], ◌∷◌, Some, None}
 use Rattle.std.specs.Borrow.{Bor}
 use Rattle.std.specs.List.{list_all, list_any, filter}
+use Rattle.general_facts.specs.Bools.{not-and}
 use Rattle.pkg_path.specs.Paths.{is_subpackage, is_flavor, flavors_of}
 use Rattle.text_parts.specs.Order.{in_order}
 use Rattle.text_parts.specs.Cuts.{now_all}
 use Rattle.pkg_path.proofs.elements.flavors_of.Goals as goal
 
-one_step : (a b : Bool) → (not a || not b) ≡ not (a && b)
-one_step true b = refl
-one_step false b = refl
-
 some_other : (choices : List (Bor (List ℕ))) → list_any (λ choice. not (is_subpackage choice)) (now_all choices) ≡ not (list_all (λ choice. is_subpackage choice.now) choices)
 some_other [] = refl
-some_other (choice ∷ choices) = ap (λ b. not (is_subpackage choice.now) || b) (some_other choices) ∙ one_step (is_subpackage choice.now) _
+some_other (choice ∷ choices) = ap (λ b. not (is_subpackage choice.now) || b) (some_other choices) ∙ not-and (is_subpackage choice.now) _
 
 by_all : (choices : List (Bor (List ℕ))) (all : Bool) → list_all (λ choice. is_subpackage choice.now) choices ≡ all
     → flavors_of (now_all choices) ≡ cond all None (Some (in_order (filter is_flavor (now_all choices))))

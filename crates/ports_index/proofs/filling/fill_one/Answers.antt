@@ -1,7 +1,7 @@
 -- The path is given what it leads to.
 use Rattle.std.proofs.Common.{◌∙◌, sym, ap, string_bytes}
 use Rattle.mk_paths.specs.World.{World}
-use Rattle.ports_index.specs.PathOutcomes.{outcome_at}
+use Rattle.ports_index.specs.PathOutcomes.{Finding, outcome_at}
 use Rattle.ports_index.specs.Seen.{row_seen}
 use Rattle.ports_index.proofs.Filled.{AreRight-put}
 use Rattle.ports_index.proofs.filling.fill_one.Goals as goal
@@ -9,5 +9,5 @@ use Rattle.ports_index.proofs.filling.fill_one.Goals as goal
 pub returns-clause-right : goal.returns-clause-right
 returns-clause-right g c =
     let world : World = ((g.F.Names.view c.args.files.now).files, c.args.settings.now) in
-    AreRight-put world (g.R.Rows.entries c.args.rows.now) c.requires (string_bytes c.in_ok-key.key) (g.R.Rows.entries c.put.new.self) (row_seen c.in_ok-row.row)
-    (c.in_ok-row.ensures.row ∙ ap (outcome_at world) (sym c.in_ok-key.ensures.ok)) c.in_ok-put.ensures.ok
+    AreRight-put world (g.R.Rows.entries c.args.rows.now) c.requires (string_bytes c.in_ok-key.key) (g.R.Rows.entries c.put.new.self) (row_seen c.in_ok-found.found.row)
+    (ap (λ (found : Finding). found.outcome) c.in_ok-found.ensures.finding ∙ ap (outcome_at world) (sym c.in_ok-key.ensures.ok)) c.in_ok-put.ensures.ok

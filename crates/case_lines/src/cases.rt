@@ -1,19 +1,17 @@
 //! Cases, taken line by line.
-use crate::bench::Bench;
-use crate::loopback;
-use crate::service::{Ran, run_program};
-use case_lines::{Answer, Line, Trouble};
+use crate::answer::{Answer, Trouble};
+use crate::bench::{Bench, Ran};
+use crate::line::Line;
 use std::alloc::{AllocError, Global};
-use std::net::Net;
 
 /// What begins a line that continues the one before it.
 const INDENT: &str = "    ";
 
-/// The cases of some files, as far as they were taken.
+/// The cases of some files, as far as they were taken, and what their calls are about.
 #[derive(Drop)]
-pub struct Cases {
+pub struct Cases<B: Bench> {
     alloc: Global,
-    bench: Bench,
+    bench: B,
     open: Open,
     /// The name of the file.
     file: String,
@@ -53,17 +51,18 @@ struct Script {
     printed: Option<String>,
 }
 
-impl Cases {
-    pub fn new(alloc: Global) -> Result<Cases, AllocError> {
-        Ok(Cases {
+impl<B: Bench> Cases<B> {
+    /// No case yet. The calls of cases go to this bench.
+    pub fn new(alloc: Global, bench: B) -> Cases<B> {
+        Cases {
             alloc,
-            bench: Bench::new(alloc)?,
+            bench,
             open: Open::Nothing,
             file: String::new(alloc),
             line: 0,
             count: 0,
             wrong: 0,
-        })
+        }
     }
 
     /// How many cases there were.
@@ -78,23 +77,23 @@ impl Cases {
 
     /// Begins a file: nothing that another file set up is left.
     pub fn begin_file(&mut self, name: &str) -> Result<(), AllocError> {
-        self.bench = Bench::new(self.alloc)?;
+        self.bench.clear()?;
         self.file = String::from_str(self.alloc, name)?;
         self.line = 0;
         Ok(())
     }
 
     /// Ends a file, and gives what is wrong with its last case.
-    pub fn end_file(&mut self, net: &impl Net) -> Result<Option<String>, AllocError> {
+    pub fn end_file(&mut self) -> Result<Option<String>, AllocError> {
         match std::mem::replace(&mut self.open, Open::Nothing) {
             Open::Nothing => Ok(None),
-            Open::Call(call) => self.settle(net, call),
+            Open::Call(call) => self.settle(call),
             Open::Block(_) | Open::Script(_) => self.no_case(self.line),
         }
     }
 
     /// Takes the next line, and gives what is wrong with the case that it ends.
-    pub fn take(&mut self, net: &impl Net, text: &str) -> Result<Option<String>, AllocError> {
+    pub fn take(&mut self, text: &str) -> Result<Option<String>, AllocError> {
         self.line = self.line.saturating_add(1);
         match std::mem::replace(&mut self.open, Open::Nothing) {
             Open::Nothing => {
@@ -104,7 +103,7 @@ impl Cases {
             Open::Call(call) if text.starts_with(INDENT) => self.take_more(call, text),
             Open::Call(call) => {
                 self.begin(text)?;
-                self.settle(net, call)
+                self.settle(call)
             }
             Open::Block(call) => self.take_block(call, text),
             Open::Script(script) => self.take_script(script, text),
@@ -164,16 +163,16 @@ impl Cases {
     }
 
     /// Does what a line sets up, or makes the call of a case and judges it.
-    fn settle(&mut self, net: &impl Net, call: Call) -> Result<Option<String>, AllocError> {
+    fn settle(&mut self, call: Call) -> Result<Option<String>, AllocError> {
         let line = call.line;
-        match self.answer(net, call) {
+        match self.answer(call) {
             Ok(wrong) => Ok(wrong),
             Err(Trouble::Memory) => Err(AllocError),
             Err(Trouble::NoCase) => self.no_case(line),
         }
     }
 
-    fn answer(&mut self, net: &impl Net, call: Call) -> Result<Option<String>, Trouble> {
+    fn answer(&mut self, call: Call) -> Result<Option<String>, Trouble> {
         let mut line = Line::read(self.alloc, call.words.as_str())?;
         if let Some(block) = &call.block {
             line.given
@@ -184,10 +183,7 @@ impl Cases {
             self.bench.set_up(line.call.as_str(), given)?;
             return Ok(None);
         };
-        let answer = match line.call.as_str() {
-            "loopback" => loopback::answered(self.alloc, net, given)?,
-            name => self.bench.answer(name, given)?,
-        };
+        let answer = self.bench.answer(line.call.as_str(), given)?;
         self.judge(call.line, answer.whole()?, wanted.as_str())
     }
 
@@ -213,7 +209,10 @@ impl Cases {
     /// Runs a script whose last line is this one: `status N`, and `says TEXT` if the program says
     /// something on standard error.
     fn run(&mut self, script: &Script, last: &str) -> Result<Option<String>, AllocError> {
-        let judged = match run_program(self.alloc, script.words.as_str(), script.input.as_bytes()) {
+        let judged = match self
+            .bench
+            .run(script.words.as_str(), script.input.as_bytes())
+        {
             Ok(ran) => self.judge_run(script, &ran, last),
             Err(trouble) => Err(trouble),
         };

@@ -1,0 +1,78 @@
+//! What paths lead to, what it costs to learn that, and what is asked.
+use case_lines::{Answer, Trouble, as_text, one_text};
+use make_cases::{World, add_cost, given_name};
+use mk_files::Content;
+use ports_index::{Finding, Row, evaluate_path};
+use read_trace::{Recorder, Reply, Trace, agrees};
+use std::alloc::Global;
+
+/// `path PATH`: what a path leads to, what it costs to learn that, and each name that is asked for, with
+/// the answer.
+pub fn path_answer(alloc: Global, world: &mut World, given: &[Vec<u8>]) -> Result<Answer, Trouble> {
+    let (found, trace) = recorded(alloc, world, one_text(given)?)?;
+    let mut answer = Answer::of_word(alloc, row_word(&found.row));
+    add_cost(&mut answer, found.cost);
+    for question in trace.questions() {
+        answer.text(question.name().as_str().as_bytes());
+        answer.word(reply_word(question.reply()));
+    }
+    Ok(answer)
+}
+
+/// What a path leads to, with the trace of what was asked.
+fn recorded(alloc: Global, world: &mut World, path: &str) -> Result<(Finding, Trace), Trouble> {
+    let World { files, settings } = world;
+    let mut recorder = Recorder::new(alloc, files, Trace::new(alloc));
+    let found = evaluate_path(alloc, &mut recorder, settings, path)?;
+    Ok((found, recorder.into_trace()))
+}
+
+fn row_word(row: &Row) -> &'static str {
+    match row {
+        Row::Absent => "absent",
+        Row::Faulty(_) => "faulty",
+        Row::Port(_) => "port",
+        Row::BadPort(_) => "badport",
+        Row::Lists(_) => "lists",
+        Row::BadList(_) => "badlist",
+        Row::FlavoredList => "flavoredlist",
+        Row::Other => "other",
+    }
+}
+
+fn reply_word(reply: &Reply) -> &'static str {
+    match reply {
+        Reply::Presence(true) => "there",
+        Reply::Presence(false) => "missing",
+        Reply::Contents(Some(_)) => "read",
+        Reply::Contents(None) => "absent",
+    }
+}
+
+/// `agrees PATH NAME BYTES`, `agrees PATH NAME`: whether the files answer what was asked for the path as
+/// before, once they have the file NAME with these bytes, or once they don't have it, and how many answers
+/// are checked.
+pub fn agrees_answer(
+    alloc: Global,
+    world: &mut World,
+    given: &[Vec<u8>],
+) -> Result<Answer, Trouble> {
+    let [path, name, bytes @ ..] = given else {
+        return Err(Trouble::NoCase);
+    };
+    let (_found, trace) = recorded(alloc, world, as_text(path)?)?;
+    let name = given_name(alloc, name)?;
+    match bytes {
+        [bytes] => {
+            let content = Content::new(alloc, bytes.clone()?)?;
+            world.files.put(name, content)?;
+        }
+        _ => {
+            let _was_there = world.files.remove(&name);
+        }
+    }
+    let (is_same, checked) = agrees(&trace, &mut world.files)?;
+    let mut answer = Answer::of_word(alloc, if is_same { "true" } else { "false" });
+    answer.number(checked);
+    Ok(answer)
+}

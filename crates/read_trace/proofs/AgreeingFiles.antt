@@ -1,0 +1,41 @@
+-- When files agree with what was asked of others.
+use Rattle.std.proofs.Common.{◌≡◌, ◌∙◌, ap, ap₂, sym, refl, ℕ, ◌+◌, Bool, true, false, List, [], ◌∷◌, ◌++◌, length, Option, Some, None, append-nil, append_assoc, arith}
+use Rattle.std.specs.Prelude.{if◌then◌else◌, map, take}
+use Rattle.std.specs.FinMap.{get, contains_key}
+use Rattle.std.proofs.lemmas.Bool.{false≢true}
+use Rattle.std.specs.Bool.{beq}
+use Rattle.std.proofs.lemmas.Slice.Eq.{bytes_eq-Decides}
+use Rattle.mk_paths.specs.World.{FileMap}
+use Rattle.mk_paths.specs.FilesView.{Presence, Contents, Question, IsReply}
+use Rattle.mk_eval.specs.Sharing.{Agrees}
+use Rattle.read_trace.specs.Agreement.{same_content, has_reply, one_more, agreement}
+
+content_is : (one other : Option (List ℕ)) → same_content one other ≡ true → other ≡ one
+content_is None None same = refl
+content_is None (Some bytes) same = absurd (false≢true same)
+content_is (Some bytes) None same = absurd (false≢true same)
+content_is (Some one) (Some other) same = ap Some (sym ((bytes_eq-Decides one other).0 same))
+
+presence_is : (one other : Bool) → beq one other ≡ true → other ≡ one
+presence_is true true same = refl
+presence_is true false same = absurd (false≢true same)
+presence_is false true same = absurd (false≢true same)
+presence_is false false same = refl
+
+reply_is : (files : FileMap) (question : Question) → has_reply files question ≡ true → IsReply files question.0 question.1
+reply_is files (name, Presence there) same = presence_is (contains_key files name) there same
+reply_is files (name, Contents content) same = content_is (get files name) content same
+
+-- files that agree with each question give each its answer
+pub Agrees-agreement : (files : FileMap) (questions : List Question) → (agreement files questions).0 ≡ true → Agrees files questions
+Agrees-agreement files [] agrees = tt
+Agrees-agreement files (question ∷ questions) agrees = by (has_reply files question) refl (Agrees-agreement files questions) agrees
+  where
+    by : (same : Bool) → has_reply files question ≡ same → ((agreement files questions).0 ≡ true → Agrees files questions)
+        → (if same then one_more (agreement files questions) else (false, 1)).0 ≡ true → IsReply files question.0 question.1 × Agrees files questions
+    by true same rest agrees = (reply_is files question same, rest agrees)
+    by false same rest agrees = absurd (false≢true agrees)
+
+-- so many replies are checked before
+abbrev pub after_checks : ℕ → Bool × ℕ → Bool × ℕ
+after_checks before checked = (checked.0, before + checked.1)

@@ -1,0 +1,39 @@
+-- Whether files answer as they did before.
+use Rattle.std.specs.Prelude.{◌≡◌, ℕ, ◌+◌, Bool, true, false, if◌then◌else◌, List, [], ◌∷◌, map, take, Option, Some, None}
+use Rattle.std.specs.FinMap.{get, contains_key}
+use Rattle.std.specs.Bool.{beq}
+use Rattle.std.specs.Str.{bytes_eq}
+use Rattle.mk_paths.specs.World.{FileMap}
+use Rattle.mk_paths.specs.FilesView.{Reply, Presence, Contents, Question, FilesView, noted}
+
+-- two contents with the same bytes, or both of no file
+abbrev pub same_content : Option (List ℕ) → Option (List ℕ) → Bool
+same_content None None = true
+same_content None (Some bytes) = false
+same_content (Some bytes) None = false
+same_content (Some one) (Some other) = bytes_eq one other
+
+-- the files give the reply to the question about this name
+abbrev pub has_reply : FileMap → Question → Bool
+has_reply files (name, Presence there) = beq (contains_key files name) there
+has_reply files (name, Contents content) = same_content (get files name) content
+
+-- one more reply is checked
+abbrev pub one_more : Bool × ℕ → Bool × ℕ
+one_more checked = (checked.0, checked.1 + 1)
+
+-- Whether each question has the reply that is given with it, and how many replies are checked: all of
+-- them, or those up to the first that differs.
+abbrev pub agreement : FileMap → List Question → Bool × ℕ
+agreement files [] = (true, 0)
+agreement files (question ∷ questions) =
+    if has_reply files question then one_more (agreement files questions) else (false, 1)
+
+-- the question with the reply that the files give
+abbrev pub asked_again : FileMap → Question → Question
+asked_again files (name, Presence there) = (name, Presence (contains_key files name))
+asked_again files (name, Contents content) = (name, Contents (get files name))
+
+-- what is left of files of which so many questions were asked again
+abbrev pub AsksAgain : FilesView → List Question → ℕ → FilesView → Type 0
+AsksAgain old questions count new = new ≡ noted old (map (asked_again old.files) (take count questions))

@@ -1,0 +1,4 @@
+pub mod Traces
+pub mod Recording
+pub mod Agreement
+pub mod Recorded

@@ -1,0 +1,26 @@
+-- Files that write down what they are asked.
+use Rattle.std.specs.Prelude.{◌≡◌, ◌⊎◌, ℕ, List, Option, Some}
+use Rattle.mk_paths.specs.FilesView.{FilesView, Question}
+use Rattle.mk_paths.specs.declared.asking.FilesFault.{FilesFault}
+use Rattle.mk_paths.specs.declared.asking.FilesFault.TheVariants.{Memory}
+use Rattle.read_trace.specs.declared.recorder.Recorder.{Recorder}
+
+-- the files of a view, seen by who writes down what it asks of them, after this trace and no failure
+abbrev pub recording : FilesView → List Question → FilesView
+recording view trace = record { files = view.files; log = Some trace; failures = 0 }
+
+-- the view that a recorder is: the files that it asks, with its trace as the log
+abbrev pub view_of : {F : Type 0} → (F → FilesView) → Recorder F → FilesView
+view_of view recorder = record {
+  files = (view recorder.files).files;
+  log = Some recorder.trace;
+  failures = recorder.failures;
+}
+
+-- the log of that view
+abbrev pub log_of : {F : Type 0} → (F → FilesView) → Recorder F → Option (List Question)
+log_of view recorder = (view_of view recorder).log
+
+-- a recorder fails as the files that it asks may, or with Memory if there is none for its trace
+abbrev pub MayFail : (FilesFault → Type 0) → FilesFault → Type 0
+MayFail may fault = may fault ⊎ (fault ≡ Memory)

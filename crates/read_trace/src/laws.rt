@@ -1,0 +1,12 @@
+//! What holds of all traces. The function does nothing else: its clause is the law.
+ghost use Rattle.read_trace.specs.Recorded.{IsTheSameWhereAgreed};
+
+use mk_eval::same_where_answered;
+
+/// Take any world with the same settings that agrees with the trace of an evaluation. In it the makefile
+/// means the same, at the same cost, and its evaluation has the same trace.
+pub fn same_where_agreed()
+    ensures { IsTheSameWhereAgreed }
+{
+    same_where_answered();
+}

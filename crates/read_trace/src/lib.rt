@@ -1,0 +1,15 @@
+//! What an evaluation asked of files: a recorder writes down each question with its answer, and other
+//! files can be asked whether they answer the same. Where they do, the evaluation is the same.
+#![tactic(auto)]
+
+mod agreeing;
+mod evaluating;
+mod laws;
+mod recorder;
+mod trace;
+
+pub use agreeing::agrees;
+pub use evaluating::{Evaluation, evaluate_recorded};
+pub use laws::same_where_agreed;
+pub use recorder::Recorder;
+pub use trace::{Question, Reply, Trace};

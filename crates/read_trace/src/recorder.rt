@@ -1,0 +1,106 @@
+// Files that write down what they are asked.
+ghost use Rattle.std.specs.Prelude.{◌≡◌, Some, [], ◌∷◌, OnOk, OnErr};
+ghost use Rattle.std.specs.Option.{option_copied};
+ghost use Rattle.mk_paths.specs.FilesView.{Presence, Contents, noted, Fails};
+ghost use Rattle.read_trace.specs.Recording.{view_of, recording, log_of};
+
+use crate::trace::{Question, Reply, Trace};
+use mk_files::{Content, Files};
+use mk_paths::{FilesFault, Name, Names};
+use std::alloc::{AllocError, Global};
+
+/// Files that write down each question with its answer, also if a file isn't there. They answer as the
+/// files do that they ask. They fail if these fail, or if there is no memory for the trace.
+#[derive(Drop)]
+pub struct Recorder<F: Files + Drop> {
+    alloc: Global,
+    files: F,
+    trace: Trace,
+    failures: u64,
+}
+
+impl<F: Files + Drop> Recorder<F> {
+    /// What asks these files, and goes on with this trace. It takes no memory.
+    pub fn new(alloc: Global, files: F, trace: Trace) -> Recorder<F>
+        ensures { view_of F.view result ≡ recording (F.view files) trace }
+    {
+        Recorder {
+            alloc,
+            files,
+            trace,
+            failures: 0,
+        }
+    }
+
+    /// What was asked.
+    pub fn into_trace(self) -> Trace
+        ensures { log_of F.view self ≡ Some result }
+    {
+        let Recorder { trace, .. } = self;
+        trace
+    }
+
+    // Writes down whether a file was there. If memory runs out, nothing changes.
+    fn note_presence(&mut self, name: &Name, there: bool) -> Result<(), AllocError>
+        ensures ok { OnOk result (view_of F.view self.new
+            ≡ noted (view_of F.view self.old) ((name.now, Presence there) ∷ [])) }
+        ensures err { OnErr result (view_of F.view self.new ≡ view_of F.view self.old) }
+    {
+        let name = name.copy(self.alloc)?;
+        self.trace.add(Question::new(name, Reply::Presence(there)))
+    }
+
+    // Writes down the content of a file, which the trace then shares, or that the file wasn't there. If
+    // memory runs out, nothing changes.
+    fn note_content(&mut self, name: &Name, content: Option<&Content>) -> Result<(), AllocError>
+        ensures ok { OnOk result (view_of F.view self.new
+            ≡ noted (view_of F.view self.old) ((name.now, Contents (option_copied content.entry)) ∷ [])) }
+        ensures err { OnErr result (view_of F.view self.new ≡ view_of F.view self.old) }
+    {
+        let name = name.copy(self.alloc)?;
+        let shared = match content {
+            Some(content) => Some(content.share()?),
+            None => None,
+        };
+        self.trace.add(Question::new(name, Reply::Contents(shared)))
+    }
+
+    // Counts one more question that failed, with this fault.
+    fn failed(&mut self, fault: FilesFault) -> FilesFault
+        ensures counted { Fails (view_of F.view self.old) (view_of F.view self.new) }
+        ensures fault { result ≡ fault }
+    {
+        self.failures = self.failures.saturating_add(1);
+        fault
+    }
+}
+
+impl<F: Files + Drop> Names for Recorder<F> {
+    ghost use Rattle.read_trace.specs.Recording.{view_of, MayFail};
+
+    ghost view = { view_of F.view };
+
+    ghost fails_with = { MayFail F.fails_with };
+
+    fn has(&mut self, name: &Name) -> Result<bool, FilesFault> {
+        match self.files.has(name) {
+            Ok(there) => match self.note_presence(name, there) {
+                Ok(()) => Ok(there),
+                Err(_error) => Err(self.failed(FilesFault::Memory)),
+            },
+            Err(fault) => Err(self.failed(fault)),
+        }
+    }
+}
+
+impl<F: Files + Drop> Files for Recorder<F> {
+    fn read(&mut self, name: &Name) -> Result<Option<Content>, FilesFault> {
+        match self.files.read(name) {
+            Ok(content) => match self.note_content(name, content.as_ref()) {
+                Ok(()) => Ok(content),
+                Err(_error) => Err(self.failed(FilesFault::Memory)),
+            },
+            Err(fault) => Err(self.failed(fault)),
+        }
+    }
+}

@@ -1,0 +1,131 @@
+//! Changes of what a tenant has, and what it has.
+use case_lines::{Answer, Trouble};
+use make_cases::{given_name, given_path, trees_answer, two_answer};
+use mk_files::Files;
+use mk_paths::{FilesFault, Name, Names, SearchPath};
+use std::alloc::Global;
+use tenant_store::{PutFault, TenantFiles, TenantStore};
+
+/// A change of what a tenant has.
+#[derive(Drop)]
+pub enum Change {
+    /// `put TENANT NAME BYTES`
+    Put(Name, Vec<u8>),
+    /// `remove TENANT NAME`
+    Remove(Name),
+    /// `path TENANT TEXT`
+    SetPath(SearchPath),
+}
+
+impl Change {
+    /// The change that a call makes.
+    pub fn read(alloc: Global, call: &str, given: &[Vec<u8>]) -> Result<Change, Trouble> {
+        match (call, given) {
+            ("put", [name, bytes]) => Ok(Change::Put(given_name(alloc, name)?, bytes.clone()?)),
+            ("remove", [name]) => Ok(Change::Remove(given_name(alloc, name)?)),
+            ("path", [text]) => Ok(Change::SetPath(given_path(alloc, text)?)),
+            _ => Err(Trouble::NoCase),
+        }
+    }
+
+    /// Makes it, and gives the answer.
+    pub fn make(
+        &self,
+        alloc: Global,
+        store: &mut TenantStore,
+        tenant: u32,
+    ) -> Result<&'static str, Trouble> {
+        match self {
+            Change::Put(name, bytes) => put(alloc, store, tenant, name, bytes.as_slice()),
+            Change::Remove(name) => remove(alloc, store, tenant, name),
+            Change::SetPath(path) => set(alloc, store, tenant, path),
+        }
+    }
+
+    /// What the store has of that which it changes.
+    pub fn subject(
+        &self,
+        alloc: Global,
+        store: &mut TenantStore,
+        tenant: u32,
+    ) -> Result<Answer, Trouble> {
+        match self {
+            Change::Put(name, _) | Change::Remove(name) => file_answer(alloc, store, tenant, name),
+            Change::SetPath(_) => settings_answer(alloc, store, tenant),
+        }
+    }
+}
+
+/// A put: `stored`, `Full` or `Store`.
+pub fn put(
+    alloc: Global,
+    store: &mut TenantStore,
+    tenant: u32,
+    name: &Name,
+    bytes: &[u8],
+) -> Result<&'static str, Trouble> {
+    match store.put_file(alloc, tenant, name, bytes) {
+        Ok(()) => Ok("stored"),
+        Err(PutFault::Full) => Ok("Full"),
+        Err(PutFault::Store) => Ok("Store"),
+        Err(PutFault::Memory) => Err(Trouble::Memory),
+    }
+}
+
+/// A removal: `removed`, `absent` or `Store`.
+fn remove(
+    alloc: Global,
+    store: &mut TenantStore,
+    tenant: u32,
+    name: &Name,
+) -> Result<&'static str, Trouble> {
+    match store.remove_file(alloc, tenant, name) {
+        Ok(true) => Ok("removed"),
+        Ok(false) => Ok("absent"),
+        Err(FilesFault::Store) => Ok("Store"),
+        Err(FilesFault::Memory) => Err(Trouble::Memory),
+    }
+}
+
+/// A path that is set: `set` or `Store`.
+fn set(
+    alloc: Global,
+    store: &mut TenantStore,
+    tenant: u32,
+    path: &SearchPath,
+) -> Result<&'static str, Trouble> {
+    match store.set_path(alloc, tenant, path) {
+        Ok(()) => Ok("set"),
+        Err(FilesFault::Store) => Ok("Store"),
+        Err(FilesFault::Memory) => Err(Trouble::Memory),
+    }
+}
+
+/// `store get TENANT NAME`: the bytes of a file, or `absent`. Every way of asking gives the same.
+pub fn file_answer(
+    alloc: Global,
+    store: &mut TenantStore,
+    tenant: u32,
+    name: &Name,
+) -> Result<Answer, Trouble> {
+    let mut files = TenantFiles::new(alloc, store, tenant);
+    let has = files.has(name)?;
+    let read = files.read(name)?;
+    drop(files);
+    let held = store.get_file(alloc, tenant, name)?;
+    Ok(match (held, read) {
+        (Some(held), Some(read)) if has => two_answer(alloc, held.as_slice(), read.as_slice()),
+        (None, None) if !has => Answer::of_word(alloc, "absent"),
+        _ => Answer::of_word(alloc, "both"),
+    })
+}
+
+/// `store settings TENANT`: the trees of its search path.
+pub fn settings_answer(
+    alloc: Global,
+    store: &mut TenantStore,
+    tenant: u32,
+) -> Result<Answer, Trouble> {
+    let settings = store.settings(alloc, tenant)?;
+    Ok(trees_answer(alloc, &settings.path))
+}

@@ -1,0 +1,118 @@
+//! Cases of the store of all tenants: calls in a row, and changes that are stopped at every step.
+#![tactic(auto)]
+
+mod changes;
+
+use case_lines::{Answer, Trouble, as_number};
+use changes::{Change, file_answer, put, settings_answer};
+use make_cases::given_name;
+use mk_paths::Name;
+use std::alloc::Global;
+use tenant_store::TenantStore;
+
+/// The most limits of steps that a call is stopped by in turn.
+pub const MOST_LIMITS: u64 = 10_000;
+
+/// `empty store`
+pub fn empty(alloc: Global) -> Result<TenantStore, Trouble> {
+    Ok(TenantStore::open_in_memory(alloc)?)
+}
+
+/// What a call of the store gives: a line `store CALL TENANT GIVEN..`. The error is `NoCase` if the line is
+/// in no form of a case, and `Memory` if memory runs out.
+pub fn answer(
+    alloc: Global,
+    store: &mut TenantStore,
+    call: &str,
+    given: &[Vec<u8>],
+) -> Result<Answer, Trouble> {
+    let [tenant, given @ ..] = given else {
+        return Err(Trouble::NoCase);
+    };
+    let tenant = u32::try_from(as_number(tenant)?).map_err(|_| Trouble::NoCase)?;
+    match call {
+        "fill" => fill(alloc, store, tenant, given),
+        "get" => file_answer(alloc, store, tenant, &one_name(alloc, given)?),
+        "settings" => settings_answer(alloc, store, tenant),
+        "put stopped" => stopped(alloc, store, tenant, &Change::read(alloc, "put", given)?),
+        "remove stopped" => stopped(alloc, store, tenant, &Change::read(alloc, "remove", given)?),
+        "path stopped" => stopped(alloc, store, tenant, &Change::read(alloc, "path", given)?),
+        _ => {
+            let change = Change::read(alloc, call, given)?;
+            Ok(Answer::of_word(alloc, change.make(alloc, store, tenant)?))
+        }
+    }
+}
+
+fn one_name(alloc: Global, given: &[Vec<u8>]) -> Result<Name, Trouble> {
+    let [name] = given else {
+        return Err(Trouble::NoCase);
+    };
+    given_name(alloc, name)
+}
+
+/// `store fill TENANT N BYTES`: puts so many files of these bytes. It gives how many were stored before the
+/// first that wasn't, and the answer to that one.
+fn fill(
+    alloc: Global,
+    store: &mut TenantStore,
+    tenant: u32,
+    given: &[Vec<u8>],
+) -> Result<Answer, Trouble> {
+    let [count, bytes] = given else {
+        return Err(Trouble::NoCase);
+    };
+    let count = as_number(count)?;
+    for stored in 0..count {
+        let name = given_name(alloc, format!(in alloc; "/fill/file-{stored}")?.as_bytes())?;
+        let told = put(alloc, store, tenant, &name, bytes)?;
+        if told != "stored" {
+            return Ok(filled(alloc, stored, told));
+        }
+    }
+    Ok(filled(alloc, count, "stored"))
+}
+
+/// How many files were stored, and the answer after them.
+pub fn filled(alloc: Global, stored: u64, told: &str) -> Answer {
+    let mut answer = Answer::new(alloc);
+    answer.number(stored);
+    answer.word(told);
+    answer
+}
+
+/// `store CHANGE stopped TENANT ..`: the change under a limit of 1, 2, 3 .. steps until it isn't stopped. It
+/// gives whether each change that was stopped kept what it is about as it was, and the answer to the last.
+fn stopped(
+    alloc: Global,
+    store: &mut TenantStore,
+    tenant: u32,
+    change: &Change,
+) -> Result<Answer, Trouble> {
+    let was = change.subject(alloc, store, tenant)?;
+    let mut is_kept = true;
+    for limit in 1..MOST_LIMITS {
+        store.limit_steps(Some(limit));
+        let told = change.make(alloc, store, tenant)?;
+        store.limit_steps(None);
+        if told != "Store" {
+            return Ok(stops_answer(alloc, limit, is_kept, told));
+        }
+        is_kept = is_kept && change.subject(alloc, store, tenant)?.is_same(&was)?;
+    }
+    Err(Trouble::NoCase)
+}
+
+/// `never` if the first call wasn't stopped, else `kept` or `changed`; and the answer to the last call.
+pub fn stops_answer(alloc: Global, limit: u64, is_kept: bool, told: &str) -> Answer {
+    let mut answer = Answer::of_word(
+        alloc,
+        match (limit, is_kept) {
+            (1, _) => "never",
+            (_, true) => "kept",
+            (_, false) => "changed",
+        },
+    );
+    answer.word(told);
+    answer
+}

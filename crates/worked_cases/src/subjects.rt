@@ -1,0 +1,102 @@
+//! The things that lines of a case set up and ask, and which call each line means.
+use crate::service::StoredService;
+use crate::{loopback, served, service, streams, trickle};
+use case_lines::{Answer, Bench, Ran, Trouble};
+use make_cases::Setup;
+use ports_http::Method;
+use std::alloc::{AllocError, Global};
+use std::net::Net;
+use tenant_store::TenantStore;
+
+/// What lines without `=>` set up for the lines after them, and a network for clients.
+#[derive(Drop)]
+pub struct Subjects<'a, N: Net> {
+    alloc: Global,
+    net: &'a N,
+    setup: Setup,
+    store: Option<TenantStore>,
+    service: Option<StoredService>,
+}
+
+impl<'a, N: Net> Subjects<'a, N> {
+    pub fn new(alloc: Global, net: &'a N) -> Result<Subjects<'a, N>, AllocError> {
+        Ok(Subjects {
+            alloc,
+            net,
+            setup: Setup::new(alloc)?,
+            store: None,
+            service: None,
+        })
+    }
+
+    /// What the call of a store, of a service or of ports gives.
+    fn answer_of_other(&mut self, call: &str, given: &[Vec<u8>]) -> Result<Answer, Trouble> {
+        match (call.strip_prefix("store "), call.strip_prefix("service ")) {
+            (Some(call), _) => self.answer_of_store(call, given),
+            (None, Some(call)) => self.answer_of_service(call, given),
+            (None, None) => port_cases::answer(self.alloc, &mut self.setup, call, given),
+        }
+    }
+
+    fn answer_of_store(&mut self, call: &str, given: &[Vec<u8>]) -> Result<Answer, Trouble> {
+        match &mut self.store {
+            Some(store) => store_cases::answer(self.alloc, store, call, given),
+            None => Err(Trouble::NoCase),
+        }
+    }
+
+    fn answer_of_service(&mut self, call: &str, given: &[Vec<u8>]) -> Result<Answer, Trouble> {
+        match &mut self.service {
+            Some(service) => served::answer(self.alloc, service, call, given),
+            None => Err(Trouble::NoCase),
+        }
+    }
+}
+
+impl<N: Net> Bench for Subjects<'_, N> {
+    fn clear(&mut self) -> Result<(), AllocError> {
+        self.setup = Setup::new(self.alloc)?;
+        self.store = None;
+        self.service = None;
+        Ok(())
+    }
+
+    fn set_up(&mut self, call: &str, given: &[Vec<u8>]) -> Result<(), Trouble> {
+        match call {
+            "empty store" => self.store = Some(store_cases::empty(self.alloc)?),
+            "new service" => self.service = Some(served::new(self.alloc)?),
+            _ => self.setup.set_up(call, given)?,
+        }
+        Ok(())
+    }
+
+    fn answer(&mut self, call: &str, given: &[Vec<u8>]) -> Result<Answer, Trouble> {
+        let alloc = self.alloc;
+        match call {
+            "GET" => service::request(alloc, &mut self.setup.world, Method::Get, given),
+            "PUT" => service::request(alloc, &mut self.setup.world, Method::Put, given),
+            "DELETE" => service::request(alloc, &mut self.setup.world, Method::Delete, given),
+            "stream" => service::stream(alloc, given),
+            "stream by bytes" => service::stream_by_bytes(alloc, given),
+            "reply file" => service::file_reply(alloc, given),
+            "reply method" => service::method_reply(alloc),
+            "reply head" => service::head_reply(alloc),
+            "reply key" => service::key_reply(alloc),
+            "reply store" => service::store_reply(alloc),
+            "run on" => service::run(alloc, given),
+            "input failing after" => streams::failing_input(alloc, given),
+            "serve on within" => streams::narrow_serving(alloc, given),
+            "trickle" => trickle::trickled(alloc, given),
+            "narrow output" => streams::narrow_output(alloc, given),
+            "print" => streams::printed_steps(alloc, given),
+            "open and end" => service::open_and_end(alloc, given),
+            "after at" => service::after(alloc, given),
+            "loopback" => loopback::answered(alloc, self.net, given),
+            _ => self.answer_of_other(call, given),
+        }
+    }
+
+    fn run(&mut self, words: &str, input: &[u8]) -> Result<Ran, Trouble> {
+        service::run_program(self.alloc, words, input)
+    }
+}
