@@ -62,8 +62,7 @@ module _ (law : IsTheSameWhereAnswered) (files other : FileMap) (settings : Sett
       let places = places_asked files settings.path directory in
       let after = questions_after here flavors (place here directory) in
       let found = found_alike files other (candidates settings.path directory) (Agrees-first other places after agrees) in
-      let same = makefile_alike flavors (place here directory) (Agrees-rest other places after agrees) in
-      (
+      let same = makefile_alike flavors (place here directory) (Agrees-rest other places after agrees) in (
         ap (finding_of there flavors) found.0 ∙ same.0,
         ap₂ (λ asked later. asked ++ later) found.1 (ap (questions_after there flavors) found.0 ∙ same.1),
       )
