@@ -21,7 +21,7 @@ pub fn answer(
     match call {
         "record" => records::record_answer(alloc, world, given),
         "index" => dependencies::index(alloc, world),
-        "path" => paths::path_answer(alloc, world, given),
+        "finding" => paths::path_answer(alloc, world, given),
         "agrees" => paths::agrees_answer(alloc, world, given),
         "items" => dependencies::items_answer(alloc, world),
         "statuses" => dependencies::statuses(alloc, world, given),

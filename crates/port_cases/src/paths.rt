@@ -6,7 +6,7 @@ use ports_index::{Finding, Row, evaluate_path};
 use read_trace::{Recorder, Reply, Trace, agrees};
 use std::alloc::Global;
 
-/// `path PATH`: what a path leads to, what it costs to learn that, and each name that is asked for, with
+/// `finding PATH`: what a path leads to, what it costs to learn that, and each name that is asked for, with
 /// the answer.
 pub fn path_answer(alloc: Global, world: &mut World, given: &[Vec<u8>]) -> Result<Answer, Trouble> {
     let (found, trace) = recorded(alloc, world, one_text(given)?)?;
