@@ -67,9 +67,10 @@ pub fn agrees_answer(
             let content = Content::new(alloc, bytes.clone()?)?;
             world.files.put(name, content)?;
         }
-        _ => {
+        [] => {
             let _was_there = world.files.remove(&name);
         }
+        _ => return Err(Trouble::NoCase),
     }
     let (is_same, checked) = agrees(&trace, &mut world.files)?;
     let mut answer = Answer::of_word(alloc, if is_same { "true" } else { "false" });

@@ -4,7 +4,7 @@ use Rattle.std.specs.FinMap.{get, contains_key}
 use Rattle.std.specs.Bool.{beq}
 use Rattle.std.specs.Str.{bytes_eq}
 use Rattle.mk_paths.specs.World.{FileMap}
-use Rattle.mk_paths.specs.FilesView.{Reply, Presence, Contents, Question, FilesView, noted}
+use Rattle.mk_paths.specs.FilesView.{Presence, Contents, Question, FilesView, noted}
 
 -- two contents with the same bytes, or both of no file
 abbrev pub same_content : Option (List ℕ) → Option (List ℕ) → Bool

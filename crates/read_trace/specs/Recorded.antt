@@ -1,6 +1,6 @@
 -- An evaluation whose questions are written down.
 use Rattle.std.specs.Prelude.{◌≡◌, ℕ, List, Option, true}
-use Rattle.mk_paths.specs.World.{World, FileMap, files_in}
+use Rattle.mk_paths.specs.World.{World, FileMap}
 use Rattle.mk_paths.specs.declared.search_path.Settings.{Settings}
 use Rattle.mk_eval.specs.Meaning.{means}
 use Rattle.mk_eval.specs.Sharing.{questions_of}

@@ -1,5 +1,5 @@
 -- Files that write down what they are asked.
-use Rattle.std.specs.Prelude.{◌≡◌, ◌⊎◌, ℕ, List, Option, Some}
+use Rattle.std.specs.Prelude.{◌≡◌, ◌⊎◌, List, Option, Some}
 use Rattle.mk_paths.specs.FilesView.{FilesView, Question}
 use Rattle.mk_paths.specs.declared.asking.FilesFault.{FilesFault}
 use Rattle.mk_paths.specs.declared.asking.FilesFault.TheVariants.{Memory}

@@ -33,7 +33,7 @@ pub fn answer(
     match call {
         "fill" => fill(alloc, store, tenant, given),
         "get" => file_answer(alloc, store, tenant, &one_name(alloc, given)?),
-        "settings" => settings_answer(alloc, store, tenant),
+        "settings" if given.is_empty() => settings_answer(alloc, store, tenant),
         "put stopped" => stopped(alloc, store, tenant, &Change::read(alloc, "put", given)?),
         "remove stopped" => stopped(alloc, store, tenant, &Change::read(alloc, "remove", given)?),
         "path stopped" => stopped(alloc, store, tenant, &Change::read(alloc, "path", given)?),
