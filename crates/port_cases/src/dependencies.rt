@@ -8,7 +8,8 @@ use port_deps::{Found, Item, Root, RootEdge, items, resolve};
 use port_rules::{PortRecord, record};
 use ports_index::index_files;
 use ports_query::{
-    Kinds, Listed, Query, QueryFault, admitted, answer, edges_to, first_edges, reached, reaching,
+    Kinds, Listed, Query, QueryFault, RowsInMemory, admitted, answer, edges_to, first_edges,
+    reached, reaching,
 };
 use std::alloc::{AllocError, Global};
 use text_cases::{add_texts, path_of};
@@ -102,8 +103,8 @@ pub fn over_edges(
     };
     let kinds = Kinds::read(as_text(kinds)?).ok_or(Trouble::NoCase)?;
     let path = path_of(alloc, as_text(path)?)?;
-    let edges = edges(alloc, world)?;
-    edges_answer(alloc, what, kinds, &path, edges.as_slice())
+    let mut edges = RowsInMemory::new(edges(alloc, world)?);
+    edges_answer(alloc, what, kinds, &path, &mut edges)
 }
 
 fn edges_answer(
@@ -111,33 +112,22 @@ fn edges_answer(
     what: &str,
     kinds: Kinds,
     path: &PkgPath,
-    edges: &[RootEdge],
+    edges: &mut RowsInMemory<RootEdge>,
 ) -> Result<Answer, Trouble> {
     Ok(match what {
         "first" => items_of(alloc, &first_edges(alloc, kinds, path, edges)?),
         "to" => items_of(alloc, &edges_to(alloc, kinds, path, edges)?),
-        "reached" => reached_from(alloc, kinds, path, edges)?,
+        "reached" => texts_answer(alloc, &reached(alloc, kinds, path, edges)?),
         _ => texts_answer(alloc, &reaching(alloc, kinds, path, edges)?),
     })
-}
-
-fn reached_from(
-    alloc: Global,
-    kinds: Kinds,
-    path: &PkgPath,
-    edges: &[RootEdge],
-) -> Result<Answer, Trouble> {
-    let first = first_edges(alloc, kinds, path, edges)?;
-    let reached = reached(alloc, kinds, first.as_slice(), edges)?;
-    Ok(texts_answer(alloc, reached.as_slice()))
 }
 
 /// `list WHERE`: the names of the makefile's packages that meet the conditions, or `BadQuery`.
 pub fn listed(alloc: Global, world: &mut World, given: &[Vec<u8>]) -> Result<Answer, Trouble> {
     match Query::read(alloc, one_text(given)?) {
         Ok(query) => {
-            let roots = roots(alloc, world)?;
-            let packages = answer(alloc, &query, roots.as_slice())?;
+            let mut roots = RowsInMemory::new(roots(alloc, world)?);
+            let packages = answer(alloc, &query, &mut roots)?;
             Ok(packages_answer(alloc, packages.as_slice()))
         }
         Err(QueryFault::BadQuery) => Ok(Answer::of_word(alloc, "BadQuery")),
@@ -149,8 +139,8 @@ pub fn listed(alloc: Global, world: &mut World, given: &[Vec<u8>]) -> Result<Ans
 pub fn matched(alloc: Global, world: &mut World, given: &[Vec<u8>]) -> Result<Answer, Trouble> {
     match Spec::read(alloc, one_text(given)?) {
         Ok(spec) => {
-            let roots = roots(alloc, world)?;
-            let packages = admitted(alloc, &spec, roots.as_slice())?;
+            let mut roots = RowsInMemory::new(roots(alloc, world)?);
+            let packages = admitted(alloc, &spec, &mut roots)?;
             Ok(packages_answer(alloc, packages.as_slice()))
         }
         Err(SpecFault::Memory) => Err(Trouble::Memory),
@@ -199,7 +189,7 @@ fn edge(alloc: Global, item: &Item, port: &PortRecord) -> Result<RootEdge, Alloc
     Ok(RootEdge::new(String::from_str(alloc, ROOT)?, edge))
 }
 
-fn items_of(alloc: Global, edges: &[&RootEdge]) -> Answer {
+fn items_of(alloc: Global, edges: &[RootEdge]) -> Answer {
     let mut answer = Answer::new(alloc);
     for edge in edges {
         answer.text(edge.edge().item().as_bytes());

@@ -19,7 +19,7 @@ use Rattle.ports_core.specs.Opened.{KeepsConnections, KeepsOthers}
 use Rattle.ports_core.specs.Books.{TellsOn, BookOpens, BookTurns, BookStep}
 use Rattle.ports_core.specs.State.{State, keys_of, next_of, world_at, queue_at, slice_of, book_of, connection_of, IsAllowed}
 use Rattle.ports_core.specs.Steps.{Does, Hears, Turns, Opens, keys_stay}
-use Rattle.ports_core.specs.Changes.{KeepsSlices, Enters, FirstLeaves, ChangesSlices}
+use Rattle.ports_core.specs.Changes.{KeepsSlices, Enters, FirstLeaves, ChangesSlices, EachEventChangesSoMuch}
 use Rattle.ports_core.proofs.Lists.{none_some, some_same}
 use Rattle.ports_core.proofs.TakingLemmas.{nothing_after}
 
@@ -114,9 +114,6 @@ changes (Fault c) told old new does = lost_and_stays c told old new does
 changes (Wrote c count) told old new does = enters (Wrote c count) c told old new does
 changes (Turn t) told old new does = turns_change t told old new does
 
-pub does_change : (event : Event) (told : Told) (old new : State) → Does event told old new → (taken : Taken) × ChangesSlices event told taken old new
-does_change event told old new does = (taken_by event told old new does, changes event told old new does)
-
 opens_book : (c : ℕ) (told : Told) (old new : State) → c ≡ next_of old → Opens told old new → BookOpens c told (book_of old) (book_of new)
 opens_book c told old new number (inl h) =
     let P : Option Refused → Type 0 = λ refused. MatchOption refused ((connection_of c new ≡ Some new_connection) × KeepsOthers c (book_of old) (book_of new)) (λ why. KeepsConnections (book_of old) (book_of new)) in
@@ -143,6 +140,13 @@ books (End c) told old new allowed does = does.hears
 books (Fault c) told old new allowed does = does.hears
 books (Wrote c count) told old new allowed does = does.hears
 books (Turn t) told old new allowed does = (refl, turns_book t told old new does)
+
+pub does_change : EachEventChangesSoMuch
+does_change event told old new does = (
+  taken_by event told old new does,
+  changes event told old new does,
+  λ allowed. books event told old new allowed does,
+)
 
 -- numbers are given in order
 next_grows : (event : Event) (told : Told) (old new : State) → Does event told old new → next_of old ≤ next_of new

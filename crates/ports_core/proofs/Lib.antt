@@ -8,6 +8,7 @@ mod StepLemmas
 mod RunLemmas
 mod Serving
 mod ChangeLemmas
+mod ChargeLemmas
 mod StepsServe
 mod RunsServe
 mod AlikeLemmas

@@ -9,7 +9,9 @@ use Rattle.mk_paths.specs.World.{World}
 use Rattle.ports_core.specs.Answering.{Answers}
 use Rattle.ports_core.specs.Slices.{Slice, joined, world_of, waiting_of}
 use Rattle.ports_core.specs.Taking.{Taken, Nothing, entering}
-use Rattle.ports_core.specs.State.{State, keys_of, slice_of}
+use Rattle.ports_core.specs.State.{State, keys_of, slice_of, book_of, IsAllowed}
+use Rattle.ports_core.specs.Books.{BookStep}
+use Rattle.ports_core.specs.Steps.{Does}
 
 -- no slice changes but that of this tenant
 abbrev pub KeepsOtherSlices : ℕ → State → State → Type 0
@@ -53,3 +55,10 @@ ChangesSlices (End c) told taken old new = Enters c told taken old new
 ChangesSlices (Fault c) told taken old new = KeepsSlices told taken old new
 ChangesSlices (Wrote c count) told taken old new = Enters c told taken old new
 ChangesSlices (Turn t) told taken old new = KeepsSlices told taken old new ⊎ FirstLeaves t told taken old new
+
+-- What an event does to the slices. If it may happen, what it adds to a queue is what comes first on its
+-- connection.
+abbrev pub EachEventChangesSoMuch : Type 0
+EachEventChangesSoMuch = (event : Event) (told : Told) (old new : State) → Does event told old new
+    → (taken : Taken) × ChangesSlices event told taken old new
+    × (IsAllowed event old → BookStep (keys_of old) event told taken (book_of old) (book_of new))

@@ -8,6 +8,7 @@ pub mod Taking
 pub mod Opened
 pub mod Places
 pub mod State
+pub mod Charging
 pub mod Books
 pub mod Steps
 pub mod Changes

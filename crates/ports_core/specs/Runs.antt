@@ -4,7 +4,8 @@ use Rattle.ports_core.specs.declared.event.Event.{Event}
 use Rattle.ports_core.specs.declared.event.Event.TheVariants.{Wrote}
 use Rattle.ports_core.specs.Effects.{Effect}
 use Rattle.ports_core.specs.Connections.{count_off}
-use Rattle.ports_core.specs.Telling.{CountsNone, CountsTurns}
+use Rattle.ports_core.specs.Telling.{CountsTurns}
+use Rattle.ports_core.specs.Charging.{EventSpends}
 use Rattle.ports_core.specs.State.{State, IsAllowed, pending_at}
 use Rattle.ports_core.specs.Steps.{Does}
 
@@ -13,13 +14,13 @@ abbrev pub sent_by : Event → State → List ℕ
 sent_by (Wrote c count) state = take (count_off count (pending_at c state)) (pending_at c state)
 sent_by event state = []
 
--- an event that may happen happens, and this is told and sent. A turn counts no work yet.
+-- an event that may happen happens, and this is told and sent
 pub record Happens (event : Event) (step : Effect) (old new : State) : Type 0 where
   pub allowed : IsAllowed event old
   pub sent : step.sent ≡ sent_by event old
   pub does : Does event step.told old new
   pub counts : CountsTurns event step.told
-  pub so_far : CountsNone step.told
+  pub spends : EventSpends event step.told old
 
 -- these events happen one after another, with these steps
 abbrev pub Run : State → List Event → List Effect → State → Type 0

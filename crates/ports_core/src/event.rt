@@ -43,7 +43,7 @@ pub enum Refused {
 
 /// What an event told: at most one reply, the refusal of a connection that was to open, the connection that
 /// closed, and the counts of units of work and of answers checked. Both counts are 0 in every event but a
-/// turn, and so far in turns too.
+/// turn, and in a turn that tells 503. No answers are checked yet.
 #[derive(Drop)]
 pub struct Told {
     pub reply: Option<Tell>,
@@ -76,6 +76,23 @@ impl Told {
             refused: None,
             closed,
             units: 0,
+            checks: 0,
+        }
+    }
+
+    /// A turn tells this reply, after so many units of work, and a connection closes, or none.
+    pub(crate) fn answer(tell: Tell, closed: Option<u64>, units: u64) -> Told
+        ensures reply { result.reply ≡ Some tell }
+        ensures refused { result.refused ≡ None }
+        ensures closed { result.closed ≡ closed }
+        ensures units { result.units ≡ units }
+        ensures checks { result.checks ≡ 0 }
+    {
+        Told {
+            reply: Some(tell),
+            refused: None,
+            closed,
+            units,
             checks: 0,
         }
     }

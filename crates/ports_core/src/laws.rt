@@ -1,12 +1,9 @@
 //! What holds of every run, as functions that do nothing.
 ghost use Rattle.std.specs.Prelude.{◌≡◌, ℕ, ◌<◌, List, length};
 ghost use Rattle.ports_core.specs.declared.event.Event.{Event};
-ghost use Rattle.ports_core.specs.declared.event.Told.{Told};
 ghost use Rattle.ports_core.specs.Effects.{Effect};
 ghost use Rattle.ports_core.specs.State.{State, new_state};
-ghost use Rattle.ports_core.specs.Steps.{Does};
-ghost use Rattle.ports_core.specs.Taking.{Taken};
-ghost use Rattle.ports_core.specs.Changes.{ChangesSlices};
+ghost use Rattle.ports_core.specs.Changes.{EachEventChangesSoMuch};
 ghost use Rattle.ports_core.specs.Runs.{Run};
 ghost use Rattle.ports_core.specs.Books.{OneListIsTaken};
 ghost use Rattle.ports_core.specs.Plainly.{IsToldPlainly};
@@ -16,11 +13,11 @@ ghost use Rattle.ports_core.specs.Isolation.{EachRunServesPlainly, EqualSlicesAr
 
 /// What an event does to the tenants' worlds and waiting requests. The opening or the loss of a connection
 /// changes nothing. Bytes that come or are written, or an end, add at most one request at the end of one
-/// queue. A turn of a tenant takes that tenant's first request off its queue, if there is one. It tells the
-/// reply to the connection that asked, and changes that tenant's world alone.
+/// queue: the one that comes first on the event's connection, if nothing of that waits or is pending. A turn
+/// of a tenant takes that tenant's first request off its queue, if there is one. It tells the reply to the
+/// connection that asked, and changes that tenant's world alone.
 pub fn each_event_changes_so_much()
-    ensures { (event : Event) (told : Told) (old new : State) → Does event told old new
-        → (taken : Taken) × ChangesSlices event told taken old new }
+    ensures { EachEventChangesSoMuch }
 {}
 
 /// This holds in every run of a service from its beginning, whatever events come and whichever tenants have

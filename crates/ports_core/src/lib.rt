@@ -27,4 +27,4 @@ pub use laws::{
     one_list_is_taken,
 };
 pub use service::{NewFault, Service};
-pub use tenants::Tenants;
+pub use tenants::{Tenants, Worked};

@@ -10,7 +10,7 @@ use crate::connections::{
 use crate::event::{Event, Refused, Tell, Told};
 use crate::keys::Config;
 use crate::queue::{Queue, QueuedRequest};
-use crate::tenants::Tenants;
+use crate::tenants::{Tenants, Worked};
 use arrayvec::ArrayVec;
 use mk_paths::FilesFault;
 use std::alloc::{AllocError, Global};
@@ -86,10 +86,11 @@ impl<K: Tenants> Model for Service<K> {
 impl<K: Tenants> Service<K> {
     ghost use Rattle.ports_core.specs.Keys.{is_fit, key_texts};
     ghost use Rattle.ports_core.specs.Opened.{OpenAnd};
-    ghost use Rattle.ports_core.specs.State.{new_state, keys_of, next_of, connections_of, connection_of, room_at};
+    ghost use Rattle.ports_core.specs.State.{new_state, keys_of, slice_of, next_of, connections_of, connection_of, room_at};
     ghost use Rattle.ports_core.specs.State.{pending_at, waiting_at, IsAllowed};
     ghost use Rattle.ports_core.specs.Connections.{Fits};
     ghost use Rattle.ports_core.specs.Telling.{CountsNone, CountsTurns};
+    ghost use Rattle.ports_core.specs.Charging.{EventSpends, TurnSpends};
     ghost use Rattle.ports_core.specs.Steps.{Does, Opens, Hears, Turns};
 
     /// A service whose tenants' worlds are as each begins, without connections, with places for
@@ -104,9 +105,9 @@ impl<K: Tenants> Service<K> {
         if !config.is_fit() {
             return Err(NewFault::Config);
         }
+        let worlds = K::new(alloc, &config)?;
         let Config { keys, .. } = config;
         let count = keys.len();
-        let worlds = K::new(alloc, count)?;
         let queues = new_queues(alloc, count)?;
         Ok(Service {
             alloc,
@@ -200,7 +201,7 @@ impl<K: Tenants> Service<K> {
         requires { IsAllowed event.now self.old }
         ensures does { Does event.now result self.old self.new }
         ensures counts { CountsTurns event.now result }
-        ensures so_far { CountsNone result }
+        ensures spends { EventSpends event.now result self.old }
     {
         match event {
             Event::Open(_) => self.open(),
@@ -248,14 +249,19 @@ impl<K: Tenants> Service<K> {
     fn turn(&mut self, tenant: usize) -> Told
         requires { tenant < length (keys_of self.old) }
         ensures turns { Turns tenant result self.old self.new }
-        ensures counts { CountsNone result }
+        ensures counts { CountsTurns (Event.Turn tenant) result }
+        ensures spends { TurnSpends (slice_of tenant self.old) result }
     {
         let queue = &mut self.queues[tenant];
         let Some(QueuedRequest { conn, request }) = queue.next() else {
             return Told::nothing();
         };
         let close = closes(&self.connections, conn);
-        let (reply, bytes) = self.worlds.answer(self.alloc, tenant, request, close);
+        let Worked {
+            reply,
+            bytes,
+            units,
+        } = self.worlds.work(self.alloc, tenant, &request, close);
         answer_connection(&mut self.connections, conn, &reply, bytes);
         let closed = close_done(&mut self.connections, conn);
         let tell = Tell {
@@ -263,7 +269,7 @@ impl<K: Tenants> Service<K> {
             conn,
             reply,
         };
-        Told::of(Some(tell), closed)
+        Told::answer(tell, closed, units)
     }
 }
 

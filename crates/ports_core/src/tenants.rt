@@ -1,37 +1,50 @@
 //! The tenants' worlds, as the service needs them.
-ghost use Rattle.std.specs.Prelude.{◌≡◌, ◌<◌, ◌≤◌, List, length, replicate, IfOk};
+ghost use Rattle.std.specs.Prelude.{◌≡◌, ◌<◌, true, List, length, replicate, IfOk};
 ghost use Rattle.mk_paths.specs.World.{World, opening_world};
 ghost use Rattle.ports_core.specs.Answering.{AnswersFor, AreBytesOf};
+ghost use Rattle.ports_core.specs.Charging.{ChargesFor};
+ghost use Rattle.ports_core.specs.Keys.{is_fit};
 
+use crate::keys::Config;
 use mk_paths::FilesFault;
 use ports_http::{Reply, Request};
 use std::alloc::Global;
+
+/// What was done for a tenant's first request.
+#[derive(Drop)]
+pub struct Worked {
+    /// The reply.
+    pub reply: Reply,
+    /// The reply's bytes, which say whether the connection closes; `None` if it is one of the fixed replies,
+    /// for which room is reserved.
+    pub bytes: Option<Vec<u8>>,
+    /// The units that were spent on lines, records and values; 0 with 503.
+    pub units: u64,
+}
 
 /// The world of each tenant, by the tenants' numbers, wherever these worlds are kept, and the plain service
 /// over one of them. `worlds` is the list of the worlds.
 pub trait Tenants: Sized + Drop {
     ghost worlds: { Self → List World };
 
-    /// So many tenants' worlds, at most 64, as each begins.
+    /// The worlds of the tenants whose keys a config has, as each begins.
     ///
     /// The error is `Store` if what keeps them refuses, and `Memory` if memory runs out.
-    fn new(alloc: Global, count: usize) -> Result<Self, FilesFault>
-        requires { count ≤ 64 }
-        ensures { IfOk result (λ kept. worlds kept ≡ replicate count opening_world) };
+    fn new(alloc: Global, config: &Config) -> Result<Self, FilesFault>
+        requires { is_fit config.now ≡ true }
+        ensures { IfOk result (λ kept. worlds kept
+            ≡ replicate (length config.now.keys.items) opening_world) };
 
-    /// The reply to a request over a tenant's world, and its bytes, which say whether the connection
-    /// closes. The bytes are made before the world changes. If what keeps the worlds fails, or there is no
-    /// memory, the world is unchanged. Then the reply is the fixed one that says so, without bytes.
-    fn answer(
-        &mut self,
-        alloc: Global,
-        tenant: usize,
-        request: Request,
-        close: bool,
-    ) -> (Reply, Option<Vec<u8>>)
+    /// The reply to a request over a tenant's world. Its bytes are made before the world changes. If what
+    /// keeps the worlds fails, or there is no memory, the world is unchanged. Then the reply is the fixed
+    /// one that says so, without bytes, and nothing is told as spent.
+    ///
+    /// A request that asks for the index spends at most what it costs, and any other spends just that.
+    fn work(&mut self, alloc: Global, tenant: usize, request: &Request, close: bool) -> Worked
         requires { tenant < length (worlds self.old) }
-        ensures answers { AnswersFor tenant request result.0 (worlds self.old) (worlds self.new) }
-        ensures bytes { AreBytesOf result.0 close result.1 }
+        ensures answers { AnswersFor tenant request.now result.reply (worlds self.old) (worlds self.new) }
+        ensures charges { ChargesFor tenant request.now result.reply result.units (worlds self.old) }
+        ensures bytes { AreBytesOf result.reply close result.bytes }
         ensures count { length (worlds self.new) ≡ length (worlds self.old) };
 
     /// Limits the steps of each later statement of what keeps the worlds, or removes the limit. A request

@@ -1,6 +1,9 @@
 pub mod Kept
 pub mod Known
 pub mod Filled
+pub mod Totals
+pub mod EffortLemmas
+pub mod PairLemmas
 pub mod Taking
 pub mod More
 pub mod Lookups

@@ -6,4 +6,6 @@ pub mod Naming
 pub mod Depending
 pub mod Index
 pub mod Filling
+pub mod Efforts
+pub mod Pairs
 pub mod Seen

@@ -37,9 +37,13 @@ pub record Finding : Type 0 where
   pub outcome : PathOutcome
   pub cost : ℕ
 
--- a cost and more, as a count of 64 bits shows them
+-- a count of 64 bits, which goes no higher than its greatest number
+abbrev pub counted : ℕ → ℕ
+counted n = min n (2 ^ 64 - 1)
+
+-- a cost and more, as such a count
 abbrev pub with_cost : ℕ → ℕ → ℕ
-with_cost spent more = min (spent + more) (2 ^ 64 - 1)
+with_cost spent more = counted (spent + more)
 
 -- a port by its record, after an evaluation of this cost
 abbrev pub port_finding : ℕ → Result Recorded Failed → Finding

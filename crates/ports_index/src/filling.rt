@@ -1,10 +1,12 @@
 //! Finding what paths lead to, if they have no row yet.
 ghost use Rattle.mk_paths.specs.FilesView.{world_of};
-ghost use Rattle.std.specs.Prelude.{◌∷◌, [], map, string_bytes, OnOk};
+ghost use Rattle.std.specs.Prelude.{◌≡◌, ◌∷◌, [], map, string_bytes, IfOk, OnOk};
 ghost use Rattle.std.specs.Result.{result_err};
+ghost use Rattle.ports_index.specs.Efforts.{effort_over, lacking};
 ghost use Rattle.ports_index.specs.Filling.{AreRight, Stay, Fills};
 ghost use Rattle.ports_index.specs.Keeping.{Keeps};
 
+use crate::effort::Effort;
 use crate::evaluating::evaluate_path;
 use crate::keeping::Rows;
 use mk_files::Files;
@@ -12,7 +14,8 @@ use mk_paths::{FilesFault, Settings};
 use std::alloc::Global;
 
 /// Gives a row to each of these paths that has none yet: what the path leads to. If all rows were right
-/// before, they are right after it. The rows that were there stay, and no other path gets one.
+/// before, they are right after it. The rows that were there stay, and no other path gets one. The result
+/// is the work that this took: each of these paths is evaluated once, if it has no row yet.
 ///
 /// It fails if the files fail, or if memory runs out. The rows that were made until then stay.
 pub fn fill<F: Files, R: Rows>(
@@ -21,18 +24,22 @@ pub fn fill<F: Files, R: Rows>(
     settings: &Settings,
     paths: &[String],
     rows: &mut R,
-) -> Result<(), FilesFault>
+) -> Result<Effort, FilesFault>
     requires { AreRight (world_of (F.view files.old) settings.now) (R.entries rows.old) }
     ensures right { AreRight (world_of (F.view files.old) settings.now) (R.entries rows.new) }
     ensures stay { Stay (R.entries rows.old) (R.entries rows.new) }
     ensures fills { OnOk result (Fills (world_of (F.view files.old) settings.now)
         (map string_bytes paths.now) (R.entries rows.old) (R.entries rows.new)) }
+    ensures effort { IfOk result (λ effort. effort
+        ≡ effort_over (world_of (F.view files.old) settings.now)
+        (lacking (R.entries rows.old) (map string_bytes paths.now))) }
     ensures keeps { Keeps (result_err result) (F.view files.old) (F.view files.new) }
 {
+    let mut effort = Effort::nothing();
     for path in paths {
-        fill_one(alloc, files, settings, path, rows)?;
+        effort = effort.and(fill_one(alloc, files, settings, path, rows)?);
     }
-    Ok(())
+    Ok(effort)
 }
 
 /// Gives this path its row, if it has none yet.
@@ -42,19 +49,23 @@ pub(crate) fn fill_one<F: Files, R: Rows>(
     settings: &Settings,
     path: &str,
     rows: &mut R,
-) -> Result<(), FilesFault>
+) -> Result<Effort, FilesFault>
     requires { AreRight (world_of (F.view files.old) settings.now) (R.entries rows.old) }
     ensures right { AreRight (world_of (F.view files.old) settings.now) (R.entries rows.new) }
     ensures stay { Stay (R.entries rows.old) (R.entries rows.new) }
     ensures fills { OnOk result (Fills (world_of (F.view files.old) settings.now) (path.now ∷ [])
         (R.entries rows.old) (R.entries rows.new)) }
+    ensures effort { IfOk result (λ effort. effort
+        ≡ effort_over (world_of (F.view files.old) settings.now)
+        (lacking (R.entries rows.old) (path.now ∷ []))) }
     ensures keeps { Keeps (result_err result) (F.view files.old) (F.view files.new) }
 {
     if rows.get(path).is_some() {
-        return Ok(());
+        return Ok(Effort::nothing());
     }
     let found = evaluate_path(alloc, files, settings, path)?;
+    let effort = Effort::of(&found);
     let key = String::from_str(alloc, path)?;
     rows.put(key, found.row)?;
-    Ok(())
+    Ok(effort)
 }

@@ -1,5 +1,5 @@
-//! What holds of all paths. The function does nothing else: its clause is the law.
-ghost use Rattle.ports_index.specs.PathLaws.{PathIsTheSameWhereAnswered};
+//! What holds of all paths. The functions do nothing else: their clauses are the laws.
+ghost use Rattle.ports_index.specs.PathLaws.{PathIsTheSameWhereAnswered, ListedPathsCostNoMore, MakefilesAreEvaluated};
 
 use mk_eval::same_where_answered;
 
@@ -10,3 +10,14 @@ pub fn path_is_the_same_where_answered()
 {
     same_where_answered();
 }
+
+/// The listed paths cost no more than all paths on which the index depends: these, and those that items
+/// name, each once.
+pub fn listed_paths_cost_no_more()
+    ensures { ListedPathsCostNoMore }
+{}
+
+/// As many makefiles are evaluated for some paths as there are paths among them whose makefile is there.
+pub fn makefiles_are_evaluated()
+    ensures { MakefilesAreEvaluated }
+{}

@@ -3,6 +3,7 @@
 #![tactic(auto)]
 
 mod depending;
+mod effort;
 mod evaluating;
 mod filling;
 mod indexing;
@@ -10,8 +11,11 @@ mod keeping;
 mod laws;
 mod naming;
 
+pub use effort::Effort;
 pub use evaluating::{Finding, Row, evaluate_path};
 pub use filling::fill;
 pub use indexing::{Index, index_files, index_roots};
 pub use keeping::{MemoryRows, Rows};
-pub use laws::path_is_the_same_where_answered;
+pub use laws::{
+    listed_paths_cost_no_more, makefiles_are_evaluated, path_is_the_same_where_answered,
+};

@@ -2,6 +2,7 @@ pub mod PortBodies
 mod BodyLemmas
 mod LiteralRoutes
 pub mod NeverFails
+mod QuestionLemmas
 mod RouteTable
 mod TargetLemmas
 mod TrimmingLemmas

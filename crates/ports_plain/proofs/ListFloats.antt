@@ -17,7 +17,7 @@ use Rattle.ports_plain.specs.declared.depth.Depth.{Depth}
 use Rattle.ports_plain.specs.declared.depth.Depth.TheVariants.{Direct, All}
 use Rattle.ports_plain.specs.ListBodies.{list_body, listed_body, packages_body, dependency_body, dependencies_body, dependent_body, dependents_body, reached_body, reaching_body, fault_at, faults_body}
 use Rattle.ports_plain.specs.IndexRoutes.{dependencies_at, dependencies_body_of, dependents_at, dependents_body_of}
-use Rattle.ports_plain.specs.declared.dependencies.Question.{Question}
+use Rattle.ports_plain.specs.declared.dependencies.DependencyQuestion.{DependencyQuestion}
 
 none : {X : Type 0} (f : X → Data) (xs : List X) → ((x : X) → has_float (f x) ≡ false) → items_have_float (items_of (map f xs)) ≡ false
 none f [] each = refl
@@ -65,8 +65,8 @@ back_by_depth : (edges : List RootEdgeValue) (path : PathValue) (kinds : Kinds) 
 back_by_depth edges path kinds Direct = dependents_fine (edges_to_of kinds path edges)
 back_by_depth edges path kinds All = reaching_fine (reaching_of kinds path edges)
 
-pub all_dependencies_fine : {body : Data} (edges : List RootEdgeValue) (question : Question) → body ≡ dependencies_body_of edges question → has_float body ≡ false
+pub all_dependencies_fine : {body : Data} (edges : List RootEdgeValue) (question : DependencyQuestion) → body ≡ dependencies_body_of edges question → has_float body ≡ false
 all_dependencies_fine {body} edges question is = ap has_float is ∙ by_depth edges question.path question.kinds question.depth
 
-pub all_dependents_fine : {body : Data} (edges : List RootEdgeValue) (question : Question) → body ≡ dependents_body_of edges question → has_float body ≡ false
+pub all_dependents_fine : {body : Data} (edges : List RootEdgeValue) (question : DependencyQuestion) → body ≡ dependents_body_of edges question → has_float body ≡ false
 all_dependents_fine {body} edges question is = ap has_float is ∙ back_by_depth edges question.path question.kinds question.depth

@@ -23,14 +23,15 @@ use Rattle.ports_plain.specs.Routes.{route_of}
 use Rattle.ports_plain.specs.Target.{path_of as target_path, query_of as query_of_target}
 use Rattle.ports_plain.specs.Parameters.{parameter, optional}
 use Rattle.ports_plain.specs.Subpackages.{has_named}
-use Rattle.ports_plain.specs.IndexRoutes.{list_by, match_reply, match_by, bad_spec, depth_of, dependencies_body_of, dependencies_by, root_named, reply_to, question_on, question_of, question_in, get_dependencies}
+use Rattle.ports_plain.specs.IndexRoutes.{list_by, match_reply, match_by, bad_spec, depth_of, dependencies_body_of, dependencies_by, reply_to, question_on, question_of, question_in, get_dependencies}
 use Rattle.ports_plain.specs.PathParameter.{path_or_refusal, path_of_parameter, path_in, reply_or_refusal}
 use Rattle.ports_plain.specs.declared.dependencies.Direction.{Direction}
 use Rattle.ports_plain.specs.declared.dependencies.Direction.TheVariants.{Dependencies, Dependents}
-use Rattle.ports_plain.specs.declared.dependencies.Question.{Question}
+use Rattle.ports_plain.specs.declared.dependencies.DependencyQuestion.{DependencyQuestion}
 use Rattle.ports_plain.specs.declared.depth.Depth.{Depth}
 use Rattle.ports_query.specs.Conditions.{ConditionValue, query_of}
 use Rattle.ports_query.specs.Kinds.{kinds_of}
+use Rattle.ports_query.specs.Listing.{root_named}
 use Rattle.ports_query.specs.declared.kinds.Kinds.{Kinds}
 use Rattle.ports_index.specs.Index.{roots, edges}
 use Rattle.port_deps.specs.Roots.{RootValue, RootEdgeValue}
@@ -151,7 +152,7 @@ match_by-fine world text =
       | false ↦ refl
     ]
 
-dependencies_by-fine : (edges : List RootEdgeValue) (question : Question) (state : Option (Result PortValue FaultAt)) → ((dependencies_by edges question state).status == 503) ≡ false
+dependencies_by-fine : (edges : List RootEdgeValue) (question : DependencyQuestion) (state : Option (Result PortValue FaultAt)) → ((dependencies_by edges question state).status == 503) ≡ false
 dependencies_by-fine edges question None = refl
 dependencies_by-fine edges question (Some (Err fault)) = refl
 dependencies_by-fine edges question (Some (Ok port)) =
@@ -160,7 +161,7 @@ dependencies_by-fine edges question (Some (Ok port)) =
       | false ↦ refl
     ]
 
-reply_to-fine : (world : World) (direction : Direction) (question : Question) → ((reply_to (roots world) (edges world) direction question).status == 503) ≡ false
+reply_to-fine : (world : World) (direction : Direction) (question : DependencyQuestion) → ((reply_to (roots world) (edges world) direction question).status == 503) ≡ false
 reply_to-fine world Dependencies question =
     dependencies_by-fine (edges world) question (option_map (λ (root : RootValue). root.state) (root_named (roots world) (port_path question.path)))
 reply_to-fine world Dependents question = refl

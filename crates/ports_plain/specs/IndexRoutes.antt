@@ -1,5 +1,5 @@
 -- The routes over all ports of a world: which packages they list, and which dependencies.
-use Rattle.std.specs.Prelude.{ℕ, if◌then◌else◌, ◌||◌, List, [], Option, Some, None, Result, Ok, Err, option_map, find}
+use Rattle.std.specs.Prelude.{ℕ, if◌then◌else◌, ◌||◌, List, [], Option, Some, None, Result, Ok, Err, option_map}
 use Rattle.std.specs.Prelude.{codes}
 use Rattle.std.specs.Option.{option_map_or}
 use Rattle.std.specs.Result.{is_ok}
@@ -12,7 +12,7 @@ use Rattle.port_rules.specs.Ports.{PortValue}
 use Rattle.port_deps.specs.Roots.{RootValue, RootEdgeValue}
 use Rattle.ports_index.specs.Index.{roots, edges}
 use Rattle.ports_query.specs.Conditions.{ConditionValue, query_of}
-use Rattle.ports_query.specs.Listing.{ListedValue, answer_of, admitted_of}
+use Rattle.ports_query.specs.Listing.{ListedValue, answer_of, admitted_of, root_named}
 use Rattle.ports_query.specs.Kinds.{kinds_of}
 use Rattle.ports_query.specs.Edges.{first_edges_of, edges_to_of}
 use Rattle.ports_query.specs.Reaching.{reached_of, reaching_of}
@@ -21,7 +21,7 @@ use Rattle.serde_json.specs.Data.{Data}
 use Rattle.ports_http.specs.Messages.{ReplyMessage}
 use Rattle.ports_plain.specs.declared.dependencies.Direction.{Direction}
 use Rattle.ports_plain.specs.declared.dependencies.Direction.TheVariants.{Dependencies, Dependents}
-use Rattle.ports_plain.specs.declared.dependencies.Question.{Question}
+use Rattle.ports_plain.specs.declared.dependencies.DependencyQuestion.{DependencyQuestion}
 use Rattle.ports_plain.specs.declared.depth.Depth.{Depth}
 use Rattle.ports_plain.specs.declared.depth.Depth.TheVariants.{Direct, All}
 use Rattle.ports_plain.specs.Parameters.{parameter, optional}
@@ -79,20 +79,20 @@ depth_of text =
     || bytes_eq text (codes "1") then Some Direct else if bytes_eq text (codes "all") then Some All else None
 
 -- the question about the dependencies of a path, or the refusal: the path is looked at first
-abbrev pub question_on : Result PathValue ReplyMessage → Option Kinds → Option Depth → Result Question ReplyMessage
+abbrev pub question_on : Result PathValue ReplyMessage → Option Kinds → Option Depth → Result DependencyQuestion ReplyMessage
 question_on (Err refused) kinds depth = Err refused
 question_on (Ok path) (Some kinds) (Some depth) = Ok (record { path = path; kinds = kinds; depth = depth })
 question_on (Ok path) (Some kinds) None = Err bad_kind
 question_on (Ok path) None depth = Err bad_kind
 
 -- the same, given the texts of the parameters, if each is there once or not at all
-abbrev pub question_of : Result PathValue ReplyMessage → Option (List ℕ) → Option (List ℕ) → Result Question ReplyMessage
+abbrev pub question_of : Result PathValue ReplyMessage → Option (List ℕ) → Option (List ℕ) → Result DependencyQuestion ReplyMessage
 question_of path (Some kind) (Some depth) = question_on path (kinds_of kind) (depth_of depth)
 question_of path (Some kind) None = Err bad_parameter
 question_of path None depth = Err bad_parameter
 
 -- the question of a query: ?path=&kind=&depth=
-abbrev pub question_in : List ℕ → Result Question ReplyMessage
+abbrev pub question_in : List ℕ → Result DependencyQuestion ReplyMessage
 question_in query = question_of (path_in query) (optional (codes "kind") query) (optional (codes "depth") query)
 
 -- what a port depends on: its own dependencies, or all ports that are reached over those that are met
@@ -100,16 +100,12 @@ abbrev pub dependencies_at : List RootEdgeValue → PathValue → Kinds → Dept
 dependencies_at edges path kinds Direct = dependencies_body (first_edges_of kinds path edges)
 dependencies_at edges path kinds All = reached_body (reached_of kinds (first_edges_of kinds path edges) edges)
 
-abbrev pub dependencies_body_of : List RootEdgeValue → Question → Data
+abbrev pub dependencies_body_of : List RootEdgeValue → DependencyQuestion → Data
 dependencies_body_of edges question = dependencies_at edges question.path question.kinds question.depth
-
--- the root at a canonical path
-abbrev pub root_named : List RootValue → List ℕ → Option RootValue
-root_named roots path = find (λ (root : RootValue). bytes_eq root.path path) roots
 
 -- the reply by the state of the root at the path, if there is one: it must be a port, and must have the
 -- subpackage, if the path names one
-abbrev pub dependencies_by : List RootEdgeValue → Question → Option (Result PortValue FaultAt) → ReplyMessage
+abbrev pub dependencies_by : List RootEdgeValue → DependencyQuestion → Option (Result PortValue FaultAt) → ReplyMessage
 dependencies_by edges question None = no_port
 dependencies_by edges question (Some (Err fault)) = faulty fault
 dependencies_by edges question (Some (Ok port)) =
@@ -117,7 +113,7 @@ dependencies_by edges question (Some (Ok port)) =
     then json_reply 200 (dependencies_body_of edges question) else no_subpackage
 
 -- what the port that the question names depends on, by these roots
-abbrev pub dependencies_in : List RootValue → List RootEdgeValue → Question → ReplyMessage
+abbrev pub dependencies_in : List RootValue → List RootEdgeValue → DependencyQuestion → ReplyMessage
 dependencies_in roots edges question =
     dependencies_by edges question (option_map (λ (root : RootValue). root.state) (root_named roots (port_path question.path)))
 
@@ -127,14 +123,18 @@ abbrev pub dependents_at : List RootEdgeValue → PathValue → Kinds → Depth 
 dependents_at edges path kinds Direct = dependents_body (edges_to_of kinds path edges)
 dependents_at edges path kinds All = reaching_body (reaching_of kinds path edges)
 
-abbrev pub dependents_body_of : List RootEdgeValue → Question → Data
+abbrev pub dependents_body_of : List RootEdgeValue → DependencyQuestion → Data
 dependents_body_of edges question = dependents_at edges question.path question.kinds question.depth
 
 -- the reply to a question about dependencies, or about dependents
-abbrev pub reply_to : List RootValue → List RootEdgeValue → Direction → Question → ReplyMessage
+abbrev pub reply_to : List RootValue → List RootEdgeValue → Direction → DependencyQuestion → ReplyMessage
 reply_to roots edges Dependencies question = dependencies_in roots edges question
 reply_to roots edges Dependents question = json_reply 200 (dependents_body_of edges question)
 
+-- the same over a world
+abbrev pub dependency_reply : World → Direction → DependencyQuestion → ReplyMessage
+dependency_reply world direction question = reply_to (roots world) (edges world) direction question
+
 -- GET /v1/deps and GET /v1/rdeps
 abbrev pub get_dependencies : World → Direction → List ℕ → ReplyMessage
-get_dependencies world direction query = reply_or_refusal (reply_to (roots world) (edges world) direction) (question_in query)
+get_dependencies world direction query = reply_or_refusal (dependency_reply world direction) (question_in query)

@@ -12,6 +12,8 @@ pub mod PathParameter
 pub mod Changing
 pub mod Trimming
 pub mod IndexRoutes
+pub mod Variables
 pub mod Plain
-pub mod Giving
-pub mod Refusing
+pub mod Questions
+pub mod Answers
+pub mod Resting

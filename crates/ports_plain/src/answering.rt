@@ -1,23 +1,26 @@
 // Requests and their answers.
-ghost use Rattle.mk_paths.specs.FilesView.{world_of};
-ghost use Rattle.std.specs.Prelude.{◌≡◌, IfOk};
+ghost use Rattle.std.specs.Prelude.{◌≡◌, IfOk, None};
 ghost use Rattle.std.specs.Result.{result_err};
-ghost use Rattle.ports_plain.specs.Plain.{answer, plain_request, get_reply, on_query as on_query_of};
-ghost use Rattle.ports_plain.specs.Giving.{GivesReply, GivesAnswer};
-ghost use Rattle.ports_index.specs.Keeping.{Keeps};
+ghost use Rattle.ports_plain.specs.Answers.{answer_to};
+ghost use Rattle.ports_plain.specs.Plain.{answer, plain_request};
+ghost use Rattle.ports_plain.specs.Questions as questions;
+ghost use Rattle.ports_plain.specs.Questions.{question_of};
+ghost use Rattle.ports_plain.specs.Resting.{need_of};
 
 use crate::changing::Prepared;
-use crate::dependencies::{Direction, get_dependencies};
-use crate::files::on_file;
-use crate::lists::{get_faults, get_list, get_match};
-use crate::paths::on_path;
-use crate::ports::get_port;
-use crate::replies::{not_allowed, refusal};
+use crate::dependencies::{Direction, dependency_question, dependency_reply};
+use crate::files::{file_question, remove_file, show_file};
+use crate::laws::questions_have_the_answers;
+use crate::lists::{faults_reply, list_question, list_reply, match_question, match_reply};
+use crate::paths::path_question;
+use crate::port::{port_question, port_reply};
+use crate::ports::Ports;
+use crate::questions::Question;
+use crate::replies::not_allowed;
 use crate::routing::{Route, Routes};
 use crate::target::path_and_query;
-use crate::variables::get_variable;
-use mk_files::Listing;
-use mk_paths::{FilesFault, Settings};
+use crate::variables::{variable_question, variable_reply};
+use mk_paths::FilesFault;
 use ports_http::{Method, Reply, StatusCode};
 use std::alloc::{AllocError, Global};
 
@@ -35,8 +38,8 @@ impl Plain {
         })
     }
 
-    /// The answer to one request over one tenant's world: its reply, and what is to be changed. Nothing of
-    /// the world is changed yet.
+    /// The answer to one request over the ports of one tenant's world: its reply, and what is to be changed,
+    /// with the units that were spent. Nothing of the world is changed yet.
     ///
     /// `/v1/file?name=N` is about the file that N names. `GET` gives its bytes. `PUT` stores the body, in
     /// bytes, as that file: 200 `{"stored":true}`. `DELETE` removes it: 200 `{"removed":true}`. If the
@@ -68,80 +71,119 @@ impl Plain {
     /// `depth` may be missing or empty.
     ///
     /// Parameters are read as forms are (URL Standard), and statuses are those of RFC 9110. All these are
-    /// answers. If reading the files fails, the error is `Store`, and the files count one more failure. If
-    /// memory runs out, the error is `Memory`.
-    #[tactic(auto, unfolding(crate::specs::Plain::answer))]
-    pub fn prepare<F: Listing>(
+    /// answers. If finding out what is needed fails, so does this. If memory runs out, the error is `Memory`.
+    pub fn prepare<P: Ports>(
         &self,
         alloc: Global,
-        files: &mut F,
-        settings: &Settings,
+        ports: &mut P,
         method: Method,
         target: &str,
-        body: Vec<u8>,
-    ) -> Result<Prepared, FilesFault>
-        ensures ok { IfOk result (λ prepared. (prepared.reply, prepared.change)
-            ≡ answer (world_of (F.view files.old) settings.now)
-            (plain_request method target.now body.items)) }
-        ensures keeps { Keeps (result_err result) (F.view files.old) (F.view files.new) }
+        body: &[u8],
+    ) -> Result<(Prepared, u64), FilesFault>
+        ensures answer { IfOk result (λ found. (found.0.reply, found.0.change)
+            ≡ answer (P.world ports.old) (plain_request method target.now body.now)) }
+        ensures units { IfOk result (λ found. found.1
+            ≡ P.charge ports.old (need_of (question_of (plain_request method target.now body.now)))) }
+        ensures leaves { P.leaves (result_err result) ports.old ports.new }
+    {
+        questions_have_the_answers();
+        let question = self.question(alloc, method, target, body)?;
+        answer_question(alloc, ports, question)
+    }
+
+    /// What a request asks, with every refusal of its form. It fails only if memory runs out.
+    #[tactic(auto, unfolding(crate::specs::Questions::question_of))]
+    pub fn question(
+        &self,
+        alloc: Global,
+        method: Method,
+        target: &str,
+        body: &[u8],
+    ) -> Result<Question, AllocError>
+        ensures { IfOk result (λ question. question
+            ≡ question_of (plain_request method target.now body.now)) }
     {
         let (path, query) = path_and_query(target);
         let Some(route) = self.routes.find(path) else {
-            let reply = refusal(alloc, StatusCode::NOT_FOUND, "Route")?;
-            return Ok(Prepared::reply_alone(reply));
+            return Question::refused(alloc, StatusCode::NOT_FOUND, "Route");
         };
         match route {
-            Route::File => on_file(alloc, files, method, query, body),
-            Route::Path => Ok(on_path(alloc, method, &body)?),
+            Route::File => file_question(alloc, method, query, body),
+            Route::Path => path_question(alloc, method, body),
             Route::Deps
             | Route::Faults
             | Route::List
             | Route::Match
             | Route::Port
             | Route::Rdeps
-            | Route::Var => on_query(alloc, files, settings, route, method, query),
+            | Route::Var => query_question(alloc, route, method, query),
         }
     }
 }
 
-// The answer on a route that is asked by a query. It changes nothing.
-fn on_query<F: Listing>(
+// The question on a route that is asked by a query.
+fn query_question(
     alloc: Global,
-    files: &mut F,
-    settings: &Settings,
     route: Route,
     method: Method,
     query: &str,
-) -> Result<Prepared, FilesFault>
-    ensures { GivesAnswer result
-        (on_query_of (world_of (F.view files.old) settings.now) query.now route method)
-        (F.view files.old) (F.view files.new) }
+) -> Result<Question, AllocError>
+    ensures { IfOk result (λ question. question
+        ≡ questions.query_question query.now route method) }
 {
     match method {
-        Method::Get => Ok(Prepared::reply_alone(get(alloc, files, settings, route, query)?)),
-        Method::Put | Method::Delete => Ok(Prepared::reply_alone(not_allowed(alloc, route)?)),
+        Method::Get => get_question(alloc, route, query),
+        Method::Put | Method::Delete => Ok(Question::settled(not_allowed(alloc, route)?)),
     }
 }
 
-// The reply to a GET on a route. It changes nothing.
-fn get<F: Listing>(
-    alloc: Global,
-    files: &mut F,
-    settings: &Settings,
-    route: Route,
-    query: &str,
-) -> Result<Reply, FilesFault>
-    ensures { GivesReply result (get_reply (world_of (F.view files.old) settings.now) query.now route)
-        (F.view files.old) (F.view files.new) }
+// The question of a GET on a route.
+fn get_question(alloc: Global, route: Route, query: &str) -> Result<Question, AllocError>
+    ensures { IfOk result (λ question. question ≡ questions.get_question query.now route) }
 {
     match route {
-        Route::Deps => get_dependencies(alloc, files, settings, Direction::Dependencies, query),
-        Route::Faults => get_faults(alloc, files, settings),
-        Route::List => get_list(alloc, files, settings, query),
-        Route::Match => get_match(alloc, files, settings, query),
-        Route::Port => get_port(alloc, files, settings, query),
-        Route::Rdeps => get_dependencies(alloc, files, settings, Direction::Dependents, query),
-        Route::Var => get_variable(alloc, files, settings, query),
-        Route::File | Route::Path => Ok(not_allowed(alloc, route)?),
+        Route::Deps => dependency_question(alloc, Direction::Dependencies, query),
+        Route::Faults => Ok(Question::Faults),
+        Route::List => list_question(alloc, query),
+        Route::Match => match_question(alloc, query),
+        Route::Port => port_question(alloc, query),
+        Route::Rdeps => dependency_question(alloc, Direction::Dependents, query),
+        Route::Var => variable_question(alloc, query),
+        Route::File | Route::Path => Ok(Question::settled(not_allowed(alloc, route)?)),
     }
+}
+
+/// The answer to a question over the ports of a tenant's world: its reply, and what is to be changed, with
+/// the units that were spent. It fails if finding out what is needed fails, or if memory runs out.
+pub fn answer_question<P: Ports>(
+    alloc: Global,
+    ports: &mut P,
+    question: Question,
+) -> Result<(Prepared, u64), FilesFault>
+    ensures answer { IfOk result (λ found. (found.0.reply, found.0.change)
+        ≡ answer_to (P.world ports.old) question) }
+    ensures units { IfOk result (λ found. found.1 ≡ P.charge ports.old (need_of question)) }
+    ensures leaves { P.leaves (result_err result) ports.old ports.new }
+{
+    match question {
+        Question::Settled(prepared) => Ok((prepared, 0)),
+        Question::ShowFile(name) => Ok((show_file(alloc, ports, &name)?, 0)),
+        Question::RemoveFile(name) => Ok((remove_file(alloc, ports, name)?, 0)),
+        Question::Variable(asked) => Ok(reply_alone(variable_reply(alloc, ports, &asked)?)),
+        Question::Port(path) => Ok(reply_alone(port_reply(alloc, ports, &path)?)),
+        Question::List(conditions) => Ok(reply_alone(list_reply(alloc, ports, &conditions)?)),
+        Question::Match(spec) => Ok(reply_alone(match_reply(alloc, ports, &spec)?)),
+        Question::Faults => Ok(reply_alone(faults_reply(alloc, ports)?)),
+        Question::Dependencies(direction, asked) => {
+            Ok(reply_alone(dependency_reply(alloc, ports, direction, &asked)?))
+        }
+    }
+}
+
+// The answer that is a reply alone, with the units that were spent.
+fn reply_alone(told: (Reply, u64)) -> (Prepared, u64)
+    ensures { result ≡ record { 0 = record { reply = told.0; change = None }; 1 = told.1 } }
+{
+    let (reply, units) = told;
+    (Prepared::reply_alone(reply), units)
 }

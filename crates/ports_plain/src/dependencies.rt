@@ -1,67 +1,65 @@
 // The routes of dependencies, both ways.
-ghost use Rattle.mk_paths.specs.FilesView.{world_of};
-ghost use Rattle.std.specs.Prelude.{◌≡◌, IfOk, Ok};
-ghost use Rattle.std.specs.Option.{option_copied};
+ghost use Rattle.std.specs.Prelude.{◌≡◌, IfOk, IfErr, Ok};
+ghost use Rattle.std.specs.Result.{result_err};
 ghost use Rattle.serde_json.specs.View.{view};
+ghost use Rattle.ports_query.specs.Failing.{MayFail, EitherMayFail};
 ghost use Rattle.ports_query.specs.Kinds.{kinds_of};
-ghost use Rattle.ports_plain.specs.Giving.{GivesReply};
 ghost use Rattle.ports_plain.specs.IndexRoutes as routes;
+ghost use Rattle.ports_plain.specs.Questions as questions;
+ghost use Rattle.ports_plain.specs.Resting.{IndexNeed};
 
 use crate::depth::Depth;
 use crate::list_bodies;
 use crate::parameters::{optional, path_in};
-use crate::ports::has_named;
+use crate::port::has_named;
+use crate::ports::Ports;
+use crate::questions::Question;
 use crate::replies::{faulty, json_reply, refusal};
-use mk_files::Listing;
-use mk_paths::{FilesFault, Settings};
+use mk_paths::FilesFault;
 use pkg_path::PkgPath;
 use port_deps::{Root, RootEdge};
 use ports_http::{Reply, StatusCode};
-use ports_index::{Index, index_files};
-use ports_query::{Kinds, edges_to, first_edges, reached, reaching};
+use ports_query::{Cursor, Kinds, edges_to, first_edges, reached, reaching, root_at};
 use serde_json::Value;
 use std::alloc::{AllocError, Global};
 
-// Which way dependencies are followed.
-#[derive(Clone, Copy)]
+/// Which way dependencies are followed.
+#[derive(Clone, Copy, Debug, PartialEq, Eq)]
 pub enum Direction {
-    // From a port to what it depends on.
+    /// From a port to what it depends on.
     Dependencies,
-    // From a port to what depends on it.
+    /// From a port to what depends on it.
     Dependents,
 }
 
-// What is asked about a path's dependencies.
+/// What is asked about a path's dependencies.
 #[derive(Drop)]
-pub struct Question {
+pub struct DependencyQuestion {
+    /// The path of the port.
     pub path: PkgPath,
+    /// The kinds of dependencies.
     pub kinds: Kinds,
+    /// How far they are followed.
     pub depth: Depth,
 }
 
-// What a port depends on, or what depends on it.
-pub fn get_dependencies<F: Listing>(
+// The question of a query about the dependencies of a path.
+pub fn dependency_question(
     alloc: Global,
-    files: &mut F,
-    settings: &Settings,
     direction: Direction,
     query: &str,
-) -> Result<Reply, FilesFault>
-    ensures { GivesReply result
-        (routes.get_dependencies (world_of (F.view files.old) settings.now) direction query.now)
-        (F.view files.old) (F.view files.new) }
+) -> Result<Question, AllocError>
+    ensures { IfOk result (λ question. question
+        ≡ questions.dependency_question direction query.now) }
 {
     match question_in(alloc, query)? {
-        Ok(question) => {
-            let index = index_files(alloc, files, settings)?;
-            Ok(reply_to(alloc, &index, direction, &question)?)
-        }
-        Err(refused) => Ok(refused),
+        Ok(question) => Ok(Question::Dependencies(direction, question)),
+        Err(refused) => Ok(Question::settled(refused)),
     }
 }
 
 // What a query asks about a path's dependencies, or the refusal.
-fn question_in(alloc: Global, query: &str) -> Result<Result<Question, Reply>, AllocError>
+fn question_in(alloc: Global, query: &str) -> Result<Result<DependencyQuestion, Reply>, AllocError>
     ensures { IfOk result (λ question. question ≡ routes.question_in query.now) }
 {
     let kind = optional(alloc, query, "kind")?;
@@ -81,96 +79,119 @@ fn question_on(
     path: PkgPath,
     kind: &str,
     depth: &str,
-) -> Result<Result<Question, Reply>, AllocError>
+) -> Result<Result<DependencyQuestion, Reply>, AllocError>
     ensures { IfOk result (λ question. question
         ≡ routes.question_on (Ok path) (kinds_of kind.now) (routes.depth_of depth.now)) }
 {
     match (Kinds::read(kind), Depth::read(depth)) {
-        (Some(kinds), Some(depth)) => Ok(Ok(Question { path, kinds, depth })),
+        (Some(kinds), Some(depth)) => Ok(Ok(DependencyQuestion { path, kinds, depth })),
         _ => Ok(Err(refusal(alloc, StatusCode::BAD_REQUEST, "Kind")?)),
     }
 }
 
-// What a port of an index depends on, or what depends on it.
-fn reply_to(
+// What a port depends on, or what depends on it, and the units that were spent.
+pub fn dependency_reply<P: Ports>(
     alloc: Global,
-    index: &Index,
+    ports: &mut P,
     direction: Direction,
-    question: &Question,
-) -> Result<Reply, AllocError>
-    ensures { IfOk result (λ reply. reply
-        ≡ routes.reply_to index.now.roots.items index.now.edges.items direction question.now) }
+    question: &DependencyQuestion,
+) -> Result<(Reply, u64), FilesFault>
+    ensures reply { IfOk result (λ told. told.0
+        ≡ routes.dependency_reply (P.world ports.old) direction question.now) }
+    ensures units { IfOk result (λ told. told.1 ≡ P.charge ports.old IndexNeed) }
+    ensures leaves { P.leaves (result_err result) ports.old ports.new }
+{
+    let (mut roots, mut edges, units) = ports.index(alloc)?;
+    let reply = reply_to(alloc, &mut roots, &mut edges, direction, question)?;
+    Ok((reply, units))
+}
+
+// What a port depends on, or what depends on it, by these roots and dependencies.
+fn reply_to<R: Cursor<Root>, E: Cursor<RootEdge>>(
+    alloc: Global,
+    roots: &mut R,
+    edges: &mut E,
+    direction: Direction,
+    question: &DependencyQuestion,
+) -> Result<Reply, FilesFault>
+    ensures reply { IfOk result (λ reply. reply
+        ≡ routes.reply_to (R.left roots.old) (E.left edges.old) direction question.now) }
+    ensures kind { IfErr result (EitherMayFail R.fails_with E.fails_with) }
 {
     match direction {
-        Direction::Dependencies => dependencies_in(alloc, index, question),
+        Direction::Dependencies => dependencies_in(alloc, roots, edges, question),
         Direction::Dependents => {
-            let body = dependents_body(alloc, index.edges.as_slice(), question)?;
-            json_reply(alloc, StatusCode::OK, &body)
+            let body = dependents_body(alloc, edges, question)?;
+            Ok(json_reply(alloc, StatusCode::OK, &body)?)
         }
     }
 }
 
-// What a port of an index depends on. The port must have the subpackage, if one is named.
-fn dependencies_in(alloc: Global, index: &Index, question: &Question) -> Result<Reply, AllocError>
-    ensures { IfOk result (λ reply. reply
-        ≡ routes.dependencies_in index.now.roots.items index.now.edges.items question.now) }
+// What a port depends on. The port must have the subpackage, if one is named.
+fn dependencies_in<R: Cursor<Root>, E: Cursor<RootEdge>>(
+    alloc: Global,
+    roots: &mut R,
+    edges: &mut E,
+    question: &DependencyQuestion,
+) -> Result<Reply, FilesFault>
+    ensures reply { IfOk result (λ reply. reply
+        ≡ routes.dependencies_in (R.left roots.old) (E.left edges.old) question.now) }
+    ensures kind { IfErr result (EitherMayFail R.fails_with E.fails_with) }
 {
     let path = question.path.port_path(alloc)?;
-    let Some(root) = root_named(index.roots.as_slice(), path.as_str()) else {
-        return refusal(alloc, StatusCode::NOT_FOUND, "NoPort");
+    let Some(root) = root_at(path.as_str(), roots)? else {
+        return Ok(refusal(alloc, StatusCode::NOT_FOUND, "NoPort")?);
     };
     match root.state() {
-        Err(fault) => faulty(alloc, fault),
+        Err(fault) => Ok(faulty(alloc, fault)?),
         Ok(port) if !has_named(&question.path, port) => {
-            refusal(alloc, StatusCode::NOT_FOUND, "NoSubpackage")
+            Ok(refusal(alloc, StatusCode::NOT_FOUND, "NoSubpackage")?)
         }
         Ok(_port) => {
-            let body = dependencies_body(alloc, index.edges.as_slice(), question)?;
-            json_reply(alloc, StatusCode::OK, &body)
+            let body = dependencies_body(alloc, edges, question)?;
+            Ok(json_reply(alloc, StatusCode::OK, &body)?)
         }
     }
 }
 
-// The root at a canonical path, if there is one.
-fn root_named<'a>(roots: &'a [Root], path: &str) -> Option<&'a Root>
-    ensures { option_copied result ≡ routes.root_named roots.now path.now }
-{
-    roots.iter().find(|root| root.path() == path)
-}
-
-fn dependencies_body(
+fn dependencies_body<E: Cursor<RootEdge>>(
     alloc: Global,
-    edges: &[RootEdge],
-    question: &Question,
-) -> Result<Value, AllocError>
-    ensures { IfOk result (λ value. view value
-        ≡ routes.dependencies_body_of edges.now question.now) }
+    edges: &mut E,
+    question: &DependencyQuestion,
+) -> Result<Value, FilesFault>
+    ensures body { IfOk result (λ value. view value
+        ≡ routes.dependencies_body_of (E.left edges.old) question.now) }
+    ensures kind { IfErr result (MayFail E.fails_with) }
 {
-    let first = first_edges(alloc, question.kinds, &question.path, edges)?;
     match question.depth {
-        Depth::Direct => list_bodies::dependencies(alloc, first.as_slice()),
+        Depth::Direct => {
+            let first = first_edges(alloc, question.kinds, &question.path, edges)?;
+            Ok(list_bodies::dependencies(alloc, first.as_slice())?)
+        }
         Depth::All => {
-            let paths = reached(alloc, question.kinds, first.as_slice(), edges)?;
-            list_bodies::reached(alloc, paths.as_slice())
+            let paths = reached(alloc, question.kinds, &question.path, edges)?;
+            Ok(list_bodies::reached(alloc, paths.as_slice())?)
         }
     }
 }
 
-fn dependents_body(
+fn dependents_body<E: Cursor<RootEdge>>(
     alloc: Global,
-    edges: &[RootEdge],
-    question: &Question,
-) -> Result<Value, AllocError>
-    ensures { IfOk result (λ value. view value ≡ routes.dependents_body_of edges.now question.now) }
+    edges: &mut E,
+    question: &DependencyQuestion,
+) -> Result<Value, FilesFault>
+    ensures body { IfOk result (λ value. view value
+        ≡ routes.dependents_body_of (E.left edges.old) question.now) }
+    ensures kind { IfErr result (MayFail E.fails_with) }
 {
     match question.depth {
         Depth::Direct => {
             let found = edges_to(alloc, question.kinds, &question.path, edges)?;
-            list_bodies::dependents(alloc, found.as_slice())
+            Ok(list_bodies::dependents(alloc, found.as_slice())?)
         }
         Depth::All => {
             let paths = reaching(alloc, question.kinds, &question.path, edges)?;
-            list_bodies::reaching(alloc, paths.as_slice())
+            Ok(list_bodies::reaching(alloc, paths.as_slice())?)
         }
     }
 }

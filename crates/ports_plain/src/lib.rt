@@ -1,5 +1,6 @@
-//! The plain service: it answers one request over one tenant's world. It knows nothing of connections,
-//! queues, sharing or suspension.
+//! The plain service: it answers one request over one tenant's world. First the question is read that the
+//! request asks. Then it is answered over that world's ports, however they are found (`Ports`). It knows
+//! nothing of connections, queues, sharing or suspension.
 #![tactic(auto)]
 
 mod answering;
@@ -13,15 +14,21 @@ mod list_bodies;
 mod lists;
 mod parameters;
 mod paths;
+mod port;
 mod port_bodies;
 mod ports;
+mod questions;
 mod replies;
 mod routing;
 mod target;
 mod trimming;
 mod variables;
 
-pub use answering::Plain;
+pub use answering::{Plain, answer_question};
 pub use changing::{Change, Prepared};
-pub use laws::never_answers_503;
+pub use dependencies::{DependencyQuestion, Direction};
+pub use depth::Depth;
+pub use laws::{never_answers_503, questions_have_the_answers};
+pub use ports::{Ports, RecordFound, ValueFound};
+pub use questions::{Question, VariableQuestion};
 pub use replies::full;

@@ -1,14 +1,16 @@
 // Lists of packages, dependencies and faults, as JSON values.
-ghost use Rattle.std.specs.Prelude.{◌≡◌, ◌++◌, IfOk, OnOk, map, string_bytes, option_to_list};
+ghost use Rattle.std.specs.Prelude.{◌≡◌, ◌++◌, IfOk, IfErr, OnOk, map, string_bytes, option_to_list};
 ghost use Rattle.std.specs.Option.{option_copied};
 ghost use Rattle.serde_json.specs.View.{view};
+ghost use Rattle.ports_query.specs.Failing.{MayFail};
 ghost use Rattle.ports_plain.specs.ListBodies as bodies;
 
 use crate::port_bodies::texts;
 use mk_base::Fault;
+use mk_paths::FilesFault;
 use pkg_path::PkgPath;
 use port_deps::{Edge, Root, RootEdge};
-use ports_query::Listed;
+use ports_query::{Cursor, Listed};
 use serde_json::{Value, json};
 use std::alloc::{AllocError, Global};
 
@@ -39,9 +41,8 @@ fn listed(alloc: Global, one: &Listed) -> Result<Value, AllocError>
 }
 
 // What a port depends on.
-pub fn dependencies(alloc: Global, edges: &[&RootEdge]) -> Result<Value, AllocError>
-    ensures { IfOk result (λ value. view value
-        ≡ bodies.dependencies_body (map (λ edge. edge.now) edges.now)) }
+pub fn dependencies(alloc: Global, edges: &[RootEdge]) -> Result<Value, AllocError>
+    ensures { IfOk result (λ value. view value ≡ bodies.dependencies_body edges.now) }
 {
     let mut values = Vec::new(alloc);
     for edge in edges {
@@ -77,9 +78,8 @@ fn target_text(alloc: Global, target: Option<&PkgPath>) -> Result<String, AllocE
 }
 
 // What depends on a port.
-pub fn dependents(alloc: Global, edges: &[&RootEdge]) -> Result<Value, AllocError>
-    ensures { IfOk result (λ value. view value
-        ≡ bodies.dependents_body (map (λ edge. edge.now) edges.now)) }
+pub fn dependents(alloc: Global, edges: &[RootEdge]) -> Result<Value, AllocError>
+    ensures { IfOk result (λ value. view value ≡ bodies.dependents_body edges.now) }
 {
     let mut values = Vec::new(alloc);
     for edge in edges {
@@ -121,14 +121,15 @@ pub fn reaching(alloc: Global, paths: &[String]) -> Result<Value, AllocError>
 }
 
 // The faults of roots.
-pub fn faults(alloc: Global, roots: &[Root]) -> Result<Value, AllocError>
-    ensures { IfOk result (λ value. view value ≡ bodies.faults_body roots.now) }
+pub fn faults<C: Cursor<Root>>(alloc: Global, roots: &mut C) -> Result<Value, FilesFault>
+    ensures body { IfOk result (λ value. view value ≡ bodies.faults_body (C.left roots.old)) }
+    ensures kind { IfErr result (MayFail C.fails_with) }
 {
     let mut values = Vec::new(alloc);
-    for root in roots {
-        add_fault(alloc, &mut values, root)?;
+    while let Some(root) = roots.next()? {
+        add_fault(alloc, &mut values, &root)?;
     }
-    list(alloc, "faults", values)
+    Ok(list(alloc, "faults", values)?)
 }
 
 // Adds the fault of a root, if it has one.

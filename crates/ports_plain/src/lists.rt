@@ -1,88 +1,79 @@
 // The routes of lists: of packages, and of faults.
-ghost use Rattle.mk_paths.specs.FilesView.{world_of};
 ghost use Rattle.std.specs.Prelude.{◌≡◌, IfOk};
-ghost use Rattle.ports_plain.specs.Giving.{GivesReply};
+ghost use Rattle.std.specs.Result.{result_err};
 ghost use Rattle.ports_plain.specs.IndexRoutes as routes;
+ghost use Rattle.ports_plain.specs.Questions as questions;
+ghost use Rattle.ports_plain.specs.Resting.{RootsNeed};
 
 use crate::list_bodies;
 use crate::parameters::{optional, parameter};
-use crate::replies::{json_reply, refusal};
-use mk_files::Listing;
-use mk_paths::{FilesFault, Settings};
+use crate::ports::Ports;
+use crate::questions::Question;
+use crate::replies::json_reply;
+use mk_paths::FilesFault;
 use pkg_spec::{Spec, SpecFault};
 use ports_http::{Reply, StatusCode};
-use ports_index::index_roots;
 use ports_query::{Listed, Query, QueryFault, admitted, answer};
 use std::alloc::{AllocError, Global};
 
-// The packages that meet the conditions that the query gives.
-pub fn get_list<F: Listing>(
-    alloc: Global,
-    files: &mut F,
-    settings: &Settings,
-    query: &str,
-) -> Result<Reply, FilesFault>
-    ensures { GivesReply result (routes.get_list (world_of (F.view files.old) settings.now) query.now)
-        (F.view files.old) (F.view files.new) }
+// The question about the packages that meet the conditions that the query gives.
+pub fn list_question(alloc: Global, query: &str) -> Result<Question, AllocError>
+    ensures { IfOk result (λ question. question ≡ questions.list_question query.now) }
 {
     let Some(text) = optional(alloc, query, "where")? else {
-        return Ok(refusal(alloc, StatusCode::BAD_REQUEST, "Parameter")?);
+        return Question::refused(alloc, StatusCode::BAD_REQUEST, "Parameter");
     };
     match Query::read(alloc, text.as_str()) {
-        Ok(conditions) => list_by(alloc, files, settings, &conditions),
-        Err(QueryFault::Memory) => Err(FilesFault::Memory),
-        Err(QueryFault::BadQuery) => Ok(refusal(alloc, StatusCode::BAD_REQUEST, "Query")?),
+        Ok(conditions) => Ok(Question::List(conditions)),
+        Err(QueryFault::Memory) => Err(AllocError),
+        Err(QueryFault::BadQuery) => { Question::refused(alloc, StatusCode::BAD_REQUEST, "Query") }
     }
 }
 
-// The packages that meet all these conditions.
-fn list_by<F: Listing>(
+// The packages that meet all these conditions, and the units that were spent.
+pub fn list_reply<P: Ports>(
     alloc: Global,
-    files: &mut F,
-    settings: &Settings,
+    ports: &mut P,
     conditions: &Query,
-) -> Result<Reply, FilesFault>
-    ensures { GivesReply result (routes.list_reply (world_of (F.view files.old) settings.now) conditions.now)
-        (F.view files.old) (F.view files.new) }
+) -> Result<(Reply, u64), FilesFault>
+    ensures reply { IfOk result (λ told. told.0
+        ≡ routes.list_reply (P.world ports.old) conditions.now) }
+    ensures units { IfOk result (λ told. told.1 ≡ P.charge ports.old RootsNeed) }
+    ensures leaves { P.leaves (result_err result) ports.old ports.new }
 {
-    let roots = index_roots(alloc, files, settings)?;
-    let packages = answer(alloc, conditions, roots.as_slice())?;
-    Ok(packages_reply(alloc, packages.as_slice())?)
+    let (mut roots, units) = ports.roots(alloc)?;
+    let packages = answer(alloc, conditions, &mut roots)?;
+    Ok((packages_reply(alloc, packages.as_slice())?, units))
 }
 
-// The packages that are admitted by the spec that the query gives.
-pub fn get_match<F: Listing>(
-    alloc: Global,
-    files: &mut F,
-    settings: &Settings,
-    query: &str,
-) -> Result<Reply, FilesFault>
-    ensures { GivesReply result (routes.get_match (world_of (F.view files.old) settings.now) query.now)
-        (F.view files.old) (F.view files.new) }
+// The question about the packages that are admitted by the spec that the query gives.
+pub fn match_question(alloc: Global, query: &str) -> Result<Question, AllocError>
+    ensures { IfOk result (λ question. question ≡ questions.match_question query.now) }
 {
     let Some(text) = parameter(alloc, query, "spec")? else {
-        return Ok(refusal(alloc, StatusCode::BAD_REQUEST, "Parameter")?);
+        return Question::refused(alloc, StatusCode::BAD_REQUEST, "Parameter");
     };
     match Spec::read(alloc, text.as_str()) {
-        Ok(spec) => match_by(alloc, files, settings, &spec),
-        Err(SpecFault::Memory) => Err(FilesFault::Memory),
-        Err(_) => Ok(refusal(alloc, StatusCode::BAD_REQUEST, "Spec")?),
+        Ok(spec) => Ok(Question::Match(spec)),
+        Err(SpecFault::Memory) => Err(AllocError),
+        Err(_) => Question::refused(alloc, StatusCode::BAD_REQUEST, "Spec"),
     }
 }
 
-// The packages that a spec admits.
-fn match_by<F: Listing>(
+// The packages that a spec admits, and the units that were spent.
+pub fn match_reply<P: Ports>(
     alloc: Global,
-    files: &mut F,
-    settings: &Settings,
+    ports: &mut P,
     spec: &Spec,
-) -> Result<Reply, FilesFault>
-    ensures { GivesReply result (routes.match_reply (world_of (F.view files.old) settings.now) spec.now)
-        (F.view files.old) (F.view files.new) }
+) -> Result<(Reply, u64), FilesFault>
+    ensures reply { IfOk result (λ told. told.0
+        ≡ routes.match_reply (P.world ports.old) spec.now) }
+    ensures units { IfOk result (λ told. told.1 ≡ P.charge ports.old RootsNeed) }
+    ensures leaves { P.leaves (result_err result) ports.old ports.new }
 {
-    let roots = index_roots(alloc, files, settings)?;
-    let packages = admitted(alloc, spec, roots.as_slice())?;
-    Ok(packages_reply(alloc, packages.as_slice())?)
+    let (mut roots, units) = ports.roots(alloc)?;
+    let packages = admitted(alloc, spec, &mut roots)?;
+    Ok((packages_reply(alloc, packages.as_slice())?, units))
 }
 
 // The reply that lists packages.
@@ -93,16 +84,13 @@ fn packages_reply(alloc: Global, packages: &[Listed]) -> Result<Reply, AllocErro
     json_reply(alloc, StatusCode::OK, &body)
 }
 
-// The faults of ports and lists.
-pub fn get_faults<F: Listing>(
-    alloc: Global,
-    files: &mut F,
-    settings: &Settings,
-) -> Result<Reply, FilesFault>
-    ensures { GivesReply result (routes.get_faults (world_of (F.view files.old) settings.now))
-        (F.view files.old) (F.view files.new) }
+// The faults of ports and lists, and the units that were spent.
+pub fn faults_reply<P: Ports>(alloc: Global, ports: &mut P) -> Result<(Reply, u64), FilesFault>
+    ensures reply { IfOk result (λ told. told.0 ≡ routes.get_faults (P.world ports.old)) }
+    ensures units { IfOk result (λ told. told.1 ≡ P.charge ports.old RootsNeed) }
+    ensures leaves { P.leaves (result_err result) ports.old ports.new }
 {
-    let roots = index_roots(alloc, files, settings)?;
-    let body = list_bodies::faults(alloc, roots.as_slice())?;
-    Ok(json_reply(alloc, StatusCode::OK, &body)?)
+    let (mut roots, units) = ports.roots(alloc)?;
+    let body = list_bodies::faults(alloc, &mut roots)?;
+    Ok((json_reply(alloc, StatusCode::OK, &body)?, units))
 }

@@ -1,10 +1,12 @@
 // The route of the search path.
 ghost use Rattle.std.specs.Prelude.{◌≡◌, IfOk};
-ghost use Rattle.ports_plain.specs.Plain.{on_path as on_path_of, set_path as set_path_of, set_trees as set_trees_of, reply_alone};
+ghost use Rattle.ports_plain.specs.Plain.{set_path as set_path_of, set_trees as set_trees_of, reply_alone};
+ghost use Rattle.ports_plain.specs.Questions as questions;
 ghost use Rattle.ports_plain.specs.Replies.{bad_path as bad_path_reply};
 ghost use Rattle.mk_paths.specs.SearchPath.{search_path};
 
 use crate::changing::{Change, Prepared};
+use crate::questions::Question;
 use crate::replies::{not_allowed, path_set, refusal};
 use crate::routing::Route;
 use crate::trimming::trimmed;
@@ -12,14 +14,13 @@ use mk_paths::{PathFault, SearchPath};
 use ports_http::{Method, StatusCode};
 use std::alloc::{AllocError, Global};
 
-// The search path, which a PUT sets and nothing shows.
-pub fn on_path(alloc: Global, method: Method, body: &[u8]) -> Result<Prepared, AllocError>
-    ensures { IfOk result (λ prepared. (prepared.reply, prepared.change)
-        ≡ on_path_of body.now method) }
+// The question about the search path, which a PUT sets and nothing shows.
+pub fn path_question(alloc: Global, method: Method, body: &[u8]) -> Result<Question, AllocError>
+    ensures { IfOk result (λ question. question ≡ questions.path_question body.now method) }
 {
     match method {
-        Method::Put => set_path(alloc, body),
-        Method::Get | Method::Delete => Ok(Prepared::reply_alone(not_allowed(alloc, Route::Path)?)),
+        Method::Put => Ok(Question::Settled(set_path(alloc, body)?)),
+        Method::Get | Method::Delete => Ok(Question::settled(not_allowed(alloc, Route::Path)?)),
     }
 }
 

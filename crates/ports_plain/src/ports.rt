@@ -1,107 +1,96 @@
-// The route of ports.
-ghost use Rattle.mk_paths.specs.FilesView.{world_of};
-ghost use Rattle.std.specs.Prelude.{◌≡◌};
-ghost use Rattle.mk_eval.specs.Meaning.{means};
-ghost use Rattle.mk_eval.specs.Telling.{Tells};
-ghost use Rattle.ports_plain.specs.Giving.{GivesReply};
-ghost use Rattle.ports_plain.specs.Plain.{get_port as get_port_of, port_of, record_after, port_reply};
-ghost use Rattle.ports_plain.specs.Subpackages.{has_named as has_named_in};
-ghost use Rattle.ports_index.specs.Keeping.{Keeps};
-ghost use Rattle.ports_plain.specs.Refusing.{refusal_in};
+//! What answers ask of a tenant's world.
+ghost use Rattle.mk_paths.specs.World.{World, files_in};
+ghost use Rattle.std.specs.Prelude.{◌≡◌, ℕ, Option, Some, None, IfOk};
+ghost use Rattle.std.specs.FinMap.{get, contains_key};
+ghost use Rattle.std.specs.Result.{result_err};
+ghost use Rattle.mk_paths.specs.declared.asking.FilesFault.{FilesFault};
+ghost use Rattle.mk_paths.specs.declared.asking.FilesFault.TheVariants.{Memory};
+ghost use Rattle.ports_index.specs.Index as indexed;
+ghost use Rattle.ports_query.specs.Failing.{EitherMayFail};
+ghost use Rattle.ports_plain.specs.Answers.{value_found, record_found};
+ghost use Rattle.ports_plain.specs.Resting.{Need, NoNeed, ValueNeed, RecordNeed, RootsNeed, IndexNeed};
 
-use crate::parameters::path_in;
-use crate::replies::{faulty, port, refusal};
-use mk_base::Stop;
-use mk_eval::{Failed, Kind, evaluate};
-use mk_files::Files;
-use mk_paths::{FilesFault, Name, Settings, find};
+use crate::questions::VariableQuestion;
+use mk_eval::{Failed, Valued};
+use mk_files::Content;
+use mk_paths::{FilesFault, Name};
 use pkg_path::PkgPath;
-use port_rules::{PortRecord, Recorded, record};
-use ports_http::{Reply, StatusCode};
+use port_deps::{Root, RootEdge};
+use port_rules::Recorded;
+use ports_query::Cursor;
 use std::alloc::Global;
 
-// The port whose path the query gives.
-pub fn get_port<F: Files>(
-    alloc: Global,
-    files: &mut F,
-    settings: &Settings,
-    query: &str,
-) -> Result<Reply, FilesFault>
-    ensures { GivesReply result (get_port_of (world_of (F.view files.old) settings.now) query.now)
-        (F.view files.old) (F.view files.new) }
-{
-    match path_in(alloc, query)? {
-        Ok(path) => port_at(alloc, files, settings, &path),
-        Err(refused) => Ok(refused),
-    }
-}
+/// What is found of a variable: its value, if it is defined, or the fault that is met; `None` if the
+/// makefile isn't there.
+pub type ValueFound = Option<Result<Option<Valued>, Failed>>;
 
-// The port that a path names.
-fn port_at<F: Files>(
-    alloc: Global,
-    files: &mut F,
-    settings: &Settings,
-    path: &PkgPath,
-) -> Result<Reply, FilesFault>
-    ensures { GivesReply result (port_of (world_of (F.view files.old) settings.now) path.now)
-        (F.view files.old) (F.view files.new) }
-{
-    match find(alloc, files, &settings.path, path.directory())? {
-        Some(makefile) => port_of_makefile(alloc, files, settings, path, &makefile),
-        None => Ok(refusal(alloc, StatusCode::NOT_FOUND, "NoPort")?),
-    }
-}
+/// What is found of a port: its record, if the makefile describes a port, or the fault that is met; `None`
+/// if the makefile isn't there.
+pub type RecordFound = Option<Result<Option<Recorded>, Failed>>;
 
-// The port that a makefile describes.
-fn port_of_makefile<F: Files>(
-    alloc: Global,
-    files: &mut F,
-    settings: &Settings,
-    path: &PkgPath,
-    makefile: &Name,
-) -> Result<Reply, FilesFault>
-    ensures { GivesReply result (port_reply path.now (record_after makefile.now
-        (means (world_of (F.view files.old) settings.now) makefile.now path.now.flavors)))
-        (F.view files.old) (F.view files.new) }
-{
-    match record_in(alloc, files, settings, path, makefile) {
-        Ok(Some(found)) if !has_named(path, &found.port) => {
-            Ok(refusal(alloc, StatusCode::NOT_FOUND, "NoSubpackage")?)
-        }
-        Ok(Some(found)) => Ok(port(alloc, path, &found.port)?),
-        Ok(None) => Ok(refusal(alloc, StatusCode::NOT_FOUND, "NoPort")?),
-        Err(Stop::Fault(failed)) => Ok(faulty(alloc, &failed.fault)?),
-        Err(Stop::Store) => Err(FilesFault::Store),
-        Err(Stop::Memory) => Err(FilesFault::Memory),
-    }
-}
+/// The ports of a tenant's world, and its files, as far as answers ask for them, however they are found.
+///
+/// `world` is that world. `charge` says how many units these ports spend to find what is needed. `leaves`
+/// says what work leaves of them that ended with this fault, or with none.
+pub trait Ports {
+    type Roots: Cursor<Root> + Drop;
 
-// The record of the port that a makefile describes. `None` if it describes no port.
-fn record_in<F: Files>(
-    alloc: Global,
-    files: &mut F,
-    settings: &Settings,
-    path: &PkgPath,
-    makefile: &Name,
-) -> Result<Option<Recorded>, Stop<Failed>>
-    ensures record { Tells (λ found. found) result
-        (record_after makefile.now
-        (means (world_of (F.view files.old) settings.now) makefile.now path.now.flavors)) }
-    ensures keeps { Keeps (refusal_in result) (F.view files.old) (F.view files.new) }
-{
-    let evaluated = evaluate(alloc, files, settings, makefile, path.flavors())?;
-    match evaluated.kind {
-        Kind::Port => Ok(Some(record(alloc, &evaluated, makefile)?)),
-        Kind::List | Kind::Other => Ok(None),
-    }
-}
+    type Edges: Cursor<RootEdge> + Drop;
 
-// Whether a port has the package that a path names, if it names one.
-pub fn has_named(path: &PkgPath, port: &PortRecord) -> bool
-    ensures { result ≡ has_named_in path.now.subpackage port.now }
-{
-    match path.subpackage() {
-        Some(subpackage) => port.has_package(subpackage),
-        None => true,
-    }
+    ghost world: { Self → World };
+
+    ghost charge: { Self → Need → ℕ };
+
+    ghost leaves: { Option FilesFault → Self → Self → Type 0 };
+
+    /// The content of the file of this name; `None` if it isn't there.
+    fn content(&mut self, name: &Name) -> Result<Option<Content>, FilesFault>
+        ensures found { IfOk result (λ found. found ≡ get (files_in (world self.old)) name.now) }
+        ensures leaves { leaves (result_err result) self.old self.new };
+
+    /// Whether the file of this name is there.
+    fn has_file(&mut self, name: &Name) -> Result<bool, FilesFault>
+        ensures found { IfOk result (λ there. there
+            ≡ contains_key (files_in (world self.old)) name.now) }
+        ensures leaves { leaves (result_err result) self.old self.new };
+
+    /// What is found of a variable of a port, and the units that were spent.
+    fn value(
+        &mut self,
+        alloc: Global,
+        question: &VariableQuestion,
+    ) -> Result<(ValueFound, u64), FilesFault>
+        ensures found { IfOk result (λ found. found.0 ≡ value_found (world self.old) question.now) }
+        ensures units { IfOk result (λ found. found.1 ≡ charge self.old (ValueNeed question.now)) }
+        ensures leaves { leaves (result_err result) self.old self.new };
+
+    /// What is found of the port at a path, and the units that were spent.
+    fn record(&mut self, alloc: Global, path: &PkgPath) -> Result<(RecordFound, u64), FilesFault>
+        ensures found { IfOk result (λ found. found.0 ≡ record_found (world self.old) path.now) }
+        ensures units { IfOk result (λ found. found.1 ≡ charge self.old (RecordNeed path.now)) }
+        ensures leaves { leaves (result_err result) self.old self.new };
+
+    /// The roots of the index, row by row, and the units that were spent.
+    fn roots(&mut self, alloc: Global) -> Result<(Self::Roots, u64), FilesFault>
+        ensures found { IfOk result (λ found. Self.Roots.left found.0 ≡ indexed.roots (world self.old)) }
+        ensures units { IfOk result (λ found. found.1 ≡ charge self.old RootsNeed) }
+        ensures leaves { leaves (result_err result) self.old self.new };
+
+    /// The roots and the dependencies of the index, row by row, and the units that were spent.
+    fn index(&mut self, alloc: Global) -> Result<(Self::Roots, Self::Edges, u64), FilesFault>
+        ensures roots { IfOk result (λ found. Self.Roots.left found.0 ≡ indexed.roots (world self.old)) }
+        ensures edges { IfOk result (λ found. Self.Edges.left found.1 ≡ indexed.edges (world self.old)) }
+        ensures units { IfOk result (λ found. found.2 ≡ charge self.old IndexNeed) }
+        ensures leaves { leaves (result_err result) self.old self.new };
+
+    // where nothing is needed, nothing is spent; no work leaves all as it is; after work that went well memory
+    // may run out, or the rows may fail that it handed out
+    ghost charges_nothing: { (ports : Self) → charge ports NoNeed ≡ 0 };
+
+    ghost leaves_all: { (ports : Self) → leaves None ports ports };
+
+    ghost leaves_out_of_memory: { (old new : Self) → leaves None old new → leaves (Some Memory) old new };
+
+    ghost leaves_failing_rows: { (old new : Self) (fault : FilesFault) → EitherMayFail Self.Roots.fails_with Self.Edges.fails_with fault
+        → leaves None old new → leaves (Some fault) old new };
 }

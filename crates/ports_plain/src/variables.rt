@@ -1,98 +1,59 @@
 // The route of variables.
-ghost use Rattle.mk_paths.specs.FilesView.{world_of};
-ghost use Rattle.mk_eval.specs.Meaning.{means};
-ghost use Rattle.mk_eval.specs.Telling.{Tells};
-ghost use Rattle.mk_eval.specs.Views.{flavors_in};
-ghost use Rattle.ports_plain.specs.Giving.{GivesReply};
-ghost use Rattle.ports_plain.specs.Plain.{get_variable as get_variable_of, variable_of as variable_of_path};
-ghost use Rattle.ports_plain.specs.Plain.{value_reply, value_after};
-ghost use Rattle.ports_index.specs.Keeping.{Keeps};
-ghost use Rattle.ports_plain.specs.Refusing.{refusal_in};
+ghost use Rattle.std.specs.Prelude.{◌≡◌, IfOk};
+ghost use Rattle.std.specs.Option.{option_map_or};
+ghost use Rattle.std.specs.Result.{result_err};
+ghost use Rattle.ports_plain.specs.Plain.{variable_of, value_reply as value_reply_of};
+ghost use Rattle.ports_plain.specs.Questions as questions;
+ghost use Rattle.ports_plain.specs.Replies.{no_port};
+ghost use Rattle.ports_plain.specs.Resting.{ValueNeed};
 
 use crate::parameters::{parameter, path_in};
+use crate::ports::{Ports, ValueFound};
+use crate::questions::{Question, VariableQuestion};
 use crate::replies::{faulty, refusal, variable};
-use mk_base::Stop;
-use mk_eval::{Failed, Valued, evaluate, value};
-use mk_files::Files;
-use mk_paths::{FilesFault, Name, Settings, find};
-use pkg_path::PkgPath;
+use mk_paths::FilesFault;
 use ports_http::{Reply, StatusCode};
-use std::alloc::Global;
+use std::alloc::{AllocError, Global};
 
-// The variable that the query names, of the port whose path it gives.
-pub fn get_variable<F: Files>(
-    alloc: Global,
-    files: &mut F,
-    settings: &Settings,
-    query: &str,
-) -> Result<Reply, FilesFault>
-    ensures { GivesReply result (get_variable_of (world_of (F.view files.old) settings.now) query.now)
-        (F.view files.old) (F.view files.new) }
+// The question about the variable that the query names, of the port whose path it gives.
+pub fn variable_question(alloc: Global, query: &str) -> Result<Question, AllocError>
+    ensures { IfOk result (λ question. question ≡ questions.variable_question query.now) }
 {
     let Some(name) = parameter(alloc, query, "name")? else {
-        return Ok(refusal(alloc, StatusCode::BAD_REQUEST, "Parameter")?);
+        return Question::refused(alloc, StatusCode::BAD_REQUEST, "Parameter");
     };
     match path_in(alloc, query)? {
-        Ok(path) => variable_of(alloc, files, settings, &path, name.as_str()),
-        Err(refused) => Ok(refused),
-    }
-}
-
-// The variable of the port that a path names.
-fn variable_of<F: Files>(
-    alloc: Global,
-    files: &mut F,
-    settings: &Settings,
-    path: &PkgPath,
-    name: &str,
-) -> Result<Reply, FilesFault>
-    ensures { GivesReply result (variable_of_path (world_of (F.view files.old) settings.now) name.now path.now)
-        (F.view files.old) (F.view files.new) }
-{
-    match find(alloc, files, &settings.path, path.directory())? {
-        Some(makefile) => {
-            variable_after_makefile(alloc, files, settings, &makefile, path.flavors(), name)
+        Ok(path) => {
+            let name = String::from_str(alloc, name.as_str())?;
+            Ok(Question::Variable(VariableQuestion::new(path, name)))
         }
-        None => Ok(refusal(alloc, StatusCode::NOT_FOUND, "NoPort")?),
+        Err(refused) => Ok(Question::settled(refused)),
     }
 }
 
-// The variable after the evaluation of a makefile.
-fn variable_after_makefile<F: Files>(
+// The reply to it, and the units that were spent.
+pub fn variable_reply<P: Ports>(
     alloc: Global,
-    files: &mut F,
-    settings: &Settings,
-    makefile: &Name,
-    flavors: Option<&[String]>,
-    name: &str,
-) -> Result<Reply, FilesFault>
-    ensures { GivesReply result (value_reply (value_after makefile.now name.now
-        (means (world_of (F.view files.old) settings.now) makefile.now (flavors_in flavors.entry))))
-        (F.view files.old) (F.view files.new) }
+    ports: &mut P,
+    question: &VariableQuestion,
+) -> Result<(Reply, u64), FilesFault>
+    ensures reply { IfOk result (λ told. told.0
+        ≡ variable_of (P.world ports.old) question.now.name question.now.path) }
+    ensures units { IfOk result (λ told. told.1 ≡ P.charge ports.old (ValueNeed question.now)) }
+    ensures leaves { P.leaves (result_err result) ports.old ports.new }
 {
-    match value_in(alloc, files, settings, makefile, flavors, name) {
-        Ok(Some(known)) => Ok(variable(alloc, Some(known.text()))?),
-        Ok(None) => Ok(variable(alloc, None)?),
-        Err(Stop::Fault(failed)) => Ok(faulty(alloc, &failed.fault)?),
-        Err(Stop::Store) => Err(FilesFault::Store),
-        Err(Stop::Memory) => Err(FilesFault::Memory),
-    }
+    let (found, units) = ports.value(alloc, question)?;
+    Ok((value_reply(alloc, &found)?, units))
 }
 
-// The value of a variable after the evaluation of a makefile.
-fn value_in<F: Files>(
-    alloc: Global,
-    files: &mut F,
-    settings: &Settings,
-    makefile: &Name,
-    flavors: Option<&[String]>,
-    name: &str,
-) -> Result<Option<Valued>, Stop<Failed>>
-    ensures value { Tells (λ value. value) result
-        (value_after makefile.now name.now
-        (means (world_of (F.view files.old) settings.now) makefile.now (flavors_in flavors.entry))) }
-    ensures keeps { Keeps (refusal_in result) (F.view files.old) (F.view files.new) }
+// The reply to what is found of a variable.
+fn value_reply(alloc: Global, found: &ValueFound) -> Result<Reply, AllocError>
+    ensures { IfOk result (λ reply. reply ≡ option_map_or value_reply_of found.now no_port) }
 {
-    let evaluated = evaluate(alloc, files, settings, makefile, flavors)?;
-    Ok(value(alloc, &evaluated, makefile, name)?)
+    match found {
+        Some(Ok(Some(known))) => variable(alloc, Some(known.text())),
+        Some(Ok(None)) => variable(alloc, None),
+        Some(Err(failed)) => faulty(alloc, &failed.fault),
+        None => refusal(alloc, StatusCode::NOT_FOUND, "NoPort"),
+    }
 }

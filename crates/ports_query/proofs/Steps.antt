@@ -2,13 +2,13 @@
 use Rattle.std.proofs.Common.{◌≡◌, ◌∙◌, sym, ap, refl, ℕ, ◌+◌, ◌<◌, Bool, true, false, cond, List, [], ◌∷◌, ◌++◌, map, take, length, get_or, Option, Some, None, append-nil}
 use Rattle.std.proofs.lemmas.List.{append_assoc, take_more, map-append}
 use Rattle.std.proofs.lemmas.List.Elements.{filter-append}
-use Rattle.std.specs.List.{filter, filter_map, cons_option}
+use Rattle.std.specs.List.{filter, cons_option}
 use Rattle.std.specs.Option.{option_to_list}
 
--- what is given of mapped elements
-pub filter_map-over : {X Y Z : Type 0} (h : Y → Option Z) (f : X → Y) (xs : List X) → filter_map h (map f xs) ≡ filter_map (λ x. h (f x)) xs
-filter_map-over h f [] = refl
-filter_map-over h f (x ∷ xs) = ap (cons_option (h (f x))) (filter_map-over h f xs)
+-- what an element gives, with what the others give
+pub one_given : {X : Type 0} (before : List X) (given : Option X) (rest : List X) → (before ++ option_to_list given) ++ rest ≡ before ++ cons_option given rest
+one_given before None rest = ap (λ xs. xs ++ rest) (append-nil before)
+one_given before (Some x) rest = append_assoc before (x ∷ []) rest
 
 one_kept : {X Y : Type 0} (test : X → Bool) (f : X → Y) (x : X) (before : List Y) (passes : Bool) → test x ≡ passes
     → cond passes (before ++ f x ∷ []) before ≡ before ++ map f (filter test (x ∷ []))

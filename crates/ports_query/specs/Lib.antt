@@ -1,3 +1,4 @@
+pub mod Failing
 pub mod Conditions
 pub mod Meeting
 pub mod Listing

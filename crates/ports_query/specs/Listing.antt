@@ -1,6 +1,7 @@
 -- Which packages are listed.
-use Rattle.std.specs.Prelude.{ℕ, Bool, List, [], map, filter, Result, Ok, Err}
+use Rattle.std.specs.Prelude.{ℕ, Bool, List, [], map, filter, find, Option, Result, Ok, Err}
 use Rattle.std.specs.List.{flat_map}
+use Rattle.std.specs.Str.{bytes_eq}
 use Rattle.mk_base.specs.FaultAt.{FaultAt}
 use Rattle.pkg_name.specs.Name.{name_text}
 use Rattle.pkg_spec.specs.Admitting.{admitted_by}
@@ -44,6 +45,10 @@ admits spec path port found = admitted_by spec found.name
 
 abbrev pub admitted_of : List ℕ → List RootValue → List ListedValue
 admitted_of spec roots = listed_packages (admits spec) roots
+
+-- the root at a canonical path
+abbrev pub root_named : List RootValue → List ℕ → Option RootValue
+root_named roots path = find (λ (root : RootValue). bytes_eq root.path path) roots
 
 -- the test of packages that a test of the code is
 abbrev pub test_seen : Test → PackageTest

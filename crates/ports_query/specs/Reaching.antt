@@ -10,6 +10,7 @@ use Rattle.port_deps.specs.declared.statuses.Status.TheVariants as statuses
 use Rattle.text_graph.specs.Arrows.{ArrowValue}
 use Rattle.text_graph.specs.Listed.{reached_list, reaching_list}
 use Rattle.ports_query.specs.Kinds.{has_kind}
+use Rattle.ports_query.specs.Edges.{first_edges_of}
 use Rattle.ports_query.specs.declared.kinds.Kinds.{Kinds}
 use Rattle.ports_query.specs.declared.reach.Step.{Step}
 
@@ -39,10 +40,14 @@ arrows_of kinds edges = filter_map (arrow_of kinds) edges
 abbrev pub reached_of : Kinds → List RootEdgeValue → List RootEdgeValue → List (List ℕ)
 reached_of kinds first edges = reached_list (arrows_of kinds first) (arrows_of kinds edges)
 
+-- the same if the first of them is one that a path has
+abbrev pub reached_from : Kinds → PathValue → List RootEdgeValue → List (List ℕ)
+reached_from kinds path edges = reached_of kinds (first_edges_of kinds path edges) edges
+
 -- the ports that reach the port that a path names in this way; in the order of their paths
 abbrev pub reaching_of : Kinds → PathValue → List RootEdgeValue → List (List ℕ)
 reaching_of kinds path edges = reaching_list (arrows_of kinds edges) (port_path path)
 
 -- a step of the code
 abbrev pub step_seen : Step → ArrowValue
-step_seen step = record { from = step.from.now; to = string_bytes step.to }
+step_seen step = record { from = string_bytes step.from; to = string_bytes step.to }

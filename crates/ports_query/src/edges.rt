@@ -1,11 +1,14 @@
 //! The dependencies of a port, and those that lead to one.
-ghost use Rattle.std.specs.Prelude.{◌≡◌, ◌&&◌, IfOk, map};
+ghost use Rattle.std.specs.Prelude.{◌≡◌, ◌&&◌, IfOk, IfErr};
 ghost use Rattle.std.specs.Option.{option_copied};
 ghost use Rattle.std.specs.Str.{bytes_eq};
+ghost use Rattle.ports_query.specs.Failing.{MayFail};
 ghost use Rattle.ports_query.specs.Edges as selection;
 ghost use Rattle.ports_query.specs.Kinds.{has_kind};
 
+use crate::cursor::Cursor;
 use crate::kinds::Kinds;
+use mk_paths::FilesFault;
 use pkg_path::PkgPath;
 use port_deps::{Edge, RootEdge};
 use port_rules::DependKind;
@@ -13,21 +16,22 @@ use std::alloc::{AllocError, Global};
 
 /// The dependencies of these kinds that the port at a path has, in their order. If the path names a
 /// subpackage, these are the subpackage's own and those of the port as a whole, to be built and tested. It
-/// fails only if memory runs out.
-pub fn first_edges<'a>(
+/// fails if the rows do, or if memory runs out.
+pub fn first_edges<C: Cursor<RootEdge>>(
     alloc: Global,
     kinds: Kinds,
     path: &PkgPath,
-    edges: &'a [RootEdge],
-) -> Result<Vec<&'a RootEdge>, AllocError>
-    ensures { IfOk result (λ found. map (λ edge. edge.now) found.items
-        ≡ selection.first_edges_of kinds path.now edges.now) }
+    edges: &mut C,
+) -> Result<Vec<RootEdge>, FilesFault>
+    ensures found { IfOk result (λ found. found.items
+        ≡ selection.first_edges_of kinds path.now (C.left edges.old)) }
+    ensures kind { IfErr result (MayFail C.fails_with) }
 {
     let root = path.port_path(alloc)?;
     let mut found = Vec::new(alloc);
-    for edge in edges {
-        if is_first(kinds, root.as_str(), path.subpackage(), edge) {
-            found.push(edge)?;
+    while let Some(edge) = edges.next()? {
+        if is_first(kinds, root.as_str(), path.subpackage(), &edge) {
+            found.push(edge).map_err(|_| FilesFault::Memory)?;
         }
     }
     Ok(found)
@@ -35,28 +39,29 @@ pub fn first_edges<'a>(
 
 /// The dependencies of these kinds, of whatever status, that lead to the port that a path names, in
 /// their order. If the path names a subpackage, these are the ones whose item names it, too. It
-/// fails only if memory runs out.
-pub fn edges_to<'a>(
+/// fails if the rows do, or if memory runs out.
+pub fn edges_to<C: Cursor<RootEdge>>(
     alloc: Global,
     kinds: Kinds,
     path: &PkgPath,
-    edges: &'a [RootEdge],
-) -> Result<Vec<&'a RootEdge>, AllocError>
-    ensures { IfOk result (λ found. map (λ edge. edge.now) found.items
-        ≡ selection.edges_to_of kinds path.now edges.now) }
+    edges: &mut C,
+) -> Result<Vec<RootEdge>, FilesFault>
+    ensures found { IfOk result (λ found. found.items
+        ≡ selection.edges_to_of kinds path.now (C.left edges.old)) }
+    ensures kind { IfErr result (MayFail C.fails_with) }
 {
     let root = path.port_path(alloc)?;
     let mut found = Vec::new(alloc);
-    for edge in edges {
-        if leads_to(alloc, kinds, root.as_str(), path.subpackage(), edge)? {
-            found.push(edge)?;
+    while let Some(edge) = edges.next()? {
+        if leads_to(alloc, kinds, root.as_str(), path.subpackage(), &edge)? {
+            found.push(edge).map_err(|_| FilesFault::Memory)?;
         }
     }
     Ok(found)
 }
 
 /// Whether a dependency is of these kinds and of a port, and of its subpackage if one is named.
-fn is_first(kinds: Kinds, root: &str, subpackage: Option<&str>, edge: &RootEdge) -> bool
+pub(crate) fn is_first(kinds: Kinds, root: &str, subpackage: Option<&str>, edge: &RootEdge) -> bool
     ensures { result
         ≡ (has_kind kinds edge.now.edge.kind
         && (bytes_eq edge.now.root root.now

@@ -1,8 +1,9 @@
-//! Questions that are asked of lists of ports: which packages meet conditions or a spec, and which ports
-//! depend on which.
+//! Questions about the ports of a tree and their dependencies, which are taken row by row: which packages
+//! meet conditions or a spec, and which ports depend on which.
 #![tactic(auto)]
 
 mod conditions;
+mod cursor;
 mod edges;
 mod faults;
 mod kinds;
@@ -12,9 +13,10 @@ mod operators;
 mod query;
 mod reach;
 
+pub use cursor::{Cursor, RowsInMemory};
 pub use edges::{edges_to, first_edges};
 pub use faults::QueryFault;
 pub use kinds::Kinds;
-pub use listing::{Listed, admitted, answer};
+pub use listing::{Listed, admitted, answer, root_at};
 pub use query::Query;
 pub use reach::{reached, reaching};

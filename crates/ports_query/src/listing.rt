@@ -1,11 +1,14 @@
 //! Packages that are listed.
-ghost use Rattle.std.specs.Prelude.{◌≡◌, ◌++◌, IfOk, OnOk, string_bytes, map, filter, take, if◌then◌else◌, [], ◌∷◌};
+ghost use Rattle.std.specs.Prelude.{◌≡◌, ◌++◌, IfOk, IfErr, OnOk, string_bytes, map, filter, take, if◌then◌else◌, [], ◌∷◌};
 ghost use Rattle.pkg_name.specs.Name.{name_text};
+ghost use Rattle.ports_query.specs.Failing.{MayFail};
 ghost use Rattle.ports_query.specs.Listing as listing;
 ghost use Rattle.ports_query.specs.Meeting.{meets_all};
 
+use crate::cursor::Cursor;
 use crate::meeting::{Candidate, meets_all};
 use crate::query::Query;
+use mk_paths::FilesFault;
 use pkg_spec::Spec;
 use port_deps::Root;
 use port_rules::{Package, PortRecord};
@@ -61,30 +64,47 @@ enum Test<'a> {
 }
 
 /// The packages of these roots that meet all conditions of a query. They come root by root in the
-/// order of the list, those of a root in the order of the port. A root with a fault has none. It
-/// fails only if memory runs out.
-pub fn answer(alloc: Global, query: &Query, roots: &[Root]) -> Result<Vec<Listed>, AllocError>
-    ensures { IfOk result (λ packages. packages.items ≡ listing.answer_of query.now roots.now) }
+/// order of the rows, those of a root in the order of the port. A root with a fault has none. It fails if
+/// the rows do, or if memory runs out.
+pub fn answer<C: Cursor<Root>>(
+    alloc: Global,
+    query: &Query,
+    roots: &mut C,
+) -> Result<Vec<Listed>, FilesFault>
+    ensures found { IfOk result (λ packages. packages.items
+        ≡ listing.answer_of query.now (C.left roots.old)) }
+    ensures kind { IfErr result (MayFail C.fails_with) }
 {
     list(alloc, Test::Meets(query), roots)
 }
 
 /// The packages of these roots that a spec admits (packages-specs(7)), in the same order. A root with a
-/// fault has none. It fails only if memory runs out.
-pub fn admitted(alloc: Global, spec: &Spec, roots: &[Root]) -> Result<Vec<Listed>, AllocError>
-    ensures { IfOk result (λ packages. packages.items ≡ listing.admitted_of spec.now roots.now) }
+/// fault has none. It fails if the rows do, or if memory runs out.
+pub fn admitted<C: Cursor<Root>>(
+    alloc: Global,
+    spec: &Spec,
+    roots: &mut C,
+) -> Result<Vec<Listed>, FilesFault>
+    ensures found { IfOk result (λ packages. packages.items
+        ≡ listing.admitted_of spec.now (C.left roots.old)) }
+    ensures kind { IfErr result (MayFail C.fails_with) }
 {
     list(alloc, Test::Admitted(spec), roots)
 }
 
 /// The packages of these roots that pass a test.
-fn list(alloc: Global, test: Test<'_>, roots: &[Root]) -> Result<Vec<Listed>, AllocError>
-    ensures { IfOk result (λ packages. packages.items
-        ≡ listing.listed_packages (listing.test_seen test.entry) roots.now) }
+fn list<C: Cursor<Root>>(
+    alloc: Global,
+    test: Test<'_>,
+    roots: &mut C,
+) -> Result<Vec<Listed>, FilesFault>
+    ensures found { IfOk result (λ packages. packages.items
+        ≡ listing.listed_packages (listing.test_seen test.entry) (C.left roots.old)) }
+    ensures kind { IfErr result (MayFail C.fails_with) }
 {
     let mut listed = Vec::new(alloc);
-    for root in roots {
-        list_root(alloc, test, root, &mut listed)?;
+    while let Some(root) = roots.next()? {
+        list_root(alloc, test, &root, &mut listed)?;
     }
     Ok(listed)
 }
@@ -167,4 +187,17 @@ fn passes(test: Test<'_>, candidate: Candidate<'_>) -> bool
         Test::Meets(query) => meets_all(query.conditions(), candidate),
         Test::Admitted(spec) => spec.matches(candidate.found.name()),
     }
+}
+
+/// The root at a canonical path, if there is one. It fails if the rows do.
+pub fn root_at<C: Cursor<Root>>(path: &str, roots: &mut C) -> Result<Option<Root>, FilesFault>
+    ensures found { IfOk result (λ found. found ≡ listing.root_named (C.left roots.old) path.now) }
+    ensures kind { IfErr result C.fails_with }
+{
+    while let Some(root) = roots.next()? {
+        if root.path() == path {
+            return Ok(Some(root));
+        }
+    }
+    Ok(None)
 }

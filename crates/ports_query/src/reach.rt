@@ -1,36 +1,58 @@
 //! The ports that are reached over dependencies that are met, and those that reach one.
-ghost use Rattle.std.specs.Prelude.{◌≡◌, ◌++◌, IfOk, OnOk, map, string_bytes, option_to_list};
+ghost use Rattle.std.specs.Prelude.{◌≡◌, ◌++◌, IfOk, IfErr, OnOk, map, string_bytes, option_to_list};
 ghost use Rattle.text_graph.specs.Arrows.{arrows_seen};
+ghost use Rattle.text_graph.specs.Listed.{reached_list, reaching_list};
+ghost use Rattle.ports_query.specs.Failing.{MayFail};
 ghost use Rattle.ports_query.specs.Reaching as reaching;
 
+use crate::cursor::Cursor;
+use crate::edges::is_first;
 use crate::kinds::Kinds;
+use mk_paths::FilesFault;
 use pkg_path::PkgPath;
 use port_deps::{RootEdge, Status};
 use std::alloc::{AllocError, Global};
 use text_graph::Arrow;
 use text_parts::copies_of;
 
-/// The ports that are reached over one or more dependencies of these kinds whose status is `Ok`. The first
-/// of these dependencies is one of `first`, and each other one begins where the one before it ended.
+/// The ports that are reached from a path over one or more dependencies of these kinds whose status is
+/// `Ok`. The first of these dependencies is one that the path has (`first_edges`), and each other one
+/// begins where the one before it ended.
 ///
 /// The ports are given by their canonical paths without subpackages, in the order of the paths' bytes, each
-/// once. It fails only if memory runs out.
-pub fn reached(
+/// once. It fails if the rows do, or if memory runs out.
+#[tactic(auto, using(crate::proofs::Steps::one_given))]
+pub fn reached<C: Cursor<RootEdge>>(
     alloc: Global,
     kinds: Kinds,
-    first: &[&RootEdge],
-    edges: &[RootEdge],
-) -> Result<Vec<String>, AllocError>
-    ensures { IfOk result (λ paths. map string_bytes paths.items
-        ≡ reaching.reached_of kinds (map (λ edge. edge.now) first.now) edges.now) }
+    path: &PkgPath,
+    edges: &mut C,
+) -> Result<Vec<String>, FilesFault>
+    ensures found { IfOk result (λ paths. map string_bytes paths.items
+        ≡ reaching.reached_from kinds path.now (C.left edges.old)) }
+    ensures kind { IfErr result (MayFail C.fails_with) }
 {
-    let first_steps = steps_of_first(alloc, kinds, first)?;
-    let steps = steps_of(alloc, kinds, edges)?;
-    let first_arrows = arrows_over(alloc, &first_steps)?;
-    let arrows = arrows_over(alloc, &steps)?;
+    let root = path.port_path(alloc)?;
+    let mut first = Vec::new(alloc);
+    let mut steps = Vec::new(alloc);
+    while let Some(edge) = edges.next()? {
+        if is_first(kinds, root.as_str(), path.subpackage(), &edge) {
+            add_step(alloc, kinds, &edge, &mut first)?;
+        }
+        add_step(alloc, kinds, &edge, &mut steps)?;
+    }
+    Ok(reached_over(alloc, &first, &steps)?)
+}
+
+/// The ends of the ways over these steps whose first step is one of `first`.
+fn reached_over(alloc: Global, first: &[Step], steps: &[Step]) -> Result<Vec<String>, AllocError>
+    ensures { IfOk result (λ paths. map string_bytes paths.items
+        ≡ reached_list (map reaching.step_seen first.now) (map reaching.step_seen steps.now)) }
+{
+    let first_arrows = arrows_over(alloc, first)?;
+    let arrows = arrows_over(alloc, steps)?;
     let paths = text_graph::reached(alloc, &first_arrows, &arrows)?;
-    let copied = copies_of(alloc, &paths)?;
-    Ok(copied)
+    copies_of(alloc, &paths)
 }
 
 /// The ports that reach the port that a path names, over one or more dependencies of these kinds whose
@@ -38,69 +60,49 @@ pub fn reached(
 /// subpackage of the path is ignored.
 ///
 /// The ports are given by their canonical paths without subpackages, in the order of the paths' bytes, each
-/// once. It fails only if memory runs out.
-pub fn reaching(
+/// once. It fails if the rows do, or if memory runs out.
+#[tactic(auto, using(crate::proofs::Steps::one_given))]
+pub fn reaching<C: Cursor<RootEdge>>(
     alloc: Global,
     kinds: Kinds,
     path: &PkgPath,
-    edges: &[RootEdge],
-) -> Result<Vec<String>, AllocError>
-    ensures { IfOk result (λ paths. map string_bytes paths.items
-        ≡ reaching.reaching_of kinds path.now edges.now) }
+    edges: &mut C,
+) -> Result<Vec<String>, FilesFault>
+    ensures found { IfOk result (λ paths. map string_bytes paths.items
+        ≡ reaching.reaching_of kinds path.now (C.left edges.old)) }
+    ensures kind { IfErr result (MayFail C.fails_with) }
 {
     let goal = path.port_path(alloc)?;
-    let steps = steps_of(alloc, kinds, edges)?;
-    let arrows = arrows_over(alloc, &steps)?;
-    let paths = text_graph::reaching(alloc, &arrows, goal.as_str())?;
-    let copied = copies_of(alloc, &paths)?;
-    Ok(copied)
+    let mut steps = Vec::new(alloc);
+    while let Some(edge) = edges.next()? {
+        add_step(alloc, kinds, &edge, &mut steps)?;
+    }
+    Ok(reaching_over(alloc, &steps, goal.as_str())?)
+}
+
+/// The starts of the ways over these steps that end at a path.
+fn reaching_over(alloc: Global, steps: &[Step], goal: &str) -> Result<Vec<String>, AllocError>
+    ensures { IfOk result (λ paths. map string_bytes paths.items
+        ≡ reaching_list (map reaching.step_seen steps.now) goal.now) }
+{
+    let arrows = arrows_over(alloc, steps)?;
+    let paths = text_graph::reaching(alloc, &arrows, goal)?;
+    copies_of(alloc, &paths)
 }
 
 /// A step from a port to one that it depends on.
 #[derive(Drop)]
-struct Step<'a> {
-    from: &'a str,
+struct Step {
+    from: String,
     to: String,
 }
 
-/// The steps over the dependencies of these kinds that are met.
-fn steps_of<'a>(
-    alloc: Global,
-    kinds: Kinds,
-    edges: &'a [RootEdge],
-) -> Result<Vec<Step<'a>>, AllocError>
-    ensures { IfOk result (λ steps. map reaching.step_seen steps.items
-        ≡ reaching.arrows_of kinds edges.now) }
-{
-    let mut steps = Vec::new(alloc);
-    for edge in edges {
-        add_step(alloc, kinds, edge, &mut steps)?;
-    }
-    Ok(steps)
-}
-
-/// The same for the first dependencies.
-fn steps_of_first<'a>(
-    alloc: Global,
-    kinds: Kinds,
-    edges: &[&'a RootEdge],
-) -> Result<Vec<Step<'a>>, AllocError>
-    ensures { IfOk result (λ steps. map reaching.step_seen steps.items
-        ≡ reaching.arrows_of kinds (map (λ edge. edge.now) edges.now)) }
-{
-    let mut steps = Vec::new(alloc);
-    for edge in edges {
-        add_step(alloc, kinds, edge, &mut steps)?;
-    }
-    Ok(steps)
-}
-
 /// Adds the step over a dependency, if that is of these kinds and met.
-fn add_step<'a>(
+fn add_step(
     alloc: Global,
     kinds: Kinds,
-    edge: &'a RootEdge,
-    steps: &mut Vec<Step<'a>>,
+    edge: &RootEdge,
+    steps: &mut Vec<Step>,
 ) -> Result<(), AllocError>
     ensures { OnOk result (map reaching.step_seen steps.new.items
         ≡ map reaching.step_seen steps.old.items
@@ -113,10 +115,8 @@ fn add_step<'a>(
         return Ok(());
     };
     let to = target.port_path(alloc)?;
-    steps.push(Step {
-        from: edge.root(),
-        to,
-    })?;
+    let from = String::from_str(alloc, edge.root())?;
+    steps.push(Step { from, to })?;
     Ok(())
 }
 
@@ -128,13 +128,13 @@ fn is_met(status: Status) -> bool
 }
 
 /// The steps as arrows between texts.
-fn arrows_over<'a>(alloc: Global, steps: &'a [Step<'_>]) -> Result<Vec<Arrow<'a>>, AllocError>
+fn arrows_over<'a>(alloc: Global, steps: &'a [Step]) -> Result<Vec<Arrow<'a>>, AllocError>
     ensures { IfOk result (λ arrows. arrows_seen arrows.items ≡ map reaching.step_seen steps.now) }
 {
     let mut arrows = Vec::with_capacity(alloc, steps.len())?;
     for step in steps {
         arrows.push(Arrow {
-            from: step.from,
+            from: step.from.as_str(),
             to: step.to.as_str(),
         })?;
     }

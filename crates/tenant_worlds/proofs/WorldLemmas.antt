@@ -1,7 +1,8 @@
 -- The tenants' worlds, as the store holds them.
 use Rattle.std.proofs.Common.{◌≡◌, ◌≢◌, ◌<◌, ◌≤◌, ◌∙◌, ℕ, ◌+◌, ◌∷◌, length, map, true, false, inl, inr, Option, Some, Result, Ok, Err, IfOk, refl, sym, ap, subst, arith, nat_lt, zero, suc}
-use Rattle.std.specs.Prelude.{slice_get, option_map, replicate}
-use Rattle.std.specs.List.{range_with_len}
+use Rattle.std.specs.Prelude.{slice_get, option_map, replicate, MatchBool, ◌==◌, ◌&&◌, Bool, nat_le, string_bytes}
+use Rattle.std.specs.List.{range_with_len, list_all}
+use Rattle.std.proofs.lemmas.List.{length-map}
 use Rattle.std.proofs.lemmas.Bool.{cases_Bool}
 use Rattle.std.proofs.lemmas.Bool.Decides.{nat_tests}
 use Rattle.std.proofs.lemmas.List.FromFn.{length-range_with_len, length-map-range_with_len, get_or-range_with_len}
@@ -11,23 +12,35 @@ use Rattle.mk_paths.specs.declared.search_path.Settings.{Settings}
 use Rattle.ports_http.specs.Messages.{RequestMessage, ReplyMessage}
 use Rattle.ports_plain.specs.declared.changing.Change.{Change}
 use Rattle.ports_plain.specs.Changing.{settle_change}
-use Rattle.ports_plain.specs.Plain.{Served, answer}
+use Rattle.ports_plain.specs.Plain.{PlainRequest, Served, plain, answer}
 use Rattle.tenant_store.specs.Holdings.{Holdings, nothing, files_of, path_of}
 use Rattle.ports_core.specs.Answering.{Answers, AnswersFor, plain_request_of, plain_answer}
+use Rattle.ports_core.specs.Charging.{is_of_index, Spends, ChargesFor}
+use Rattle.ports_core.specs.Keys.{is_size, is_key, are_apart, key_texts, is_fit}
+use Rattle.ports_core.specs.Telling.{is_failure}
+use Rattle.ports_core.specs.declared.keys.Config.{Config}
+use Rattle.ports_plain.specs.Questions.{question_of}
+use Rattle.ports_plain.specs.Resting.{Need, NoNeed, ValueNeed, RecordNeed, RootsNeed, IndexNeed, need_of, cost_for}
+use Rattle.computed_ports.specs.Costs.{computed_cost}
+use Rattle.tenant_worlds.specs.Prepared.{computed_cost_of}
 use Rattle.tenant_worlds.specs.Stored.{world_in, worlds_in, KeepsOtherWorlds}
 
 pub if_ok : {A E : Type 0} {P Q : A → Type 0} (r : Result A E) → ((a : A) → P a → Q a) → IfOk r P → IfOk r Q
 if_ok (Ok a) f p = f a p
 if_ok (Err e) f p = tt
 
--- what becomes of what was prepared over a tenant's files and settings is the plain answer over its world
+-- the world of a tenant's files and settings is the tenant's
+pub asked_world : (held asked_in : Holdings) (tenant : ℕ) (settings : Settings) → asked_in ≡ held → settings.path ≡ path_of tenant held
+    → ◌≡◌ {A = World} ((world_in asked_in tenant).0, settings) (world_in held tenant)
+asked_world held asked_in tenant settings e path i = (files_of tenant (e i), record { path = path i })
+
+-- what becomes of what was prepared over it is the plain answer over the tenant's world
 pub served : (held asked_in mid : Holdings) (tenant : ℕ) (settings : Settings) (request : RequestMessage) (reply : ReplyMessage) (change : Option Change) (end : Served)
     → asked_in ≡ held → mid ≡ asked_in → settings.path ≡ path_of tenant held → (reply, change) ≡ answer ((world_in asked_in tenant).0, settings) (plain_request_of request)
     → settle_change (world_in mid tenant) reply change ≡ end → plain_answer (world_in held tenant) request ≡ end
 served held asked_in mid tenant settings request reply change end e0 e1 path was is =
     let world : World = world_in held tenant in
-    let same : ◌≡◌ {A = World} ((world_in asked_in tenant).0, settings) world = λ i. (files_of tenant (e0 i), record { path = path i }) in
-    let prepared = was ∙ ap (λ (w : World). answer w (plain_request_of request)) same in
+    let prepared = was ∙ ap (λ (w : World). answer w (plain_request_of request)) (asked_world held asked_in tenant settings e0 path) in
     ap (λ (a : ReplyMessage × Option Change). settle_change world a.0 a.1) (sym prepared) ∙ ap (λ (h : Holdings). settle_change (world_in h tenant) reply change) (sym (e1 ∙ e0)) ∙ is
 
 opening_from : (first count : ℕ) → map (world_in nothing) (range_with_len first count) ≡ replicate count opening_world
@@ -77,3 +90,44 @@ answers_for old new count t request reply within answers keeps = record {
   answers = answers;
   others = λ u ne. world_kept old new count t u keeps ne;
 }
+
+some_same : {A : Type 0} {x y : A} → ◌≡◌ {A = Option A} (Some x) (Some y) → x ≡ y
+some_same e = cc
+
+-- to compute what is needed costs all of what the answer rests on, but for the index
+whole : (world : World) (need : Need) → is_of_index need ≡ false → computed_cost world need ≡ cost_for world need
+whole world NoNeed none = refl
+whole world (ValueNeed asked) none = refl
+whole world (RecordNeed path) none = refl
+whole world RootsNeed none = absurd cc
+whole world IndexNeed none = absurd cc
+
+-- what was computed is what is told as spent
+pub charges_for : (held : Holdings) (count t : ℕ) (request : RequestMessage) (reply : ReplyMessage) (units : ℕ) (after : World) → t < count
+    → ((world : World) (need : Need) → computed_cost world need ≤ cost_for world need)
+    → ((world : World) (request : PlainRequest) → ((plain world request).0.status == 503) ≡ false)
+    → plain_answer (world_in held t) request ≡ (reply, after) → units ≡ computed_cost_of (world_in held t) (plain_request_of request)
+    → ChargesFor t request reply units (worlds_in held count)
+charges_for held count t request reply units after within no_more never is spent world there =
+    let need : Need = need_of (question_of (plain_request_of request)) in
+    let fine : is_failure reply.status ≡ false = ap (λ (end : Served). is_failure end.0.status) (sym is) ∙ never (world_in held t) (plain_request_of request) in
+    let this : world_in held t ≡ world = some_same (sym (world_there held count t within) ∙ there) in
+    let spends : Spends (world_in held t) (plain_request_of request) units = record {
+      within = omega (arith, spent, no_more (world_in held t) need);
+      whole = λ none. spent ∙ whole (world_in held t) need none;
+    } in
+    subst (λ failed. MatchBool failed (units ≡ 0) (Spends world (plain_request_of request) units)) (sym fine)
+    (subst (λ (w : World). Spends w (plain_request_of request) units) this spends)
+
+few_of : (parses evals all apart : Bool) (n : ℕ) → (parses && evals && (nat_le 1 n && nat_le n 64 && all && apart)) ≡ true → n ≤ 64
+few_of true true true true n fit = grind (arith, nat_tests)
+few_of false evals all apart n fit = absurd cc
+few_of true false all apart n fit = absurd cc
+few_of true true false apart n fit = grind (arith, nat_tests)
+few_of true true true false n fit = grind (arith, nat_tests)
+
+-- a fit config has 64 keys at most
+pub few_keys : (config : Config) → is_fit config ≡ true → length config.keys.items ≤ 64
+few_keys config fit =
+    let few = few_of (is_size config.parses) (is_size config.evals) (list_all is_key (key_texts config.keys.items)) (are_apart (key_texts config.keys.items)) (length (key_texts config.keys.items)) fit in
+    omega (arith, few, length-map config.keys.items string_bytes)

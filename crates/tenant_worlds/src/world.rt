@@ -2,9 +2,9 @@
 ghost use Rattle.std.specs.Prelude.{◌≡◌, false, IfOk, IsErrOf, IsTrue, OnOk, OnErr};
 ghost use Rattle.ports_http.specs.Replies.{reply_text};
 ghost use Rattle.ports_plain.specs.Changing.{changed, overfills, settle_change};
-ghost use Rattle.ports_plain.specs.Plain.{answer};
 ghost use Rattle.ports_plain.specs.Replies.{full as full_reply};
 ghost use Rattle.ports_core.specs.Answering.{plain_request_of, plain_answer};
+ghost use Rattle.tenant_worlds.specs.Prepared.{IsPrepared, computed_cost_of};
 ghost use Rattle.tenant_worlds.specs.Stored.{world_in, KeepsOtherWorlds};
 
 use crate::asking::Asking;
@@ -14,54 +14,51 @@ use ports_plain::{Change, Plain, Prepared, full};
 use std::alloc::{AllocError, Global};
 use tenant_store::{PutFault, TenantStore};
 
-/// The reply to a request over a tenant's world, and its bytes, which say whether the connection closes.
-/// The bytes are made before the world changes. No other tenant's world changes. It fails if the store
-/// fails, or if memory runs out; then nothing has changed.
+/// The reply to a request over a tenant's world, its bytes, which say whether the connection closes, and
+/// the units that were spent. The bytes are made before the world changes. No other tenant's world changes.
+/// It fails if the store fails, or if memory runs out; then nothing has changed.
 pub(crate) fn reply_to(
     store: &mut TenantStore,
     alloc: Global,
     plain: &Plain,
     tenant: u32,
-    request: Request,
+    request: &Request,
     close: bool,
-) -> Result<(Reply, Vec<u8>), FilesFault>
-    ensures reply { IfOk result (λ r. plain_answer (world_in store.old tenant) request
+) -> Result<(Reply, Vec<u8>, u64), FilesFault>
+    ensures reply { IfOk result (λ r. plain_answer (world_in store.old tenant) request.now
         ≡ (r.0, world_in store.new tenant)) }
+    ensures units { IfOk result (λ r. r.2
+        ≡ computed_cost_of (world_in store.old tenant) (plain_request_of request.now)) }
     ensures others { OnOk result (KeepsOtherWorlds tenant store.old store.new) }
     ensures bytes { IfOk result (λ r. r.1.items ≡ reply_text r.0 close) }
     ensures err { OnErr result (store.new ≡ store.old) }
 {
     let settings = store.settings(alloc, tenant)?;
-    let prepared = prepare(store, alloc, plain, tenant, &settings, request)?;
-    settle(store, alloc, tenant, prepared, close)
+    let (prepared, units) = prepare(store, alloc, plain, tenant, &settings, request)?;
+    let (reply, bytes) = settle(store, alloc, tenant, prepared, close)?;
+    Ok((reply, bytes, units))
 }
 
-/// The answer to a request over a tenant's files. Nothing is changed yet.
+/// The answer to a request over a tenant's files, and the units that were spent. Nothing is changed yet.
 fn prepare(
     store: &mut TenantStore,
     alloc: Global,
     plain: &Plain,
     tenant: u32,
     settings: &Settings,
-    request: Request,
-) -> Result<Prepared, FilesFault>
-    ensures ok { IfOk result (λ p. (p.reply, p.change)
-        ≡ answer ((world_in store.old tenant).0, settings.now) (plain_request_of request)) }
+    request: &Request,
+) -> Result<(Prepared, u64), FilesFault>
+    ensures ok { IfOk result (IsPrepared ((world_in store.old tenant).0, settings.now)
+        (plain_request_of request.now)) }
     ensures same { store.new ≡ store.old }
 {
-    let Request {
-        method,
-        target,
-        body,
-        ..
-    } = request;
     let mut asking = Asking {
         alloc,
         plain,
         settings,
-        method,
-        target: target.as_str(),
-        body,
+        method: request.method,
+        target: request.target.as_str(),
+        body: request.body.as_slice(),
         prepared: Err(FilesFault::Memory),
     };
     store.ask(alloc, tenant, &mut asking);

@@ -1,9 +1,10 @@
 //! The tenants' worlds in one store, and the plain service over them.
 use crate::world::reply_to;
+use computed_ports::computing_costs_no_more;
 use mk_paths::FilesFault;
-use ports_core::Tenants;
+use ports_core::{Config, Tenants, Worked};
 use ports_http::{Reply, Request};
-use ports_plain::Plain;
+use ports_plain::{Plain, never_answers_503};
 use std::alloc::Global;
 use std::marker::Model;
 use tenant_store::TenantStore;
@@ -39,9 +40,10 @@ impl Model for StoredTenants {
 impl Tenants for StoredTenants {
     ghost worlds = { λ w. w };
 
-    fn new(alloc: Global, count: usize) -> Result<StoredTenants, FilesFault> {
+    fn new(alloc: Global, config: &Config) -> Result<StoredTenants, FilesFault> {
         let store = TenantStore::open_in_memory(alloc)?;
         let plain = Plain::new(alloc)?;
+        let count = config.keys.len();
         Ok(StoredTenants {
             store,
             plain,
@@ -49,13 +51,9 @@ impl Tenants for StoredTenants {
         })
     }
 
-    fn answer(
-        &mut self,
-        alloc: Global,
-        tenant: usize,
-        request: Request,
-        close: bool,
-    ) -> (Reply, Option<Vec<u8>>) {
+    fn work(&mut self, alloc: Global, tenant: usize, request: &Request, close: bool) -> Worked {
+        computing_costs_no_more();
+        never_answers_503();
         match reply_to(
             &mut self.store,
             alloc,
@@ -64,8 +62,16 @@ impl Tenants for StoredTenants {
             request,
             close,
         ) {
-            Ok((reply, bytes)) => (reply, Some(bytes)),
-            Err(_refused) => (Reply::store_failed(), None),
+            Ok((reply, bytes, units)) => Worked {
+                reply,
+                bytes: Some(bytes),
+                units,
+            },
+            Err(_refused) => Worked {
+                reply: Reply::store_failed(),
+                bytes: None,
+                units: 0,
+            },
         }
     }
 

@@ -2,7 +2,7 @@
 use crate::service::{StoredService, reply_answer};
 use case_lines::{Answer, Trouble, as_number, as_text};
 use http::StatusCode;
-use ports_core::{Config, Event, Service};
+use ports_core::{Config, Event, Service, Tell, Told};
 use ports_http::{Method, Reply};
 use std::alloc::Global;
 use store_cases::{MOST_LIMITS, filled, stops_answer};
@@ -60,9 +60,11 @@ pub fn answer(
         "GET" => asked_answer(alloc, service, Method::Get, given),
         "PUT" => asked_answer(alloc, service, Method::Put, given),
         "DELETE" => asked_answer(alloc, service, Method::Delete, given),
+        "units" => units_answer(alloc, service, given),
         "fill" => fill(alloc, service, given),
         "PUT stopped by" => stopped(alloc, service, Method::Put, given),
         "DELETE stopped by" => stopped(alloc, service, Method::Delete, given),
+        "GET stopped by" => stopped(alloc, service, Method::Get, given),
         _ => Err(Trouble::NoCase),
     }
 }
@@ -86,27 +88,54 @@ fn asked_answer(
     Ok(reply_answer(alloc, &reply))
 }
 
+/// `service units TENANT TARGET`: the status of a GET, and how many units its turn tells.
+fn units_answer(
+    alloc: Global,
+    service: &mut StoredService,
+    given: &[Vec<u8>],
+) -> Result<Answer, Trouble> {
+    let [tenant, target] = given else {
+        return Err(Trouble::NoCase);
+    };
+    let request = CaseRequest::read(Method::Get, tenant, target, &[])?;
+    let (reply, units) = ask_counted(alloc, service, request)?;
+    let mut answer = Answer::of_word(alloc, reply.status.as_str());
+    answer.number(units);
+    Ok(answer)
+}
+
 /// The reply to a request on a new connection, which is lost after the request.
 fn ask(
     alloc: Global,
     service: &mut StoredService,
     request: CaseRequest<'_>,
 ) -> Result<Reply, Trouble> {
-    let conn = service.next_conn();
-    let piece = Event::Piece(conn, stream_of(alloc, request)?);
-    happen(service, &Event::Open(conn))?;
-    happen(service, &piece)?;
-    let reply = happen(service, &Event::Turn(request.tenant))?;
-    happen(service, &Event::Fault(conn))?;
-    reply.ok_or(Trouble::NoCase)
+    let (reply, _units) = ask_counted(alloc, service, request)?;
+    Ok(reply)
 }
 
-/// The reply that an event gives, if it gives one.
-fn happen(service: &mut StoredService, event: &Event) -> Result<Option<Reply>, Trouble> {
+/// The same, and how many units its turn tells.
+fn ask_counted(
+    alloc: Global,
+    service: &mut StoredService,
+    request: CaseRequest<'_>,
+) -> Result<(Reply, u64), Trouble> {
+    let conn = service.next_conn();
+    let piece = Event::Piece(conn, stream_of(alloc, request)?);
+    let _opened = happen(service, &Event::Open(conn))?;
+    let _came = happen(service, &piece)?;
+    let Told { reply, units, .. } = happen(service, &Event::Turn(request.tenant))?;
+    let _lost = happen(service, &Event::Fault(conn))?;
+    let Tell { reply, .. } = reply.ok_or(Trouble::NoCase)?;
+    Ok((reply, units))
+}
+
+/// What an event tells.
+fn happen(service: &mut StoredService, event: &Event) -> Result<Told, Trouble> {
     if !service.allows(event) {
         return Err(Trouble::NoCase);
     }
-    Ok(service.step(event).reply.map(|tell| tell.reply))
+    Ok(service.step(event))
 }
 
 /// The bytes of a request.
@@ -145,7 +174,7 @@ fn fill(alloc: Global, service: &mut StoredService, given: &[Vec<u8>]) -> Result
 
 /// `service PUT stopped TENANT TARGET BODY by PROBE`, `service DELETE stopped TENANT TARGET by PROBE`: the
 /// request under a limit of 1, 2, 3 .. steps of the store until it isn't answered 503. It gives whether a
-/// GET of the probe gave after each 503 what it gave before, and the last status.
+/// GET of the probe gave after each 503 what it gave before, and each 503 told no units; and the last status.
 fn stopped(
     alloc: Global,
     service: &mut StoredService,
@@ -154,7 +183,9 @@ fn stopped(
 ) -> Result<Answer, Trouble> {
     let (tenant, target, body, probe) = match (method, given) {
         (Method::Put, [tenant, target, body, probe]) => (tenant, target, body.as_slice(), probe),
-        (Method::Delete, [tenant, target, probe]) => (tenant, target, b"".as_slice(), probe),
+        (Method::Get | Method::Delete, [tenant, target, probe]) => {
+            (tenant, target, b"".as_slice(), probe)
+        }
         _ => return Err(Trouble::NoCase),
     };
     let request = CaseRequest::read(method, tenant, target, body)?;
@@ -172,12 +203,12 @@ fn stopped_by(
     let mut is_kept = true;
     for limit in 1..MOST_LIMITS {
         service.limit_steps(Some(limit));
-        let reply = ask(alloc, service, request)?;
+        let (reply, units) = ask_counted(alloc, service, request)?;
         service.limit_steps(None);
         if reply.status != StatusCode::SERVICE_UNAVAILABLE {
             return Ok(stops_answer(alloc, limit, is_kept, reply.status.as_str()));
         }
-        is_kept = is_kept && ask(alloc, service, probe)?.body() == was.body();
+        is_kept = is_kept && units == 0 && ask(alloc, service, probe)?.body() == was.body();
     }
     Err(Trouble::NoCase)
 }

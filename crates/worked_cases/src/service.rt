@@ -1,8 +1,11 @@
 //! The layers of the service: streams, replies, requests over a tenant's files, whole runs.
 use crate::quiet::QuietPorts;
-use case_lines::{Answer, Ran, Trouble, as_number, as_text};
+use case_lines::{Answer, Ran, Trouble, as_number, as_text, one_text};
+use computed_ports::{ComputedPorts, effort_for};
 use http::StatusCode;
 use make_cases::World;
+use mk_files::MemoryFiles;
+use mk_paths::Settings;
 use ports_core::{Config, Service, Transcript, replay};
 use ports_http::{
     Content, HeadFault, Method, Reply, Request, StreamEnd, decode, write_fixed, write_reply,
@@ -118,18 +121,50 @@ pub fn request(
     given: &[Vec<u8>],
 ) -> Result<Answer, Trouble> {
     let (target, body) = match (method, given) {
-        (Method::Put, [target, body]) => (target, body.clone()?),
-        (Method::Get | Method::Delete, [target]) => (target, Vec::new(alloc)),
+        (Method::Put, [target, body]) => (target, body.as_slice()),
+        (Method::Get | Method::Delete, [target]) => (target, b"".as_slice()),
         _ => return Err(Trouble::NoCase),
     };
-    let plain = Plain::new(alloc)?;
-    let World { files, settings } = world;
     let target = as_text(target)?;
-    let Prepared { reply, change } = plain.prepare(alloc, files, settings, method, target, body)?;
+    let Prepared { reply, change } = prepare(
+        alloc,
+        &mut world.files,
+        &world.settings,
+        method,
+        target,
+        body,
+    )?;
     let answer = reply_answer(alloc, &reply);
     if let Some(change) = change {
         carry_out(world, change)?;
     }
+    Ok(answer)
+}
+
+/// What the plain service prepares for a request over these files and settings.
+fn prepare(
+    alloc: Global,
+    files: &mut MemoryFiles,
+    settings: &Settings,
+    method: Method,
+    target: &str,
+    body: &[u8],
+) -> Result<Prepared, Trouble> {
+    let mut ports = ComputedPorts { files, settings };
+    let plain = Plain::new(alloc)?;
+    let (prepared, _units) = plain.prepare(alloc, &mut ports, method, target, body)?;
+    Ok(prepared)
+}
+
+/// `rests TARGET`: how many makefiles a GET rests on over the world, each once for each choice of flavors,
+/// and what they cost, with the records, the SUBDIRs and the value.
+pub fn rests(alloc: Global, world: &mut World, given: &[Vec<u8>]) -> Result<Answer, Trouble> {
+    let plain = Plain::new(alloc)?;
+    let question = plain.question(alloc, Method::Get, one_text(given)?, &[])?;
+    let effort = effort_for(alloc, &mut world.files, &world.settings, &question)?;
+    let mut answer = Answer::new(alloc);
+    answer.number(effort.evaluations);
+    answer.number(effort.units);
     Ok(answer)
 }
 

@@ -1,7 +1,9 @@
 -- Path after path.
-use Rattle.std.proofs.Common.{sym, subst, [], ◌∷◌, map, take, None, string_bytes}
-use Rattle.mk_paths.specs.World.{World}
+use Rattle.std.proofs.Common.{◌∙◌, ℕ, List, sym, ap, ap₂, subst, [], ◌∷◌, map, take, None, string_bytes}
+use Rattle.mk_paths.specs.World.{FileMap, World}
 use Rattle.ports_index.specs.Filling.{AreRight, Fills}
+use Rattle.ports_index.specs.Efforts.{both, effort_over, lacking}
+use Rattle.ports_index.proofs.EffortLemmas.{Effort-on}
 use Rattle.ports_index.proofs.Filled.{Stay-on, Fills-on}
 use Rattle.ports_index.proofs.Kept.{Keeps-on}
 use Rattle.ports_index.proofs.More.{map-more}
@@ -16,7 +18,13 @@ loop-path-preserved g c =
     let item = c.path-item.result in
     let one = subst (λ text. Fills world (text ∷ []) (entries c.loop-path.rows) (entries c.fill_one.new.rows)) c.deref.ensures
     (subst (λ files. Fills (files, settings) (c.deref.result.now ∷ []) (entries c.loop-path.rows) (entries c.fill_one.new.rows)) c.loop-path.invariant.keeps.files c.in_ok-fill_one.ensures.fills) in
+    let before = map string_bytes (take c.loop-path.path-index c.args.paths.now) in
+    let here = λ (files : FileMap) (text : List ℕ). effort_over (files, settings) (lacking (entries c.loop-path.rows) (text ∷ [])) in
     record {
+      effort = c.and-effort.ensures
+          ∙ ap₂ both c.loop-path.invariant.effort (c.in_ok-fill_one.ensures.effort ∙ ap₂ here c.loop-path.invariant.keeps.files c.deref.ensures)
+          ∙ Effort-on world before (string_bytes item ∷ []) (entries c.args.rows.now) (entries c.loop-path.rows) c.loop-path.invariant.fills
+          ∙ ap (λ paths. effort_over world (lacking (entries c.args.rows.now) paths)) (sym (map-more string_bytes c.args.paths.now c.loop-path.path-index item c.loop-path-test.true c.path-item.is));
       right = subst (λ files. AreRight (files, settings) (entries c.fill_one.new.rows)) c.loop-path.invariant.keeps.files c.in_ok-fill_one.ensures.right;
       stay = Stay-on (entries c.args.rows.now) (entries c.loop-path.rows) (entries c.fill_one.new.rows) c.loop-path.invariant.stay c.in_ok-fill_one.ensures.stay;
       fills = subst (λ paths. Fills world paths (entries c.args.rows.now) (entries c.fill_one.new.rows)) (sym (map-more string_bytes c.args.paths.now c.loop-path.path-index item c.loop-path-test.true c.path-item.is))

@@ -6,10 +6,12 @@ use Rattle.mk_paths.specs.World.{World, files_in}
 use Rattle.ports_index.specs.PathOutcomes.{outcome_at}
 use Rattle.ports_index.specs.Naming.{directories, named_at}
 use Rattle.ports_index.specs.Depending.{roots_among}
+use Rattle.ports_index.specs.Efforts.{effort_over}
 use Rattle.ports_index.specs.Filling.{IsListed}
 use Rattle.ports_index.specs.Index.{listed_paths}
 use Rattle.ports_index.specs.Seen.{known_in, entries_in}
 use Rattle.ports_index.proofs.Filled.{known-filled}
+use Rattle.ports_index.proofs.EffortLemmas.{lacking-all}
 use Rattle.ports_index.proofs.Known.{roots-known}
 use Rattle.ports_index.proofs.indexing.index_roots.Goals as goal
 
@@ -27,3 +29,9 @@ returns-clause-roots g c =
     ∙ ap (λ paths. roots_among (known_in entries) (map string_bytes paths)) c.deref.ensures.value
     ∙ ap (roots_among (known_in entries)) c.in_ok-paths.ensures.listed
     ∙ roots-known world entries (listed_paths world) (known-filled world (listed_paths world) _ entries c.in_ok-paths.ensures.fills)
+
+pub returns-clause-effort : goal.returns-clause-effort
+returns-clause-effort g c =
+    let world : World = ((g.F.Names.view c.args.files.now).files, c.args.settings.now) in
+    let found = directories (files_in world) in
+    c.in_ok-paths.ensures.effort ∙ ap (effort_over world) (lacking-all (entries_in c.new-rows.result) c.new-rows.ensures (flat_map (named_at (outcome_at world)) found ++ found))

@@ -1,0 +1,36 @@
+-- What is told as spent in a turn.
+use Rattle.std.proofs.Common.{◌≡◌, ◌∙◌, ℕ, Bool, true, false, List, ◌∷◌, Option, Some, sym, ap, subst}
+use Rattle.std.specs.Prelude.{MatchBool, MatchOption, slice_get}
+use Rattle.mk_paths.specs.World.{World}
+use Rattle.ports_http.specs.Messages.{ReplyMessage}
+use Rattle.ports_core.specs.declared.event.Tell.{Tell}
+use Rattle.ports_core.specs.declared.event.Told.{Told}
+use Rattle.ports_core.specs.declared.queue.QueuedRequest.{QueuedRequest}
+use Rattle.ports_core.specs.Answering.{plain_request_of}
+use Rattle.ports_core.specs.Charging.{Spends, Charges, ChargesFor, TurnSpends}
+use Rattle.ports_core.specs.Slices.{Slice, Queue, sliced}
+use Rattle.ports_core.specs.Telling.{in_turn, is_failure, CountsNone}
+
+module _ (t : ℕ) (told : Told) (worlds : List World) (queues : List Queue) (queue rest : Queue) (first : QueuedRequest) (reply : ReplyMessage) (units : ℕ) (world : World)
+    (there : slice_get worlds t ≡ Some world) (was : slice_get queues t ≡ Some queue) (waited : queue ≡ first ∷ rest)
+    (charges : ChargesFor t first.request reply units worlds)
+    (tells : told.reply ≡ Some (in_turn t first.conn reply)) (spent : told.units ≡ units) (unchecked : told.checks ≡ 0) where
+  charged : Charges world first.request reply told.units
+  charged = subst (λ (n : ℕ). Charges world first.request reply n) (sym spent) (charges world there)
+
+  -- the first request is answered
+  pub turn_spends : TurnSpends (sliced (slice_get worlds t) (slice_get queues t)) told
+  turn_spends =
+      let slice : sliced (slice_get worlds t) (slice_get queues t) ≡ Some (world, first ∷ rest) = ap (λ w. sliced w (slice_get queues t)) there ∙ ap (sliced (Some world)) (was ∙ ap Some waited) in
+      subst (λ (s : Option Slice). TurnSpends s told) (sym slice)
+      (subst (λ (r : Option Tell). MatchOption r (told.units ≡ 0) (λ (tell : Tell). Charges world first.request tell.reply told.units)) (sym tells) charged, unchecked)
+
+  none_with_503 : (failed : Bool) → MatchBool failed (told.units ≡ 0) (Spends world (plain_request_of first.request) told.units) → failed ≡ true → CountsNone told
+  none_with_503 true none is = (none, unchecked)
+  none_with_503 false spends is = absurd cc
+
+  -- nothing is told as spent with 503
+  pub turn_counts : MatchOption told.reply (Unit {0}) (λ (tell : Tell). is_failure tell.reply.status ≡ true → CountsNone told)
+  turn_counts =
+      subst (λ (r : Option Tell). MatchOption r (Unit {0}) (λ (tell : Tell). is_failure tell.reply.status ≡ true → CountsNone told)) (sym tells)
+      (none_with_503 (is_failure reply.status) charged)

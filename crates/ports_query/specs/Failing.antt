@@ -1,0 +1,12 @@
+-- How work on rows fails that are handed out one by one.
+use Rattle.std.specs.Prelude.{◌≡◌, ◌⊎◌}
+use Rattle.mk_paths.specs.declared.asking.FilesFault.{FilesFault}
+use Rattle.mk_paths.specs.declared.asking.FilesFault.TheVariants.{Memory}
+
+-- the work fails as the rows may, or with Memory if there is none for it
+abbrev pub MayFail : (FilesFault → Type 0) → FilesFault → Type 0
+MayFail may fault = may fault ⊎ (fault ≡ Memory)
+
+-- the same of work on two kinds of rows
+abbrev pub EitherMayFail : (FilesFault → Type 0) → (FilesFault → Type 0) → FilesFault → Type 0
+EitherMayFail may other fault = MayFail may fault ⊎ MayFail other fault
