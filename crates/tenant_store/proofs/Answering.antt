@@ -11,14 +11,18 @@ use Rattle.sqlite_sql.specs.Term.{col}
 use Rattle.sqlite_rules.specs.Lists.{Has}
 use Rattle.sqlite_rules.proofs.ProbeLemmas.{has_mapped, mapped_has}
 use Rattle.tenant_store.specs.Holdings.{File, Account, files_in, files_of, account_in}
-use Rattle.tenant_store.specs.Tables.{AreFilled, IsFileRow, IsAccountRow, file_of, account_of, file_key, account_key, is_file, bytes_in, number_in, held_in, store_schema, select_content, select_account, Shows, IsContent, IsAccount, IsFormed, IsSettled, Stays}
+use Rattle.table_facts.specs.Filled.{AreFilled, bytes_in, number_in}
+use Rattle.tenant_store.specs.Tables.{IsFileRow, IsAccountRow, file_of, account_of, file_key, account_key, is_file, held_in, store_schema, select_content, select_account, Shows, IsContent, IsAccount, IsFormed}
+use Rattle.table_facts.specs.States.{IsSettled, Stays}
 use Rattle.sqlite.specs.declared.error.Error.{Error}
 use Rattle.sqlite.specs.Listing.{understood}
 use Rattle.sqlite.specs.State.{State, Shown, FailsToQuery}
 use Rattle.sqlite.proofs.Callers.{IsPlain}
 use Rattle.mk_paths.specs.SearchPath.{trees_of}
-use Rattle.tenant_store.proofs.Statements.{AreSeen, seen as columns, shows, shown_stays, query_fails_stays}
-use Rattle.tenant_store.proofs.Finding.{find_is, find_none, get-files_in, name_is, tenant_is}
+use Rattle.table_facts.proofs.Statements.{AreSeen, seen as columns, shows, shown_stays, query_fails_stays}
+use Rattle.table_facts.proofs.Finding.{find_is, find_none}
+use Rattle.tenant_store.proofs.Finding.{get-files_in}
+use Rattle.table_facts.proofs.Tests.{text_is, number_is}
 use Rattle.tenant_store.proofs.Fixed.{of_file, of_tenant, passes_file, passes_account, content_text, account_text}
 
 module _ (tenant : ℕ) (name : List ℕ) (rows : List Row) (filled : AreFilled IsFileRow file_key rows) where
@@ -28,8 +32,8 @@ module _ (tenant : ℕ) (name : List ℕ) (rows : List Row) (filled : AreFilled 
       let s = has_mapped file_of rows f k in
       let mine = and_parts _ _ ok in
       let its = and_parts _ _ (ap (is_file tenant name) (sym s.2) ∙ passes) in
-      let tenants = tenant_is (file_of s.0).tenant tenant its.0 ∙ sym (tenant_is (file_of r).tenant tenant mine.0) in
-      let names = sym (name_is name (file_of s.0).name its.1) ∙ name_is name (file_of r).name mine.1 in
+      let tenants = number_is (file_of s.0).tenant tenant its.0 ∙ sym (number_is (file_of r).tenant tenant mine.0) in
+      let names = sym (text_is name (file_of s.0).name its.1) ∙ text_is name (file_of r).name mine.1 in
       s.2 ∙ ap file_of (filled.once s.0 r s.1 h (ap₂ (λ t n. (t, n)) tenants names))
 
   pub get_file : (r : Row) → Has rows r → is_file tenant name (file_of r) ≡ true → finite.get (files_in tenant (map file_of rows)) name ≡ Some (file_of r).content
@@ -61,7 +65,7 @@ module _ (tenant : ℕ) (rows : List Row) (filled : AreFilled IsAccountRow accou
   pub one_account : (r : Row) → Has rows r → is_account (account_of r) ≡ true → (a : Account) → Has (map account_of rows) a → is_account a ≡ true → a ≡ account_of r
   one_account r h ok a k passes =
       let s = has_mapped account_of rows a k in
-      let tenants = tenant_is (account_of s.0).tenant tenant (ap is_account (sym s.2) ∙ passes) ∙ sym (tenant_is (account_of r).tenant tenant ok) in
+      let tenants = number_is (account_of s.0).tenant tenant (ap is_account (sym s.2) ∙ passes) ∙ sym (number_is (account_of r).tenant tenant ok) in
       s.2 ∙ ap account_of (filled.once s.0 r s.1 h tenants)
 
   pub get_account : (r : Row) → Has rows r → is_account (account_of r) ≡ true → account_in tenant (map account_of rows) ≡ Some (account_of r)
@@ -81,7 +85,7 @@ module _ (tenant : ℕ) (rows : List Row) (filled : AreFilled IsAccountRow accou
     account_some x a h is =
         let r = seen.sound x h in
         let ok : is_account (account_of r.0) ≡ true = sym (passes_account tenant [] r.0 (filled.formed r.0 r.1)) ∙ r.2 in
-        let t : (account_of r.0).tenant ≡ tenant = tenant_is (account_of r.0).tenant tenant ok in
+        let t : (account_of r.0).tenant ≡ tenant = number_is (account_of r.0).tenant tenant ok in
         let fs : (account_of r.0).files ≡ a.files = ap number_in (ap (λ y. column y 0) (sym r.3) ∙ is.1) in
         let bs : (account_of r.0).bytes ≡ a.bytes = ap number_in (ap (λ y. column y 1) (sym r.3) ∙ is.2) in
         let ps : (account_of r.0).trees ≡ trees_of is.0 = ap (λ v. trees_of (bytes_in v)) (ap (λ y. column y 2) (sym r.3) ∙ is.3) in

@@ -1,56 +1,15 @@
 -- What the tables' definitions make.
-use Rattle.std.proofs.Common.{◌≡◌, ◌⊎◌, inl, inr, ℕ, false, cond, List, [], None, Result, Ok, Err, refl, sym, ap, subst, ◌∙◌}
+use Rattle.std.proofs.Common.{◌≡◌, ℕ, false, [], Ok, refl, sym, subst, ◌∙◌}
 use Rattle.std.specs.FinMap as finite
-use Rattle.general_facts.specs.Options.{same_Ok}
-use Rattle.sqlite_value.specs.Order.{Row}
-use Rattle.sqlite_schema.specs.declared.schema.Schema.{Schema}
-use Rattle.sqlite_schema.specs.declared.schema.Table.{Table}
-use Rattle.sqlite_schema.specs.declared.command.Command.TheVariants.{CreateTable}
-use Rattle.sqlite.specs.Change.{created, next_tree, KeepsRows}
-use Rattle.sqlite.specs.Compile.{table_defined_by}
-use Rattle.sqlite.specs.Does.{Tally, lacks_sequence}
-use Rattle.sqlite.specs.Effect.{Database}
-use Rattle.sqlite.specs.Listing.{understood}
-use Rattle.sqlite.specs.State.{State, Writes, Executes}
-use Rattle.sqlite.proofs.Callers.{IsPlain, command_of, statement_of, runs_as}
+use Rattle.sqlite.specs.State.{State, Executes}
 use Rattle.tenant_store.specs.Holdings.{nothing, bytes_of}
 use Rattle.std.proofs.Common.{map}
-use Rattle.tenant_store.specs.Tables.{IsCounted, file_of, account_of, create_file, create_account, no_schema, file_schema, file_table, account_table, AreFilled, IsKept, held_in}
+use Rattle.tenant_store.specs.Tables.{IsCounted, file_of, account_of, create_file, create_account, file_schema, file_table, account_table, IsKept, held_in}
+use Rattle.table_facts.specs.Tables.{no_schema}
 use Rattle.tenant_store.proofs.Worlds.{bytes_of-empty}
-use Rattle.tenant_store.proofs.Statements.{went_on}
 use Rattle.tenant_store.proofs.Fixed.{create_file_text, create_account_text}
-
--- CREATE TABLE adds an empty table, and is committed
-pub record Creates (old new : State) (schema : Schema) (table : Table) : Type 0 where
-  pub schema_is : new.now.schema ≡ created schema table
-  pub empty : new.now.trees (next_tree schema) ≡ []
-  pub others : KeepsRows schema.tables old.now.trees new.now.trees
-  pub autocommit : new.in_transaction ≡ false
-  pub committed : new.committed ≡ new.now
-
-pub creates : (sql : List ℕ) (old new : State) (schema : Schema) (table : Table) → old.now.schema ≡ schema → old.in_transaction ≡ false → command_of (understood schema sql) ≡ CreateTable
-    → statement_of sql (understood schema sql) ≡ sql → table_defined_by sql ≡ Ok table → IsPlain (understood schema sql) → lacks_sequence (created schema table) ≡ false → (count : ℕ) → Executes sql [] old new (Ok count)
-    → Creates old new schema table
-creates sql old new schema table has auto command text defined plain bare count h =
-    let w = subst (λ t. Writes old new None CreateTable t [] count) text (runs_as sql [] old new schema has CreateTable command plain count h) in
-    let all = went_on w.changed in
-    let first = went_on all.1 in
-    let made = first.1 in
-    let both : Ok made.table ≡ Ok table = sym made.defined ∙ defined in
-    let same : made.table ≡ table = cc in
-    let schema_is : first.0.schema ≡ created schema table = made.is ∙ ap (λ s. created s made.table) has ∙ ap (created schema) same in
-    let plainly : lacks_sequence first.0.schema ≡ false = ap lacks_sequence schema_is ∙ bare in
-    let now : new.now ≡ first.0 = ap (λ (p : Tally × Database). p.1) (same_Ok all.2) ∙ same_Ok (rw plainly at first.2) in
-    record {
-      schema_is = ap (λ (d : Database). d.schema) now ∙ schema_is;
-      empty = ap (λ (d : Database). d.trees (next_tree schema)) now ∙ subst (λ s. first.0.trees (next_tree s) ≡ []) has made.empty;
-      others = subst (λ (d : Database). KeepsRows schema.tables old.now.trees d.trees) (sym now) (subst (λ (s : Schema). KeepsRows s.tables old.now.trees first.0.trees) has made.others);
-      autocommit = w.shown.mode ∙ auto;
-      committed = w.shown.committed_is ∙ ap (λ b. cond b old.committed new.now) auto;
-    }
-
-none_filled : {K : Type 0} {Form : Row → Type 0} {key : Row → K} (rows : List Row) → rows ≡ [] → AreFilled Form key rows
-none_filled {K} {Form} {key} rows is = subst (AreFilled Form key) (sym is) (record { rise = (tt, tt); formed = λ r h. absurd h; once = λ r s h k e. absurd h })
+use Rattle.table_facts.proofs.Creating.{Creates, creates}
+use Rattle.table_facts.proofs.Making.{none_filled}
 
 pub creates_files : (old new : State) → old.in_transaction ≡ false → old.now.schema ≡ no_schema → (count : ℕ) → Executes create_file [] old new (Ok count) → Creates old new no_schema file_table
 creates_files old new auto has count h = creates create_file old new no_schema file_table has auto create_file_text.0 create_file_text.1 create_file_text.2 create_file_text.3 refl count h

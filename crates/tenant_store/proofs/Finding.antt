@@ -1,37 +1,11 @@
 -- Finding a file of a tenant, and a tenant's account, among all of them.
-use Rattle.std.proofs.Common.{◌≡◌, inl, inr, ℕ, Bool, true, false, cond, not, ◌&&◌, eqb, List, [], ◌∷◌, map, filter, find, None, Some, is_eq, refl, sym, ap, ◌∙◌, true≢false, arith}
+use Rattle.std.proofs.Common.{◌≡◌, ℕ, true, false, cond, not, ◌&&◌, eqb, List, [], ◌∷◌, map, filter, find, None, Some, is_eq, refl, ap, ◌∙◌}
 use Rattle.std.specs.Prelude.{option_map, ◌==◌}
 use Rattle.std.specs.Ordering.{nat_cmp}
 use Rattle.std.specs.Cmp.Lexicographic.{slice_cmp, nat_list_cmp_total}
 use Rattle.std.specs.FinMap as finite
-use Rattle.std.proofs.lemmas.Bool.{cases_Bool}
-use Rattle.std.proofs.lemmas.Bool.Decides.{nat_tests}
-use Rattle.general_facts.specs.Bools.{Equal_from_is_eq}
-use Rattle.sqlite_rules.specs.Lists.{Has}
 use Rattle.tenant_store.specs.Holdings.{File, Account, files_in, named_files, account_in}
 use Rattle.tenant_store.specs.Tables.{is_file}
-
--- the names that tie are one
-pub name_is : (a b : List ℕ) → is_eq (slice_cmp nat_cmp a b) ≡ true → a ≡ b
-name_is a b e = finite.slice_cmp-IsAntisymmetric finite.nat_cmp-IsAntisymmetric a b (Equal_from_is_eq _ e)
-
-pub tenant_is : (a b : ℕ) → eqb a b ≡ true → a ≡ b
-tenant_is a b e = grind (arith, nat_tests)
-
--- the first that passes, where only one does
-pub find_is : {X : Type 0} (p : X → Bool) (xs : List X) (x : X) → Has xs x → p x ≡ true → ((y : X) → Has xs y → p y ≡ true → y ≡ x) → find p xs ≡ Some x
-find_is p [] x h ok one = absurd h
-find_is p (z ∷ xs) x h ok one = elim (cases_Bool (p z)) [
-  | inl here ↦ ap (λ b. cond b (Some z) (find p xs)) here ∙ ap Some (one z (inl refl) here)
-  | inr other ↦ elim h [
-    | inl same ↦ absurd (true≢false (sym ok ∙ ap p same ∙ other))
-    | inr later ↦ ap (λ b. cond b (Some z) (find p xs)) other ∙ find_is p xs x later ok (λ y k. one y (inr k))
-  ]
-]
-
-pub find_none : {X : Type 0} (p : X → Bool) (xs : List X) → ((y : X) → Has xs y → p y ≡ false) → find p xs ≡ None
-find_none p [] none = refl
-find_none p (z ∷ xs) none = ap (λ b. cond b (Some z) (find p xs)) (none z (inl refl)) ∙ find_none p xs (λ y k. none y (inr k))
 
 -- a file of a tenant's map is the first that has its tenant and its name
 pub get-files_in : (tenant : ℕ) (name : List ℕ) (files : List File) → finite.get (files_in tenant files) name ≡ option_map (λ f. f.content) (find (is_file tenant name) files)

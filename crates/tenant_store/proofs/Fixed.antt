@@ -2,30 +2,24 @@
 use Rattle.std.proofs.Common.{◌≡◌, ◌⊎◌, ℕ, pos, Bool, true, false, cond, ◌&&◌, eqb, List, [], ◌∷◌, codes, Some, is_eq, refl, sym, ap, ap₂, ◌∙◌, arith}
 use Rattle.std.specs.Prelude.{◌==◌}
 use Rattle.std.specs.Ordering.{nat_cmp}
-use Rattle.std.specs.Cmp.{eq_by_cmp_equiv}
-use Rattle.std.specs.Cmp.Lexicographic.{slice_cmp, nat_list_cmp_total}
-use Rattle.std.proofs.lemmas.Bool.Decides.{nat_tests}
-use Rattle.std.proofs.lemmas.Int.{ints}
+use Rattle.std.specs.Cmp.Lexicographic.{slice_cmp}
 use Rattle.sqlite_value.specs.declared.value.Value.TheVariants.{Null, Int, Text}
 use Rattle.sqlite_value.specs.declared.keys.Collation.TheVariants.{Binary}
 use Rattle.sqlite_value.specs.Order.{Row}
-use Rattle.sqlite_value.proofs.OrderLemmas.{value_cmp-Int, value_cmp-Text}
 use Rattle.sqlite_sql.specs.declared.ops.BinaryOp.TheVariants.{Compare}
 use Rattle.sqlite_sql.specs.declared.ops.CompareOp.TheVariants.{Eq}
-use Rattle.sqlite_sql.specs.Ops.{binary, is_true, from_truth}
-use Rattle.sqlite_sql.specs.Term.{Term, lit, col, op2}
+use Rattle.sqlite_sql.specs.Ops.{binary, is_true}
+use Rattle.sqlite_sql.specs.Term.{Term, lit, col}
 use Rattle.sqlite_schema.specs.declared.command.Command.TheVariants.{Select, Insert, Update, Delete, CreateTable}
 use Rattle.sqlite_schema.specs.declared.command.Source.TheVariants.{Values}
 use Rattle.sqlite_tied.specs.Compute.{everything}
 use Rattle.sqlite.specs.Compile.{table_defined_by}
 use Rattle.sqlite.specs.Listing.{understood, reads_listing}
 use Rattle.sqlite.proofs.Callers.{IsPlain, command_of, statement_of}
-use Rattle.tenant_store.specs.Tables.{store_schema, file_schema, no_schema, file_table, account_table, create_file, create_account, insert_file, update_file, delete_file, select_content, select_names, insert_account, delete_account, select_account, file_of, IsFileRow, IsAccountRow, account_of, is_file}
-use Rattle.tenant_store.proofs.Statements.{over_table, program, passes}
-
--- a column of the row equals a parameter
-abbrev equals : ℕ → ℕ → Term
-equals place parameter = op2 (Compare Eq Binary) (col 1 place) (col 0 parameter)
+use Rattle.tenant_store.specs.Tables.{store_schema, file_schema, file_table, account_table, create_file, create_account, insert_file, update_file, delete_file, select_content, select_names, insert_account, delete_account, select_account, file_of, IsFileRow, IsAccountRow, account_of, is_file}
+use Rattle.table_facts.specs.Tables.{no_schema}
+use Rattle.table_facts.proofs.Statements.{over_table, program, passes}
+use Rattle.table_facts.proofs.Tests.{equals, same_number, same_text, alone}
 
 abbrev pub of_tenant : List Term
 of_tenant = equals 1 0 ∷ []
@@ -75,18 +69,6 @@ create_account_text = (refl, refl, refl, (refl, refl))
 
 -- ---- the tests
 
-truth_of : (b : Bool) → is_true (from_truth (Some b)) ≡ b
-truth_of true = refl
-truth_of false = refl
-
-pub same_tenant : (a b : ℕ) → is_true (binary (Compare Eq Binary) (Int (pos a)) (Int (pos b))) ≡ (a == b)
-unfolding binary
-same_tenant a b = truth_of _ ∙ ap is_eq (value_cmp-Int (pos a) (pos b)) ∙ grind (arith, ints, nat_tests)
-
-pub same_name : (a b : List ℕ) → is_true (binary (Compare Eq Binary) (Text a) (Text b)) ≡ is_eq (slice_cmp nat_cmp b a)
-unfolding binary
-same_name a b = truth_of _ ∙ ap is_eq (value_cmp-Text a b) ∙ (eq_by_cmp_equiv nat_list_cmp_total).symm a b
-
 -- a row of `file` passes exactly where it is the file of this tenant and this name
 pub passes_file : (tenant : ℕ) (name : List ℕ) (more : Row) (row : Row) → IsFileRow row → passes of_file (Int (pos tenant) ∷ Text name ∷ more) row ≡ is_file tenant name (file_of row)
 passes_file tenant name more row form = ap (passes of_file (Int (pos tenant) ∷ Text name ∷ more)) form.1 ∙ here (file_of row).tenant (file_of row).name
@@ -97,14 +79,10 @@ passes_file tenant name more row form = ap (passes of_file (Int (pos tenant) ∷
     anded false b = refl
 
     here : (a : ℕ) (n : List ℕ) → (is_true (binary (Compare Eq Binary) (Int (pos a)) (Int (pos tenant))) && (is_true (binary (Compare Eq Binary) (Text n) (Text name)) && true)) ≡ ((a == tenant) && is_eq (slice_cmp nat_cmp name n))
-    here a n = anded _ _ ∙ ap₂ (λ x y. x && y) (same_tenant a tenant) (same_name n name)
-
-alone : (a : Bool) → (a && true) ≡ a
-alone true = refl
-alone false = refl
+    here a n = anded _ _ ∙ ap₂ (λ x y. x && y) (same_number a tenant) (same_text n name)
 
 own_tenant : (a tenant : ℕ) → (is_true (binary (Compare Eq Binary) (Int (pos a)) (Int (pos tenant))) && true) ≡ (a == tenant)
-own_tenant a tenant = alone _ ∙ same_tenant a tenant
+own_tenant a tenant = alone _ ∙ same_number a tenant
 
 -- a row of `account` passes exactly where it is that of this tenant
 pub passes_account : (tenant : ℕ) (more : Row) (row : Row) → IsAccountRow row → passes of_tenant (Int (pos tenant) ∷ more) row ≡ ((account_of row).tenant == tenant)

@@ -11,7 +11,8 @@ use Rattle.sqlite.specs.Effect.{Database}
 use Rattle.sqlite.specs.State.{State}
 use Rattle.tenant_store.specs.Holdings.{File, Account, Holdings, files_in, files_of, path_of, account_in, bytes_of, files_with, bytes_with, is_over, ChangesFiles, ChangesPath}
 use Rattle.mk_files.specs.Limits.{passes}
-use Rattle.tenant_store.specs.Tables.{IsKept, IsCounted, IsFormed, Stays, Makes, held_in, holdings_in, accounts_after, files_after, Suits}
+use Rattle.tenant_store.specs.Tables.{IsKept, IsCounted, IsFormed, Makes, held_in, holdings_in, accounts_after, files_after, Suits}
+use Rattle.table_facts.specs.States.{Stays}
 use Rattle.std.specs.Borrow.{Bor}
 use Rattle.tenant_store.specs.Accounts.{shown_account, IsAccountOf}
 use Rattle.tenant_store.specs.declared.reading.Account.{Account as Kept}
@@ -19,7 +20,7 @@ use Rattle.tenant_store.specs.declared.writing.Change.{Change}
 use Rattle.tenant_store.specs.declared.writing.Change.TheVariants.{Add, Replace, Remove}
 use Rattle.tenant_store.proofs.Worlds.{len-insert_with, bytes_of-insert, len-remove_there, bytes_of-remove, within_bytes, remove_absent}
 use Rattle.sqlite.specs.declared.error.Error.{Error}
-use Rattle.tenant_store.proofs.Finding.{tenant_is}
+use Rattle.table_facts.proofs.Tests.{number_is}
 use Rattle.tenant_store.proofs.Remapping.{account_own, account_other, add_own, add_other, replace_own, replace_other, remove_own, remove_other}
 
 pub still_held : (old new : State) → Stays old new → held_in new ≡ held_in old
@@ -44,7 +45,7 @@ module _ (old : Holdings) (files : List File) (account : Account) (m : FileMap) 
   still_counted fs bs counted = record {
     files = λ t. elim (cases_Bool (eqb t account.tenant)) [
       | inl is ↦
-          let same = tenant_is t account.tenant is in
+          let same = number_is t account.tenant is in
           subst (λ n. option_map_or (λ a. a.files) (account_in n (accounts_after account old.accounts)) 0 ≡ finite.len (files_in n files)) (sym same)
           (ap (λ o. option_map_or (λ a. a.files) o 0) (account_own account old.accounts) ∙ fs ∙ ap finite.len (sym own))
       | inr other ↦
@@ -53,7 +54,7 @@ module _ (old : Holdings) (files : List File) (account : Account) (m : FileMap) 
     ];
     bytes = λ t. elim (cases_Bool (eqb t account.tenant)) [
       | inl is ↦
-          let same = tenant_is t account.tenant is in
+          let same = number_is t account.tenant is in
           subst (λ n. option_map_or (λ a. a.bytes) (account_in n (accounts_after account old.accounts)) 0 ≡ bytes_of (files_in n files)) (sym same)
           (ap (λ o. option_map_or (λ a. a.bytes) o 0) (account_own account old.accounts) ∙ bs ∙ ap bytes_of (sym own))
       | inr other ↦
@@ -71,7 +72,7 @@ other_path old files account other apart = ap (λ o. unwrap_or (option_map (λ a
 -- an account that keeps its tenant's path leaves every path
 pub same_paths : (old : Holdings) (files : List File) (account : Account) → account.trees ≡ path_of account.tenant old → (t : ℕ) → path_of t (changed old files account) ≡ path_of t old
 same_paths old files account keeps t = elim (cases_Bool (eqb t account.tenant)) [
-  | inl is ↦ subst (λ n. path_of n (changed old files account) ≡ path_of n old) (sym (tenant_is t account.tenant is)) (own_path old files account ∙ keeps)
+  | inl is ↦ subst (λ n. path_of n (changed old files account) ≡ path_of n old) (sym (number_is t account.tenant is)) (own_path old files account ∙ keeps)
   | inr other ↦ other_path old files account t (differs t account.tenant other)
 ]
 

@@ -1,8 +1,6 @@
 pub mod Answering
 pub mod Finding
 pub mod Fixed
-pub mod Rows
-pub mod Statements
 pub mod Making
 pub mod Creating
 pub mod Worlds

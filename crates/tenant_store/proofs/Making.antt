@@ -1,5 +1,5 @@
 -- What the writes of the store make of its rows, and of what they stand for.
-use Rattle.std.proofs.Common.{◌≡◌, inl, inr, ℕ, ℤ, pos, Result, Ok, Err, OnOk, OnErr, IfOk, IfErr, IsTrue, drop, arith, Bool, true, false, cond, not, eqb, List, [], ◌∷◌, ◌++◌, map, filter, None, is_eq, refl, sym, ap, ap₂, subst, ◌∙◌, true≢false}
+use Rattle.std.proofs.Common.{◌≡◌, ℕ, ℤ, pos, Result, Ok, Err, OnOk, IsTrue, drop, arith, Bool, true, false, cond, not, eqb, List, [], ◌∷◌, ◌++◌, map, filter, None, is_eq, refl, sym, ap, subst, ◌∙◌}
 use Rattle.std.specs.Prelude.{◌==◌, if◌then◌else◌}
 use Rattle.std.specs.FinMap as finite
 use Rattle.std.specs.Ordering.{nat_cmp}
@@ -8,116 +8,29 @@ use Rattle.std.proofs.lemmas.Bool.{and_parts, and_from}
 use Rattle.std.proofs.lemmas.Bool.Decides.{nat_tests}
 use Rattle.std.proofs.lemmas.Cmp.{tied_itself}
 use Rattle.mk_paths.specs.SearchPath.{trees_of}
-use Rattle.sqlite_value.specs.declared.value.Value.{Value}
 use Rattle.sqlite_value.specs.declared.value.Value.TheVariants.{Null, Int, Text, Blob}
 use Rattle.sqlite_value.specs.Order.{Row, column}
-use Rattle.sqlite_sql.specs.Ops.{unary}
 use Rattle.sqlite_sql.specs.Term.{lit, col}
 use Rattle.sqlite_schema.specs.declared.schema.Table.{Table}
 use Rattle.sqlite.specs.declared.error.Error.{Error}
 use Rattle.sqlite.specs.Effect.{Database}
-use Rattle.sqlite.specs.State.{State, Executes, ExecutesInside, IsRolledBack, Shows, KeepsCounts}
-use Rattle.sqlite.specs.Steps.{FailsToCommit}
+use Rattle.sqlite.specs.State.{State, Executes, Shows, KeepsCounts}
 use Rattle.sqlite_trees.specs.Tree.{rowid}
 use Rattle.sqlite_schema.specs.declared.schema.Kind.TheVariants as kind
 use Rattle.sqlite_trees.specs.View.{IsShaped}
 use Rattle.sqlite_trees.specs.declared.store.Shape.TheVariants as Shapes
-use Rattle.sqlite_trees.proofs.TreeLemmas.{IsShaped-filter, IsShaped-put_row}
 use Rattle.sqlite_rules.specs.Lists.{Has}
 use Rattle.sqlite_rules.specs.Cast.{cast, cast_row}
 use Rattle.sqlite_rules.specs.Edit.{next_rowid}
-use Rattle.sqlite_rules.proofs.ListLemmas.{has_filtered, has_either}
-use Rattle.sqlite_rules.proofs.ProbeLemmas.{has_mapped}
 use Rattle.tenant_store.specs.Holdings.{File, Holdings, files_in, account_in}
-use Rattle.tenant_store.specs.Tables.{AreFilled, IsFileRow, IsAccountRow, file_of, account_of, file_key, account_key, is_file, file, file_table, account_table, store_schema, insert_file, update_file, delete_file, insert_account, delete_account, IsFormed, IsSettled, Stays, Makes, holdings_in, held_in}
-use Rattle.tenant_store.proofs.Rows.{put_row-next, mapped_rise}
-use Rattle.tenant_store.proofs.Statements.{Changes, passes, deletes, updates, inserts}
-use Rattle.tenant_store.proofs.Finding.{name_is, tenant_is}
+use Rattle.table_facts.specs.Filled.{AreFilled}
+use Rattle.tenant_store.specs.Tables.{IsFileRow, IsAccountRow, file_of, account_of, file_key, account_key, is_file, file, file_table, account_table, store_schema, insert_file, update_file, delete_file, insert_account, delete_account, IsFormed, Makes, holdings_in, held_in}
+use Rattle.table_facts.proofs.Rows.{mapped_rise}
+use Rattle.table_facts.proofs.Statements.{Changes, passes, deletes, updates, inserts}
+use Rattle.table_facts.proofs.Tests.{text_is, number_is}
 use Rattle.tenant_store.proofs.Fixed.{of_file, of_tenant, passes_file, passes_account, insert_file_text, update_file_text, delete_file_text, insert_account_text, delete_account_text}
 use Rattle.tenant_store.proofs.Answering.{get_file, get_account}
-
--- ---- values are stored as they are given
-
-either : (b : Bool) (x : Value) → cond b x x ≡ x
-either true x = refl
-either false x = refl
-
-cast_null : cast kind.Integer Null ≡ Null
-unfolding unary
-cast_null = either _ Null
-
-cast_number : (n : ℕ) → cast kind.Integer (Int (pos n)) ≡ Int (pos n)
-unfolding unary
-cast_number n = either _ (Int (pos n))
-
--- ---- rows of either table
-
-module _ {K : Type 0} {Form : Row → Type 0} {key : Row → K} where
-  -- some rows are left
-  pub filled-filter : (p : Row → Bool) (rows : List Row) → AreFilled Form key rows → AreFilled Form key (filter p rows)
-  filled-filter p rows h = record {
-    rise = IsShaped-filter Shapes.Table p rows h.rise;
-    formed = λ r k. h.formed r (has_filtered p rows r k).0;
-    once = λ r s k l. h.once r s (has_filtered p rows r k).0 (has_filtered p rows s l).0;
-  }
-
-  -- a row is added whose key no other has
-  pub filled-push : (rows : List Row) (new : Row) → IsShaped Shapes.Table (rows ++ new ∷ []) → Form new → ((r : Row) → Has rows r → key r ≡ key new → ⊥) → AreFilled Form key rows → AreFilled Form key (rows ++ new ∷ [])
-  filled-push rows new rise form free h = record {
-    rise = rise;
-    formed = λ r k. elim (has_either rows (new ∷ []) r k) [
-      | inl old ↦ h.formed r old
-      | inr (inl same) ↦ subst Form (sym same) form
-      | inr (inr none) ↦ absurd none
-    ];
-    once = λ r s k l same. elim (has_either rows (new ∷ []) r k) [
-      | inl old ↦ elim (has_either rows (new ∷ []) s l) [
-        | inl too ↦ h.once r s old too same
-        | inr (inl is) ↦ absurd (free r old (same ∙ ap key is))
-        | inr (inr none) ↦ absurd none
-      ]
-      | inr (inl is) ↦ elim (has_either rows (new ∷ []) s l) [
-        | inl too ↦ absurd (free s too (sym same ∙ ap key is))
-        | inr (inl also) ↦ is ∙ sym also
-        | inr (inr none) ↦ absurd none
-      ]
-      | inr (inr none) ↦ absurd none
-    ];
-  }
-
-  -- some rows are replaced, and keep their keys
-  pub filled-map : (f : Row → Row) (rows : List Row) → IsShaped Shapes.Table (map f rows) → ((r : Row) → Has rows r → Form (f r)) → ((r : Row) → Has rows r → key (f r) ≡ key r) → AreFilled Form key rows → AreFilled Form key (map f rows)
-  filled-map f rows rise form keys h = record {
-    rise = rise;
-    formed = λ r k. let s = has_mapped f rows r k in subst Form (sym s.2) (form s.0 s.1);
-    once = λ r s k l same.
-        let a = has_mapped f rows r k in
-        let b = has_mapped f rows s l in
-        let one = h.once a.0 b.0 a.1 b.1 (sym (keys a.0 a.1) ∙ sym (ap key a.2) ∙ same ∙ ap key b.2 ∙ keys b.0 b.1) in
-        a.2 ∙ ap f one ∙ sym b.2;
-  }
-
--- what is read off the rows that are left, of those with the same answer
-pub map-filter : {X : Type 0} (f : Row → X) (p : Row → Bool) (q : X → Bool) (rows : List Row) → ((r : Row) → Has rows r → p r ≡ q (f r)) → map f (filter p rows) ≡ filter q (map f rows)
-map-filter f p q [] same = refl
-map-filter f p q (r ∷ rows) same =
-    ap (λ b. map f (cond b (r ∷ filter p rows) (filter p rows))) (same r (inl refl))
-    ∙ elim (q (f r)) as (λ b. map f (cond b (r ∷ filter p rows) (filter p rows)) ≡ cond b (f r ∷ filter q (map f rows)) (filter q (map f rows))) [
-      | true ↦ ap (λ more. f r ∷ more) (map-filter f p q rows (λ s h. same s (inr h)))
-      | false ↦ map-filter f p q rows (λ s h. same s (inr h))
-    ]
-
-pub map-map_on : {X : Type 0} (f : Row → X) (g : Row → Row) (h : X → X) (rows : List Row) → ((r : Row) → Has rows r → f (g r) ≡ h (f r)) → map f (map g rows) ≡ map h (map f rows)
-map-map_on f g h [] same = refl
-map-map_on f g h (r ∷ rows) same = ap₂ (λ x more. x ∷ more) (same r (inl refl)) (map-map_on f g h rows (λ s k. same s (inr k)))
-
-pub map-push : {X : Type 0} (f : Row → X) (rows : List Row) (r : Row) → map f (rows ++ r ∷ []) ≡ map f rows ++ f r ∷ []
-map-push f [] r = refl
-map-push f (s ∷ rows) r = ap (λ more. f s ∷ more) (map-push f rows r)
-
-cast_integer : (n : ℤ) → cast kind.Integer (Int n) ≡ Int n
-unfolding unary
-cast_integer n = either _ (Int n)
+use Rattle.table_facts.proofs.Making.{cast_null, cast_integer, filled-filter, filled-push, filled-map, map-filter, map-map_on, map-push, pushed_rise}
 
 -- ---- one table is changed
 
@@ -144,10 +57,6 @@ accounts_change old new rows formed h filled =
       },
       λ i. record { files = map file_of (files i); accounts = map account_of (h.rows_are i) },
     )
-
-pushed_rise : (rows : List Row) (cells : Row) → IsShaped Shapes.Table rows → IsShaped Shapes.Table (rows ++ (Int (next_rowid rows) ∷ cells) ∷ [])
-pushed_rise rows cells h =
-    subst (IsShaped Shapes.Table) (put_row-next (Int (next_rowid rows) ∷ cells) rows h refl) (IsShaped-put_row (Int (next_rowid rows) ∷ cells) rows refl h)
 
 -- the account table as the schema has it
 abbrev accounts_table : Table
@@ -221,8 +130,8 @@ module _ (tenant : ℕ) (name : List ℕ) (old new : State) (formed : IsFormed o
           → file_of (cond b (rowid r ∷ Int (pos (file_of r).tenant) ∷ Text (file_of r).name ∷ Blob content ∷ []) r) ≡ cond b (file tenant name content) (file_of r)
       put_there g r same true is =
           let parts = and_parts _ _ is in
-          let t = tenant_is (file_of r).tenant tenant parts.0 in
-          let n = sym (name_is name (file_of r).name parts.1) in
+          let t = number_is (file_of r).tenant tenant parts.0 in
+          let n = sym (text_is name (file_of r).name parts.1) in
           λ i. record { tenant = t i; name = n i; content = content }
       put_there g r same false is = refl
 
@@ -267,22 +176,6 @@ module _ (tenant : ℕ) (old new : State) (formed : IsFormed old.now) where
 
 -- ---- in a transaction
 
-pub inside_commit : (sql : List ℕ) (params : Row) (old new : State) (result : Result ℕ Error) → IsTrue new.is_open → ExecutesInside 0 sql params old new result → new.committed ≡ old.committed
-inside_commit sql params old new (Ok count) live h = h.1.committed_is
-inside_commit sql params old new (Err e) live (inl (ran, inl same)) = same.0.committed_is
-inside_commit sql params old new (Err e) live (inl (ran, inr back)) = (back.undone live).1
-inside_commit sql params old new (Err e) live (inr h) = h.2.0.committed_is
-
--- what a transaction wrote is gone
-pub rolled_back : (old mid new : State) → IsSettled old → mid.committed ≡ old.committed → IsTrue new.is_open → IsRolledBack mid new → Stays old new
-rolled_back old mid new at kept live back =
-    let undone = back.undone live in
-    record { now = undone.0 ∙ kept ∙ at.committed; committed = undone.1 ∙ kept; mode = back.autocommit ∙ sym at.autocommit }
-
-pub on_error : {A E : Type 0} {P : Type 0} (r : Result A E) → P → OnErr r P
-on_error (Ok a) p = tt
-on_error (Err e) p = p
-
 -- what a transaction wrote is committed
 pub commits : {A : Type 0} (r : Result A Error) (mid new : State) (held : Holdings) → IsFormed mid.now → held_in mid ≡ held
     → OnOk r (IsTrue mid.in_transaction × Shows mid new mid.now mid.now false × KeepsCounts mid new × (new.marks ≡ [])) → OnOk r (Makes new held)
@@ -294,21 +187,3 @@ commits (Ok a) mid new held formed is h =
       made = ap (λ (d : Database). holdings_in d.trees) shows.now_is ∙ is;
     }
 commits (Err e) mid new held formed is h = tt
-
-pub commit_fails : {A : Type 0} (r : Result A Error) (old mid new : State) → IsSettled old → mid.committed ≡ old.committed → mid.in_transaction ≡ true → IsTrue new.is_open
-    → IfErr r (FailsToCommit mid new) → OnErr r (Stays old new)
-commit_fails (Ok a) old mid new at kept inside live h = tt
-commit_fails (Err e) old mid new at kept inside live (inl fails) = rolled_back old mid new at kept live fails.3
-commit_fails (Err e) old mid new at kept inside live (inr late) = absurd (true≢false (sym inside ∙ late.1))
-
-pub ok_then : {A E : Type 0} {P Q : Type 0} (r : Result A E) → (P → Q) → OnOk r P → OnOk r Q
-ok_then (Ok a) f p = f p
-ok_then (Err e) f p = tt
-
-pub err_then : {A E : Type 0} {P Q : Type 0} (r : Result A E) → (P → Q) → OnErr r P → OnErr r Q
-err_then (Ok a) f p = tt
-err_then (Err e) f p = f p
-
-pub if_ok_then : {A E : Type 0} {P Q : A → Type 0} (r : Result A E) → ((a : A) → P a → Q a) → IfOk r P → IfOk r Q
-if_ok_then (Ok a) f p = f a p
-if_ok_then (Err e) f p = tt

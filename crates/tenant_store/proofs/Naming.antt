@@ -24,9 +24,11 @@ use Rattle.mk_paths.specs.World.{FileMap}
 use Rattle.text_parts.specs.Order.{in_order}
 use Rattle.text_parts.specs.Ordered.{by_bytes, among, among-in_order, in_order-sorted, same_in_order}
 use Rattle.tenant_store.specs.Holdings.{files_in, files_of}
-use Rattle.tenant_store.specs.Tables.{AreFilled, IsFileRow, file_of, file_key, is_file, name_in, held_in, store_schema, select_names, AreNames, IsFormed, IsSettled, Stays}
-use Rattle.tenant_store.proofs.Statements.{AreSeen, seen as columns, shows, shown_stays, query_fails_stays}
-use Rattle.tenant_store.proofs.Finding.{name_is}
+use Rattle.table_facts.specs.Filled.{AreFilled}
+use Rattle.tenant_store.specs.Tables.{IsFileRow, file_of, file_key, is_file, name_in, held_in, store_schema, select_names, AreNames, IsFormed}
+use Rattle.table_facts.specs.States.{IsSettled, Stays}
+use Rattle.table_facts.proofs.Statements.{AreSeen, seen as columns, shows, shown_stays, query_fails_stays}
+use Rattle.table_facts.proofs.Tests.{text_is}
 use Rattle.tenant_store.proofs.Answering.{get_file, get_no_file}
 use Rattle.tenant_store.proofs.Fixed.{of_tenant, passes_file_of, names_text}
 
@@ -39,7 +41,7 @@ same_itself q = ap is_eq (tied_itself nat_list_cmp_total q)
 among_has : (q : List ℕ) (rows : List Row) → among q (map name_in rows) ≡ true → (x : Row) × Has rows x × (q ≡ name_in x)
 among_has q [] e = absurd (true≢false (sym e))
 among_has q (x ∷ rows) e = elim (cases_Bool (is_eq (slice_cmp nat_cmp q (name_in x)))) [
-  | inl tie ↦ (x, inl refl, name_is q (name_in x) tie)
+  | inl tie ↦ (x, inl refl, text_is q (name_in x) tie)
   | inr apart ↦
       let more = among_has q rows (sym (ap (λ b. b || among q (map name_in rows)) apart) ∙ e) in
       (more.0, inr more.1, more.2)
@@ -77,7 +79,7 @@ module _ (tenant : ℕ) (rows given : List Row) (filled : AreFilled IsFileRow fi
     | inl ok ↦
         let parts = and_parts _ _ ok in
         let shown = seen.complete r h (passes_file_of tenant [] r (filled.formed r h) ∙ parts.0) in
-        absurd (true≢false (sym (has_among name given _ shown (name_is name (file_of r).name parts.1)) ∙ e))
+        absurd (true≢false (sym (has_among name given _ shown (text_is name (file_of r).name parts.1)) ∙ e))
     | inr fails ↦ fails
   ]))
 

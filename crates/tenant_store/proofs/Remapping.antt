@@ -10,7 +10,8 @@ use Rattle.std.proofs.lemmas.Cmp.{tied_itself}
 use Rattle.general_facts.specs.Maps.{same_map}
 use Rattle.tenant_store.specs.Holdings.{File, Account, files_in, account_in}
 use Rattle.tenant_store.specs.Tables.{is_file, file, accounts_after}
-use Rattle.tenant_store.proofs.Finding.{get-files_in, name_is, tenant_is, account_in-filter}
+use Rattle.tenant_store.proofs.Finding.{get-files_in, account_in-filter}
+use Rattle.table_facts.proofs.Tests.{text_is, number_is}
 
 abbrev content : Option File → Option (List ℕ)
 content = option_map (λ f. f.content)
@@ -53,7 +54,7 @@ add_own tenant name c files free = inserted tenant name c files (files ++ file t
     ∙ ap (λ b. content (elim (find (is_file tenant q) files) [ Some g ↦ Some g | None ↦ cond b (Some (file tenant name c)) None ])) (own_test tenant q name c)
     ∙ elim (cases_Bool (eq_by_cmp (slice_cmp nat_cmp) q name)) [
       | inl tie ↦
-          let none : found tenant q files ≡ None = subst (λ n. found tenant n files ≡ None) (sym (name_is q name tie)) (sym (get-files_in tenant name files) ∙ free) in
+          let none : found tenant q files ≡ None = subst (λ n. found tenant n files ≡ None) (sym (text_is q name tie)) (sym (get-files_in tenant name files) ∙ free) in
           at_tie _ (find (is_file tenant q) files) (finite.get (files_in tenant files) q) tie none
       | inr apart ↦ at_apart _ (find (is_file tenant q) files) apart ∙ ap (λ b. cond b (Some c) (found tenant q files)) (sym apart) ∙ ap (cond (eq_by_cmp (slice_cmp nat_cmp) q name) (Some c)) (sym (get-files_in tenant q files))
     ])
@@ -90,8 +91,8 @@ module _ (tenant : ℕ) (name c : List ℕ) where
       go false is = refl
       go true is =
           let parts = and_parts _ _ is in
-          let t = tenant_is f.tenant tenant parts.0 in
-          let n = name_is name f.name parts.1 in
+          let t = number_is f.tenant tenant parts.0 in
+          let n = text_is name f.name parts.1 in
           λ i. (sym t i == other) && is_eq (slice_cmp nat_cmp q (n i))
 
   put_each : (other : ℕ) (q : List ℕ) (files : List File) → find (is_file other q) (map put_in files) ≡ option_map put_in (find (is_file other q) files)
@@ -116,8 +117,8 @@ module _ (tenant : ℕ) (name c : List ℕ) where
       get-files_in tenant q (map put_in files) ∙ ap content (put_each tenant q files)
       ∙ elim (cases_Bool (eq_by_cmp (slice_cmp nat_cmp) q name)) [
         | inl tie ↦
-            let here : found tenant q files ≡ Some was = subst (λ n. found tenant n files ≡ Some was) (sym (name_is q name tie)) (sym (get-files_in tenant name files) ∙ there) in
-            own (find (is_file tenant q) files) (λ f e. subst (λ n. is_file tenant n f ≡ true) (name_is q name tie) (passes (is_file tenant q) files f e)) here ∙ ap (λ b. cond b (Some c) (finite.get (files_in tenant files) q)) (sym tie)
+            let here : found tenant q files ≡ Some was = subst (λ n. found tenant n files ≡ Some was) (sym (text_is q name tie)) (sym (get-files_in tenant name files) ∙ there) in
+            own (find (is_file tenant q) files) (λ f e. subst (λ n. is_file tenant n f ≡ true) (text_is q name tie) (passes (is_file tenant q) files f e)) here ∙ ap (λ b. cond b (Some c) (finite.get (files_in tenant files) q)) (sym tie)
         | inr apart ↦
             others (find (is_file tenant q) files) (λ f e. elsewhere q f apart (passes (is_file tenant q) files f e)) ∙ sym (get-files_in tenant q files) ∙ ap (λ b. cond b (Some c) (finite.get (files_in tenant files) q)) (sym apart)
       ])
@@ -133,7 +134,7 @@ module _ (tenant : ℕ) (name c : List ℕ) where
       elsewhere : (q : List ℕ) (f : File) → eq_by_cmp (slice_cmp nat_cmp) q name ≡ false → is_file tenant q f ≡ true → is_file tenant name f ≡ false
       elsewhere q f apart is = elim (cases_Bool (is_file tenant name f)) [
         | inl both ↦
-            let one = name_is q f.name (and_parts _ _ is).1 ∙ sym (name_is name f.name (and_parts _ _ both).1) in
+            let one = text_is q f.name (and_parts _ _ is).1 ∙ sym (text_is name f.name (and_parts _ _ both).1) in
             absurd (true≢false (sym (ap is_eq (subst (λ n. slice_cmp nat_cmp q n ≡ Equal) one (tied_itself nat_list_cmp_total q))) ∙ apart))
         | inr fails ↦ fails
       ]
@@ -145,7 +146,7 @@ module _ (tenant : ℕ) (name c : List ℕ) where
     where
       theirs : (f : File) → eqb f.tenant other ≡ true → is_file tenant name f ≡ false
       theirs f is = elim (cases_Bool (is_file tenant name f)) [
-        | inl both ↦ absurd (differ (sym (tenant_is f.tenant other is) ∙ tenant_is f.tenant tenant (and_parts _ _ both).0))
+        | inl both ↦ absurd (differ (sym (number_is f.tenant other is) ∙ number_is f.tenant tenant (and_parts _ _ both).0))
         | inr fails ↦ fails
       ]
 
@@ -183,14 +184,14 @@ module _ (tenant : ℕ) (name : List ℕ) where
   remove_own files = removed tenant name files (left files) (λ q.
       get-files_in tenant q (left files)
       ∙ elim (cases_Bool (eq_by_cmp (slice_cmp nat_cmp) q name)) [
-        | inl tie ↦ ap content (none-left (is_file tenant q) (λ f is. subst (λ n. is_file tenant n f ≡ true) (name_is q name tie) is) files) ∙ ap (λ b. cond b None (finite.get (files_in tenant files) q)) (sym tie)
+        | inl tie ↦ ap content (none-left (is_file tenant q) (λ f is. subst (λ n. is_file tenant n f ≡ true) (text_is q name tie) is) files) ∙ ap (λ b. cond b None (finite.get (files_in tenant files) q)) (sym tie)
         | inr apart ↦ ap content (find-left (is_file tenant q) (λ f is. elsewhere q f apart is) files) ∙ sym (get-files_in tenant q files) ∙ ap (λ b. cond b None (finite.get (files_in tenant files) q)) (sym apart)
       ])
     where
       elsewhere : (q : List ℕ) (f : File) → eq_by_cmp (slice_cmp nat_cmp) q name ≡ false → is_file tenant q f ≡ true → is_file tenant name f ≡ false
       elsewhere q f apart is = elim (cases_Bool (is_file tenant name f)) [
         | inl both ↦
-            let one = name_is q f.name (and_parts _ _ is).1 ∙ sym (name_is name f.name (and_parts _ _ both).1) in
+            let one = text_is q f.name (and_parts _ _ is).1 ∙ sym (text_is name f.name (and_parts _ _ both).1) in
             absurd (true≢false (sym (ap is_eq (subst (λ n. slice_cmp nat_cmp q n ≡ Equal) one (tied_itself nat_list_cmp_total q))) ∙ apart))
         | inr fails ↦ fails
       ]
@@ -202,7 +203,7 @@ module _ (tenant : ℕ) (name : List ℕ) where
     where
       theirs : (f : File) → eqb f.tenant other ≡ true → is_file tenant name f ≡ false
       theirs f is = elim (cases_Bool (is_file tenant name f)) [
-        | inl both ↦ absurd (differ (sym (tenant_is f.tenant other is) ∙ tenant_is f.tenant tenant (and_parts _ _ both).0))
+        | inl both ↦ absurd (differ (sym (number_is f.tenant other is) ∙ number_is f.tenant tenant (and_parts _ _ both).0))
         | inr fails ↦ fails
       ]
 
@@ -225,7 +226,7 @@ account_other other account [] differ = ap (λ b. cond b (Some account) None) (o
 account_other other account (a ∷ accounts) differ = elim (cases_Bool (eqb a.tenant account.tenant)) [
   | inl own ↦
       ap (λ b. account_in other (cond (not b) (a ∷ filter (λ a. not (a.tenant == account.tenant)) accounts) (filter (λ a. not (a.tenant == account.tenant)) accounts) ++ account ∷ [])) own ∙ account_other other account accounts differ
-      ∙ ap (λ b. cond b (Some a) (account_in other accounts)) (sym (other_tenant a.tenant other (λ e. differ (sym e ∙ tenant_is a.tenant account.tenant own))))
+      ∙ ap (λ b. cond b (Some a) (account_in other accounts)) (sym (other_tenant a.tenant other (λ e. differ (sym e ∙ number_is a.tenant account.tenant own))))
   | inr apart ↦
       ap (λ b. account_in other (cond (not b) (a ∷ filter (λ a. not (a.tenant == account.tenant)) accounts) (filter (λ a. not (a.tenant == account.tenant)) accounts) ++ account ∷ [])) apart
       ∙ ap (cond (a.tenant == other) (Some a)) (account_other other account accounts differ)

@@ -1,58 +1,32 @@
 -- The tables of the store, and what their rows mean.
-use Rattle.std.specs.Prelude.{◌≡◌, ℕ, ℤ, pos, ◌==◌, not, ◌&&◌, if◌then◌else◌, Bool, true, false, codes, List, [], ◌∷◌}
+use Rattle.std.specs.Prelude.{◌≡◌, ℕ, ℤ, pos, ◌==◌, not, ◌&&◌, if◌then◌else◌, Bool, true, codes, List, [], ◌∷◌}
 use Rattle.std.specs.Prelude.{◌++◌, map, filter, Option, None, Some}
 use Rattle.std.specs.Option.{option_map_or}
 use Rattle.std.specs.Ordering.{is_eq, nat_cmp}
 use Rattle.std.specs.Cmp.Lexicographic.{slice_cmp}
 use Rattle.std.specs.FinMap as finite
-use Rattle.sqlite_value.specs.declared.value.Value.{Value}
-use Rattle.sqlite_value.specs.declared.value.Value.TheVariants.{Null, Int, Text, Blob}
-use Rattle.sqlite_value.specs.declared.keys.Collation.TheVariants.{Binary}
+use Rattle.sqlite_value.specs.declared.value.Value.TheVariants.{Int, Text, Blob}
 use Rattle.sqlite_value.specs.Order.{Row, column}
 use Rattle.sqlite_value.specs.Keys.{plain}
 use Rattle.mk_paths.specs.SearchPath.{trees_of}
 use Rattle.mk_paths.specs.World.{FileMap}
 use Rattle.text_parts.specs.Ordered.{among}
 use Rattle.sqlite_trees.specs.Tree.{Trees}
-use Rattle.sqlite_trees.specs.View.{IsShaped}
-use Rattle.sqlite_trees.specs.declared.store.Shape.TheVariants as Shapes
 use Rattle.sqlite_rules.specs.Lists.{Has}
 use Rattle.sqlite.specs.Effect.{Database}
-use Rattle.sqlite.specs.Held.{Held, state}
+use Rattle.sqlite.specs.Held.{Held}
 use Rattle.sqlite.specs.State.{State}
-use Rattle.sqlite.specs.Steps.{over_memory}
 use Rattle.sqlite_trees.specs.declared.memory.MemStore.{MemStore}
+use Rattle.table_facts.specs.Tables.{filled, keyed, no_schema}
+use Rattle.table_facts.specs.Filled.{AreFilled, number_in, bytes_in}
+use Rattle.table_facts.specs.States.{IsSettled, state_of}
 use Rattle.tenant_store.specs.Holdings.{File, Account, Holdings, account_in, files_in, files_of, bytes_of}
 use Rattle.tenant_store.specs.declared.writing.Change.{Change}
 use Rattle.tenant_store.specs.declared.writing.Change.TheVariants.{Keep, Add, Replace, Remove}
 use Rattle.sqlite_schema.specs.declared.schema.Table.{Table}
-use Rattle.sqlite_schema.specs.declared.schema.Column.{Column}
 use Rattle.sqlite_schema.specs.declared.schema.Schema.{Schema}
-use Rattle.sqlite_schema.specs.declared.schema.Kind.{Kind}
 use Rattle.sqlite_schema.specs.declared.schema.Kind.TheVariants as kind
-use Rattle.sqlite_value.specs.declared.keys.Order.{Order}
 use Rattle.sqlite.specs.Change.{created}
-
--- a column that is never NULL, in a STRICT table
-abbrev pub filled : List ℕ → Kind → Column
-filled name kind = record { name = name; kind = kind; is_strict = true; not_null = true; default = Null; collation = Binary }
-
--- a table of these columns with one UNIQUE key
-abbrev pub keyed : List ℕ → List Column → List ℕ → Order → Table
-keyed name columns key order = record {
-  name = name;
-  tree = 0;
-  columns = columns;
-  key = None;
-  primary = [];
-  uniques = key ∷ [];
-  orders = order ∷ [];
-  checks = [];
-  references = [];
-  computed = [];
-  stamps = record { places = []; terms = []; formats = [] };
-  is_counted = false;
-}
 
 abbrev pub file_table : Table
 file_table =
@@ -65,9 +39,6 @@ account_table =
     keyed (codes "account")
     (filled (codes "tenant") kind.Integer ∷ filled (codes "files") kind.Integer
     ∷ filled (codes "bytes") kind.Integer ∷ filled (codes "path") kind.Text ∷ []) (1 ∷ []) plain
-
-abbrev pub no_schema : Schema
-no_schema = record { tables = []; indexes = []; views = [] }
 
 abbrev pub file_schema : Schema
 file_schema = created no_schema file_table
@@ -118,15 +89,6 @@ files_at = 0
 abbrev pub accounts_at : ℕ
 accounts_at = 2
 
-abbrev pub number_in : Value → ℕ
-number_in (Int (pos n)) = n
-number_in _ = 0
-
-abbrev pub bytes_in : Value → List ℕ
-bytes_in (Text t) = t
-bytes_in (Blob b) = b
-bytes_in _ = []
-
 -- a row of `file`: the columns after its rowid
 abbrev pub file_of : Row → File
 file_of row = record { tenant = number_in (column row 1); name = bytes_in (column row 2); content = bytes_in (column row 3) }
@@ -147,10 +109,6 @@ holdings_in trees = record { files = map file_of (trees files_at); accounts = ma
 -- what a database in this state holds
 abbrev pub held_in : State → Holdings
 held_in s = holdings_in s.now.trees
-
--- the state of a connection's database, which is in memory
-abbrev pub state_of : Held MemStore → State
-state_of connection = state over_memory connection
 
 -- what a connection's database holds
 abbrev pub holdings_of : Held MemStore → Holdings
@@ -181,12 +139,6 @@ IsAccount tenant row a =
     × (column row 2 ≡ Text path)
     × (a ≡ record { tenant = tenant; files = a.files; bytes = a.bytes; trees = trees_of path })
 
--- the rows of a table of the store: their rowids rise, each has its form, and no two have the same key
-pub record AreFilled {K : Type 0} (HasForm : Row → Type 0) (key : Row → K) (rows : List Row) : Type 0 where
-  pub rise : IsShaped Shapes.Table rows
-  pub formed : (r : Row) → Has rows r → HasForm r
-  pub once : (r s : Row) → Has rows r → Has rows s → key r ≡ key s → r ≡ s
-
 abbrev pub IsFileRow : Row → Type 0
 IsFileRow row = (id : ℤ) × (row ≡ Int id ∷ Int (pos (file_of row).tenant) ∷ Text (file_of row).name ∷ Blob (file_of row).content ∷ [])
 
@@ -209,11 +161,6 @@ pub record IsFormed (db : Database) : Type 0 where
   pub files : AreFilled IsFileRow file_key (db.trees files_at)
   pub accounts : AreFilled IsAccountRow account_key (db.trees accounts_at)
 
--- outside a transaction, with all committed
-pub record IsSettled (s : State) : Type 0 where
-  pub autocommit : s.in_transaction ≡ false
-  pub committed : s.committed ≡ s.now
-
 -- each account counts its tenant's files, and a tenant with no account has no file
 pub record IsCounted (held : Holdings) : Type 0 where
   pub files : (tenant : ℕ) → option_map_or (λ a. a.files) (account_in tenant held.accounts) 0 ≡ finite.len (files_of tenant held)
@@ -224,12 +171,6 @@ pub record IsKept (s : State) : Type 0 where
   pub settled : IsSettled s
   pub formed : IsFormed s.now
   pub counted : IsCounted (held_in s)
-
--- nothing has changed
-pub record Stays (old new : State) : Type 0 where
-  pub now : new.now ≡ old.now
-  pub committed : new.committed ≡ old.committed
-  pub mode : new.in_transaction ≡ old.in_transaction
 
 -- ---- what a change makes of the files and the accounts
 
@@ -255,10 +196,6 @@ abbrev pub accounts_after : Account → List Account → List Account
 accounts_after account accounts = filter (λ a. not (a.tenant == account.tenant)) accounts ++ account ∷ []
 
 -- ---- in a transaction
-
--- the last commit is as it was
-pub record KeepsCommit (old new : State) : Type 0 where
-  pub committed : new.committed ≡ old.committed
 
 -- the transaction goes on after the statement
 pub record GoesOn (old new : State) : Type 0 where

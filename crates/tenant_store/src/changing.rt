@@ -6,7 +6,8 @@ ghost use Rattle.mk_paths.specs.SearchPath.{trees_of, colon};
 ghost use Rattle.text_parts.specs.Laws.{after_marks};
 ghost use Rattle.tenant_store.specs.Holdings.{files_of, is_over, ChangesFiles, ChangesPath};
 ghost use Rattle.tenant_store.specs.Accounts.{IsAccountOf};
-ghost use Rattle.tenant_store.specs.Tables.{IsKept, Stays, state_of, holdings_of};
+ghost use Rattle.tenant_store.specs.Tables.{IsKept, holdings_of};
+ghost use Rattle.table_facts.specs.States.{Stays, state_of};
 
 use crate::reading::{Account, account_of, content_of};
 use crate::writing::{Change, write};

@@ -1,7 +1,9 @@
 // The database as it begins.
 ghost use Rattle.std.specs.Prelude.{◌≡◌, [], IfOk, OnOk, false};
 ghost use Rattle.tenant_store.specs.Holdings.{nothing};
-ghost use Rattle.tenant_store.specs.Tables.{IsKept, no_schema, file_schema, state_of, holdings_of};
+ghost use Rattle.tenant_store.specs.Tables.{IsKept, file_schema, holdings_of};
+ghost use Rattle.table_facts.specs.Tables.{no_schema};
+ghost use Rattle.table_facts.specs.States.{state_of};
 
 use sqlite::{Connection, Error, MemStore};
 use std::alloc::Global;

@@ -2,8 +2,8 @@
 ghost use Rattle.std.specs.Prelude.{◌≡◌, ◌+◌, ◌≤◌, ℕ, IfOk, map, option_map, string_bytes};
 ghost use Rattle.std.specs.FinMap.{get, keys};
 ghost use Rattle.tenant_store.specs.Holdings.{files_of, account_in};
-ghost use Rattle.tenant_store.specs.Tables.{IsFormed, IsSettled, Stays, Shows, IsContent, IsAccount};
-ghost use Rattle.tenant_store.specs.Tables.{AreNames, name_in, state_of, holdings_of};
+ghost use Rattle.table_facts.specs.States.{IsSettled, Stays, state_of};
+ghost use Rattle.tenant_store.specs.Tables.{IsFormed, Shows, IsContent, IsAccount, AreNames, name_in, holdings_of};
 ghost use Rattle.tenant_store.specs.Accounts.{shown_account};
 
 use sqlite::{Connection, Error, MemStore, Row, params};

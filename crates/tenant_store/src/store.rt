@@ -3,7 +3,8 @@ ghost use Rattle.std.specs.Prelude.{◌≡◌, false, map, string_bytes, IfOk, I
 ghost use Rattle.std.specs.FinMap.{get, insert, keys, remove, contains_key};
 ghost use Rattle.mk_paths.specs.SearchPath.{trees_of};
 ghost use Rattle.tenant_store.specs.Holdings.{nothing, files_of, path_of, is_over, ChangesFiles, ChangesPath};
-ghost use Rattle.tenant_store.specs.Tables.{IsKept, Stays, state_of, holdings_of};
+ghost use Rattle.tenant_store.specs.Tables.{IsKept, holdings_of};
+ghost use Rattle.table_facts.specs.States.{Stays, state_of};
 
 use crate::changing::{put, set, take};
 use crate::faults::{PutFault, fault_of};

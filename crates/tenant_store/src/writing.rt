@@ -5,10 +5,9 @@ ghost use Rattle.sqlite.specs.State.{ExecutesInside};
 ghost use Rattle.sqlite.specs.Values.{bound};
 ghost use Rattle.tenant_store.specs.Holdings.{files_in, account_in};
 ghost use Rattle.tenant_store.specs.Accounts.{shown_account};
-ghost use Rattle.tenant_store.specs.Tables.{IsFormed, IsSettled, Stays, Suits, file, is_file};
-ghost use Rattle.tenant_store.specs.Tables.{files_after, accounts_after, KeepsCommit, MakesFiles};
-ghost use Rattle.tenant_store.specs.Tables.{MakesAccounts, Makes, state_of, holdings_of};
-ghost use Rattle.tenant_store.specs.Tables.{accounts_after, KeepsCommit, MakesFiles, MakesAccounts, Makes};
+ghost use Rattle.table_facts.specs.States.{IsSettled, Stays, KeepsCommit, state_of};
+ghost use Rattle.tenant_store.specs.Tables.{IsFormed, Suits, file, is_file, files_after, accounts_after};
+ghost use Rattle.tenant_store.specs.Tables.{MakesFiles, MakesAccounts, Makes, holdings_of};
 
 use crate::reading::Account;
 use sqlite::types::ValueRef;

@@ -3,7 +3,7 @@ use Rattle.std.proofs.Common.{◌≡◌, ◌∙◌, ap, subst, sym, ◌++◌, ma
 use Rattle.std.proofs.lemmas.Grind.{common_steps}
 use Rattle.text_parts.specs.Laws.{after_marks}
 use Rattle.mk_paths.specs.SearchPath.{colon, IsSearchPath}
-use Rattle.tenant_store.proofs.Making.{if_ok_then}
+use Rattle.table_facts.proofs.Ending.{if_ok_then}
 use Rattle.tenant_store.proofs.Paths.{text_trees}
 use Rattle.tenant_store.proofs.changing.path_text.Goals as goal
 

@@ -9,7 +9,7 @@ use Rattle.mk_files.specs.Limits.{passes}
 use Rattle.tenant_store.specs.Accounts.{IsAccountOf, shown_account}
 use Rattle.tenant_store.specs.declared.reading.Account.{Account as Kept}
 use Rattle.tenant_store.specs.Tables.{IsKept, Suits, Makes, held_in, files_after}
-use Rattle.tenant_store.proofs.Making.{on_error}
+use Rattle.table_facts.proofs.Ending.{on_error}
 use Rattle.tenant_store.proofs.Keeping.{changed, still_kept, still_held, stays_then, put_suits, put_makes, would_be}
 use Rattle.tenant_store.proofs.Worlds.{within_bytes}
 use Rattle.tenant_store.proofs.changing.put.Goals as goal

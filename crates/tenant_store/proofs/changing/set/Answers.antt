@@ -6,7 +6,7 @@ use Rattle.tenant_store.specs.Holdings.{Holdings, ChangesPath}
 use Rattle.tenant_store.specs.Accounts.{IsAccountOf}
 use Rattle.tenant_store.specs.declared.reading.Account.{Account as Kept}
 use Rattle.tenant_store.specs.Tables.{IsKept, held_in}
-use Rattle.tenant_store.proofs.Making.{on_error, ok_then, err_then}
+use Rattle.table_facts.proofs.Ending.{on_error, ok_then, err_then}
 use Rattle.tenant_store.proofs.Keeping.{still_kept, still_held, stays_then, path_makes}
 use Rattle.tenant_store.proofs.changing.set.Goals as goal
 

@@ -8,7 +8,7 @@ use Rattle.sqlite.specs.Steps.{over_memory}
 use Rattle.tenant_store.specs.Holdings.{Holdings, ChangesFiles, files_of}
 use Rattle.tenant_store.specs.Accounts.{IsAccountOf}
 use Rattle.tenant_store.specs.Tables.{IsKept, held_in}
-use Rattle.tenant_store.proofs.Making.{on_error}
+use Rattle.table_facts.proofs.Ending.{on_error}
 use Rattle.tenant_store.proofs.Keeping.{still_kept, still_held, stays_then, take_makes, has_one, has_bytes}
 use Rattle.tenant_store.proofs.changing.take.Goals as goal
 

@@ -1,5 +1,5 @@
 -- What the statement makes.
-use Rattle.tenant_store.specs.Tables.{state_of}
+use Rattle.table_facts.specs.States.{state_of}
 use Rattle.tenant_store.proofs.Making.{deletes_account}
 use Rattle.tenant_store.proofs.writing.delete_account.Goals as goal
 

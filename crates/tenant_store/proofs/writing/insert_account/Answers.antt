@@ -1,6 +1,6 @@
 -- What the statement makes.
 use Rattle.std.proofs.Common.{string_bytes}
-use Rattle.tenant_store.specs.Tables.{state_of}
+use Rattle.table_facts.specs.States.{state_of}
 use Rattle.tenant_store.proofs.Making.{inserts_account}
 use Rattle.tenant_store.proofs.writing.insert_account.Goals as goal
 

@@ -1,5 +1,5 @@
 -- What the statement makes.
-use Rattle.tenant_store.specs.Tables.{state_of}
+use Rattle.table_facts.specs.States.{state_of}
 use Rattle.tenant_store.proofs.Making.{inserts_file}
 use Rattle.tenant_store.proofs.writing.insert_file.Goals as goal
 

@@ -1,8 +1,8 @@
 -- What a statement does in a transaction over memory.
 use Rattle.std.proofs.Common.{refl}
 use Rattle.sqlite.proofs.Callers.{memory_is_clean}
-use Rattle.tenant_store.specs.Tables.{state_of}
-use Rattle.tenant_store.proofs.Making.{inside_commit}
+use Rattle.table_facts.specs.States.{state_of}
+use Rattle.table_facts.proofs.Ending.{inside_commit}
 use Rattle.tenant_store.proofs.writing.run.Goals as goal
 
 pub returns : goal.returns

@@ -6,8 +6,10 @@ use Rattle.sqlite.specs.Steps.{over_memory}
 use Rattle.sqlite.proofs.Callers.{memory_is_clean}
 use Rattle.tenant_store.specs.Holdings.{Holdings}
 use Rattle.tenant_store.specs.Accounts.{shown_account}
-use Rattle.tenant_store.specs.Tables.{Stays, Makes, held_in, files_after, accounts_after}
-use Rattle.tenant_store.proofs.Making.{rolled_back, on_error, commits, commit_fails}
+use Rattle.table_facts.specs.States.{Stays}
+use Rattle.tenant_store.specs.Tables.{Makes, held_in, files_after, accounts_after}
+use Rattle.table_facts.proofs.Ending.{rolled_back, on_error, commit_fails}
+use Rattle.tenant_store.proofs.Making.{commits}
 use Rattle.tenant_store.proofs.writing.write.Goals as goal
 
 pub returns-in_err-change_files-clause-err : goal.returns-in_err-change_files-clause-err

@@ -1,8 +1,10 @@
 -- What statements on one table do, whatever the schema and the tests are.
-use Rattle.std.proofs.Common.{◌≡◌, ◌≢◌, ◌⊎◌, inl, inr, ℕ, ◌/◌, negsuc, pos, Bool, true, false, cond, not, List, [], ◌∷◌, ◌++◌, length, map, drop, filter, fold, flat_map, is_lt, slice_get, Option, None, Some, Result, Ok, Err, IsTrue, refl, sym, ap, subst, ◌∙◌}
+use Rattle.std.proofs.Common.{◌≡◌, ◌≢◌, ◌⊎◌, inl, inr, ℕ, ◌/◌, negsuc, pos, Bool, true, false, cond, not, List, [], ◌∷◌, ◌++◌, length, map, drop, filter, fold, flat_map, is_lt, slice_get, Option, None, Some, Result, Ok, Err, IsTrue, refl, sym, ap, subst, ◌∙◌, arith}
+use Rattle.std.proofs.lemmas.List.{length-map}
 use Rattle.std.specs.List.{AllByRecursion, list_all}
 use Rattle.std.specs.Ordering.{int_cmp}
-use Rattle.std.specs.Prelude.{IsPermutation, if◌then◌else◌, MatchBool}
+use Rattle.std.specs.Prelude.{IsPermutation, if◌then◌else◌, MatchBool, unwrap_or}
+use Rattle.std.proofs.lemmas.Bool.{cases_Bool}
 use Rattle.std.proofs.lemmas.List.Sorted.{IsPermutation-sym}
 use Rattle.general_facts.specs.Options.{same_Ok}
 use Rattle.sqlite_trees.proofs.ListLemmas.{all-permutation}
@@ -35,9 +37,9 @@ use Rattle.sqlite.specs.Rows.{Written, Task, stamped, rowids_for, count_of, high
 use Rattle.sqlite.specs.Listing.{understood, reads_listing}
 use Rattle.sqlite.specs.Clock.{timed}
 use Rattle.sqlite.specs.State.{State, mode_of, Executes, Shown, ShowsRows, FailsToQuery, FailsToShow, IsNotRun, IsUnchanged, IsRolledBack}
-use Rattle.tenant_store.specs.Tables.{IsSettled, Stays}
+use Rattle.table_facts.specs.States.{IsSettled, Stays}
 use Rattle.sqlite.proofs.Callers.{IsPlain, command_of, statement_of, runs_as, reads_as, one_step}
-use Rattle.tenant_store.proofs.Rows.{AreRows, AreIdsOf, without_picked, replaced, put_row-next}
+use Rattle.table_facts.proofs.Rows.{AreRows, AreIdsOf, without_picked, replaced, put_row-next}
 
 -- the query over the rows of one table
 abbrev pub over_table : ℕ → List Term → List Term → List (Term × Key) → Query
@@ -158,6 +160,21 @@ pub record Changes (schema : Schema) (old new : Database) (tree : ℕ) (rows : L
   pub rows_are : new.trees tree ≡ rows
   pub others : AllByRecursion (λ t. t.tree ≢ tree → new.trees t.tree ≡ old.trees t.tree) schema.tables
 
+-- a count of the rows that pass says whether there is one
+pub record CountsPassed (p : Row → Bool) (rows : List Row) (count : ℕ) : Type 0 where
+  pub none : count ≡ 0 → (r : Row) → Has rows r → p r ≡ false
+  pub some : count ≢ 0 → (r : Row) × Has rows r × (p r ≡ true)
+
+seen_counted : (tests shown : List Term) (params : Row) (rows given : List Row) (count : ℕ) → AreSeen tests shown params rows given → count ≡ length given → CountsPassed (passes tests params) rows count
+seen_counted tests shown params rows [] count found is = record {
+  none = λ _ r h. elim (cases_Bool (passes tests params r)) [ inl ok ↦ absurd (found.complete r h ok) | inr fails ↦ fails ];
+  some = λ there. absurd (there is);
+}
+seen_counted tests shown params rows (x ∷ given) count found is = record {
+  none = λ zero. absurd (omega arith);
+  some = λ _. let r = found.sound x (inl refl) in (r.0, r.1, r.2);
+}
+
 -- a part that gave a value did not stop on the way
 pub went_on : {B E R : Type 0} {b : B} {Stops : E → Type 0} → ((stop : E) × Stops stop × (Ok b ≡ Err stop)) ⊎ R → R
 went_on (inl stopped) = absurd (let e = stopped.2 in cc)
@@ -178,7 +195,7 @@ module _ (sql : List ℕ) (params : Row) (old new : State) (schema : Schema) (at
 
   -- a command on the rows of the table makes the database of what it writes
   on_rows : (command : Command) (text : List ℕ) (tally : Tally) → ((out : Result (Tally × Database) (Option Error)) → Does old.step_limit (mode_of old) params (record old.now { schema = schema }) text None command out ≡ OnTable old.step_limit (mode_of old) params (record old.now { schema = schema }) at (λ task. OnRows task (mode_of old) None command old.now.trees) out)
-      → Does old.step_limit (mode_of old) params old.now text None command (Ok (tally, new.now)) → (w : Written) × WritesRows task old.now.trees command (Ok w) × (new.now ≡ record { schema = schema; trees = w.trees })
+      → Does old.step_limit (mode_of old) params old.now text None command (Ok (tally, new.now)) → (w : Written) × WritesRows task old.now.trees command (Ok w) × (new.now ≡ record { schema = schema; trees = w.trees }) × (tally.rows ≡ Some (length w.rows))
   on_rows command text tally is did =
       let here = subst (λ s. Does old.step_limit (mode_of old) params (record old.now { schema = s }) text None command (Ok (tally, new.now))) has did in
       let placed = subst (λ P. P) (is (Ok (tally, new.now))) here in
@@ -186,7 +203,7 @@ module _ (sql : List ℕ) (params : Row) (old new : State) (schema : Schema) (at
       let done = went_on ran in
       let tested = went_on done.2 in
       let told = went_on tested.2 in
-      (done.0, done.1, ap (λ (p : Tally × Database). p.1) (same_Ok told.2))
+      (done.0, done.1, ap (λ (p : Tally × Database). p.1) (same_Ok told.2), ap (λ (p : Tally × Database). p.0.rows) (same_Ok told.2))
 
   -- the database after an edit of the table
   made : (edit : Edit) (next : Trees) (rows : List Row) → new.now ≡ record { schema = schema; trees = next } → edit.table ≡ table → Applies schema Enforced old.now.trees edit next → edited old.now.trees edit ≡ rows
@@ -217,12 +234,11 @@ module _ (sql : List ℕ) (params : Row) (old new : State) (schema : Schema) (at
       let left = without_picked (passes tests params) (db table.tree) (ids_of rows) are (ids_are tests (col 1 0 ∷ []) params (db table.tree) rows (λ _. refl) found) in
       made edit edited.0 (filter (λ r. not (passes tests params r)) (db table.tree)) (it.2 ∙ ap (λ trees. record { schema = schema; trees = trees }) trees) refl applies left
 
-  -- UPDATE replaces each row that passes, at its rowid
-  pub updates : (tests more : List Term) (f : Row → Row) → command_of (understood schema sql) ≡ Update at (program (over_table table.tree tests (col 1 0 ∷ more) [])) → overlay old.now.trees [] table.tree ≡ old.now.trees table.tree
+  updated : (tests more : List Term) (f : Row → Row) → command_of (understood schema sql) ≡ Update at (program (over_table table.tree tests (col 1 0 ∷ more) [])) → overlay old.now.trees [] table.tree ≡ old.now.trees table.tree
       → AreRows (old.now.trees table.tree) → ((r : Row) → Has (old.now.trees table.tree) r → cast_row table (drop 1 (seen (col 1 0 ∷ more) params r)) ≡ f r) → ((r : Row) → Has (old.now.trees table.tree) r → rowid (f r) ≡ rowid r)
       → (count : ℕ) → Executes sql params old new (Ok count)
-      → Changes schema old.now new.now table.tree (map (λ r. cond (passes tests params r) (f r) r) (old.now.trees table.tree))
-  updates tests more f command whole are new_is same_id count h =
+      → Changes schema old.now new.now table.tree (map (λ r. cond (passes tests params r) (f r) r) (old.now.trees table.tree)) × CountsPassed (passes tests params) (old.now.trees table.tree) count
+  updated tests more f command whole are new_is same_id count h =
       let shown = col 1 0 ∷ more in
       let q = program (over_table table.tree tests shown []) in
       let db = old.now.trees in
@@ -243,7 +259,24 @@ module _ (sql : List ℕ) (params : Row) (old new : State) (schema : Schema) (at
       let r = found.sound s.0 s.1 in
       (r.0, r.1, r.2, s.2 ∙ ap cast r.3 ∙ new_is r.0 r.1))
       (λ r h ok. subst (λ l. Has l (f r)) (sym news) (subst (Has (map cast rows)) (new_is r h) (mapped_has cast rows (seen shown params r) (found.complete r h ok)))) in
-      made edit edited.0 (map (λ r. cond (passes tests params r) (f r) r) (db table.tree)) (it.2 ∙ ap (λ trees. record { schema = schema; trees = trees }) trees) refl applies all
+      let counted : count ≡ length rows = w.counted ∙ ap (λ n. unwrap_or n 0) it.3 ∙ ap (λ (w : Written). length w.rows) (same_Ok edited.2) ∙ ap length news ∙ length-map rows cast in (
+        made edit edited.0 (map (λ r. cond (passes tests params r) (f r) r) (db table.tree)) (it.2 ∙ ap (λ trees. record { schema = schema; trees = trees }) trees) refl applies all,
+        seen_counted tests shown params (db table.tree) rows count found counted,
+      )
+
+  -- UPDATE replaces each row that passes, at its rowid
+  pub updates : (tests more : List Term) (f : Row → Row) → command_of (understood schema sql) ≡ Update at (program (over_table table.tree tests (col 1 0 ∷ more) [])) → overlay old.now.trees [] table.tree ≡ old.now.trees table.tree
+      → AreRows (old.now.trees table.tree) → ((r : Row) → Has (old.now.trees table.tree) r → cast_row table (drop 1 (seen (col 1 0 ∷ more) params r)) ≡ f r) → ((r : Row) → Has (old.now.trees table.tree) r → rowid (f r) ≡ rowid r)
+      → (count : ℕ) → Executes sql params old new (Ok count)
+      → Changes schema old.now new.now table.tree (map (λ r. cond (passes tests params r) (f r) r) (old.now.trees table.tree))
+  updates tests more f command whole are new_is same_id count h = (updated tests more f command whole are new_is same_id count h).0
+
+  -- and says whether a row passes
+  pub updates_count : (tests more : List Term) (f : Row → Row) → command_of (understood schema sql) ≡ Update at (program (over_table table.tree tests (col 1 0 ∷ more) [])) → overlay old.now.trees [] table.tree ≡ old.now.trees table.tree
+      → AreRows (old.now.trees table.tree) → ((r : Row) → Has (old.now.trees table.tree) r → cast_row table (drop 1 (seen (col 1 0 ∷ more) params r)) ≡ f r) → ((r : Row) → Has (old.now.trees table.tree) r → rowid (f r) ≡ rowid r)
+      → (count : ℕ) → Executes sql params old new (Ok count)
+      → CountsPassed (passes tests params) (old.now.trees table.tree) count
+  updates_count tests more f command whole are new_is same_id count h = (updated tests more f command whole are new_is same_id count h).1
 
   -- INSERT of one row adds it at the end
   pub inserts : (terms : List Term) (width : ℕ) (source : Row) → command_of (understood schema sql) ≡ Insert at (Values terms width) → table.is_counted ≡ false

@@ -1,0 +1,12 @@
+-- What the query shows.
+use Rattle.std.proofs.Common.{refl}
+use Rattle.sqlite.proofs.Callers.{memory_is_clean}
+use Rattle.table_facts.specs.States.{state_of}
+use Rattle.index_store.proofs.Answering.{rows_end}
+use Rattle.index_store.proofs.port_table.all_rows.Goals as goal
+
+pub returns : goal.returns
+returns c =
+    let new = c.query_all.new.self in
+    let both = rows_end (state_of c.args.conn.now) (state_of new) c.query_all.result c.requires refl (c.query_all.ensures.ok (memory_is_clean new)) (c.query_all.ensures.err (memory_is_clean new)) in
+    record { rows = both.0; stays = both.1 }

@@ -1,0 +1,77 @@
+-- What an index has stored for its paths, and how calls change it.
+use Rattle.std.specs.Prelude.{◌≡◌, ℕ, if◌then◌else◌, Bool, true, false, List, map, All}
+use Rattle.std.specs.Prelude.{Option, None, Some, is_some, option_map, string_bytes}
+use Rattle.std.specs.List.{list_any}
+use Rattle.std.specs.Str.{bytes_eq}
+use Rattle.index_store.specs.declared.path_rows.StoredRow.{StoredRow}
+
+-- what is stored for a path: whether its row is marked stale, and the row's bytes
+pub record StoredValue : Type 0 where
+  pub stale : Bool
+  pub text : List ℕ
+
+-- what is stored for each path; `None` where a path has no row
+abbrev pub Entries : Type 0
+Entries = List ℕ → Option StoredValue
+
+-- a row that is handed out, as clauses see it
+pub record SeenRow : Type 0 where
+  pub path : List ℕ
+  pub stale : Bool
+  pub text : List ℕ
+
+abbrev pub stored_seen : StoredRow → SeenRow
+stored_seen row = record { path = string_bytes row.path; stale = row.is_stale; text = row.text.items }
+
+-- the path of a row
+abbrev pub path_of : SeenRow → List ℕ
+path_of row = row.path
+
+-- what a row stores for its path
+abbrev pub value_in : SeenRow → StoredValue
+value_in row = record { stale = row.stale; text = row.text }
+
+-- a path is one of these
+abbrev pub is_one_of : List ℕ → List (List ℕ) → Bool
+is_one_of path paths = list_any (λ one. bytes_eq one path) paths
+
+-- these rows, in any order, are what is stored: each is right, and each path that has a row has one of them
+pub record AreRowsOf (entries : Entries) (rows : List SeenRow) : Type 0 where
+  pub each : All (λ row. entries row.path ≡ Some (value_in row)) rows
+  pub all : (path : List ℕ) → is_some (entries path) ≡ is_one_of path (map path_of rows)
+
+-- these paths, in any order, are those that have a row
+abbrev pub ArePathsOf : Entries → List (List ℕ) → Type 0
+ArePathsOf entries paths = (path : List ℕ) → is_one_of path paths ≡ is_some (entries path)
+
+-- no path has a row
+abbrev pub HasNoRow : Entries → Type 0
+HasNoRow entries = (path : List ℕ) → entries path ≡ None
+
+-- a row that isn't stale
+abbrev pub fresh : List ℕ → StoredValue
+fresh text = record { stale = false; text = text }
+
+-- a row once it is marked
+abbrev pub marked : StoredValue → StoredValue
+marked value = record { stale = true; text = value.text }
+
+-- all rows are as they were
+abbrev pub SameRows : Entries → Entries → Type 0
+SameRows old new = (path : List ℕ) → new path ≡ old path
+
+-- this path has this row now, which isn't stale, and each other path has what it had
+abbrev pub PutsRow : List ℕ → List ℕ → Entries → Entries → Type 0
+PutsRow path text old new = (other : List ℕ) → new other ≡ (if bytes_eq path other then Some (fresh text) else old other)
+
+-- the rows of these paths are marked stale, and the others are as they were
+abbrev pub Marks : List (List ℕ) → Entries → Entries → Type 0
+Marks paths old new = (path : List ℕ) → new path ≡ (if is_one_of path paths then option_map marked (old path) else old path)
+
+-- all rows are marked stale
+abbrev pub MarksAll : Entries → Entries → Type 0
+MarksAll old new = (path : List ℕ) → new path ≡ option_map marked (old path)
+
+-- these paths have no row, and each other path has what it had
+abbrev pub TakesOut : List (List ℕ) → Entries → Entries → Type 0
+TakesOut paths old new = (path : List ℕ) → new path ≡ (if is_one_of path paths then None else old path)
