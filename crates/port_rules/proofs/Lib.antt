@@ -1,3 +1,4 @@
 pub mod Exits
 pub mod Everywhere
 pub mod Doubles
+pub mod FlavorTests

@@ -16,6 +16,10 @@ pub record DependValue : Type 0 where
   pub subpackage : List ℕ
   pub item : List ℕ
 
+-- the dependency of this kind, package and text
+abbrev pub make_depend : DependKind → List ℕ → List ℕ → DependValue
+make_depend kind subpackage item = record { kind = kind; subpackage = subpackage; item = item }
+
 -- the word that names a kind
 abbrev pub word_of : DependKind → List ℕ
 word_of Build = codes "build"
@@ -25,7 +29,7 @@ word_of Test = codes "test"
 
 -- dependencies of one kind
 abbrev pub depends : DependKind → List ℕ → List (List ℕ) → List DependValue
-depends kind subpackage items = map (λ item. record { kind = kind; subpackage = subpackage; item = item }) items
+depends kind subpackage items = map (make_depend kind subpackage) items
 
 -- dependencies with those of a package after them
 unfoldable pub add_depends : Variables → List DependValue → List ℕ → Work Meter FaultKind (List DependValue)

@@ -18,6 +18,10 @@ pub record FlavorsValue : Type 0 where
   pub proper : List (List ℕ)
   pub pseudo : List (List ℕ)
 
+-- flavors of these three kinds
+abbrev pub make_flavors : List (List ℕ) → List (List ℕ) → List (List ℕ) → FlavorsValue
+make_flavors chosen proper pseudo = record { chosen = chosen; proper = proper; pseudo = pseudo }
+
 -- each chosen flavor is one that the port has
 abbrev pub has_chosen : FlavorsValue → Bool
 has_chosen flavors = list_all (λ flavor. is_among flavor flavors.proper || is_among flavor flavors.pseudo) flavors.chosen
@@ -30,7 +34,7 @@ unfoldable pub flavors_of : Variables → Work Meter FaultKind FlavorsValue
 flavors_of variables m =
     (lowercase_words variables (codes "FLAVOR") >>= λ chosen. lowercase_words variables (codes "FLAVORS")
     >>= λ proper. lowercase_words variables (codes "PSEUDO_FLAVORS")
-    >>= λ pseudo. known (record { chosen = chosen; proper = proper; pseudo = pseudo })) m
+    >>= λ pseudo. known (make_flavors chosen proper pseudo)) m
 
 -- the marks of flavors in a package's name: those of the port's proper flavors that are chosen, in the
 -- order of FLAVORS

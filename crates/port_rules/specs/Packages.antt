@@ -20,6 +20,10 @@ pub record PackageValue : Type 0 where
   pub name : NameParts
   pub comment : List ℕ
 
+-- the package of this name, full name and comment
+abbrev pub make_package : List ℕ → NameParts → List ℕ → PackageValue
+make_package subpackage name comment = record { subpackage = subpackage; name = name; comment = comment }
+
 -- some text is among these twice
 abbrev pub has_double : List (List ℕ) → Bool
 has_double [] = false
@@ -108,7 +112,7 @@ full_name variables marks subpackage m =
 unfoldable pub package_of : Variables → List (List ℕ) → List ℕ → Work Meter FaultKind PackageValue
 package_of variables marks subpackage m =
     (full_name variables marks subpackage >>= λ name. package_text variables (codes "COMMENT") subpackage
-    >>= λ comment. give (record { subpackage = subpackage; name = name; comment = comment })) m
+    >>= λ comment. give (make_package subpackage name comment)) m
 
 -- packages with one more
 abbrev pub add_package : Variables → List (List ℕ) → List PackageValue → List ℕ → Work Meter FaultKind (List PackageValue)

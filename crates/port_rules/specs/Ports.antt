@@ -19,6 +19,11 @@ pub record PortValue : Type 0 where
   pub packages : List PackageValue
   pub depends : List DependValue
 
+-- the port of these parts
+abbrev pub make_port : FlavorsValue → List ℕ → List (List ℕ) → List PackageValue → List DependValue → PortValue
+make_port flavors maintainer categories packages depends =
+    record { flavors = flavors; maintainer = maintainer; categories = categories; packages = packages; depends = depends }
+
 -- one of a port's packages has this name
 abbrev pub has_package : PortValue → List ℕ → Bool
 has_package port subpackage = list_any (λ (found : PackageValue). bytes_eq found.subpackage subpackage) port.packages
@@ -32,10 +37,4 @@ port_of variables m =
     (flavors_of variables >>= λ flavors. subpackages_of variables >>= λ subpackages. asked_text variables (codes "MAINTAINER")
     >>= λ maintainer. asked_words variables (codes "CATEGORIES") >>= λ categories. packages_of variables (marks_of flavors) subpackages
     >>= λ packages. depends_of variables subpackages
-    >>= λ depends. give (record {
-      flavors = flavors;
-      maintainer = maintainer;
-      categories = categories;
-      packages = packages;
-      depends = depends;
-    })) m
+    >>= λ depends. give (make_port flavors maintainer categories packages depends)) m

@@ -55,6 +55,18 @@ impl Model for Depend {
 }
 
 impl Depend {
+    /// The dependency of this kind, of the package of this name (empty if it is the port as a whole), on
+    /// what this text says.
+    pub fn new(kind: DependKind, subpackage: String, item: String) -> Depend
+        ensures { result ≡ depends.make_depend kind (string_bytes subpackage) (string_bytes item) }
+    {
+        Depend {
+            kind,
+            subpackage,
+            item,
+        }
+    }
+
     /// What it is for.
     pub fn kind(&self) -> DependKind
         ensures { result ≡ self.now.kind }
@@ -147,11 +159,8 @@ fn put_depends(
         ++ depends.depends kind subpackage.now (map string_bytes items.items)) }
 {
     for item in items {
-        found.push(Depend {
-            kind,
-            subpackage: String::from_str(alloc, subpackage)?,
-            item,
-        })?;
+        let subpackage = String::from_str(alloc, subpackage)?;
+        found.push(Depend::new(kind, subpackage, item))?;
     }
     Ok(())
 }

@@ -36,6 +36,19 @@ impl Model for PortFlavors {
 }
 
 impl PortFlavors {
+    /// The flavors that are chosen, and those that the port has: the proper ones, and those that mark
+    /// no name.
+    pub fn new(chosen: Vec<String>, proper: Vec<String>, pseudo: Vec<String>) -> PortFlavors
+        ensures { result ≡ flavors.make_flavors (map string_bytes chosen.items)
+            (map string_bytes proper.items) (map string_bytes pseudo.items) }
+    {
+        PortFlavors {
+            chosen,
+            proper,
+            pseudo,
+        }
+    }
+
     /// The flavors that are chosen (FLAVOR).
     pub fn chosen(&self) -> &[String]
         ensures { map string_bytes result.now ≡ self.now.chosen }
@@ -110,11 +123,7 @@ pub(crate) fn read_flavors(
     let chosen = lowercase_words(alloc, variables, "FLAVOR", budget)?;
     let proper = lowercase_words(alloc, variables, "FLAVORS", budget)?;
     let pseudo = lowercase_words(alloc, variables, "PSEUDO_FLAVORS", budget)?;
-    let flavors = PortFlavors {
-        chosen,
-        proper,
-        pseudo,
-    };
+    let flavors = PortFlavors::new(chosen, proper, pseudo);
     if !flavors.has_chosen(alloc)? {
         return Err(PureStop::Fault(FaultKind::Flavor));
     }

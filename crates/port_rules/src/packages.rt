@@ -34,6 +34,18 @@ impl Model for Package {
 }
 
 impl Package {
+    /// The package of this name among the port's packages, with its full name and its comment.
+    pub fn new(subpackage: String, name: PkgName, comment: String) -> Package
+        ensures { result
+            ≡ packages.make_package (string_bytes subpackage) name (string_bytes comment) }
+    {
+        Package {
+            subpackage,
+            name,
+            comment,
+        }
+    }
+
     /// Which package of the port it is, with its dash, such as `-main`; `-` for the one package of a
     /// port without MULTI_PACKAGES.
     pub fn subpackage(&self) -> &str
@@ -154,9 +166,6 @@ fn read_package(
 {
     let name = full_name(alloc, variables, marks, subpackage, budget)?;
     let comment = package_text(alloc, variables, "COMMENT", subpackage, budget)?;
-    Ok(Package {
-        subpackage: String::from_str(alloc, subpackage)?,
-        name,
-        comment,
-    })
+    let subpackage = String::from_str(alloc, subpackage)?;
+    Ok(Package::new(subpackage, name, comment))
 }

@@ -38,6 +38,27 @@ impl Model for PortRecord {
 }
 
 impl PortRecord {
+    /// The port of these flavors, with who maintains it, its categories, its packages, and what it
+    /// depends on.
+    pub fn new(
+        flavors: PortFlavors,
+        maintainer: String,
+        categories: Vec<String>,
+        packages: Vec<Package>,
+        depends: Vec<Depend>,
+    ) -> PortRecord
+        ensures { result ≡ ports.make_port flavors (string_bytes maintainer)
+            (map string_bytes categories.items) packages.items depends.items }
+    {
+        PortRecord {
+            flavors,
+            maintainer,
+            categories,
+            packages,
+            depends,
+        }
+    }
+
     /// Its flavors.
     pub fn flavors(&self) -> &PortFlavors
         ensures { result.now ≡ self.now.flavors }
@@ -100,11 +121,5 @@ pub(crate) fn read_port(
     let categories = asked_words(alloc, variables, "CATEGORIES", budget)?;
     let packages = read_packages(alloc, variables, &flavors, &subpackages, budget)?;
     let depends = read_depends(alloc, variables, &subpackages, budget)?;
-    Ok(PortRecord {
-        flavors,
-        maintainer,
-        categories,
-        packages,
-        depends,
-    })
+    Ok(PortRecord::new(flavors, maintainer, categories, packages, depends))
 }

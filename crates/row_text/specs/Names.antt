@@ -1,0 +1,7 @@
+-- The name of a package, as bytes.
+use Rattle.pkg_name.specs.Name.{NameParts, split_name}
+use Rattle.row_text.specs.Reads.{Read, ◌>>=◌, value_in, text}
+
+-- the name that a text is split into
+unfoldable pub name : Read NameParts
+name bytes = (text >>= λ found. value_in (split_name found)) bytes

@@ -1,0 +1,30 @@
+//! Why bytes were not read.
+ghost use Rattle.std.specs.Prelude.{◌≡◌};
+ghost use Rattle.row_text.specs.declared.unread.Unread.TheVariants.{Memory};
+
+use std::alloc::{AllocError, AllocFailed};
+
+/// Why bytes were not read.
+#[derive(Clone, Copy, Debug, PartialEq, Eq)]
+pub(crate) enum Unread {
+    /// What was wanted isn't there.
+    Damaged,
+    /// Memory ran out.
+    Memory,
+}
+
+impl From<AllocError> for Unread {
+    ghost from_gives = { λ _ stop. stop ≡ Memory };
+
+    fn from(_error: AllocError) -> Unread {
+        Unread::Memory
+    }
+}
+
+impl<T: Drop> From<AllocFailed<T>> for Unread {
+    ghost from_gives = { λ _ stop. stop ≡ Memory };
+
+    fn from(_error: AllocFailed<T>) -> Unread {
+        Unread::Memory
+    }
+}
