@@ -38,7 +38,7 @@ one_of-append path (first ∷ paths) more =
     ap (λ b. bytes_eq first path || b) (one_of-append path paths more) ∙ regroup (bytes_eq first path) (is_one_of path paths) (is_one_of path more)
 
 -- a path is one of two lists of paths, which are put in order
-one_of-in_order : (path : List ℕ) (paths more : List (List ℕ)) → is_one_of path (in_order (paths ++ more)) ≡ (is_one_of path paths || is_one_of path more)
+pub one_of-in_order : (path : List ℕ) (paths more : List (List ℕ)) → is_one_of path (in_order (paths ++ more)) ≡ (is_one_of path paths || is_one_of path more)
 one_of-in_order path paths more = among-in_order (λ one. bytes_eq one path) (paths ++ more) ∙ one_of-append path paths more
 
 absorbed : (a b c : Bool) → b ≡ (c || a) → (a || b) ≡ b

@@ -10,3 +10,4 @@ pub mod Lookups
 pub mod Names
 pub mod SamePaths
 pub mod NamedPaths
+pub mod RowLemmas

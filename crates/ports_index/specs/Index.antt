@@ -4,7 +4,7 @@ use Rattle.std.specs.List.{filter_map}
 use Rattle.text_parts.specs.Order.{in_order}
 use Rattle.mk_paths.specs.World.{World, files_in}
 use Rattle.port_deps.specs.Roots.{RootValue, RootEdgeValue}
-use Rattle.ports_index.specs.PathOutcomes.{outcome_at}
+use Rattle.ports_index.specs.PathOutcomes.{PathOutcome, outcome_at}
 use Rattle.ports_index.specs.Naming.{directories, listed_from}
 use Rattle.ports_index.specs.Depending.{roots_among, edges_among, items_among, target_of}
 
@@ -20,6 +20,10 @@ roots world = roots_among (outcome_at world) (listed_paths world)
 abbrev pub edges : World → List RootEdgeValue
 edges world = edges_among (outcome_at world) (listed_paths world)
 
+-- these paths, and those that items of ports at them name, by what each path leads to; each once
+abbrev pub needed_among : (List ℕ → PathOutcome) → List (List ℕ) → List (List ℕ)
+needed_among outcomes listed = in_order (listed ++ filter_map target_of (items_among outcomes listed))
+
 -- the paths on whose makefiles these depend, each once: those that are listed, and those that items name
 abbrev pub needed_paths : World → List (List ℕ)
-needed_paths world = in_order (listed_paths world ++ filter_map target_of (items_among (outcome_at world) (listed_paths world)))
+needed_paths world = needed_among (outcome_at world) (listed_paths world)

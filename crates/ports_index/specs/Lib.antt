@@ -9,3 +9,4 @@ pub mod Filling
 pub mod Efforts
 pub mod Pairs
 pub mod Seen
+pub mod RowLaws

@@ -4,15 +4,17 @@ ghost use Rattle.std.specs.List.{filter_map};
 ghost use Rattle.port_deps.specs.Seen.{found_seen};
 ghost use Rattle.ports_index.specs.Depending as depending;
 ghost use Rattle.ports_index.specs.Filling.{IsListed};
+ghost use Rattle.ports_index.specs.Index.{needed_among};
 ghost use Rattle.ports_index.specs.Seen.{row_seen, known_row, known_in, item_seen};
 
 use crate::evaluating::Row;
 use crate::keeping::Rows;
-use crate::naming::add_found;
+use crate::naming::{add_found, append, copies_of};
 use mk_base::Fault;
 use port_deps::{Found, Item, Root, RootEdge, items, resolve};
 use port_rules::PortRecord;
 use std::alloc::{AllocError, Global};
+use text_parts::put_in_order;
 
 /// An item of the port at a path.
 #[derive(Debug, Drop)]
@@ -140,9 +142,43 @@ fn found_as(row: Option<&Row>) -> Found<'_>
     }
 }
 
+/// The dependencies of the ports at these paths, by their rows: those of each port in the order of its
+/// items. The status of each depends on the row of the path that its item names. It fails only if memory
+/// runs out.
+pub fn edges_among<R: Rows>(
+    alloc: Global,
+    paths: &[String],
+    rows: &R,
+) -> Result<Vec<RootEdge>, AllocError>
+    ensures { IfOk result (λ found. found.items
+        ≡ depending.edges_among (known_in (R.entries rows.now)) (map string_bytes paths.now)) }
+{
+    let items = items_of_all(alloc, paths, rows)?;
+    edges_of_all(alloc, items, rows)
+}
+
+/// The paths on which the index depends, by the rows of the listed ones: these, and those that the items of
+/// ports among them name. They are in the order of their bytes, each once. It fails only if memory runs
+/// out.
+pub fn needed_among<R: Rows>(
+    alloc: Global,
+    listed: &[String],
+    rows: &R,
+) -> Result<Vec<String>, AllocError>
+    ensures { IfOk result (λ found. map string_bytes found.items
+        ≡ needed_among (known_in (R.entries rows.now)) (map string_bytes listed.now)) }
+{
+    let items = items_of_all(alloc, listed, rows)?;
+    let targets = targets_of(alloc, &items)?;
+    let mut paths = copies_of(alloc, listed)?;
+    append(&mut paths, targets)?;
+    put_in_order(&mut paths);
+    Ok(paths)
+}
+
 /// The roots at these paths, in their order: the ports, and the faults there. The rows of the paths are
 /// taken out. It fails only if memory runs out.
-pub(crate) fn roots_of_all<R: Rows>(
+pub fn roots_of_all<R: Rows>(
     alloc: Global,
     paths: &[String],
     rows: &mut R,

@@ -1,5 +1,6 @@
 //! What holds of all paths. The functions do nothing else: their clauses are the laws.
 ghost use Rattle.ports_index.specs.PathLaws.{PathIsTheSameWhereAnswered, ListedPathsCostNoMore, MakefilesAreEvaluated};
+ghost use Rattle.ports_index.specs.RowLaws.{KnownRowsAreEnough, OneRowMoreLeavesLess};
 
 use mk_eval::same_where_answered;
 
@@ -20,4 +21,15 @@ pub fn listed_paths_cost_no_more()
 /// As many makefiles are evaluated for some paths as there are paths among them whose makefile is there.
 pub fn makefiles_are_evaluated()
     ensures { MakefilesAreEvaluated }
+{}
+
+/// What the index is follows from rows alone, once each path on which it depends has its row: which paths
+/// are listed and needed, and which roots and dependencies there are.
+pub fn known_rows_are_enough()
+    ensures { KnownRowsAreEnough }
+{}
+
+/// If a path that is needed gets its row, then less is left to be done, by as much as that path takes.
+pub fn one_row_more_leaves_less()
+    ensures { OneRowMoreLeavesLess }
 {}

@@ -11,11 +11,14 @@ mod keeping;
 mod laws;
 mod naming;
 
+pub use depending::{edges_among, needed_among, roots_of_all};
 pub use effort::Effort;
 pub use evaluating::{Finding, Row, evaluate_path};
 pub use filling::fill;
 pub use indexing::{Index, index_files, index_roots};
 pub use keeping::{MemoryRows, Rows};
 pub use laws::{
-    listed_paths_cost_no_more, makefiles_are_evaluated, path_is_the_same_where_answered,
+    known_rows_are_enough, listed_paths_cost_no_more, makefiles_are_evaluated,
+    one_row_more_leaves_less, path_is_the_same_where_answered,
 };
+pub use naming::{directories, listed};

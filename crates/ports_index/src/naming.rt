@@ -17,10 +17,7 @@ use text_parts::put_in_order;
 
 /// The directories in which a makefile may be, by the names of the files: in the order of their bytes, each
 /// once. It fails if the files fail, or if memory runs out.
-pub(crate) fn directories<F: Listing>(
-    alloc: Global,
-    files: &mut F,
-) -> Result<Vec<String>, FilesFault>
+pub fn directories<F: Listing>(alloc: Global, files: &mut F) -> Result<Vec<String>, FilesFault>
     ensures ok { IfOk result (λ found. map string_bytes found.items
         ≡ naming.directories (F.view files.old).files) }
     ensures keeps { Keeps (result_err result) (F.view files.old) (F.view files.new) }
@@ -107,7 +104,7 @@ fn names_directory(path: &PkgPath) -> bool
 
 /// These directories, and the paths that the lists among them name, by their rows: in the order of their
 /// bytes, each once. It fails only if memory runs out.
-pub(crate) fn listed<R: Rows>(
+pub fn listed<R: Rows>(
     alloc: Global,
     directories: Vec<String>,
     rows: &R,
@@ -121,8 +118,19 @@ pub(crate) fn listed<R: Rows>(
     Ok(paths)
 }
 
-// Adds more texts after these.
-fn append(texts: &mut Vec<String>, more: Vec<String>) -> Result<(), AllocError>
+/// A copy of each of these texts, in the same order.
+pub(crate) fn copies_of(alloc: Global, texts: &[String]) -> Result<Vec<String>, AllocError>
+    ensures { IfOk result (λ copies. map string_bytes copies.items ≡ map string_bytes texts.now) }
+{
+    let mut copies = Vec::with_capacity(alloc, texts.len())?;
+    for text in texts {
+        copies.push(String::from_str(alloc, text)?)?;
+    }
+    Ok(copies)
+}
+
+/// Adds more texts after these.
+pub(crate) fn append(texts: &mut Vec<String>, more: Vec<String>) -> Result<(), AllocError>
     ensures { OnOk result (texts.new.items ≡ texts.old.items ++ more.items) }
 {
     for text in more {

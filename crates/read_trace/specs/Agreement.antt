@@ -29,6 +29,10 @@ agreement files [] = (true, 0)
 agreement files (question ∷ questions) =
     if has_reply files question then one_more (agreement files questions) else (false, 1)
 
+-- each question has the reply that the files give
+abbrev pub IsAnswered : FileMap → List Question → Type 0
+IsAnswered files questions = (agreement files questions).0 ≡ true
+
 -- the question with the reply that the files give
 abbrev pub asked_again : FileMap → Question → Question
 asked_again files (name, Presence there) = (name, Presence (contains_key files name))

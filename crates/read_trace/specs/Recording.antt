@@ -1,7 +1,8 @@
 -- Files that write down what they are asked.
-use Rattle.std.specs.Prelude.{◌≡◌, ◌⊎◌, List, Option, Some}
+use Rattle.std.specs.Prelude.{◌≡◌, ◌⊎◌, List, [], Option, Some}
 use Rattle.mk_paths.specs.FilesView.{FilesView, Question}
 use Rattle.mk_paths.specs.declared.asking.FilesFault.{FilesFault}
+use Rattle.mk_paths.specs.declared.asking.Names.{Ghosts}
 use Rattle.mk_paths.specs.declared.asking.FilesFault.TheVariants.{Memory}
 use Rattle.read_trace.specs.declared.recorder.Recorder.{Recorder}
 
@@ -10,7 +11,7 @@ abbrev pub recording : FilesView → List Question → FilesView
 recording view trace = record { files = view.files; log = Some trace; failures = 0 }
 
 -- the view that a recorder is: the files that it asks, with its trace as the log
-abbrev pub view_of : {F : Type 0} → (F → FilesView) → Recorder F → FilesView
+abbrev pub view_of : {F : Type 0} {names : Ghosts F} → (F → FilesView) → Recorder F names → FilesView
 view_of view recorder = record {
   files = (view recorder.files).files;
   log = Some recorder.trace;
@@ -18,8 +19,12 @@ view_of view recorder = record {
 }
 
 -- the log of that view
-abbrev pub log_of : {F : Type 0} → (F → FilesView) → Recorder F → Option (List Question)
+abbrev pub log_of : {F : Type 0} {names : Ghosts F} → (F → FilesView) → Recorder F names → Option (List Question)
 log_of view recorder = (view_of view recorder).log
+
+-- a view of which nothing was asked, as far as its log says
+abbrev pub asked_nothing : FilesView → FilesView
+asked_nothing view = record view { log = Some [] }
 
 -- a recorder fails as the files that it asks may, or with Memory if there is none for its trace
 abbrev pub MayFail : (FilesFault → Type 0) → FilesFault → Type 0

@@ -1,13 +1,14 @@
 // Files that write down what they are asked.
-ghost use Rattle.std.specs.Prelude.{◌≡◌, Some, [], ◌∷◌, OnOk, OnErr};
+ghost use Rattle.std.specs.Prelude.{◌≡◌, Some, [], ◌∷◌, IfOk, OnOk, OnErr, true};
 ghost use Rattle.std.specs.Option.{option_copied};
 ghost use Rattle.mk_paths.specs.FilesView.{Presence, Contents, noted, Fails};
-ghost use Rattle.read_trace.specs.Recording.{view_of, recording, log_of};
+ghost use Rattle.read_trace.specs.Agreement.{IsAnswered, has_reply};
 
 use crate::trace::{Question, Reply, Trace};
-use mk_files::{Content, Files};
+use mk_files::{Content, Files, Listing};
 use mk_paths::{FilesFault, Name, Names};
 use std::alloc::{AllocError, Global};
+use std::mem;
 
 /// Files that write down each question with its answer, also if a file isn't there. They answer as the
 /// files do that they ask. They fail if these fail, or if there is no memory for the trace.
@@ -17,11 +18,18 @@ pub struct Recorder<F: Files + Drop> {
     files: F,
     trace: Trace,
     failures: u64,
+    // each question in the trace has the answer that the files give
+    ghost is_answered: { IsAnswered (F.view files).files trace },
 }
 
 impl<F: Files + Drop> Recorder<F> {
-    /// What asks these files, and goes on with this trace. It takes no memory.
+    ghost use Rattle.mk_eval.specs.Sharing.{Agrees};
+    ghost use Rattle.read_trace.specs.Recording.{view_of, recording, log_of, asked_nothing};
+
+    /// What asks these files, and goes on with this trace, whose answers are those of the files. It takes no
+    /// memory.
     pub fn new(alloc: Global, files: F, trace: Trace) -> Recorder<F>
+        requires { IsAnswered (F.view files).files trace }
         ensures { view_of F.view result ≡ recording (F.view files) trace }
     {
         Recorder {
@@ -40,29 +48,47 @@ impl<F: Files + Drop> Recorder<F> {
         trace
     }
 
+    /// Takes out what was asked so far. After that nothing was asked, as far as the trace says.
+    pub fn take_trace(&mut self) -> Trace
+        ensures trace { log_of F.view self.old ≡ Some result }
+        ensures rest { view_of F.view self.new ≡ asked_nothing (view_of F.view self.old) }
+        ensures answered { Agrees (view_of F.view self.old).files result }
+    {
+        mem::replace(&mut self.trace, Trace::new(self.alloc))
+    }
+
     // Writes down whether a file was there. If memory runs out, nothing changes.
     fn note_presence(&mut self, name: &Name, there: bool) -> Result<(), AllocError>
+        requires { has_reply (view_of F.view self.old).files (name.now, Presence there) ≡ true }
         ensures ok { OnOk result (view_of F.view self.new
             ≡ noted (view_of F.view self.old) ((name.now, Presence there) ∷ [])) }
         ensures err { OnErr result (view_of F.view self.new ≡ view_of F.view self.old) }
     {
         let name = name.copy(self.alloc)?;
-        self.trace.add(Question::new(name, Reply::Presence(there)))
+        self.note(Question::new(name, Reply::Presence(there)))
     }
 
     // Writes down the content of a file, which the trace then shares, or that the file wasn't there. If
     // memory runs out, nothing changes.
     fn note_content(&mut self, name: &Name, content: Option<&Content>) -> Result<(), AllocError>
+        requires { has_reply (view_of F.view self.old).files
+            (name.now, Contents (option_copied content)) ≡ true }
         ensures ok { OnOk result (view_of F.view self.new
             ≡ noted (view_of F.view self.old) ((name.now, Contents (option_copied content.entry)) ∷ [])) }
         ensures err { OnErr result (view_of F.view self.new ≡ view_of F.view self.old) }
     {
-        let name = name.copy(self.alloc)?;
-        let shared = match content {
-            Some(content) => Some(content.share()?),
-            None => None,
-        };
-        self.trace.add(Question::new(name, Reply::Contents(shared)))
+        let question = content_question(self.alloc, name, content)?;
+        self.note(question)
+    }
+
+    // Writes down a question that the files answer so. If memory runs out, nothing changes.
+    fn note(&mut self, question: Question) -> Result<(), AllocError>
+        requires { has_reply (view_of F.view self.old).files question ≡ true }
+        ensures ok { OnOk result (view_of F.view self.new
+            ≡ noted (view_of F.view self.old) (question ∷ [])) }
+        ensures err { OnErr result (view_of F.view self.new ≡ view_of F.view self.old) }
+    {
+        self.trace.add(question)
     }
 
     // Counts one more question that failed, with this fault.
@@ -73,6 +99,23 @@ impl<F: Files + Drop> Recorder<F> {
         self.failures = self.failures.saturating_add(1);
         fault
     }
+}
+
+// The question about the content of a file, which it shares, or about a file that wasn't there.
+fn content_question(
+    alloc: Global,
+    name: &Name,
+    content: Option<&Content>,
+) -> Result<Question, AllocError>
+    ensures { IfOk result (λ question. question
+        ≡ (name.now, Contents (option_copied content.entry))) }
+{
+    let name = name.copy(alloc)?;
+    let shared = match content {
+        Some(content) => Some(content.share()?),
+        None => None,
+    };
+    Ok(Question::new(name, Reply::Contents(shared)))
 }
 
 impl<F: Files + Drop> Names for Recorder<F> {
@@ -100,6 +143,15 @@ impl<F: Files + Drop> Files for Recorder<F> {
                 Ok(()) => Ok(content),
                 Err(_error) => Err(self.failed(FilesFault::Memory)),
             },
+            Err(fault) => Err(self.failed(fault)),
+        }
+    }
+}
+
+impl<F: Listing + Drop> Listing for Recorder<F> {
+    fn names(&mut self, alloc: Global) -> Result<Vec<String>, FilesFault> {
+        match self.files.names(alloc) {
+            Ok(names) => Ok(names),
             Err(fault) => Err(self.failed(fault)),
         }
     }

@@ -1,0 +1,36 @@
+-- What follows from the rows of paths.
+use Rattle.std.specs.Prelude.{◌≡◌, ℕ, ◌+◌, true, List, ◌∷◌, [], Option, Some, None, sum_by}
+use Rattle.mk_paths.specs.World.{World, files_in}
+use Rattle.ports_index.specs.PathOutcomes.{PathOutcome, outcome_at}
+use Rattle.ports_index.specs.Naming.{directories, listed_from}
+use Rattle.ports_index.specs.Depending.{roots_among, edges_among}
+use Rattle.ports_index.specs.Index.{listed_paths, needed_among, needed_paths, roots, edges}
+use Rattle.ports_index.specs.Filling.{is_one_of, Fills}
+use Rattle.ports_index.specs.Efforts.{lacking}
+use Rattle.ports_index.specs.Seen.{known_in}
+
+-- each of these paths has its row
+abbrev pub HaveRows : World → (List ℕ → Option PathOutcome) → List (List ℕ) → Type 0
+HaveRows world entries paths = (path : List ℕ) → is_one_of path paths ≡ true → entries path ≡ Some (outcome_at world path)
+
+-- what the index is, by rows that each path on which it depends has
+pub record KnownRowsAreEnough : Type 0 where
+  -- the rows of directories say which paths are listed
+  pub listed : (world : World) (entries : List ℕ → Option PathOutcome) → HaveRows world entries (directories (files_in world))
+      → listed_from (known_in entries) (directories (files_in world)) ≡ listed_paths world
+  -- the rows of listed paths say which paths are needed
+  pub needed : (world : World) (entries : List ℕ → Option PathOutcome) → HaveRows world entries (listed_paths world)
+      → needed_among (known_in entries) (listed_paths world) ≡ needed_paths world
+  -- the rows of needed paths say which roots there are, and which dependencies
+  pub roots : (world : World) (entries : List ℕ → Option PathOutcome) → HaveRows world entries (needed_paths world)
+      → roots_among (known_in entries) (listed_paths world) ≡ roots world
+  pub edges : (world : World) (entries : List ℕ → Option PathOutcome) → HaveRows world entries (needed_paths world)
+      → edges_among (known_in entries) (listed_paths world) ≡ edges world
+
+-- One of these paths, which had no row, gets its own. Whatever is counted for each path that has no row, what
+-- is counted for this one is what the others are fewer by.
+abbrev pub OneRowMoreLeavesLess : Type 0
+OneRowMoreLeavesLess =
+    (world : World) (weight : List ℕ → ℕ) (paths : List (List ℕ)) (path : List ℕ) (old new : List ℕ → Option PathOutcome)
+    → is_one_of path paths ≡ true → old path ≡ None → Fills world (path ∷ []) old new
+    → weight path + sum_by weight (lacking new paths) ≡ sum_by weight (lacking old paths)
