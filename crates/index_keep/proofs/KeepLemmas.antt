@@ -1,0 +1,265 @@
+-- What a change of a file, and what is known of changes, makes of rows; and what is left of a refresh.
+use Rattle.std.proofs.Common.{◌≡◌, ◌∙◌, sym, ap, subst, refl, ℕ, ◌+◌, ◌-◌, ◌^◌, min, Bool, true, false, ◌||◌, if◌then◌else◌, List, [], ◌∷◌, ◌++◌, Result, Ok, Err, OnOk, OnErr, Option, Some, None, is_some, is_none, option_map, option_and_then, arith, String, Global, string_bytes}
+use Rattle.std.proofs.lemmas.Bool.{false≢true, or_right}
+use Rattle.std.proofs.lemmas.Slice.Eq.{bytes_eq-Decides}
+use Rattle.std.specs.BTreeSet.{BTreeSet, contains_text, keys}
+use Rattle.std.specs.List.{list_any, sum_by, filter, flat_map}
+use Rattle.text_parts.specs.Order.{in_order}
+use Rattle.text_parts.specs.Ordered.{among-in_order, in_order-sorted}
+use Rattle.std.specs.Cmp.Lexicographic.{slice_cmp}
+use Rattle.std.specs.Ordering.{nat_cmp, is_eq}
+use Rattle.std.specs.Str.{bytes_eq}
+use Rattle.mk_paths.specs.World.{World, files_in}
+use Rattle.mk_paths.specs.FilesView.{Question, Reply, Presence, Contents, IsReply}
+use Rattle.mk_eval.specs.Sharing.{Agrees}
+use Rattle.ports_index.specs.Efforts.{lacking}
+use Rattle.ports_index.specs.Filling.{is_one_of, Fills, IsListed}
+use Rattle.ports_index.specs.Index.{listed_paths, needed_paths, roots, edges}
+use Rattle.ports_index.specs.PathLaws.{PathIsTheSameWhereAnswered}
+use Rattle.ports_index.specs.PathOutcomes.{PathOutcome, Finding, finding_at, outcome_at, counted}
+use Rattle.ports_index.specs.PathQuestions.{questions_at}
+use Rattle.ports_index.specs.RowLaws.{HaveRows, KnownRowsAreEnough, OneRowMoreLeavesLess}
+use Rattle.ports_index.specs.Depending.{roots_among, edges_among}
+use Rattle.ports_index.specs.Naming.{directories, named_at}
+use Rattle.ports_index.specs.Seen.{known_in}
+use Rattle.row_text.specs.Rows.{RowValue, row_of}
+use Rattle.index_store.specs.Entries.{StoredValue, Entries}
+use Rattle.index_keep.specs.declared.keeper.Progress.{Progress}
+use Rattle.index_keep.specs.declared.keeper.Progress.TheVariants.{Changed, Walking, Current}
+use Rattle.index_keep.specs.Shown.{ShownRow, ShownRows, shown, show_row, show_stored, asked_one, no_name, fresh, fresh_outcome, stale_if_asked, made_stale, ShowsSame}
+use Rattle.index_keep.specs.Right.{names_in, IsRightRow, AreKept, AreCurrent, HaveFresh, DifferAt, RenewsOneOf, fresh_row}
+use Rattle.index_keep.specs.Keeping.{changed_in, IsProgress, HasForgotten, IsDropped}
+use Rattle.index_keep.proofs.ShownLemmas.{shown-test}
+
+abbrev row_by : Finding → List Question → RowValue
+row_by found questions = record { outcome = found.outcome; cost = found.cost; names = names_in questions }
+
+-- ---- another world, which differs at one name
+
+module _ (name : List ℕ) (world other : World) (differ : DifferAt name world other) where
+  reply_of : (file : List ℕ) (reply : Reply) → bytes_eq name file ≡ false → IsReply (files_in world) file reply → IsReply (files_in other) file reply
+  reply_of file (Presence there) apart is = is ∙ ap is_some (sym (differ.files file apart))
+  reply_of file (Contents content) apart is = is ∙ sym (differ.files file apart)
+
+  agrees_too : (questions : List Question) → list_any (λ asked. bytes_eq name asked) (names_in questions) ≡ false → Agrees (files_in world) questions → Agrees (files_in other) questions
+  agrees_too [] apart agrees = tt
+  agrees_too ((file, reply) ∷ questions) apart agrees = (
+    reply_of file reply (first (bytes_eq name file) (list_any (λ asked. bytes_eq name asked) (names_in questions)) apart) agrees.0,
+    agrees_too questions (rest (bytes_eq name file) (list_any (λ asked. bytes_eq name asked) (names_in questions)) apart) agrees.1,
+  )
+    where
+      first : (a b : Bool) → (a || b) ≡ false → a ≡ false
+      first true b e = absurd cc
+      first false b e = refl
+
+      rest : (a b : Bool) → (a || b) ≡ false → b ≡ false
+      rest true b e = absurd cc
+      rest false b e = e
+
+  module _ (law : PathIsTheSameWhereAnswered) where
+    right_in : (settings : _) → settings ≡ world.1 → (path : List ℕ) → list_any (λ asked. bytes_eq name asked) (names_in (questions_at world path)) ≡ false
+        → Agrees (files_in world) (questions_at world path)
+        → (finding_at (other.0, settings) path ≡ finding_at world path) × (questions_at (other.0, settings) path ≡ questions_at world path)
+    right_in settings e path apart agrees =
+        subst (λ (s : _). (finding_at (other.0, s) path ≡ finding_at world path) × (questions_at (other.0, s) path ≡ questions_at world path)) (sym e)
+        (law world.0 other.0 world.1 path (agrees_too (questions_at world path) apart agrees))
+
+    right_too : (path : List ℕ) (row : RowValue) → list_any (λ asked. bytes_eq name asked) row.names ≡ false → IsRightRow world path row → IsRightRow other path row
+    right_too path row apart right =
+        let apart' : list_any (λ asked. bytes_eq name asked) (names_in (questions_at world path)) ≡ false = ap (λ (r : RowValue). list_any (λ asked. bytes_eq name asked) r.names) (sym right.same) ∙ apart in
+        let same = right_in other.1 differ.settings path apart' right.answered in
+        record {
+          same = right.same ∙ sym (rows (finding_at other path) (finding_at world path) (questions_at other path) (questions_at world path) same.0 same.1);
+          answered = subst (λ questions. Agrees (files_in other) questions) (sym same.1) (agrees_too (questions_at world path) apart' right.answered);
+        }
+      where
+        rows : (one other : Finding) (questions more : List Question) → one ≡ other → questions ≡ more → row_by one questions ≡ row_by other more
+        rows one other questions more e f = ap (λ found. row_by found questions) e ∙ ap (row_by other) f
+
+    module _ (old new : ShownRows) (noted : (path : List ℕ) → new path ≡ option_map (stale_if_asked name) (old path)) (kept : AreKept world old) where
+      kept_by : (path : List ℕ) (row before : ShownRow) → old path ≡ Some before → stale_if_asked name before ≡ row → (stale asked : Bool)
+          → before.stale ≡ stale → asked_one (λ asked. bytes_eq name asked) before.row ≡ asked → row.stale ≡ false → IsRightRow other path row.row
+      kept_by path row before was is true asked e f fresh = absurd (false≢true (sym (ap (λ (r : ShownRow). r.stale) is ∙ fresh) ∙ ap (λ b. b || asked_one (λ asked. bytes_eq name asked) before.row) e))
+      kept_by path row before was is false true e f fresh =
+          absurd (false≢true (sym (ap (λ (r : ShownRow). r.stale) is ∙ fresh) ∙ ap (λ b. b || asked_one (λ asked. bytes_eq name asked) before.row) e ∙ f))
+      kept_by path row before was is false false e f fresh =
+          subst (λ (r : ShownRow). IsRightRow other path r.row) is (right_too path before.row f (kept.right path before was e))
+
+      kept_at : (path : List ℕ) (before : Option ShownRow) → old path ≡ before → (row : ShownRow) → new path ≡ Some row → row.stale ≡ false → IsRightRow other path row.row
+      kept_at path None was row is fresh =
+          let none : new path ≡ None = noted path ∙ ap (option_map (stale_if_asked name)) was in absurd cc
+      kept_at path (Some before) was row is fresh =
+          let there : new path ≡ Some (stale_if_asked name before) = noted path ∙ ap (option_map (stale_if_asked name)) was in
+          let same : stale_if_asked name before ≡ row = cc in
+          kept_by path row before was same before.stale (asked_one (λ asked. bytes_eq name asked) before.row) refl refl fresh
+
+      -- rows stay right in a world that differs at a name, where the rows are stale that asked for it
+      pub AreKept-noted : AreKept other new
+      AreKept-noted = record { right = λ path row is fresh. kept_at path (old path) refl row is fresh }
+
+-- the world itself
+pub DifferAt-itself : (name : List ℕ) (world : World) → DifferAt name world world
+DifferAt-itself name world = record { settings = refl; files = λ file apart. refl }
+
+-- ---- rows that are shown the same, or none of which is fresh
+
+pub AreKept-same : (world : World) (old new : ShownRows) → ShowsSame old new → AreKept world old → AreKept world new
+AreKept-same world old new same kept = record { right = λ path row is fresh. kept.right path row (sym (same path) ∙ is) fresh }
+
+pub AreKept-stale : (world : World) (old new : ShownRows) → ((path : List ℕ) → new path ≡ option_map made_stale (old path)) → AreKept world new
+AreKept-stale world old new all = record { right = λ path row is fresh. at path (old path) refl row is fresh }
+  where
+    at : (path : List ℕ) (before : Option ShownRow) → old path ≡ before → (row : ShownRow) → new path ≡ Some row → row.stale ≡ false → IsRightRow world path row.row
+    at path None was row is fresh = let none : new path ≡ None = all path ∙ ap (option_map made_stale) was in absurd cc
+    at path (Some before) was row is fresh =
+        let there : new path ≡ Some (made_stale before) = all path ∙ ap (option_map made_stale) was in
+        let same : made_stale before ≡ row = cc in
+        absurd (false≢true (sym (ap (λ (r : ShownRow). r.stale) same ∙ fresh)))
+
+-- ---- names that are known to have changed
+
+pub none_among : (names : BTreeSet (String Global)) → keys names ≡ [] → (name : List ℕ) → contains_text names name ≡ false
+none_among names none name = ap (list_any (λ (one : String Global). is_eq (slice_cmp nat_cmp name (string_bytes one)))) none
+
+pub forgotten : (progress : Progress) → HasForgotten progress → (name : List ℕ) → changed_in progress name ≡ no_name name
+forgotten (Changed names) none name = none_among names none name
+forgotten (Walking walk) none name = absurd none
+forgotten (Current listed) none name = absurd none
+
+pub IsProgress-forgotten : (world : World) (rows : ShownRows) (progress : Progress) → HasForgotten progress → IsProgress world rows progress
+IsProgress-forgotten world rows (Changed names) none = tt
+IsProgress-forgotten world rows (Walking walk) none = absurd none
+IsProgress-forgotten world rows (Current listed) none = absurd none
+
+pub IsProgress-dropped : (world : World) (rows : ShownRows) (progress : Progress) → IsDropped progress → IsProgress world rows progress
+IsProgress-dropped world rows (Changed names) dropped = tt
+IsProgress-dropped world rows (Walking walk) dropped = absurd dropped
+IsProgress-dropped world rows (Current listed) dropped = absurd dropped
+
+module _ (name : List ℕ) (one more : List ℕ → Bool) (is : (other : List ℕ) → more other ≡ (bytes_eq name other || one other)) where
+  either : (a b c d : Bool) → ((a || b) || (c || d)) ≡ ((b || c) || (a || d))
+  either true true c d = refl
+  either true false true d = refl
+  either true false false d = refl
+  either false true c d = refl
+  either false false true d = refl
+  either false false false d = refl
+
+  asked_more : (names : List (List ℕ)) → list_any more names ≡ (list_any one names || list_any (λ asked. bytes_eq name asked) names)
+  asked_more [] = refl
+  asked_more (asked ∷ names) =
+      ap (λ b. b || list_any more names) (is asked) ∙ ap (λ b. (bytes_eq name asked || one asked) || b) (asked_more names)
+      ∙ either (bytes_eq name asked) (one asked) (list_any one names) (list_any (λ other. bytes_eq name other) names)
+
+  regroup : (a b c : Bool) → (a || (b || c)) ≡ ((a || b) || c)
+  regroup true b c = refl
+  regroup false b c = refl
+
+  row_more : (marked : Bool) (row : RowValue) → show_row more marked row ≡ stale_if_asked name (show_row one marked row)
+  row_more marked row =
+      ap (λ (stale : Bool). let found : ShownRow = record { row = row; stale = stale } in found)
+      (ap (λ b. marked || b) (asked_more row.names) ∙ regroup marked (list_any one row.names) (list_any (λ asked. bytes_eq name asked) row.names))
+
+  text_more : (marked : Bool) (row : Option RowValue) → option_map (show_row more marked) row ≡ option_map (stale_if_asked name) (option_map (show_row one marked) row)
+  text_more marked None = refl
+  text_more marked (Some row) = ap Some (row_more marked row)
+
+  stored_more : (stored : Option StoredValue) → option_and_then (show_stored more) stored ≡ option_map (stale_if_asked name) (option_and_then (show_stored one) stored)
+  stored_more None = refl
+  stored_more (Some stored) = text_more stored.stale (row_of stored.text)
+
+  -- one name more has changed
+  pub shown-more : (entries : Entries) (path : List ℕ) → shown more entries path ≡ option_map (stale_if_asked name) (shown one entries path)
+  shown-more entries path = stored_more (entries path)
+
+-- ---- what is left of a refresh
+
+module _ (law : OneRowMoreLeavesLess) (world : World) (old new : ShownRows) (units : ℕ) (renews : RenewsOneOf world (needed_paths world) old new units) where
+  fresh_put : (other : List ℕ) (same : Bool) → option_and_then fresh_outcome (if same then Some (fresh_row world renews.path) else old other) ≡ (if same then Some (outcome_at world renews.path) else fresh old other)
+  fresh_put other true = refl
+  fresh_put other false = refl
+
+  outcome_there : (other : List ℕ) (same : Bool) → bytes_eq renews.path other ≡ same
+      → (if same then Some (outcome_at world renews.path) else fresh old other) ≡ (if same || false then Some (outcome_at world other) else fresh old other)
+  outcome_there other true same = ap (λ path. Some (outcome_at world path)) ((bytes_eq-Decides renews.path other).0 same)
+  outcome_there other false same = refl
+
+  fills : Fills world (renews.path ∷ []) (fresh old) (fresh new)
+  fills = record {
+    filled = λ other. ap (option_and_then fresh_outcome) (renews.rows other) ∙ fresh_put other (bytes_eq renews.path other)
+        ∙ outcome_there other (bytes_eq renews.path other) refl;
+  }
+
+  pub left_less : (weight : List ℕ → ℕ) → weight renews.path + sum_by weight (lacking (fresh new) (needed_paths world)) ≡ sum_by weight (lacking (fresh old) (needed_paths world))
+  left_less weight = law world weight (needed_paths world) renews.path (fresh old) (fresh new) renews.needed renews.lacking fills
+
+counted_sum : (most spent units left all : ℕ) → units + left ≡ all → min (min (spent + units) most + left) most ≡ min (spent + all) most
+counted_sum most spent units left all is = omega arith
+
+-- units that were spent, and those that are left
+pub counted-on : (spent units left all : ℕ) → units + left ≡ all → counted (counted (spent + units) + left) ≡ counted (spent + all)
+counted-on spent units left all is = counted_sum (2 ^ 64 - 1) spent units left all is
+
+none_left : (entries : List ℕ → Option PathOutcome) (paths : List (List ℕ)) → ((path : List ℕ) → is_one_of path paths ≡ true → is_some (entries path) ≡ true)
+    → filter (λ path. is_none (entries path)) paths ≡ []
+none_left entries [] have = refl
+none_left entries (path ∷ paths) have =
+    ap (λ (b : Bool). if b then path ∷ filter (λ other. is_none (entries other)) paths else filter (λ other. is_none (entries other)) paths)
+    (there (entries path) (have path (ap (λ b. b || is_one_of path paths) ((bytes_eq-Decides path path).1 refl))))
+    ∙ none_left entries paths (λ other is. have other (or_right (bytes_eq path other) (is_one_of other paths) is))
+  where
+    there : (row : Option PathOutcome) → is_some row ≡ true → is_none row ≡ false
+    there None some = absurd (false≢true some)
+    there (Some row) some = refl
+
+-- where each needed path has a fresh row, nothing is left to be done
+pub lacking-none : (world : World) (rows : ShownRows) → HaveFresh world rows → lacking (fresh rows) (needed_paths world) ≡ []
+lacking-none world rows have =
+    none_left (fresh rows) (in_order (needed_paths world)) (λ path is. have path (sym (among-in_order (λ one. bytes_eq one path) (needed_paths world)) ∙ is))
+
+-- rows that are current are fresh
+pub HaveFresh-current : (world : World) (rows : ShownRows) → AreCurrent world rows → HaveFresh world rows
+HaveFresh-current world rows current path is =
+    ap (λ row. is_some (option_and_then fresh_outcome row)) (current.each path ∙ ap (λ (b : Bool). if b then Some (fresh_row world path) else None) is)
+
+-- ---- a keeper whose walk was taken out
+
+pub OnErr-map : {A E : Type 0} (result : Result A E) {P Q : Type 0} → (P → Q) → OnErr result P → OnErr result Q
+OnErr-map (Ok value) f p = tt
+OnErr-map (Err fault) f p = f p
+
+pub OnErr-and : {A E : Type 0} (result : Result A E) (P Q : Type 0) → OnErr result P → OnErr result Q → OnErr result (P × Q)
+OnErr-and (Ok value) P Q p q = tt
+OnErr-and (Err fault) P Q p q = (p, q)
+
+pub OnOk-or : {A E : Type 0} (result : Result A E) {P Q : Type 0} → OnOk result P → OnErr result Q → (Q → P) → P
+OnOk-or (Ok value) p q f = p
+OnOk-or (Err fault) p q f = f q
+
+module _ (old new : Entries) (before after nothing : Progress) (none : HasForgotten nothing) (is : after ≡ nothing) where
+  -- rows that are shown the same after no name has changed
+  pub shown-forgotten : ShowsSame (shown (changed_in before) old) (shown no_name new) → ShowsSame (shown (changed_in before) old) (shown (changed_in after) new)
+  shown-forgotten same path =
+      (λ i. shown (changed_in (is i)) new path) ∙ shown-test (changed_in nothing) no_name new (forgotten nothing none) path ∙ same path
+
+  pub IsProgress-taken : (world : World) (rows : ShownRows) → IsProgress world rows after
+  IsProgress-taken world rows = subst (λ (p : Progress). IsProgress world rows p) (sym is) (IsProgress-forgotten world rows nothing none)
+
+-- ---- rows that are current say what the index is
+
+module _ (enough : KnownRowsAreEnough) (world : World) (rows : ShownRows) (current : AreCurrent world rows) (known : List ℕ → Option PathOutcome)
+    (knows : (path : List ℕ) → known path ≡ fresh rows path) (paths : List (List ℕ)) (are : paths ≡ listed_paths world) where
+  have_rows : HaveRows world (fresh rows) (needed_paths world)
+  have_rows path is = ap (option_and_then fresh_outcome) (current.each path ∙ ap (λ (b : Bool). if b then Some (fresh_row world path) else None) is)
+
+  same_known : known ≡ fresh rows
+  same_known i path = knows path i
+
+  pub roots-current : roots_among (known_in known) paths ≡ roots world
+  roots-current = ap (λ (k : List ℕ → Option PathOutcome). roots_among (known_in k) paths) same_known ∙ ap (roots_among (known_in (fresh rows))) are ∙ enough.roots world (fresh rows) have_rows
+
+  pub edges-current : edges_among (known_in known) paths ≡ edges world
+  edges-current = ap (λ (k : List ℕ → Option PathOutcome). edges_among (known_in k) paths) same_known ∙ ap (edges_among (known_in (fresh rows))) are ∙ enough.edges world (fresh rows) have_rows
+
+  pub IsListed-current : IsListed paths
+  IsListed-current = subst IsListed (sym are) (in_order-sorted (flat_map (named_at (outcome_at world)) (directories (files_in world)) ++ directories (files_in world)))

@@ -1,0 +1,104 @@
+-- Lists of names and paths.
+use Rattle.std.proofs.Common.{◌≡◌, ◌∙◌, sym, ap, refl, ℕ, ◌+◌, ◌<◌, Bool, true, false, cond, ◌||◌, ◌&&◌, not, if◌then◌else◌, List, [], ◌∷◌, ◌++◌, map, take, length, get_or, Option, Some, None, is_some, option_map, slice_get, String, string_bytes, Global}
+use Rattle.std.proofs.lemmas.Bool.{false≢true}
+use Rattle.std.proofs.lemmas.List.{take_more, take-map}
+use Rattle.ports_index.specs.PathOutcomes.{PathOutcome}
+use Rattle.std.proofs.lemmas.Option.{slice_get-map, slice_get-get_or}
+use Rattle.std.proofs.lemmas.Slice.Eq.{bytes_eq-Decides}
+use Rattle.std.specs.List.{list_any}
+use Rattle.std.specs.Str.{bytes_eq}
+use Rattle.ports_index.specs.Filling.{is_one_of}
+use Rattle.index_keep.proofs.SortLemmas.{one_of-append, or-none}
+
+pub cond-or : (a b : Bool) → cond a true b ≡ (a || b)
+cond-or true b = refl
+cond-or false b = refl
+
+pub list_any-map : {X Y : Type 0} (test : Y → Bool) (f : X → Y) (xs : List X) → list_any test (map f xs) ≡ list_any (λ x. test (f x)) xs
+list_any-map test f [] = refl
+list_any-map test f (x ∷ xs) = ap (λ b. test (f x) || b) (list_any-map test f xs)
+
+pub map-append : {X Y : Type 0} (f : X → Y) (xs ys : List X) → map f (xs ++ ys) ≡ map f xs ++ map f ys
+map-append f [] ys = refl
+map-append f (x ∷ xs) ys = ap (λ rest. f x ∷ rest) (map-append f xs ys)
+
+-- one of the texts up to the next place
+pub one_of-more : (texts : List (String Global)) (place : ℕ) (text : String Global) (name : List ℕ) → place < length texts → text ≡ get_or texts place text
+    → is_one_of name (map string_bytes (take (place + 1) texts)) ≡ (is_one_of name (map string_bytes (take place texts)) || bytes_eq (string_bytes text) name)
+one_of-more texts place text name inside is =
+    ap (λ ts. is_one_of name (map string_bytes ts)) (take_more texts place text inside ∙ ap (λ t. take place texts ++ t ∷ []) (sym is))
+    ∙ ap (is_one_of name) (map-append string_bytes (take place texts) (text ∷ []))
+    ∙ one_of-append name (map string_bytes (take place texts)) (string_bytes text ∷ [])
+    ∙ ap (λ b. is_one_of name (map string_bytes (take place texts)) || b) (or-none (bytes_eq (string_bytes text) name))
+
+swap : (a b : Bool) → (a || b) ≡ (b || a)
+swap true true = refl
+swap true false = refl
+swap false true = refl
+swap false false = refl
+
+-- a set of names with the next one
+pub set-more : (texts : List (String Global)) (place : ℕ) (text : String Global) (name : List ℕ) (before : Bool) → place < length texts → text ≡ get_or texts place text
+    → before ≡ is_one_of name (map string_bytes (take place texts))
+    → (bytes_eq (string_bytes text) name || before) ≡ is_one_of name (map string_bytes (take (place + 1) texts))
+set-more texts place text name before inside is was =
+    swap (bytes_eq (string_bytes text) name) before ∙ ap (λ b. b || bytes_eq (string_bytes text) name) was ∙ sym (one_of-more texts place text name inside is)
+
+step : (added : Bool) (a same n : Bool) (before : Bool) → before ≡ (a && not n) → (same ≡ true → not n ≡ added)
+    → (if added then before || same else before) ≡ ((a || same) && not n)
+step true true true true before was is = absurd (false≢true (is refl))
+step true true true false before was is = ap (λ b. b || true) was
+step true true false n before was is = ap (λ b. b || false) was ∙ or-none (not n)
+step true false true true before was is = absurd (false≢true (is refl))
+step true false true false before was is = ap (λ b. b || true) was
+step true false false n before was is = ap (λ b. b || false) was
+step false true true true before was is = was
+step false true true false before was is = was
+step false true false n before was is = was
+step false false true true before was is = was
+step false false true false before was is = absurd (false≢true (sym (is refl)))
+step false false false n before was is = was
+
+one_of-end : (path p : List ℕ) (paths : List (List ℕ)) → is_one_of path (paths ++ p ∷ []) ≡ (is_one_of path paths || bytes_eq p path)
+one_of-end path p paths = one_of-append path paths (p ∷ []) ∙ ap (λ b. is_one_of path paths || b) (or-none (bytes_eq p path))
+
+added_at : (others : List (List ℕ)) (p path : List ℕ) (added : Bool)
+    → is_one_of path (if added then others ++ p ∷ [] else others) ≡ (if added then is_one_of path others || bytes_eq p path else is_one_of path others)
+added_at others p path true = one_of-end path p others
+added_at others p path false = refl
+
+-- those of some paths that aren't needed, with the next path
+pub others-more : (others passed needed : List (List ℕ)) (p : List ℕ) (added : Bool) → not (is_one_of p needed) ≡ added
+    → ((path : List ℕ) → is_one_of path others ≡ (is_one_of path passed && not (is_one_of path needed)))
+    → (path : List ℕ) → is_one_of path (if added then others ++ p ∷ [] else others) ≡ (is_one_of path (passed ++ p ∷ []) && not (is_one_of path needed))
+others-more others passed needed p added is were path =
+    added_at others p path added
+    ∙ step added (is_one_of path passed) (bytes_eq p path) (is_one_of path needed) (is_one_of path others) (were path)
+    (λ same. ap (λ at. not (is_one_of at needed)) (sym ((bytes_eq-Decides p path).0 same)) ∙ is)
+    ∙ ap (λ b. b && not (is_one_of path needed)) (sym (one_of-end path p passed))
+
+some_known : {X Y : Type 0} (f : X → Y) (found : Option X) (known : Option Y) → option_map f found ≡ known → is_some found ≡ true → is_some known ≡ true
+some_known f None known e some = absurd (false≢true some)
+some_known f (Some x) known e some = ap is_some (sym e)
+
+-- the path at the next place is known too
+pub known-more : {X : Type 0} (seen : X → PathOutcome) (known : List ℕ → Option PathOutcome) (texts : List (String Global)) (place : ℕ) (text : String Global) (at : List ℕ) (found : Option X)
+    → place < length texts → text ≡ get_or texts place text → at ≡ string_bytes text → option_map seen found ≡ known at → is_some found ≡ true
+    → ((path : List ℕ) → is_one_of path (take place (map string_bytes texts)) ≡ true → is_some (known path) ≡ true)
+    → (path : List ℕ) → is_one_of path (take (place + 1) (map string_bytes texts)) ≡ true → is_some (known path) ≡ true
+known-more seen known texts place text at found inside is e finds some passed path one =
+    by (is_one_of path (map string_bytes (take place texts))) (bytes_eq (string_bytes text) path) refl refl
+    (sym (one_of-more texts place text path inside is) ∙ ap (is_one_of path) (sym (take-map string_bytes (place + 1) texts)) ∙ one)
+  where
+    by : (before same : Bool) → is_one_of path (map string_bytes (take place texts)) ≡ before → bytes_eq (string_bytes text) path ≡ same
+        → (is_one_of path (map string_bytes (take place texts)) || bytes_eq (string_bytes text) path) ≡ true → is_some (known path) ≡ true
+    by true same e1 e2 either = passed path (ap (is_one_of path) (take-map string_bytes place texts) ∙ e1)
+    by false true e1 e2 either =
+        ap (λ p. is_some (known p)) (sym ((bytes_eq-Decides (string_bytes text) path).0 e2)) ∙ ap (λ p. is_some (known p)) (sym e) ∙ some_known seen found (known at) finds some
+    by false false e1 e2 either = absurd (false≢true (sym (ap (λ b. b || bytes_eq (string_bytes text) path) e1 ∙ e2) ∙ either))
+
+-- the text at a place
+pub slice_get-text : (texts : List (String Global)) (place : ℕ) (text : String Global) (at : List ℕ) → place < length texts → text ≡ get_or texts place text → at ≡ string_bytes text
+    → slice_get (map string_bytes texts) place ≡ Some at
+slice_get-text texts place text at inside is e =
+    slice_get-map string_bytes texts place ∙ ap (option_map string_bytes) (slice_get-get_or texts place text inside ∙ ap Some (sym is)) ∙ ap Some (sym e)

@@ -1,0 +1,48 @@
+-- That a keeper is right about a world has one proof at most.
+use Rattle.std.proofs.Common.{ℕ, List, [], ◌∷◌}
+use Rattle.std.proofs.Props.{props}
+use Rattle.std.specs.Coded.{×_prop, Unit-prop}
+use Rattle.mk_paths.specs.World.{World, FileMap}
+use Rattle.mk_paths.specs.FilesView.{Question, Reply, Presence, Contents, IsReply}
+use Rattle.mk_eval.specs.Sharing.{Agrees}
+use Rattle.row_text.specs.Rows.{RowValue}
+use Rattle.index_store.specs.Entries.{Entries}
+use Rattle.index_keep.specs.declared.keeper.Progress.{Progress}
+use Rattle.index_keep.specs.declared.keeper.Progress.TheVariants.{Changed, Walking, Current}
+use Rattle.index_keep.specs.declared.keeper.Keeper.{Keeper}
+use Rattle.index_keep.specs.declared.walking.Walk.{Walk}
+use Rattle.index_keep.specs.declared.walking.Walk.TheVariants.{Directories, Listed, Needed}
+use Rattle.index_keep.specs.Shown.{ShownRows}
+use Rattle.index_keep.specs.Right.{IsRightRow, AreKept, AreCurrent}
+use Rattle.index_keep.specs.Walking.{IsWalk}
+use Rattle.index_keep.specs.Keeping.{IsProgress, IsKept}
+
+IsReply-prop : (files : FileMap) (name : List ℕ) (reply : Reply) → IsProp (IsReply files name reply)
+IsReply-prop files name (Presence there) = hlevel props
+IsReply-prop files name (Contents content) = hlevel props
+
+Agrees-prop : (files : FileMap) (questions : List Question) → IsProp (Agrees files questions)
+Agrees-prop files [] = Unit-prop
+Agrees-prop files (question ∷ questions) = ×_prop (IsReply-prop files question.0 question.1) (Agrees-prop files questions)
+
+IsRightRow-prop : (world : World) (path : List ℕ) (row : RowValue) → IsProp (IsRightRow world path row)
+IsRightRow-prop world path row = hlevel (props, Agrees-prop)
+
+AreKept-prop : (world : World) (rows : ShownRows) → IsProp (AreKept world rows)
+AreKept-prop world rows = hlevel (props, IsRightRow-prop)
+
+AreCurrent-prop : (world : World) (rows : ShownRows) → IsProp (AreCurrent world rows)
+AreCurrent-prop world rows = hlevel props
+
+IsWalk-prop : (world : World) (rows : ShownRows) (walk : Walk) → IsProp (IsWalk world rows walk)
+IsWalk-prop world rows (Directories stage) = hlevel props
+IsWalk-prop world rows (Listed stage) = hlevel props
+IsWalk-prop world rows (Needed stage listed) = hlevel props
+
+IsProgress-prop : (world : World) (rows : ShownRows) (progress : Progress) → IsProp (IsProgress world rows progress)
+IsProgress-prop world rows (Changed names) = Unit-prop
+IsProgress-prop world rows (Walking walk) = IsWalk-prop world rows walk
+IsProgress-prop world rows (Current listed) = hlevel (props, AreCurrent-prop)
+
+pub IsKept-prop : {R : Type 0} (entries : R → Entries) (world : World) (keeper : Keeper R) → IsProp (IsKept entries world keeper)
+IsKept-prop entries world keeper = hlevel (props, AreKept-prop, IsProgress-prop)

@@ -1,0 +1,84 @@
+-- What is shown of stored rows, and what is fresh of them.
+use Rattle.std.proofs.Common.{◌≡◌, ◌∙◌, sym, ap, refl, ℕ, Bool, true, false, ◌||◌, if◌then◌else◌, List, [], ◌∷◌, Option, Some, None, option_map, option_and_then}
+use Rattle.std.specs.List.{list_any}
+use Rattle.ports_index.specs.Filling.{is_one_of}
+use Rattle.row_text.specs.Rows.{RowValue, row_of}
+use Rattle.index_store.specs.Entries as store
+use Rattle.index_store.specs.Entries.{StoredValue, Entries, Marks}
+use Rattle.index_keep.specs.Shown.{ShownRow, shown, show_row, show_stored, asked_one, no_name, fresh, fresh_outcome, ShowsSame}
+use Rattle.index_keep.specs.Judging.{Fresh, Outdated, Unusable, judge, judge_row, outcome_of, is_outdated, fresh_at, outdated_at}
+
+-- no row asked for a name of which there is none
+asked-no_name : (names : List (List ℕ)) → list_any no_name names ≡ false
+asked-no_name [] = refl
+asked-no_name (name ∷ names) = asked-no_name names
+
+fresh_by : (test : List ℕ → Bool) (row : RowValue) (stale asked : Bool) → asked_one test row ≡ asked
+    → fresh_outcome (show_row test stale row) ≡ outcome_of (if stale then Unusable else judge_row test (Some row))
+fresh_by test row true asked is = refl
+fresh_by test row false true is = ap (λ b. if b then None else Some row.outcome) is ∙ sym (ap (λ (b : Bool). outcome_of (if b then Outdated else Fresh row.outcome)) is)
+fresh_by test row false false is = ap (λ b. if b then None else Some row.outcome) is ∙ sym (ap (λ (b : Bool). outcome_of (if b then Outdated else Fresh row.outcome)) is)
+
+none_fresh : (test : List ℕ → Bool) (stale : Bool) → None ≡ outcome_of (if stale then Unusable else judge_row test None)
+none_fresh test true = refl
+none_fresh test false = refl
+
+fresh_stored : (test : List ℕ → Bool) (stale : Bool) (row : Option RowValue)
+    → option_and_then fresh_outcome (option_map (show_row test stale) row) ≡ outcome_of (if stale then Unusable else judge_row test row)
+fresh_stored test stale None = none_fresh test stale
+fresh_stored test stale (Some row) = fresh_by test row stale (asked_one test row) refl
+
+fresh_of : (test : List ℕ → Bool) (stored : Option StoredValue)
+    → option_and_then fresh_outcome (option_and_then (show_stored test) stored) ≡ option_and_then (λ (one : StoredValue). outcome_of (judge test one)) stored
+fresh_of test None = refl
+fresh_of test (Some stored) = fresh_stored test stored.stale (row_of stored.text)
+
+-- what is fresh of stored rows
+pub fresh-shown : (test : List ℕ → Bool) (entries : Entries) (path : List ℕ) → fresh (shown test entries) path ≡ fresh_at test entries path
+fresh-shown test entries path = fresh_of test (entries path)
+
+module _ (test : List ℕ → Bool) where
+  same_stale : (row : RowValue) (stale asked : Bool) → asked_one test row ≡ asked
+      → ((if is_outdated (if stale then Unusable else judge_row test (Some row)) then true else stale) || asked_one no_name row) ≡ (stale || asked_one test row)
+  same_stale row true asked is = refl
+  same_stale row false true is =
+      ap (λ (b : Bool). (if is_outdated (if b then Outdated else Fresh row.outcome) then true else false) || asked_one no_name row) is ∙ sym is
+  same_stale row false false is =
+      ap (λ (b : Bool). (if is_outdated (if b then Outdated else Fresh row.outcome) then true else false) || asked_one no_name row) is
+      ∙ asked-no_name row.names ∙ sym is
+
+  row_marked : (row : RowValue) (stale marked : Bool) → marked ≡ is_outdated (if stale then Unusable else judge_row test (Some row))
+      → show_row no_name (if marked then true else stale) row ≡ show_row test stale row
+  row_marked row stale marked is =
+      ap (λ (stale : Bool). let found : ShownRow = record { row = row; stale = stale } in found)
+      (ap (λ (b : Bool). (if b then true else stale) || asked_one no_name row) is ∙ same_stale row stale (asked_one test row) refl)
+
+  stored_marked : (row : Option RowValue) (stale marked : Bool) → marked ≡ is_outdated (if stale then Unusable else judge_row test row)
+      → option_map (show_row no_name (if marked then true else stale)) row ≡ option_map (show_row test stale) row
+  stored_marked None stale marked is = refl
+  stored_marked (Some row) stale marked is = ap Some (row_marked row stale marked is)
+
+  mark_by : (stored : StoredValue) (marked : Bool) → option_and_then (show_stored no_name) (if marked then option_map store.marked (Some stored) else Some stored)
+      ≡ option_map (show_row no_name (if marked then true else stored.stale)) (row_of stored.text)
+  mark_by stored true = refl
+  mark_by stored false = refl
+
+  entry_marked : (stored : Option StoredValue) (marked : Bool) → marked ≡ outdated_at test (λ path. stored) []
+      → option_and_then (show_stored no_name) (if marked then option_map store.marked stored else stored) ≡ option_and_then (show_stored test) stored
+  entry_marked None true is = refl
+  entry_marked None false is = refl
+  entry_marked (Some stored) marked is = mark_by stored marked ∙ stored_marked (row_of stored.text) stored.stale marked is
+
+  -- rows that are marked are shown as they were before the names were forgotten
+  pub shown-marked : (paths : List (List ℕ)) (old new : Entries) → ((path : List ℕ) → is_one_of path paths ≡ outdated_at test old path) → Marks paths old new
+      → ShowsSame (shown test old) (shown no_name new)
+  shown-marked paths old new outdated marks path =
+      ap (option_and_then (show_stored no_name)) (marks path) ∙ entry_marked (old path) (is_one_of path paths) (outdated path)
+
+-- the same stored rows are shown the same
+pub shown-same : (test : List ℕ → Bool) (old new : Entries) → ((path : List ℕ) → new path ≡ old path) → ShowsSame (shown test old) (shown test new)
+shown-same test old new same path = ap (option_and_then (show_stored test)) (same path)
+
+-- a test that passes the same names shows the same
+pub shown-test : (one other : List ℕ → Bool) (entries : Entries) → ((name : List ℕ) → one name ≡ other name) → ShowsSame (shown other entries) (shown one entries)
+shown-test one other entries same path = ap (λ (test : List ℕ → Bool). shown test entries path) (λ i name. same name i)

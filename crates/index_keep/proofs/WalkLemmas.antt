@@ -1,0 +1,222 @@
+-- A refresh that goes through paths.
+use Rattle.std.proofs.Common.{◌≡◌, ◌∙◌, sym, ap, subst, refl, ℕ, zero, suc, Bool, true, false, ◌||◌, ◌⊎◌, inl, inr, if◌then◌else◌, List, [], ◌∷◌, ◌++◌, take, Option, Some, None, is_some, option_and_then, slice_get}
+use Rattle.std.proofs.lemmas.Bool.{false≢true, or_right}
+use Rattle.std.proofs.lemmas.Slice.Eq.{bytes_eq-Decides}
+use Rattle.std.specs.List.{filter_map, flat_map}
+use Rattle.std.specs.Str.{bytes_eq}
+use Rattle.text_parts.specs.Ordered.{among-in_order}
+use Rattle.mk_paths.specs.World.{World, files_in}
+use Rattle.mk_paths.specs.FilesView.{FilesView, failed}
+use Rattle.mk_paths.specs.declared.asking.FilesFault.{FilesFault}
+use Rattle.mk_paths.specs.declared.asking.FilesFault.TheVariants as faults
+use Rattle.ports_index.specs.Depending.{items_among, target_of}
+use Rattle.ports_index.specs.Filling.{is_one_of}
+use Rattle.ports_index.specs.Index.{listed_paths, needed_among, needed_paths}
+use Rattle.ports_index.specs.Keeping.{Counts, Keeps}
+use Rattle.ports_index.specs.Naming.{directories, listed_from, named_at}
+use Rattle.ports_index.specs.PathOutcomes.{outcome_at, cost_at}
+use Rattle.ports_index.specs.RowLaws.{HaveRows, KnownRowsAreEnough}
+use Rattle.ports_index.specs.Seen.{entries_in, known_in}
+use Rattle.index_store.specs.Entries.{Entries, SameRows}
+use Rattle.index_keep.specs.declared.walking.Stage.{Stage}
+use Rattle.ports_index.specs.declared.keeping.MemoryRows.{MemoryRows}
+use Rattle.index_keep.specs.Shown.{ShownRow, ShownRows, fresh, fresh_outcome, shown, no_name}
+use Rattle.index_keep.specs.Right.{IsRightRow, AreKept, AreCurrent, right_row, fresh_row, LeavesFiles, RenewsOneOf, RenewsRow}
+use Rattle.index_keep.specs.Walking.{IsStage, paths_of, LacksNone, IsLackingAt, ListsPaths, NeedsPaths}
+use Rattle.index_keep.proofs.SortLemmas.{one_of-append}
+
+-- ---- which paths are among which
+
+pub listed-has : (world : World) (path : List ℕ) → is_one_of path (directories (files_in world)) ≡ true → is_one_of path (listed_paths world) ≡ true
+listed-has world path is =
+    let named = flat_map (named_at (outcome_at world)) (directories (files_in world)) in
+    among-in_order (λ one. bytes_eq one path) (named ++ directories (files_in world))
+    ∙ one_of-append path named (directories (files_in world)) ∙ or_right (is_one_of path named) (is_one_of path (directories (files_in world))) is
+
+pub needed-has : (world : World) (path : List ℕ) → is_one_of path (listed_paths world) ≡ true → is_one_of path (needed_paths world) ≡ true
+needed-has world path is =
+    let targets = filter_map target_of (items_among (outcome_at world) (listed_paths world)) in
+    among-in_order (λ one. bytes_eq one path) (listed_paths world ++ targets)
+    ∙ one_of-append path (listed_paths world) targets ∙ ap (λ b. b || is_one_of path targets) is
+
+pub one_of-at : (paths : List (List ℕ)) (place : ℕ) (path : List ℕ) → slice_get paths place ≡ Some path → is_one_of path paths ≡ true
+one_of-at [] place path is = absurd cc
+one_of-at (first ∷ paths) zero path is = ap (λ b. b || is_one_of path paths) ((bytes_eq-Decides first path).1 cc)
+one_of-at (first ∷ paths) (suc place) path is = or_right (bytes_eq first path) (is_one_of path paths) (one_of-at paths place path is)
+
+-- ---- rows that are right
+
+module _ (world : World) (rows : ShownRows) (kept : AreKept world rows) where
+  shown_by : (path : List ℕ) (row : ShownRow) (stale : Bool) → row.stale ≡ stale → rows path ≡ Some row → is_some (if stale then None else Some row.row.outcome) ≡ true
+      → rows path ≡ Some (fresh_row world path)
+  shown_by path row true e is some = absurd (false≢true some)
+  shown_by path row false e is some =
+      is ∙ ap Some (ap (λ (stale : Bool). let one : ShownRow = record { row = row.row; stale = stale } in one) e
+      ∙ ap (λ row. let one : ShownRow = record { row = row; stale = false } in one) (kept.right path row is e).same)
+
+  shown_at : (path : List ℕ) (row : Option ShownRow) → rows path ≡ row → is_some (option_and_then fresh_outcome row) ≡ true → rows path ≡ Some (fresh_row world path)
+  shown_at path None is some = absurd (false≢true some)
+  shown_at path (Some row) is some = shown_by path row row.stale refl is some
+
+  -- a row that is fresh is the right one
+  pub row-fresh : (path : List ℕ) → is_some (fresh rows path) ≡ true → rows path ≡ Some (fresh_row world path)
+  row-fresh path some = shown_at path (rows path) refl some
+
+  pub outcome-fresh : (path : List ℕ) → is_some (fresh rows path) ≡ true → fresh rows path ≡ Some (outcome_at world path)
+  outcome-fresh path some = ap (option_and_then fresh_outcome) (row-fresh path some)
+
+  pub have-fresh : (paths : List (List ℕ)) → ((path : List ℕ) → is_one_of path paths ≡ true → is_some (fresh rows path) ≡ true) → HaveRows world (fresh rows) paths
+  have-fresh paths known path is = outcome-fresh path (known path is)
+
+  -- the rows of needed paths are left
+  module _ (new : ShownRows) (needed : (path : List ℕ) → is_one_of path (needed_paths world) ≡ true → is_some (fresh rows path) ≡ true)
+      (left : (path : List ℕ) → new path ≡ (if is_one_of path (needed_paths world) then rows path else None)) where
+    current_at : (path : List ℕ) (is : Bool) → is_one_of path (needed_paths world) ≡ is → (if is then rows path else None) ≡ (if is then Some (fresh_row world path) else None)
+    current_at path true is = row-fresh path (needed path is)
+    current_at path false is = refl
+
+    pub AreCurrent-left : AreCurrent world new
+    AreCurrent-left = record { each = λ path. left path ∙ current_at path (is_one_of path (needed_paths world)) refl }
+
+    right_at : (path : List ℕ) (is : Bool) → is_one_of path (needed_paths world) ≡ is → (row : ShownRow) → new path ≡ Some row → row.stale ≡ false → IsRightRow world path row.row
+    right_at path true is row e stale = kept.right path row (sym (left path ∙ ap (λ (b : Bool). if b then rows path else None) is) ∙ e) stale
+    right_at path false is row e stale =
+        let none : new path ≡ None = left path ∙ ap (λ (b : Bool). if b then rows path else None) is in absurd cc
+
+    pub AreKept-left : AreKept world new
+    AreKept-left = record { right = λ path row e stale. right_at path (is_one_of path (needed_paths world)) refl row e stale }
+
+  -- a path has its row now
+  module _ (path : List ℕ) (right : IsRightRow world path (right_row world path)) (new : ShownRows)
+      (put : (other : List ℕ) → new other ≡ (if bytes_eq path other then Some (fresh_row world path) else rows other)) where
+    put_right : (other : List ℕ) (same : Bool) → bytes_eq path other ≡ same → (row : ShownRow) → new other ≡ Some row → row.stale ≡ false → IsRightRow world other row.row
+    put_right other true same row e stale =
+        let there : new other ≡ Some (fresh_row world path) = put other ∙ ap (λ (b : Bool). if b then Some (fresh_row world path) else rows other) same in
+        let the_row : fresh_row world path ≡ row = cc in
+        subst (λ (one : ShownRow). IsRightRow world other one.row) the_row (subst (λ at. IsRightRow world at (right_row world path)) ((bytes_eq-Decides path other).0 same) right)
+    put_right other false same row e stale = kept.right other row (sym (put other ∙ ap (λ (b : Bool). if b then Some (fresh_row world path) else rows other) same) ∙ e) stale
+
+    pub AreKept-put : AreKept world new
+    AreKept-put = record { right = λ other row e stale. put_right other (bytes_eq path other) refl row e stale }
+
+    fresh_by : (other : List ℕ) (same : Bool) → option_and_then fresh_outcome (if same then Some (fresh_row world path) else rows other) ≡ (if same then Some (outcome_at world path) else fresh rows other)
+    fresh_by other true = refl
+    fresh_by other false = refl
+
+    pub fresh-put : (other : List ℕ) → fresh new other ≡ (if bytes_eq path other then Some (outcome_at world path) else fresh rows other)
+    fresh-put other = ap (option_and_then fresh_outcome) (put other) ∙ fresh_by other (bytes_eq path other)
+
+    still_by : (other : List ℕ) (same : Bool) → is_some (fresh rows other) ≡ true → is_some (if same then Some (outcome_at world path) else fresh rows other) ≡ true
+    still_by other true some = refl
+    still_by other false some = some
+
+    pub still-fresh : (other : List ℕ) → is_some (fresh rows other) ≡ true → is_some (fresh new other) ≡ true
+    still-fresh other some = ap is_some (fresh-put other) ∙ still_by other (bytes_eq path other) some
+
+  -- ---- one stage after another
+
+  module _ (enough : KnownRowsAreEnough) (before stage : Stage) (none : LacksNone before)
+      (knows : (path : List ℕ) → entries_in before.known path ≡ fresh rows path) where
+    same_known : entries_in before.known ≡ fresh rows
+    same_known i path = knows path i
+
+    nothing_passed : (paths : List (List ℕ)) (place : ℕ) → place ≡ 0 → (path : List ℕ) → is_one_of path (take place paths) ≡ true → is_some (fresh rows path) ≡ true
+    nothing_passed paths place start path is = absurd (false≢true (sym (ap (λ n. is_one_of path (take n paths)) start) ∙ is))
+
+    all_known : (paths : List (List ℕ)) → paths_of before ≡ paths → (path : List ℕ) → is_one_of path paths ≡ true → is_some (fresh rows path) ≡ true
+    all_known paths are path is = ap is_some (sym (knows path)) ∙ none path (ap (is_one_of path) are ∙ is)
+
+    pub IsStage-listed : paths_of before ≡ directories (files_in world) → ListsPaths before stage → IsStage (fresh rows) (listed_paths world) stage
+    IsStage-listed are lists = record {
+      through = lists.paths ∙ ap (λ known. listed_from (known_in known) (paths_of before)) same_known ∙ ap (listed_from (known_in (fresh rows))) are
+          ∙ enough.listed world (fresh rows) (have-fresh (directories (files_in world)) (all_known (directories (files_in world)) are));
+      knows = λ path. lists.known path ∙ knows path;
+      passed = nothing_passed (listed_paths world) stage.place lists.place;
+    }
+
+    pub IsStage-needed : (listed : List (List ℕ)) → paths_of before ≡ listed_paths world → NeedsPaths before stage listed → IsStage (fresh rows) (needed_paths world) stage
+    IsStage-needed listed are needs = record {
+      through = needs.paths ∙ ap (λ known. needed_among (known_in known) (paths_of before)) same_known ∙ ap (needed_among (known_in (fresh rows))) are
+          ∙ enough.needed world (fresh rows) (have-fresh (listed_paths world) (all_known (listed_paths world) are));
+      knows = λ path. needs.known path ∙ knows path;
+      passed = nothing_passed (needed_paths world) stage.place needs.place;
+    }
+
+-- ---- what is left of files
+
+counts_on : (fault : FilesFault) (first middle last : FilesView) → middle.failures ≡ first.failures
+    → (last.failures ≡ middle.failures) ⊎ (last.failures ≡ (failed middle).failures) → (last.failures ≡ first.failures) ⊎ (last.failures ≡ (failed first).failures)
+counts_on fault first middle last same more =
+    elim more [ inl e ↦ inl (e ∙ same) | inr e ↦ inr (e ∙ ap (λ n. (failed (record first { failures = n })).failures) same) ]
+
+-- work that went well, and then more
+pub LeavesFiles-on : (fault : Option FilesFault) (first middle last : FilesView) → Keeps None first middle → LeavesFiles fault middle last → LeavesFiles fault first last
+LeavesFiles-on None first middle last one more = record { files = more.files ∙ one.files; failures = more.failures ∙ one.failures }
+LeavesFiles-on (Some fault) first middle last one more = (more.0 ∙ one.files, counts_on fault first middle last one.failures more.1)
+
+counted : (fault : FilesFault) (old new : FilesView) → Counts (Some fault) old new → (new.failures ≡ old.failures) ⊎ (new.failures ≡ (failed old).failures)
+counted faults.Store old new counts = inr counts
+counted faults.Memory old new counts = counts
+
+-- files that failed, or that work found no memory for
+pub LeavesFiles-failed : (fault : Option FilesFault) (old new : FilesView) → Keeps fault old new → LeavesFiles fault old new
+LeavesFiles-failed None old new keeps = keeps
+LeavesFiles-failed (Some fault) old new keeps = (keeps.files, counted fault old new keeps.failures)
+
+-- work that went well with the files, and then failed otherwise
+pub LeavesFiles-other : (fault : FilesFault) (old new : FilesView) → Keeps None old new → LeavesFiles (Some fault) old new
+LeavesFiles-other fault old new keeps = (keeps.files, inl keeps.failures)
+
+pub Keeps-nothing : (view : FilesView) → Keeps None view view
+Keeps-nothing view = record { files = refl; failures = refl }
+
+-- ---- one stage after another, over rows and files that are the same
+
+module _ (enough : KnownRowsAreEnough) (world : World) (old new : Entries) (same_rows : SameRows old new) (kept : AreKept world (shown no_name old)) where
+  entries_same : new ≡ old
+  entries_same i path = same_rows path i
+
+  pub AreKept-after : AreKept world (shown no_name new)
+  AreKept-after = subst (λ (entries : Entries). AreKept world (shown no_name entries)) (sym entries_same) kept
+
+  pub listed-after : (before same stage : Stage) → IsStage (fresh (shown no_name old)) (directories (files_in world)) before → same ≡ before → LacksNone before
+      → ListsPaths same stage → IsStage (fresh (shown no_name new)) (listed_paths world) stage
+  listed-after before same stage is e none lists =
+      subst (λ (entries : Entries). IsStage (fresh (shown no_name entries)) (listed_paths world) stage) (sym entries_same)
+      (IsStage-listed world (shown no_name old) kept enough before stage none is.knows is.through (subst (λ (s : Stage). ListsPaths s stage) e lists))
+
+  pub needed-after : (before same stage : Stage) (listed : List (List ℕ)) → IsStage (fresh (shown no_name old)) (listed_paths world) before → same ≡ before → LacksNone before
+      → NeedsPaths same stage listed → IsStage (fresh (shown no_name new)) (needed_paths world) stage × (listed ≡ listed_paths world)
+  needed-after before same stage listed is e none needs =
+      let needs' : NeedsPaths before stage listed = subst (λ (s : Stage). NeedsPaths s stage listed) e needs in (
+        subst (λ (entries : Entries). IsStage (fresh (shown no_name entries)) (needed_paths world) stage) (sym entries_same)
+            (IsStage-needed world (shown no_name old) kept enough before stage none is.knows listed is.through needs'),
+        needs'.kept ∙ is.through,
+      )
+
+-- one row was renewed, of a stage whose paths are needed
+pub RenewsRow-among : (world : World) (paths : List (List ℕ)) (old new : ShownRows) (units : ℕ) → ((path : List ℕ) → is_one_of path paths ≡ true → is_one_of path (needed_paths world) ≡ true)
+    → RenewsOneOf world paths old new units → RenewsRow world old new units
+RenewsRow-among world paths old new units needed renews = record {
+  path = renews.path;
+  needed = needed renews.path renews.needed;
+  lacking = renews.lacking;
+  cost = renews.cost;
+  rows = renews.rows;
+}
+
+-- the next path of a stage that has no fresh row was given its row
+pub pass-one : (world : World) (old new : ShownRows) (kept : AreKept world old) (stage : Stage) (is : IsStage (fresh old) (paths_of stage) stage) (place : ℕ) (found : IsLackingAt stage place)
+    (path : List ℕ) → slice_get (paths_of stage) place ≡ Some path → (units : ℕ) → units ≡ cost_at world path → (right : IsRightRow world path (right_row world path))
+    → (put : (other : List ℕ) → new other ≡ (if bytes_eq path other then Some (fresh_row world path) else old other))
+    → (known : MemoryRows) → ((other : List ℕ) → entries_in known other ≡ (if bytes_eq path other then Some (outcome_at world path) else entries_in stage.known other))
+    → RenewsOneOf world (paths_of stage) old new units × AreKept world new × IsStage (fresh new) (paths_of stage) (record { paths = stage.paths; place = place; known = known })
+pass-one world old new kept stage is place found path at units cost right put known puts = (
+  record { path = path; needed = one_of-at (paths_of stage) place path at; lacking = sym (is.knows path) ∙ found.lacking path at; cost = cost; rows = put },
+  AreKept-put world old kept path right new put,
+  record {
+    through = refl;
+    knows = λ other. puts other ∙ ap (λ row. if bytes_eq path other then Some (outcome_at world path) else row) (is.knows other) ∙ sym (fresh-put world old kept path right new put other);
+    passed = λ other one. still-fresh world old kept path right new put other (ap is_some (sym (is.knows other)) ∙ found.passed other one);
+  },
+)

@@ -1,0 +1,33 @@
+-- The rows that asked for the name are stale, and the others as they were.
+use Rattle.std.proofs.Common.{◌≡◌, ◌∙◌, ap, ◌||◌, option_map}
+use Rattle.std.specs.Str.{bytes_eq}
+use Rattle.index_keep.specs.Shown.{stale_if_asked}
+use Rattle.index_keep.specs.Keeping.{changed_in, rows_of}
+use Rattle.index_keep.proofs.KeepLemmas.{shown-more, AreKept-noted, DifferAt-itself, IsProgress-dropped}
+use Rattle.index_keep.proofs.keeper.Keeper.note_change.Goals as goal
+use Rattle.index_keep.proofs.keeper.Keeper.note_change.Goals.{then-is_full+in_ok-write_marks, else-is_full}
+
+pub returns-clause-rows : goal.returns-clause-rows
+returns-clause-rows g c = λ path.
+    let entries = g.R.PathRows.entries in
+    let name = c.in_ok-name.ensures.ok ∙ c.as_str.ensures.text in
+    let same : rows_of entries c.if-is_full.self path ≡ rows_of entries c.args.self.now path = elim c.if-is_full.branch [
+      | then-is_full+in_ok-write_marks w ↦ (λ i. rows_of entries (w.self-is i) path) ∙ w.in_ok-write_marks.ensures.rows path
+      | else-is_full w ↦ (λ i. rows_of entries (w.self-is i) path)
+    ] in
+    shown-more c.args.name.now (changed_in c.if-is_full.self.progress) (changed_in c.add_change.new.self)
+    (λ other. c.in_ok-add_change.ensures.changed other ∙ ap (λ bytes. bytes_eq bytes other || changed_in c.if-is_full.self.progress other) name)
+    (entries c.if-is_full.self.rows) path
+    ∙ ap (option_map (stale_if_asked c.args.name.now)) same
+
+pub returns-clause-kept : goal.returns-clause-kept
+returns-clause-kept g c = λ world kept. record {
+  rows = AreKept-noted c.args.name.now world world (DifferAt-itself c.args.name.now world) c.path_is_the_same_where_answered.ensures (rows_of g.R.PathRows.entries c.args.self.now) _ (returns-clause-rows g c) kept.rows;
+  progress = IsProgress-dropped world _ c.add_change.new.self c.in_ok-add_change.ensures.dropped;
+}
+
+pub returns-clause-other : goal.returns-clause-other
+returns-clause-other g c = λ world other differ kept. record {
+  rows = AreKept-noted c.args.name.now world other differ c.path_is_the_same_where_answered.ensures (rows_of g.R.PathRows.entries c.args.self.now) _ (returns-clause-rows g c) kept.rows;
+  progress = IsProgress-dropped other _ c.add_change.new.self c.in_ok-add_change.ensures.dropped;
+}

@@ -1,0 +1,56 @@
+-- The rows of an index as they are shown: each with whether it is stale.
+use Rattle.std.specs.Prelude.{◌≡◌, ℕ, ◌||◌, if◌then◌else◌, Bool, true, false, List, Option, Some, None, option_map, option_and_then}
+use Rattle.std.specs.List.{list_any}
+use Rattle.std.specs.Str.{bytes_eq}
+use Rattle.ports_index.specs.PathOutcomes.{PathOutcome}
+use Rattle.row_text.specs.Rows.{RowValue, row_of}
+use Rattle.index_store.specs.Entries.{StoredValue, Entries}
+
+pub record ShownRow : Type 0 where
+  pub row : RowValue
+  pub stale : Bool
+
+-- the row that is shown for each path, if there is one
+abbrev pub ShownRows : Type 0
+ShownRows = List ℕ → Option ShownRow
+
+-- a row that asked for a name that passes this test
+abbrev pub asked_one : (List ℕ → Bool) → RowValue → Bool
+asked_one test row = list_any test row.names
+
+-- A row as it is shown after the names that pass this test have changed. It is stale if it is marked so, or
+-- if it asked for one of these names.
+abbrev pub show_row : (List ℕ → Bool) → Bool → RowValue → ShownRow
+show_row test marked row = record { row = row; stale = marked || asked_one test row }
+
+-- the same of stored bytes; bytes that are no row show none
+abbrev pub show_stored : (List ℕ → Bool) → StoredValue → Option ShownRow
+show_stored test stored = option_map (show_row test stored.stale) (row_of stored.text)
+
+-- the rows that are shown, by those that are stored, after the names that pass this test have changed
+abbrev pub shown : (List ℕ → Bool) → Entries → ShownRows
+shown test entries path = option_and_then (show_stored test) (entries path)
+
+-- no name has changed
+abbrev pub no_name : List ℕ → Bool
+no_name name = false
+
+-- the same rows are shown
+abbrev pub ShowsSame : ShownRows → ShownRows → Type 0
+ShowsSame old new = (path : List ℕ) → new path ≡ old path
+
+-- what a row says of its path, unless it is stale
+abbrev pub fresh_outcome : ShownRow → Option PathOutcome
+fresh_outcome row = if row.stale then None else Some row.row.outcome
+
+-- what rows that aren't stale say of each path
+abbrev pub fresh : ShownRows → List ℕ → Option PathOutcome
+fresh rows path = option_and_then fresh_outcome (rows path)
+
+-- a row is stale now if it asked for this name
+abbrev pub stale_if_asked : List ℕ → ShownRow → ShownRow
+stale_if_asked name row = record row { stale = row.stale || asked_one (λ asked. bytes_eq name asked) row.row }
+
+-- a row is stale now
+abbrev pub made_stale : ShownRow → ShownRow
+made_stale row = record row { stale = true }

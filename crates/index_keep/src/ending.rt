@@ -1,0 +1,40 @@
+//! The end of a refresh: rows that nothing needs are taken out.
+ghost use Rattle.std.specs.Prelude.{◌≡◌, ◌&&◌, not, ℕ, List, if◌then◌else◌, None, map, string_bytes, IfOk, OnOk, OnErr};
+ghost use Rattle.ports_index.specs.Filling.{is_one_of};
+ghost use Rattle.index_store.specs.Entries.{SameRows};
+
+use crate::names::set_of;
+use index_store::PathRows;
+use mk_paths::FilesFault;
+use std::alloc::{AllocError, Global};
+
+/// Takes out the rows of all paths but these. If it fails, all rows stay.
+pub(crate) fn take_out_others<R: PathRows>(
+    alloc: Global,
+    rows: &mut R,
+    needed: &[String],
+) -> Result<(), FilesFault>
+    ensures ok { OnOk result ((path : List ℕ) → R.entries rows.new path
+        ≡ (if is_one_of path (map string_bytes needed.now) then R.entries rows.old path else None)) }
+    ensures err { OnErr result (SameRows (R.entries rows.old) (R.entries rows.new)) }
+{
+    let paths = rows.paths(alloc)?;
+    let others = others(alloc, paths, needed)?;
+    rows.take_out(&others)
+}
+
+// Those of these paths that aren't needed.
+fn others(alloc: Global, paths: Vec<String>, needed: &[String]) -> Result<Vec<String>, AllocError>
+    ensures { IfOk result (λ others. (path : List ℕ) → is_one_of path (map string_bytes others.items)
+        ≡ (is_one_of path (map string_bytes paths.items)
+        && not (is_one_of path (map string_bytes needed.now)))) }
+{
+    let needed = set_of(alloc, needed)?;
+    let mut others = Vec::new(alloc);
+    for path in paths {
+        if !needed.contains(path.as_str()) {
+            others.push(path)?;
+        }
+    }
+    Ok(others)
+}

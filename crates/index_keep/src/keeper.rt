@@ -1,0 +1,326 @@
+//! The keeper of one tenant's index.
+ghost use Rattle.std.specs.Prelude.{◌≡◌, ◌||◌, ℕ, List, None, Ok, option_map, string_bytes, IfOk, OnOk, OnErr};
+ghost use Rattle.std.specs.BTreeSet.{contains_text};
+ghost use Rattle.std.specs.Result.{result_err};
+ghost use Rattle.std.specs.Str.{bytes_eq};
+ghost use Rattle.mk_paths.specs.FilesView.{world_of};
+ghost use Rattle.mk_paths.specs.World.{World};
+ghost use Rattle.ports_index.specs.Index as indexed;
+ghost use Rattle.read_trace.specs.Recording.{view_of};
+ghost use Rattle.mk_paths.specs.declared.search_path.Settings.{Settings};
+ghost use Rattle.index_store.specs.Entries.{SameRows};
+ghost use Rattle.index_keep.specs.Shown.{shown, no_name, ShowsSame, made_stale, stale_if_asked};
+ghost use Rattle.index_keep.specs.Right.{DifferAt, LeavesFiles};
+ghost use Rattle.index_keep.specs.Turns.{TakesTurn, units_left};
+ghost use Rattle.index_keep.specs.Walking.{IsWalk, IsOnTheWay};
+ghost use Rattle.index_keep.specs.Keeping.{rows_of, changed_in, IsKept, IsDone, IsDropped, HasForgotten, Stops};
+
+use crate::beginning::{begin, fresh_rows};
+use crate::names::insert_name;
+use crate::walking::{Onward, Refreshed, Walk, begin_walk, go_on};
+use index_store::PathRows;
+use mk_files::Listing;
+use mk_paths::{FilesFault, Name, Settings};
+use port_deps::{Root, RootEdge};
+use ports_index::{
+    edges_among, known_rows_are_enough, one_row_more_leaves_less, path_is_the_same_where_answered,
+    roots_of_all,
+};
+use read_trace::Recorder;
+use std::alloc::{AllocError, Global};
+use std::collections::BTreeSet;
+use std::mem;
+
+/// The most names that are known to have changed. Once there are more, the rows that asked for them are
+/// marked, and the names are forgotten.
+const MOST_CHANGED: usize = 1024;
+
+/// How far the index is refreshed.
+#[derive(Debug, Drop)]
+pub(crate) enum Progress {
+    /// Files of these names have changed since a refresh began.
+    Changed(BTreeSet<String>),
+    /// A refresh is under way.
+    Walking(Walk),
+    /// All rows are right, and these are the listed paths.
+    Current(Vec<String>),
+}
+
+/// The index of one tenant: a row for each path on which it depends, and what has changed since.
+#[derive(Drop)]
+pub struct Keeper<R: PathRows + Drop> {
+    rows: R,
+    progress: Progress,
+}
+
+impl<R: PathRows + Drop> Keeper<R> {
+    /// A keeper over rows, of which there are none yet.
+    pub fn new(alloc: Global, rows: R) -> Keeper<R>
+        requires { (path : List ℕ) → R.entries rows path ≡ None }
+        ensures { (world : World) → IsKept R.entries world result }
+    {
+        Keeper {
+            rows,
+            progress: Progress::nothing(alloc),
+        }
+    }
+
+    /// Notes that the file of this name is about to change, or to appear, or to go. The rows that asked for
+    /// the name are stale from now on, and no other row changes. So the rows are right in the world before
+    /// the change and in the one after it.
+    ///
+    /// It fails if the rows fail, or if memory runs out. Then no row changes.
+    pub fn note_change(&mut self, alloc: Global, name: &Name) -> Result<(), FilesFault>
+        ensures rows { OnOk result ((path : List ℕ) → rows_of R.entries self.new path
+            ≡ option_map (stale_if_asked name.now) (rows_of R.entries self.old path)) }
+        ensures err { OnErr result (ShowsSame (rows_of R.entries self.old) (rows_of R.entries self.new)) }
+        ensures kept { (world : World) → IsKept R.entries world self.old → IsKept R.entries world self.new }
+        ensures other { OnOk result ((world other : World) → DifferAt name.now world other
+            → IsKept R.entries world self.old → IsKept R.entries other self.new) }
+    {
+        path_is_the_same_where_answered();
+        if self.is_full() {
+            self.write_marks(alloc)?;
+        }
+        let name = String::from_str(alloc, name.as_str())?;
+        self.progress.add_change(alloc, name)?;
+        Ok(())
+    }
+
+    /// Notes that the search path is about to change. All rows are stale from now on.
+    ///
+    /// It fails if the rows fail. Then no row changes.
+    pub fn note_path(&mut self, alloc: Global) -> Result<(), FilesFault>
+        ensures rows { OnOk result ((path : List ℕ) → rows_of R.entries self.new path
+            ≡ option_map made_stale (rows_of R.entries self.old path)) }
+        ensures err { OnErr result (ShowsSame (rows_of R.entries self.old) (rows_of R.entries self.new)) }
+        ensures kept { (world : World) → IsKept R.entries world self.old → IsKept R.entries world self.new }
+        ensures other { OnOk result ((world : World) → IsKept R.entries world self.new) }
+    {
+        self.rows.mark_all()?;
+        self.progress = Progress::nothing(alloc);
+        Ok(())
+    }
+
+    /// Goes on with a refresh, or begins one, up to the next path that has no fresh row: that path is
+    /// evaluated in these files under these settings, and its row is written. Once each path has its row,
+    /// the rows that nothing needs are taken out, and the refresh is done.
+    ///
+    /// It fails if the files or the rows fail, or if memory runs out. Then no row changes.
+    pub fn refresh_turn<F: Listing + Drop>(
+        &mut self,
+        alloc: Global,
+        files: &mut Recorder<F>,
+        settings: &Settings,
+    ) -> Result<Refreshed, FilesFault>
+        requires { IsKept R.entries (world_of (view_of F.view files.old) settings.now) self.old }
+        ensures turn { IfOk result (TakesTurn (world_of (view_of F.view files.old) settings.now)
+            (rows_of R.entries self.old) (rows_of R.entries self.new)) }
+        ensures done { result ≡ Ok Refreshed.Done → IsDone self.new }
+        ensures err { OnErr result (ShowsSame (rows_of R.entries self.old) (rows_of R.entries self.new)) }
+        ensures kept { IsKept R.entries (world_of (view_of F.view files.old) settings.now) self.new }
+        ensures leaves { LeavesFiles (result_err result) (view_of F.view files.old) (view_of F.view files.new) }
+    {
+        match mem::replace(&mut self.progress, Progress::nothing(alloc)) {
+            Progress::Changed(names) => {
+                let walk = self.begun(alloc, files, names)?;
+                self.walk_on(alloc, files, settings, walk)
+            }
+            Progress::Walking(walk) => self.walk_on(alloc, files, settings, walk),
+            Progress::Current(listed) => {
+                self.progress = Progress::Current(listed);
+                Ok(Refreshed::Done)
+            }
+        }
+    }
+
+    // Goes on with a walk that was taken out of the keeper, and puts back what is left of it.
+    fn walk_on<F: Listing + Drop>(
+        &mut self,
+        alloc: Global,
+        files: &mut Recorder<F>,
+        settings: &Settings,
+        walk: Walk,
+    ) -> Result<Refreshed, FilesFault>
+        requires { IsOnTheWay (world_of (view_of F.view files.old) settings.now)
+            (shown no_name (R.entries self.old.rows)) walk }
+        ensures turn { IfOk result (TakesTurn (world_of (view_of F.view files.old) settings.now)
+            (shown no_name (R.entries self.old.rows)) (rows_of R.entries self.new)) }
+        ensures done { result ≡ Ok Refreshed.Done → IsDone self.new }
+        ensures kept { OnOk result (IsKept R.entries (world_of (view_of F.view files.old) settings.now) self.new) }
+        ensures err { OnErr result (SameRows (R.entries self.old.rows) (R.entries self.new.rows)
+            × (self.new.progress ≡ self.old.progress)) }
+        ensures leaves { LeavesFiles (result_err result) (view_of F.view files.old) (view_of F.view files.new) }
+    {
+        match go_on(alloc, files, settings, &mut self.rows, walk)? {
+            Onward::More(units, walk) => {
+                self.progress = Progress::Walking(walk);
+                Ok(Refreshed::Evaluated(units))
+            }
+            Onward::Current(listed) => {
+                self.progress = Progress::Current(listed);
+                Ok(Refreshed::Done)
+            }
+        }
+    }
+
+    // The walk with which a refresh begins after files of these names have changed. If that fails, the names
+    // are kept.
+    fn begun<F: Listing + Drop>(
+        &mut self,
+        alloc: Global,
+        files: &mut Recorder<F>,
+        names: BTreeSet<String>,
+    ) -> Result<Walk, FilesFault>
+        ensures walk { IfOk result (λ walk. (settings : Settings) → IsWalk
+            (world_of (view_of F.view files.old) settings) (shown no_name (R.entries self.new.rows)) walk) }
+        ensures ok { OnOk result (ShowsSame (shown (contains_text names) (R.entries self.old.rows))
+            (shown no_name (R.entries self.new.rows)) × (self.new.progress ≡ self.old.progress)) }
+        ensures err { OnErr result (SameRows (R.entries self.old.rows) (R.entries self.new.rows)
+            × (self.new.progress ≡ Progress.Changed names)) }
+        ensures leaves { LeavesFiles (result_err result) (view_of F.view files.old) (view_of F.view files.new) }
+    {
+        match begin_walk(alloc, files, &mut self.rows, &names) {
+            Ok(walk) => Ok(walk),
+            Err(fault) => {
+                self.progress = Progress::Changed(names);
+                Err(fault)
+            }
+        }
+    }
+
+    /// Goes on with a refresh until it is done. The result is the units that were spent.
+    fn refresh<F: Listing + Drop>(
+        &mut self,
+        alloc: Global,
+        files: &mut Recorder<F>,
+        settings: &Settings,
+    ) -> Result<u64, FilesFault>
+        requires { IsKept R.entries (world_of (view_of F.view files.old) settings.now) self.old }
+        ensures done { OnOk result (IsDone self.new) }
+        ensures units { IfOk result (λ units. units ≡ units_left
+            (world_of (view_of F.view files.old) settings.now) (rows_of R.entries self.old)) }
+        ensures kept { IsKept R.entries (world_of (view_of F.view files.old) settings.now) self.new }
+        ensures leaves { LeavesFiles (result_err result) (view_of F.view files.old) (view_of F.view files.new) }
+    {
+        one_row_more_leaves_less();
+        let mut units = 0u64;
+        loop {
+            match self.refresh_turn(alloc, files, settings)? {
+                Refreshed::Evaluated(more) => units = units.saturating_add(more),
+                Refreshed::Done => return Ok(units),
+            }
+        }
+    }
+
+    /// The roots of the index of these files under these settings, once it is refreshed, and the units that
+    /// were spent: what the paths cost that had no fresh row.
+    ///
+    /// It fails if the files or the rows fail, or if memory runs out. The rows that were made until then stay.
+    pub fn select<F: Listing + Drop>(
+        &mut self,
+        alloc: Global,
+        files: &mut Recorder<F>,
+        settings: &Settings,
+    ) -> Result<(Vec<Root>, u64), FilesFault>
+        requires { IsKept R.entries (world_of (view_of F.view files.old) settings.now) self.old }
+        ensures roots { IfOk result (λ found. found.0.items
+            ≡ indexed.roots (world_of (view_of F.view files.old) settings.now)) }
+        ensures units { IfOk result (λ found. found.1 ≡ units_left
+            (world_of (view_of F.view files.old) settings.now) (rows_of R.entries self.old)) }
+        ensures kept { IsKept R.entries (world_of (view_of F.view files.old) settings.now) self.new }
+        ensures leaves { LeavesFiles (result_err result) (view_of F.view files.old) (view_of F.view files.new) }
+    {
+        known_rows_are_enough();
+        let units = self.refresh(alloc, files, settings)?;
+        let Progress::Current(listed) = &self.progress else {
+            return Err(FilesFault::Memory);
+        };
+        let mut known = fresh_rows(alloc, &mut self.rows)?;
+        Ok((roots_of_all(alloc, listed, &mut known)?, units))
+    }
+
+    /// The roots and the dependencies of the index, as `select` gives the roots alone.
+    pub fn index<F: Listing + Drop>(
+        &mut self,
+        alloc: Global,
+        files: &mut Recorder<F>,
+        settings: &Settings,
+    ) -> Result<(Vec<Root>, Vec<RootEdge>, u64), FilesFault>
+        requires { IsKept R.entries (world_of (view_of F.view files.old) settings.now) self.old }
+        ensures roots { IfOk result (λ found. found.0.items
+            ≡ indexed.roots (world_of (view_of F.view files.old) settings.now)) }
+        ensures edges { IfOk result (λ found. found.1.items
+            ≡ indexed.edges (world_of (view_of F.view files.old) settings.now)) }
+        ensures units { IfOk result (λ found. found.2 ≡ units_left
+            (world_of (view_of F.view files.old) settings.now) (rows_of R.entries self.old)) }
+        ensures kept { IsKept R.entries (world_of (view_of F.view files.old) settings.now) self.new }
+        ensures leaves { LeavesFiles (result_err result) (view_of F.view files.old) (view_of F.view files.new) }
+    {
+        known_rows_are_enough();
+        let units = self.refresh(alloc, files, settings)?;
+        let Progress::Current(listed) = &self.progress else {
+            return Err(FilesFault::Memory);
+        };
+        let mut known = fresh_rows(alloc, &mut self.rows)?;
+        let edges = edges_among(alloc, listed, &known)?;
+        Ok((roots_of_all(alloc, listed, &mut known)?, edges, units))
+    }
+
+    /// Limits the steps of each later statement of the rows; with `None` they are no longer limited. No row
+    /// changes.
+    pub fn limit_steps(&mut self, limit: Option<u64>)
+        ensures rows { ShowsSame (rows_of R.entries self.old) (rows_of R.entries self.new) }
+        ensures kept { (world : World) → IsKept R.entries world self.old → IsKept R.entries world self.new }
+    {
+        self.rows.limit_steps(limit);
+    }
+
+    // Whether no more names are to be kept.
+    fn is_full(&self) -> bool {
+        match &self.progress {
+            Progress::Changed(names) => names.len() >= MOST_CHANGED,
+            Progress::Walking(_) | Progress::Current(_) => false,
+        }
+    }
+
+    // Marks the rows that asked for names that have changed, and forgets these names.
+    fn write_marks(&mut self, alloc: Global) -> Result<(), FilesFault>
+        ensures rows { ShowsSame (rows_of R.entries self.old) (rows_of R.entries self.new) }
+        ensures progress { Stops self.old.progress self.new.progress }
+    {
+        if let Progress::Changed(names) = &self.progress {
+            let _known = begin(alloc, &mut self.rows, names)?;
+            self.progress = Progress::nothing(alloc);
+        }
+        Ok(())
+    }
+}
+
+impl Progress {
+    // No name has changed.
+    fn nothing(alloc: Global) -> Progress
+        ensures { HasForgotten result }
+    {
+        Progress::Changed(BTreeSet::new(alloc))
+    }
+
+    // The file of this name has changed too. A refresh that is under way is dropped. If memory runs out,
+    // nothing changes.
+    fn add_change(&mut self, alloc: Global, name: String) -> Result<(), AllocError>
+        ensures changed { OnOk result ((other : List ℕ) → changed_in self.new other
+            ≡ (bytes_eq (string_bytes name) other || changed_in self.old other)) }
+        ensures dropped { OnOk result (IsDropped self.new) }
+        ensures err { OnErr result (self.new ≡ self.old) }
+    {
+        match self {
+            Progress::Changed(names) => insert_name(names, name),
+            Progress::Walking(_) | Progress::Current(_) => {
+                let mut names = BTreeSet::new(alloc);
+                insert_name(&mut names, name)?;
+                *self = Progress::Changed(names);
+                Ok(())
+            }
+        }
+    }
+}

@@ -1,0 +1,13 @@
+//! The index of one tenant, kept in rows. A change of a file makes the rows stale that asked for it. A refresh
+//! makes the rows right again, one path at a time. What the index is is read from them.
+#![tactic(auto)]
+
+mod beginning;
+mod ending;
+mod evaluating;
+mod keeper;
+mod names;
+mod walking;
+
+pub use keeper::Keeper;
+pub use walking::Refreshed;

@@ -1,0 +1,32 @@
+//! Sets of names.
+ghost use Rattle.std.specs.Prelude.{◌≡◌, ◌||◌, ℕ, List, map, string_bytes, IfOk, OnOk, OnErr};
+ghost use Rattle.std.specs.BTreeSet.{contains_text};
+ghost use Rattle.std.specs.Str.{bytes_eq};
+ghost use Rattle.ports_index.specs.Filling.{is_one_of};
+
+use std::alloc::{AllocError, Global};
+use std::collections::BTreeSet;
+
+/// Adds a name to others. If memory runs out, nothing changes.
+pub(crate) fn insert_name(names: &mut BTreeSet<String>, name: String) -> Result<(), AllocError>
+    ensures ok { OnOk result ((other : List ℕ) → contains_text names.new other
+        ≡ (bytes_eq (string_bytes name) other || contains_text names.old other)) }
+    ensures err { OnErr result (names.new ≡ names.old) }
+{
+    match names.insert(name) {
+        Ok(_is_new) => Ok(()),
+        Err(_failed) => Err(AllocError),
+    }
+}
+
+/// The set of these names. It fails only if memory runs out.
+pub(crate) fn set_of(alloc: Global, names: &[String]) -> Result<BTreeSet<String>, AllocError>
+    ensures { IfOk result (λ set. (name : List ℕ)
+        → contains_text set name ≡ is_one_of name (map string_bytes names.now)) }
+{
+    let mut set = BTreeSet::new(alloc);
+    for name in names {
+        insert_name(&mut set, String::from_str(alloc, name.as_str())?)?;
+    }
+    Ok(set)
+}

@@ -1,0 +1,313 @@
+//! A refresh: the paths on which the index depends, one after another, until each has its row.
+ghost use Rattle.std.specs.Prelude.{◌≡◌, ◌<◌, ◌≤◌, ℕ, List, if◌then◌else◌, Some, None, map, take, length, string_bytes, is_some, true};
+ghost use Rattle.std.specs.Prelude.{IfOk, IfSome, IfNone, OnOk, OnErr};
+ghost use Rattle.std.specs.Result.{result_err};
+ghost use Rattle.std.specs.Str.{bytes_eq};
+ghost use Rattle.mk_paths.specs.FilesView.{world_of};
+ghost use Rattle.ports_index.specs.Filling.{is_one_of};
+ghost use Rattle.ports_index.specs.PathOutcomes.{cost_at, outcome_at};
+ghost use Rattle.ports_index.specs.Seen.{entries_in};
+ghost use Rattle.read_trace.specs.Recording.{view_of};
+ghost use Rattle.index_store.specs.Entries.{SameRows};
+ghost use Rattle.index_keep.specs.Shown.{shown, no_name, fresh, ShowsSame};
+ghost use Rattle.mk_paths.specs.declared.search_path.Settings.{Settings};
+ghost use Rattle.std.specs.BTreeSet.{contains_text};
+ghost use Rattle.index_keep.specs.Right.{AreKept, IsRightRow, right_row, fresh_row, LeavesFiles};
+ghost use Rattle.index_keep.specs.Walking as walking;
+ghost use Rattle.index_keep.specs.declared.walking.Walk.TheVariants.{Directories, Listed, Needed};
+
+use crate::beginning::begin;
+use crate::ending::take_out_others;
+use crate::evaluating::row_of_path;
+use index_store::PathRows;
+use mk_files::{Files, Listing};
+use mk_paths::{FilesFault, Settings};
+use ports_index::{
+    Finding, MemoryRows, Rows, directories, known_rows_are_enough, listed, needed_among,
+};
+use read_trace::Recorder;
+use row_text::{KeptRow, write_row};
+use std::alloc::{AllocError, Global};
+use std::collections::BTreeSet;
+
+/// What one call of a refresh did.
+#[derive(Clone, Copy, Debug, PartialEq, Eq)]
+pub enum Refreshed {
+    /// One path was evaluated, and has its row now. So many units were spent.
+    Evaluated(u64),
+    /// Each path has its row: the index is current.
+    Done,
+}
+
+/// The paths of a stage, how many of them have been passed, and what the fresh rows say.
+#[derive(Debug, Drop)]
+pub(crate) struct Stage {
+    pub(crate) paths: Vec<String>,
+    pub(crate) place: usize,
+    pub(crate) known: MemoryRows,
+}
+
+impl Stage {
+    /// A stage that begins.
+    pub(crate) fn new(paths: Vec<String>, known: MemoryRows) -> Stage
+        ensures { result ≡ record { paths = paths; place = 0; known = known } }
+    {
+        Stage {
+            paths,
+            place: 0,
+            known,
+        }
+    }
+
+    /// The place of the next path that has no fresh row, if there is one.
+    fn lacking(&self) -> Option<usize>
+        requires { walking.HasPassed self.now }
+        ensures found { IfSome result (λ place. walking.IsLackingAt self.now place) }
+        ensures none { IfNone result (walking.LacksNone self.now) }
+    {
+        for place in self.place..self.paths.len() {
+            if self.known.get(self.paths[place].as_str()).is_none() {
+                return Some(place);
+            }
+        }
+        None
+    }
+}
+
+/// A refresh that is under way.
+#[derive(Debug, Drop)]
+pub(crate) enum Walk {
+    /// It goes through the directories.
+    Directories(Stage),
+    /// It goes through the listed paths: directories, and what lists among them name.
+    Listed(Stage),
+    /// It goes through all paths on which the index depends. The listed paths are kept for the end.
+    Needed(Stage, Vec<String>),
+}
+
+/// How a walk goes on, or the listed paths once it is at its end.
+#[derive(Debug, Drop)]
+pub(crate) enum Onward {
+    /// One path was evaluated for so many units, and this is left.
+    More(u64, Walk),
+    /// Each path has its row.
+    Current(Vec<String>),
+}
+
+/// What a stage came to.
+enum Passed {
+    /// One path was evaluated for so many units.
+    One(u64, Stage),
+    /// Each path of the stage has a fresh row.
+    All(Stage),
+}
+
+/// The walk with which a refresh begins after files of these names have changed. The rows that asked for them
+/// are marked. If it fails, nothing is marked.
+pub(crate) fn begin_walk<F: Listing + Drop, R: PathRows>(
+    alloc: Global,
+    files: &mut Recorder<F>,
+    rows: &mut R,
+    changed: &BTreeSet<String>,
+) -> Result<Walk, FilesFault>
+    ensures walk { IfOk result (λ walk. (settings : Settings) → walking.IsWalk
+        (world_of (view_of F.view files.old) settings) (shown no_name (R.entries rows.new)) walk) }
+    ensures marked { OnOk result (ShowsSame (shown (contains_text changed.now) (R.entries rows.old))
+        (shown no_name (R.entries rows.new))) }
+    ensures err { OnErr result (SameRows (R.entries rows.old) (R.entries rows.new)) }
+    ensures leaves { LeavesFiles (result_err result) (view_of F.view files.old) (view_of F.view files.new) }
+{
+    let paths = directories(alloc, files)?;
+    let known = begin(alloc, rows, changed)?;
+    Ok(Walk::Directories(Stage::new(paths, known)))
+}
+
+/// Goes on with a walk up to the next path that has no fresh row, evaluates it and writes its row. At the end
+/// it takes out the rows that nothing needs.
+///
+/// It fails if the files or the rows fail, or if memory runs out; then all rows are as they were.
+pub(crate) fn go_on<F: Files + Drop, R: PathRows>(
+    alloc: Global,
+    files: &mut Recorder<F>,
+    settings: &Settings,
+    rows: &mut R,
+    walk: Walk,
+) -> Result<Onward, FilesFault>
+    requires { walking.IsOnTheWay (world_of (view_of F.view files.old) settings.now) (shown no_name (R.entries rows.old)) walk }
+    ensures goes { IfOk result (walking.GoesOn (world_of (view_of F.view files.old) settings.now)
+        (shown no_name (R.entries rows.old)) (shown no_name (R.entries rows.new))) }
+    ensures err { OnErr result (SameRows (R.entries rows.old) (R.entries rows.new)) }
+    ensures leaves { LeavesFiles (result_err result) (view_of F.view files.old) (view_of F.view files.new) }
+{
+    match walk {
+        Walk::Directories(stage) => pass_directories(alloc, files, settings, rows, stage),
+        Walk::Listed(stage) => pass_listed(alloc, files, settings, rows, stage),
+        Walk::Needed(stage, listed) => pass_needed(alloc, files, settings, rows, stage, listed),
+    }
+}
+
+fn pass_directories<F: Files + Drop, R: PathRows>(
+    alloc: Global,
+    files: &mut Recorder<F>,
+    settings: &Settings,
+    rows: &mut R,
+    stage: Stage,
+) -> Result<Onward, FilesFault>
+    requires { walking.IsOnTheWay (world_of (view_of F.view files.old) settings.now)
+        (shown no_name (R.entries rows.old)) (Directories stage) }
+    ensures goes { IfOk result (walking.GoesOn (world_of (view_of F.view files.old) settings.now)
+        (shown no_name (R.entries rows.old)) (shown no_name (R.entries rows.new))) }
+    ensures err { OnErr result (SameRows (R.entries rows.old) (R.entries rows.new)) }
+    ensures leaves { LeavesFiles (result_err result) (view_of F.view files.old) (view_of F.view files.new) }
+{
+    known_rows_are_enough();
+    match pass(alloc, files, settings, rows, stage)? {
+        Passed::One(units, stage) => Ok(Onward::More(units, Walk::Directories(stage))),
+        Passed::All(stage) => {
+            let stage = listed_stage(alloc, stage)?;
+            pass_listed(alloc, files, settings, rows, stage)
+        }
+    }
+}
+
+// The stage of the listed paths, after that of the directories.
+fn listed_stage(alloc: Global, stage: Stage) -> Result<Stage, AllocError>
+    ensures { IfOk result (walking.ListsPaths stage) }
+{
+    let Stage { paths, known, .. } = stage;
+    let paths = listed(alloc, paths, &known)?;
+    Ok(Stage::new(paths, known))
+}
+
+fn pass_listed<F: Files + Drop, R: PathRows>(
+    alloc: Global,
+    files: &mut Recorder<F>,
+    settings: &Settings,
+    rows: &mut R,
+    stage: Stage,
+) -> Result<Onward, FilesFault>
+    requires { walking.IsOnTheWay (world_of (view_of F.view files.old) settings.now)
+        (shown no_name (R.entries rows.old)) (Listed stage) }
+    ensures goes { IfOk result (walking.GoesOn (world_of (view_of F.view files.old) settings.now)
+        (shown no_name (R.entries rows.old)) (shown no_name (R.entries rows.new))) }
+    ensures err { OnErr result (SameRows (R.entries rows.old) (R.entries rows.new)) }
+    ensures leaves { LeavesFiles (result_err result) (view_of F.view files.old) (view_of F.view files.new) }
+{
+    known_rows_are_enough();
+    match pass(alloc, files, settings, rows, stage)? {
+        Passed::One(units, stage) => Ok(Onward::More(units, Walk::Listed(stage))),
+        Passed::All(stage) => {
+            let (stage, listed) = needed_stage(alloc, stage)?;
+            pass_needed(alloc, files, settings, rows, stage, listed)
+        }
+    }
+}
+
+// The stage of the needed paths, after that of the listed ones, and those.
+fn needed_stage(alloc: Global, stage: Stage) -> Result<(Stage, Vec<String>), AllocError>
+    ensures { IfOk result (λ found.
+        walking.NeedsPaths stage found.0 (map string_bytes found.1.items)) }
+{
+    let Stage { paths, known, .. } = stage;
+    let needed = needed_among(alloc, &paths, &known)?;
+    Ok((Stage::new(needed, known), paths))
+}
+
+fn pass_needed<F: Files + Drop, R: PathRows>(
+    alloc: Global,
+    files: &mut Recorder<F>,
+    settings: &Settings,
+    rows: &mut R,
+    stage: Stage,
+    listed: Vec<String>,
+) -> Result<Onward, FilesFault>
+    requires { walking.IsOnTheWay (world_of (view_of F.view files.old) settings.now)
+        (shown no_name (R.entries rows.old)) (Needed stage listed) }
+    ensures goes { IfOk result (walking.GoesOn (world_of (view_of F.view files.old) settings.now)
+        (shown no_name (R.entries rows.old)) (shown no_name (R.entries rows.new))) }
+    ensures err { OnErr result (SameRows (R.entries rows.old) (R.entries rows.new)) }
+    ensures leaves { LeavesFiles (result_err result) (view_of F.view files.old) (view_of F.view files.new) }
+{
+    match pass(alloc, files, settings, rows, stage)? {
+        Passed::One(units, stage) => Ok(Onward::More(units, Walk::Needed(stage, listed))),
+        Passed::All(stage) => {
+            take_out_others(alloc, rows, &stage.paths)?;
+            Ok(Onward::Current(listed))
+        }
+    }
+}
+
+// Evaluates the next path of a stage that has no fresh row, and gives it its row.
+fn pass<F: Files + Drop, R: PathRows>(
+    alloc: Global,
+    files: &mut Recorder<F>,
+    settings: &Settings,
+    rows: &mut R,
+    stage: Stage,
+) -> Result<Passed, FilesFault>
+    requires kept { AreKept (world_of (view_of F.view files.old) settings.now) (shown no_name (R.entries rows.old)) }
+    requires stage { walking.IsStage (fresh (shown no_name (R.entries rows.old))) (walking.paths_of stage) stage }
+    ensures passes { IfOk result (walking.PassesStage (world_of (view_of F.view files.old) settings.now)
+        stage (R.entries rows.old) (R.entries rows.new)) }
+    ensures err { OnErr result (SameRows (R.entries rows.old) (R.entries rows.new)) }
+    ensures leaves { LeavesFiles (result_err result) (view_of F.view files.old) (view_of F.view files.new) }
+{
+    let Some(place) = stage.lacking() else {
+        return Ok(Passed::All(stage));
+    };
+    let Stage {
+        paths,
+        mut known,
+        ..
+    } = stage;
+    let units = renew(
+        alloc,
+        files,
+        settings,
+        rows,
+        &mut known,
+        paths[place].as_str(),
+    )?;
+    Ok(Passed::One(
+        units,
+        Stage {
+            paths,
+            place,
+            known,
+        },
+    ))
+}
+
+// Evaluates a path, and gives it its row. The result is the units that were spent.
+fn renew<F: Files + Drop, R: PathRows>(
+    alloc: Global,
+    files: &mut Recorder<F>,
+    settings: &Settings,
+    rows: &mut R,
+    known: &mut MemoryRows,
+    path: &str,
+) -> Result<u64, FilesFault>
+    ensures units { IfOk result (λ units.
+        units ≡ cost_at (world_of (view_of F.view files.old) settings.now) path.now) }
+    ensures right { OnOk result (IsRightRow (world_of (view_of F.view files.old) settings.now) path.now
+        (right_row (world_of (view_of F.view files.old) settings.now) path.now)) }
+    ensures rows { OnOk result ((other : List ℕ) → shown no_name (R.entries rows.new) other
+        ≡ (if bytes_eq path.now other
+        then Some (fresh_row (world_of (view_of F.view files.old) settings.now) path.now)
+        else shown no_name (R.entries rows.old) other)) }
+    ensures known { OnOk result ((other : List ℕ) → entries_in known.new other
+        ≡ (if bytes_eq path.now other
+        then Some (outcome_at (world_of (view_of F.view files.old) settings.now) path.now)
+        else entries_in known.old other)) }
+    ensures err { OnErr result (SameRows (R.entries rows.old) (R.entries rows.new)) }
+    ensures leaves { LeavesFiles (result_err result) (view_of F.view files.old) (view_of F.view files.new) }
+{
+    let row = row_of_path(alloc, files, settings, path)?;
+    let text = write_row(alloc, &row)?;
+    let key = String::from_str(alloc, path)?;
+    let KeptRow { found, .. } = row;
+    let Finding { row, cost } = found;
+    known.put(key, row)?;
+    rows.put(path, &text)?;
+    Ok(cost)
+}
