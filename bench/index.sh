@@ -1,46 +1,29 @@
 #!/usr/bin/env bash
-# Makes trees of 500, 1,000 and 2,000 ports with 8 dependencies each, and prints the time that portsd takes
-# for the first list of each, for the packages that a spec admits, and for all ports that reach one: without
-# the storing of the files. Beside the list stands the time of a plain program (plain_tree.rs, built by
-# rustc) that evaluates the same makefiles, makes the same records and writes the same list; what both list
-# is compared.
-set -eu
+# Makes trees of 500, 1,000 and 2,000 ports (or as many as SIZES says) with 8 dependencies each, and prints
+# how long portsd takes for questions about all of them, and for uploads. Each time is the difference of two
+# scripts' times, each the best of three runs. Beside the first list stands the time of a plain program
+# (plain_tree.rs, built by rustc) that evaluates the same makefiles, makes the same records and writes the
+# same list; what both list is compared. If COUNT is `instructions`, valgrind counts the instructions of one
+# run in place of the time, and no list is compared.
+set -euo pipefail
 top=$(cd "$(dirname "$0")/.." && pwd)
+source "$top/bench/ports_tree.sh"
+sizes=${SIZES:-500 1000 2000}
+times=${TIMES:-100}
+uploads=${UPLOADS:-200}
+count=${COUNT:-time}
+matching='/v1/match?spec=port1*-*'
+reaching='/v1/rdeps?path=category0/port0&depth=all'
 work=$(mktemp -d)
 trap 'rm -rf "$work"' EXIT
-"$top/run" --help >/dev/null
+[ -n "${PORTSD:-}" ] || "$top/run" --help >/dev/null
 portsd=${PORTSD:-$top/crates/portsd/out/portsd}
 rustc -O -o "$work/plain_tree" "$top/bench/plain_tree.rs"
 
-path() { # path NUMBER: of a port, 40 in a category
-    echo "category$(($1 / 40))/port$1"
-}
-
-# item NUMBER STEP PORTS: a dependency of a port on another one
-item() {
-    path $((($1 * 7 + $2 * 131 + 1) % $3))
-}
-
-port() { # port NUMBER PORTS
-    cat <<PORT
-COMMENT = a port of number $1
-DISTNAME = port$1-1.$(($1 % 40))
-CATEGORIES = category$(($1 / 40)) misc
-MAINTAINER = nobody <nobody@example.org>
-BUILD_DEPENDS = $(item "$1" 1 "$2") $(item "$1" 2 "$2")>=1
-LIB_DEPENDS = $(item "$1" 3 "$2") $(item "$1" 4 "$2") $(item "$1" 5 "$2")
-RUN_DEPENDS = $(item "$1" 6 "$2") $(item "$1" 7 "$2") $(item "$1" 8 "$2")
-.include <bsd.port.mk>
-PORT
-}
-
-puts() { # puts TREE: a script that stores a tree
-    echo "open 0"
-    (cd "$1" && find . -type f | sort) | while read -r name; do
-        echo "piece 0 PUT /v1/file?name=${name#.} HTTP/1.1\\r\\nHost: x\\r\\nX-Ports-Key: alpha\\r\\nContent-Length: $(wc -c <"$1/$name")\\r\\n\\r\\n$(awk '{ printf "%s\\n", $0 }' "$1/$name")"
-        echo "turn 0"
-        echo "wrote 0 all"
-    done
+put() { # put NAME FILE: what stores this file under the name
+    echo "piece 0 PUT /v1/file?name=$1 HTTP/1.1\\r\\nHost: x\\r\\nX-Ports-Key: alpha\\r\\nContent-Length: $(wc -c <"$2")\\r\\n\\r\\n$(awk '{ printf "%s\\n", $0 }' "$2")"
+    echo "turn 0"
+    echo "wrote 0 all"
 }
 
 get() { # get TARGET: what asks for it
@@ -49,38 +32,97 @@ get() { # get TARGET: what asks for it
     echo "wrote 0 all"
 }
 
-# microseconds INPUT: of the best of three runs with this input
-microseconds() {
+puts() { # puts TREE: a script that stores a tree
+    echo "open 0"
+    (cd "$1" && find . -type f | sort) | while read -r name; do
+        put "${name#.}" "$1/$name"
+    done
+}
+
+# new_version NUMBER PORTS: what stores a port of the tree again, with a version that it hadn't
+new_version() {
+    local number=$(($1 * 7 % $2))
+    port "$number" "$2" "2.$1" >"$work/makefile"
+    put "/ports/$(path "$number")/Makefile" "$work/makefile"
+}
+
+repeat() { # repeat TIMES COMMAND..: what the command prints, so many times; each time the number is its last word
+    local number many=$1
+    shift
+    for number in $(seq "$many"); do
+        "$@" "$number"
+    done
+}
+asks() { get "$1"; }
+uploads_and_asks() { new_version "$2" "$1" && get "$matching"; }
+uploads_one() { new_version "$2" "$1"; }
+
+run() { # run SCRIPT: runs it once, and prints the microseconds or the instructions that this took
     local from to
-    for _ in 1 2 3; do
+    if [ "$count" = instructions ]; then
+        valgrind --tool=callgrind --callgrind-out-file=/dev/null "$portsd" replay alpha <"$1" 2>"$work/counted" >"$work/out"
+        awk '/Collected/ { print $NF }' "$work/counted"
+    else
         from=$(date +%s%N)
         "$portsd" replay alpha <"$1" >"$work/out"
         to=$(date +%s%N)
         echo $(((to - from) / 1000))
-    done | sort -n | head -1
+    fi
+    if [ "$(grep -c '^piece' "$1")" != "$(grep -c ' told 0 0 200$' "$work/out")" ]; then
+        echo "a request of $1 wasn't answered by 200" >&2
+        return 1
+    fi
 }
 
-for ports in 500 1000 2000; do
-    tree=$work/tree$ports
-    for number in $(seq 0 $((ports - 1))); do
-        mkdir -p "$tree/ports/$(path "$number")"
-        port "$number" "$ports" >"$tree/ports/$(path "$number")/Makefile"
+# measure SCRIPT..: runs these scripts one after another, in three rounds, and keeps the best of each
+measure() {
+    local round script
+    rm -f "$work"/best.*
+    for round in 1 2 3; do
+        for script; do
+            run "$work/$script" >>"$work/best.$script"
+            [ "$script" != list ] || tail -1 "$work/out" | sed 's/.*\(\[.*\]\).*/\1/' >"$work/ours"
+        done
+        [ "$count" = time ] || break
     done
-    puts "$tree" >"$work/puts"
-    stored=$(microseconds "$work/puts")
-    report="$ports ports:"
-    for target in /v1/list '/v1/match?spec=port1*-*' '/v1/rdeps?path=category0/port0&depth=all'; do
-        { cat "$work/puts" && get "$target"; } >"$work/script"
-        whole=$(microseconds "$work/script")
-        name=${target#/v1/}
-        report="$report ${name%%\?*} $(((whole - stored) / 1000)) ms,"
-        if [ "$target" = /v1/list ]; then
-            listed=$((whole - stored))
-            tail -1 "$work/out" | sed 's/.*\(\[.*\]\).*/\1/' >"$work/ours"
-        fi
-    done
-    plain=$(for _ in 1 2 3; do "$work/plain_tree" "$tree" --list 2>&1 >"$work/theirs"; done | sort -n | head -1)
+}
+
+best() { # best SCRIPT
+    sort -n "$work/best.$1" | head -1
+}
+
+# tell NAME SCRIPT BEFORE TIMES: what one of so many takes by which the first script is longer than the other
+tell() {
+    local unit=ms per=1000
+    [ "$count" = time ] || { unit="million instructions" && per=1000000; }
+    awk -v name="$1" -v whole="$(best "$2")" -v before="$(best "$3")" -v times="$4" -v per=$per -v unit="$unit" '
+        BEGIN { printf "    %-28s %9.3f %s\n", name, (whole - before) / times / per, unit }'
+}
+
+for ports in $sizes; do
+    make_tree "$work/tree$ports" "$ports"
+    puts "$work/tree$ports" >"$work/stored"
+    { cat "$work/stored" && get /v1/list; } >"$work/list"
+    { cat "$work/stored" && get "$matching"; } >"$work/match"
+    { cat "$work/stored" && get "$reaching"; } >"$work/rdeps"
+    { cat "$work/list" && repeat "$times" asks /v1/list; } >"$work/again"
+    { cat "$work/list" && repeat "$times" uploads_and_asks "$ports"; } >"$work/changed"
+    { cat "$work/list" && repeat "$times" asks "$reaching"; } >"$work/reached"
+    { cat "$work/list" && repeat "$uploads" uploads_one "$ports"; } >"$work/uploaded"
+    { cat "$work/stored" && repeat "$uploads" uploads_one "$ports"; } >"$work/restored"
+    measure stored list match rdeps again changed reached uploaded restored
+    echo "$ports ports:"
+    tell "first list" list stored 1
+    tell "first match" match stored 1
+    tell "first rdeps, depth all" rdeps stored 1
+    tell "list again" again list "$times"
+    tell "upload and match" changed list "$times"
+    tell "rdeps, depth all, again" reached list "$times"
+    tell "upload, all listed" uploaded list "$uploads"
+    tell "upload, nothing listed" restored stored "$uploads"
+    [ "$count" = time ] || continue
+    plain=$(for _ in 1 2 3; do "$work/plain_tree" "$work/tree$ports" --list 2>&1 >"$work/theirs"; done | sort -n | head -1)
     cmp "$work/ours" "$work/theirs"
-    awk -v report="$report" -v ours="$listed" -v plain="$plain" 'BEGIN {
-        printf "%s plain list %.1f ms, ratio %.1f\n", report, plain / 1000, ours / plain }'
+    awk -v ours=$(($(best list) - $(best stored))) -v plain="$plain" 'BEGIN {
+        printf "    %-28s %9.3f ms, ratio of the first list %.1f\n", "plain list", plain / 1000, ours / plain }'
 done

@@ -19,8 +19,8 @@ class Client:
         self.socket = socket.create_connection(("127.0.0.1", port))
         self.socket.setsockopt(socket.IPPROTO_TCP, socket.TCP_NODELAY, 1)
 
-    def ask(self, request, wanted):
-        """Sends a request, reads its whole reply, and stops where that isn't the one wanted."""
+    def ask(self, request, wanted=None):
+        """Sends a request, reads its whole reply and gives its body; stops if that isn't the one wanted."""
         self.socket.sendall(request)
         reply = b""
         while b"\r\n\r\n" not in reply:
@@ -29,8 +29,9 @@ class Client:
         size = int(head.split(b"Content-Length: ", 1)[1].split(b"\r\n", 1)[0])
         while len(body) < size:
             body += self.receive()
-        if not head.startswith(b"HTTP/1.1 200 ") or body != wanted:
+        if not head.startswith(b"HTTP/1.1 200 ") or wanted not in (None, body):
             sys.exit(f"another reply than wanted: {head} {body}")
+        return body
 
     def receive(self):
         received = self.socket.recv(65536)
@@ -96,4 +97,5 @@ def main():
         print(f"a request with {idle * IDLE_SECONDS} s idle before: {mean * 1e6:.1f} microseconds")
 
 
-main()
+if __name__ == "__main__":
+    main()

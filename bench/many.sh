@@ -1,0 +1,23 @@
+#!/usr/bin/env bash
+# Starts portsd for 64 tenants (or as many as TENANTS says), and stores the same tree of 2,000 ports (PORTS)
+# with 8 dependencies each for every one of them. Then each tenant in turn asks for its first list. Prints how
+# long the first tenant's first list takes and how long the last one's, the same for the list again, and what
+# an upload takes as the first and as the last tenant. With 64 tenants it takes some minutes.
+set -euo pipefail
+top=$(cd "$(dirname "$0")/.." && pwd)
+source "$top/bench/ports_tree.sh"
+port=${1-18081}
+tenants=${TENANTS:-64}
+ports=${PORTS:-2000}
+work=$(mktemp -d)
+server=
+trap '[ -z "$server" ] || kill "$server" 2>/dev/null; rm -rf "$work"' EXIT
+[ -n "${PORTSD:-}" ] || "$top/run" --help >/dev/null
+make_tree "$work/tree" "$ports"
+"${PORTSD:-$top/crates/portsd/out/portsd}" serve --port "$port" --turns 4294967295 $(seq -f t%g "$tenants") >"$work/said" &
+server=$!
+for _ in $(seq 50); do
+    grep -qs '^portsd: ready$' "$work/said" && break
+    sleep 0.1
+done
+python3 -B "$top/bench/many_client.py" "$port" "$server" "$work/tree" "$tenants"

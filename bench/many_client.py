@@ -1,0 +1,73 @@
+"""A client for bench/many.sh: one keep-alive connection to a portsd that serves, one request after another.
+
+many_client.py PORT PID TREE TENANTS: uploads the files below TREE as each of the tenants `t1` to `tTENANTS`,
+then asks for the list of packages as each of them in turn, and prints how long the first one's first list and
+the last one's take, by the clock and by the processor time of the process PID. The lists have to be equal.
+Then it prints the same for both lists again, and how many uploads a second the first and the last tenant had."""
+import os
+import sys
+import time
+
+from serve_client import Client, cpu_seconds, head
+
+AGAIN = 20
+
+
+def files(tree):
+    """The name and the bytes of each file below the tree, in the order of their names."""
+    found = []
+    for at, _, names in os.walk(tree):
+        for name in names:
+            with open(os.path.join(at, name), "rb") as file:
+                found.append((os.path.join(at, name)[len(tree):], file.read()))
+    return sorted(found)
+
+
+def uploads_a_second(client, key, stored):
+    """How many files a second are stored for the key."""
+    start = time.monotonic()
+    for name, content in stored:
+        request = f"PUT /v1/file?name={name} {head(key)}Content-Length: {len(content)}\r\n\r\n".encode()
+        client.ask(request + content, b'{"stored":true}')
+    return len(stored) / (time.monotonic() - start)
+
+
+def list_of(client, key, wanted=None):
+    """The list of packages of the key, which has to be the one that is wanted, if there is one."""
+    return client.ask(f"GET /v1/list {head(key)}\r\n".encode(), wanted)
+
+
+class Watch:
+    """Milliseconds since it was made, by the clock and by a process's processor time."""
+
+    def __init__(self, pid):
+        self.pid = pid
+        self.clock, self.used = time.monotonic(), cpu_seconds(pid)
+
+    def told(self, times=1):
+        clock = 1000 * (time.monotonic() - self.clock) / times
+        used = 1000 * (cpu_seconds(self.pid) - self.used) / times
+        return f"{clock:.1f} ms, processor {used:.0f} ms"
+
+
+def main():
+    port, pid, tree, tenants = int(sys.argv[1]), int(sys.argv[2]), sys.argv[3], int(sys.argv[4])
+    keys = [f"t{number}" for number in range(1, tenants + 1)]
+    stored, client = files(tree), Client(port)
+    rates = [uploads_a_second(client, key, stored) for key in keys]
+    print(f"{tenants} tenants, {len(stored)} ports each: uploads a second of the first {rates[0]:.0f}, of the last {rates[-1]:.0f}")
+    first = None
+    for number, key in enumerate(keys, 1):
+        watch = Watch(pid)
+        got = list_of(client, key, first)
+        if number in (1, tenants):
+            print(f"first list of tenant {number}: {watch.told()}")
+        first = first or got
+    for number in sorted({1, tenants}):
+        watch = Watch(pid)
+        for _ in range(AGAIN):
+            list_of(client, keys[number - 1], first)
+        print(f"list again of tenant {number}: {watch.told(AGAIN)}")
+
+
+main()
