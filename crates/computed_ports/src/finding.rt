@@ -22,7 +22,7 @@ use std::alloc::{AllocError, Global};
 
 /// What is found of a variable of a port, and the units that were spent. It fails if the files fail, or if
 /// memory runs out.
-pub(crate) fn find_value<F: Files>(
+pub fn find_value<F: Files>(
     alloc: Global,
     files: &mut F,
     settings: &Settings,
@@ -107,7 +107,7 @@ fn cost_of(found: &Option<Valued>) -> u64
 
 /// What is found of the port at a path, and the units that were spent. It fails if the files fail, or if
 /// memory runs out.
-pub(crate) fn find_record<F: Files>(
+pub fn find_record<F: Files>(
     alloc: Global,
     files: &mut F,
     settings: &Settings,

@@ -3,9 +3,8 @@
 
 mod computing;
 mod finding;
-mod laws;
 mod resting;
 
 pub use computing::ComputedPorts;
-pub use laws::computing_costs_no_more;
+pub use finding::{find_record, find_value};
 pub use resting::effort_for;

@@ -44,3 +44,10 @@ pub trait Listing: Files {
         ensures fault { OnErr result (Fails (Self.view self.old) (Self.view self.new)) }
         ensures kind { IfErr result Self.fails_with };
 }
+
+// The same of files that can be listed.
+impl<F: Listing> Listing for &mut F {
+    fn names(&mut self, alloc: Global) -> Result<Vec<String>, FilesFault> {
+        (**self).names(alloc)
+    }
+}

@@ -10,6 +10,10 @@ use Rattle.tenant_store.specs.declared.tenant_files.TenantFiles.{TenantFiles}
 abbrev pub view_of : TenantFiles → FilesView
 view_of world = record { files = files_of world.tenant world.store.now; log = None; failures = world.failures }
 
+-- the files of a tenant, before anything was asked of them
+abbrev pub opened_files : ℕ → Holdings → FilesView
+opened_files tenant held = record { files = files_of tenant held; log = None; failures = 0 }
+
 -- the reference to the store that they are in
 abbrev pub name_of : TenantFiles → GName
 name_of world = world.store.ghost_name

@@ -1,7 +1,6 @@
 // Work over a tenant's files that leaves the store as it was.
-ghost use Rattle.std.specs.Prelude.{◌≡◌, None};
-ghost use Rattle.tenant_store.specs.Holdings.{files_of};
-ghost use Rattle.tenant_store.specs.TenantWorld.{view_of, name_of, held_by};
+ghost use Rattle.std.specs.Prelude.{◌≡◌};
+ghost use Rattle.tenant_store.specs.TenantWorld.{view_of, name_of, held_by, opened_files};
 
 use crate::lent_files::{Lent, LentFiles};
 use crate::store::TenantStore;
@@ -11,13 +10,18 @@ use std::alloc::Global;
 use std::marker::Brand;
 
 /// Work that reads and lists the files of one tenant, over any world of files, and keeps its answer.
+///
+/// `ready` says when it may begin over files, and `answered` what it then leaves.
 pub trait Asker {
     ghost use Rattle.mk_paths.specs.FilesView.{FilesView};
+
+    ghost ready: { Self → FilesView → Type 0 };
 
     ghost answered: { Self → FilesView → Self → Type 0 };
 
     /// Reads and lists the files.
     fn ask<F: Listing>(&mut self, files: &mut F)
+        requires { ready self.old (F.view files.old) }
         ensures { answered self.old (F.view files.old) self.new };
 }
 
@@ -25,8 +29,8 @@ impl TenantStore {
     /// Does this work over the files of a tenant. Whatever the work asks, nothing that is held of any
     /// tenant changes.
     pub fn ask<A: Asker>(&mut self, alloc: Global, tenant: u32, asker: &mut A)
-        ensures answered { A.answered asker.old
-            (record { files = files_of tenant self.old; log = None; failures = 0 }) asker.new }
+        requires { A.ready asker.old (opened_files tenant self.old) }
+        ensures answered { A.answered asker.old (opened_files tenant self.old) asker.new }
         ensures same { self.new ≡ self.old }
     {
         let files = TenantFiles::new(alloc, self, tenant);
@@ -38,6 +42,7 @@ impl TenantStore {
 fn ask_over<'s, L: Lent, A: Asker>(files: TenantFiles<'s>, asker: &mut A) -> TenantFiles<'s>
     requires name { name_of files ≡ L.name }
     requires held { held_by files ≡ L.held }
+    requires ready { A.ready asker.old (view_of files) }
     ensures name { name_of result ≡ name_of files.entry }
     ensures held { held_by result ≡ held_by files.entry }
     ensures answered { A.answered asker.old (view_of files.entry) asker.new }

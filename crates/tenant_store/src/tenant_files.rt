@@ -1,8 +1,7 @@
 // The files of one tenant, as a world that can be read and listed.
-ghost use Rattle.std.specs.Prelude.{◌≡◌, map, string_bytes, IfOk, OnOk, OnErr, None};
+ghost use Rattle.std.specs.Prelude.{◌≡◌, map, string_bytes, IfOk, OnOk, OnErr};
 ghost use Rattle.std.specs.FinMap.{get, keys};
 ghost use Rattle.mk_paths.specs.FilesView.{Contents, Presence, Answers, Fails};
-ghost use Rattle.tenant_store.specs.Holdings.{files_of};
 
 use crate::store::TenantStore;
 use mk_files::{Content, Files, Listing};
@@ -19,13 +18,12 @@ pub struct TenantFiles<'s> {
 }
 
 impl<'s> TenantFiles<'s> {
-    ghost use Rattle.tenant_store.specs.TenantWorld.{view_of, StaysOver, IsOverMemory};
+    ghost use Rattle.tenant_store.specs.TenantWorld.{view_of, opened_files, StaysOver, IsOverMemory};
 
     /// The files of this tenant, with no failure yet.
     pub fn new(alloc: Global, store: &'s mut TenantStore, tenant: u32) -> TenantFiles<'s>
         ensures over { IsOverMemory result store.entry tenant }
-        ensures world { view_of result
-            ≡ record { files = files_of tenant store.old; log = None; failures = 0 } }
+        ensures world { view_of result ≡ opened_files tenant store.old }
     {
         TenantFiles {
             store,

@@ -1,5 +1,5 @@
 -- The tenants' worlds, as the store holds them.
-use Rattle.std.proofs.Common.{◌≡◌, ◌≢◌, ◌<◌, ◌≤◌, ◌∙◌, ℕ, ◌+◌, ◌∷◌, length, map, true, false, inl, inr, Option, Some, Result, Ok, Err, IfOk, refl, sym, ap, subst, arith, nat_lt, zero, suc}
+use Rattle.std.proofs.Common.{◌≡◌, ◌≢◌, ◌<◌, ◌≤◌, ◌∙◌, ℕ, ◌+◌, ◌∷◌, length, map, true, false, inl, inr, Option, None, Some, Result, Ok, Err, IfOk, refl, sym, ap, subst, arith, nat_lt, zero, suc}
 use Rattle.std.specs.Prelude.{slice_get, option_map, replicate, MatchBool, ◌==◌, ◌&&◌, Bool, nat_le, string_bytes}
 use Rattle.std.specs.List.{range_with_len, list_all}
 use Rattle.std.proofs.lemmas.List.{length-map}
@@ -21,8 +21,11 @@ use Rattle.ports_core.specs.Telling.{is_failure}
 use Rattle.ports_core.specs.declared.keys.Config.{Config}
 use Rattle.ports_plain.specs.Questions.{question_of}
 use Rattle.ports_plain.specs.Resting.{Need, NoNeed, ValueNeed, RecordNeed, RootsNeed, IndexNeed, need_of, cost_for}
-use Rattle.computed_ports.specs.Costs.{computed_cost}
-use Rattle.tenant_worlds.specs.Prepared.{computed_cost_of}
+use Rattle.index_keep.specs.Shown.{ShownRows}
+use Rattle.kept_ports.specs.Costs.{kept_cost, KeepingCostsNoMore}
+use Rattle.tenant_worlds.specs.Kept.{TenantKeeper}
+use Rattle.kept_ports.specs.Calls.{kept_cost_of}
+use Rattle.tenant_worlds.specs.Prepared.{SpendsAt}
 use Rattle.tenant_worlds.specs.Stored.{world_in, worlds_in, KeepsOtherWorlds}
 
 pub if_ok : {A E : Type 0} {P Q : A → Type 0} (r : Result A E) → ((a : A) → P a → Q a) → IfOk r P → IfOk r Q
@@ -94,30 +97,38 @@ answers_for old new count t request reply within answers keeps = record {
 some_same : {A : Type 0} {x y : A} → ◌≡◌ {A = Option A} (Some x) (Some y) → x ≡ y
 some_same e = cc
 
--- to compute what is needed costs all of what the answer rests on, but for the index
-whole : (world : World) (need : Need) → is_of_index need ≡ false → computed_cost world need ≡ cost_for world need
-whole world NoNeed none = refl
-whole world (ValueNeed asked) none = refl
-whole world (RecordNeed path) none = refl
-whole world RootsNeed none = absurd cc
-whole world IndexNeed none = absurd cc
+-- what is needed costs all of what the answer rests on, but for the index
+whole : (world : World) (rows : ShownRows) (need : Need) → is_of_index need ≡ false → kept_cost world rows need ≡ cost_for world need
+whole world rows NoNeed none = refl
+whole world rows (ValueNeed asked) none = refl
+whole world rows (RecordNeed path) none = refl
+whole world rows RootsNeed none = absurd cc
+whole world rows IndexNeed none = absurd cc
 
--- what was computed is what is told as spent
-pub charges_for : (held : Holdings) (count t : ℕ) (request : RequestMessage) (reply : ReplyMessage) (units : ℕ) (after : World) → t < count
-    → ((world : World) (need : Need) → computed_cost world need ≤ cost_for world need)
+-- what was spent by the rows that are kept is no more than it may be
+spends_by : (world : World) (rows : ShownRows) (request : PlainRequest) (units : ℕ) → KeepingCostsNoMore → units ≡ kept_cost_of world rows request → Spends world request units
+spends_by world rows request units no_more spent =
+    let need : Need = need_of (question_of request) in
+    record {
+      within = omega (arith, spent, no_more world rows need);
+      whole = λ none. spent ∙ whole world rows need none;
+    }
+
+spends : (world : World) (keeper : Option TenantKeeper) (request : PlainRequest) (units : ℕ) → KeepingCostsNoMore → SpendsAt world keeper request units → Spends world request units
+spends world None request units no_more spent = absurd spent
+spends world (Some keeper) request units no_more spent = spends_by world _ request units no_more spent
+
+-- what was spent is what is told
+pub charges_for : (held : Holdings) (count t : ℕ) (keeper : Option TenantKeeper) (request : RequestMessage) (reply : ReplyMessage) (units : ℕ) (after : World) → t < count
+    → KeepingCostsNoMore
     → ((world : World) (request : PlainRequest) → ((plain world request).0.status == 503) ≡ false)
-    → plain_answer (world_in held t) request ≡ (reply, after) → units ≡ computed_cost_of (world_in held t) (plain_request_of request)
+    → plain_answer (world_in held t) request ≡ (reply, after) → SpendsAt (world_in held t) keeper (plain_request_of request) units
     → ChargesFor t request reply units (worlds_in held count)
-charges_for held count t request reply units after within no_more never is spent world there =
-    let need : Need = need_of (question_of (plain_request_of request)) in
+charges_for held count t keeper request reply units after within no_more never is spent world there =
     let fine : is_failure reply.status ≡ false = ap (λ (end : Served). is_failure end.0.status) (sym is) ∙ never (world_in held t) (plain_request_of request) in
     let this : world_in held t ≡ world = some_same (sym (world_there held count t within) ∙ there) in
-    let spends : Spends (world_in held t) (plain_request_of request) units = record {
-      within = omega (arith, spent, no_more (world_in held t) need);
-      whole = λ none. spent ∙ whole (world_in held t) need none;
-    } in
     subst (λ failed. MatchBool failed (units ≡ 0) (Spends world (plain_request_of request) units)) (sym fine)
-    (subst (λ (w : World). Spends w (plain_request_of request) units) this spends)
+    (subst (λ (w : World). Spends w (plain_request_of request) units) this (spends (world_in held t) keeper (plain_request_of request) units no_more spent))
 
 few_of : (parses evals all apart : Bool) (n : ℕ) → (parses && evals && (nat_le 1 n && nat_le n 64 && all && apart)) ≡ true → n ≤ 64
 few_of true true true true n fit = grind (arith, nat_tests)

@@ -1,2 +1,3 @@
 pub mod Stored
+pub mod Kept
 pub mod Prepared

@@ -1,17 +1,30 @@
--- What is prepared for a request.
-use Rattle.std.specs.Prelude.{◌≡◌, ℕ}
-use Rattle.mk_paths.specs.World.{World}
-use Rattle.ports_plain.specs.declared.changing.Prepared.{Prepared}
-use Rattle.ports_plain.specs.Plain.{PlainRequest, Answer, answer}
-use Rattle.ports_plain.specs.Questions.{question_of}
-use Rattle.ports_plain.specs.Resting.{need_of}
-use Rattle.computed_ports.specs.Costs.{computed_cost}
+-- What is prepared for a request of a tenant.
+use Rattle.std.specs.Prelude.{◌≡◌, ℕ, Option, Some, None, IfOk}
+use Rattle.mk_paths.specs.World.{World, FileMap}
+use Rattle.ports_plain.specs.Plain.{PlainRequest}
+use Rattle.index_store.specs.PortTable.{stored_by}
+use Rattle.index_keep.specs.Keeping.{rows_of, IsKept}
+use Rattle.kept_ports.specs.Calls.{request_of, kept_cost_of, IsPrepared}
+use Rattle.tenant_worlds.specs.Kept.{TenantKeeper}
+use Rattle.tenant_worlds.specs.declared.asking.Asking.{Asking}
 
--- the units that it takes to compute what a request needs
-abbrev pub computed_cost_of : World → PlainRequest → ℕ
-computed_cost_of world request = computed_cost world (need_of (question_of request))
+-- the units that were spent on a request of a tenant, by the rows of its keeper
+abbrev pub SpendsAt : World → Option TenantKeeper → PlainRequest → ℕ → Type 0
+SpendsAt world None request units = ⊥
+SpendsAt world (Some keeper) request units = units ≡ kept_cost_of world (rows_of stored_by keeper) request
 
--- the answer to a request over a world, with the units that it took
-pub record IsPrepared (world : World) (request : PlainRequest) (found : Prepared × ℕ) : Type 0 where
-  pub answer : ◌≡◌ {A = Answer} (found.0.reply, found.0.change) (answer world request)
-  pub units : found.1 ≡ computed_cost_of world request
+-- the world of these files, and of the settings with which a request is asked
+abbrev pub world_asked : FileMap → Asking → World
+world_asked files asking = (files, asking.call.settings.now)
+
+-- the keeper is right about that world
+abbrev pub IsReady : FileMap → Asking → Type 0
+IsReady files asking = IsKept stored_by (world_asked files asking) asking.keeper.now
+
+-- A request was asked over these files: what was prepared is the answer, and the keeper is still right.
+pub record IsAsked (files : FileMap) (old new : Asking) : Type 0 where
+  pub prepared : IfOk new.answered.now.prepared
+      (IsPrepared (world_asked files old) (rows_of stored_by old.keeper.now) (request_of old.call))
+  pub kept : IsKept stored_by (world_asked files old) new.keeper.now
+  pub keeper : new.keeper.ghost_name ≡ old.keeper.ghost_name
+  pub place : new.answered.ghost_name ≡ old.answered.ghost_name

@@ -1,44 +1,60 @@
-//! A request that is asked over a world.
-use computed_ports::ComputedPorts;
+//! A request that is asked over a tenant's files.
+use index_keep::Keeper;
+use index_store::IndexStore;
+use kept_ports::PlainCall;
 use mk_files::Listing;
-use mk_paths::{FilesFault, Settings};
-use ports_http::Method;
-use ports_plain::{Plain, Prepared};
+use mk_paths::FilesFault;
+use ports_plain::Prepared;
 use std::alloc::Global;
-use tenant_store::Asker;
+use tenant_store::{Asker, TenantStore};
 
-/// A request over a world with these settings, and what was prepared for it, with the units that were
-/// spent, once it was asked.
+/// What was prepared for a request, with the units that were spent, once it was asked.
 #[derive(Drop)]
-pub(crate) struct Asking<'a> {
-    pub(crate) alloc: Global,
-    pub(crate) plain: &'a Plain,
-    pub(crate) settings: &'a Settings,
-    pub(crate) method: Method,
-    pub(crate) target: &'a str,
-    pub(crate) body: &'a [u8],
+pub(crate) struct Answered {
     pub(crate) prepared: Result<(Prepared, u64), FilesFault>,
 }
 
-impl Asker for Asking<'_> {
-    ghost use Rattle.std.specs.Prelude.{IfOk};
-    ghost use Rattle.ports_plain.specs.Plain.{plain_request};
-    ghost use Rattle.tenant_worlds.specs.Prepared.{IsPrepared};
+/// A request over a world about which the keeper is right, and the place of its answer.
+#[derive(Drop)]
+pub(crate) struct Asking<'a> {
+    pub(crate) alloc: Global,
+    pub(crate) call: PlainCall<'a>,
+    pub(crate) keeper: &'a mut Keeper<IndexStore>,
+    pub(crate) answered: &'a mut Answered,
+}
 
-    ghost answered = { λ old view new. IfOk new.prepared (IsPrepared (view.files, old.settings.now)
-        (plain_request old.method old.target.now old.body.now)) };
+impl Asking<'_> {
+    ghost use Rattle.std.specs.Prelude.{◌≡◌, IfOk};
+    ghost use Rattle.index_keep.specs.Keeping.{IsKept, rows_of};
+    ghost use Rattle.index_store.specs.PortTable.{stored_by};
+    ghost use Rattle.kept_ports.specs.Calls.{request_of, IsPrepared};
+    ghost use Rattle.tenant_store.specs.Holdings.{files_of};
+    ghost use Rattle.tenant_worlds.specs.Prepared.{world_asked, IsReady};
+
+    /// Asks over the files of a tenant.
+    pub(crate) fn ask_tenant(&mut self, store: &mut TenantStore, tenant: u32)
+        requires { IsReady (files_of tenant store.old) self.old }
+        ensures prepared { IfOk self.new.answered.now.prepared
+            (IsPrepared (world_asked (files_of tenant store.old) self.old)
+            (rows_of stored_by self.old.keeper.now) (request_of self.old.call)) }
+        ensures kept { IsKept stored_by (world_asked (files_of tenant store.old) self.old)
+            self.new.keeper.now }
+        ensures same_keeper { self.new.keeper.ghost_name ≡ self.old.keeper.ghost_name }
+        ensures same_place { self.new.answered.ghost_name ≡ self.old.answered.ghost_name }
+        ensures same { store.new ≡ store.old }
+    {
+        store.ask(self.alloc, tenant, self);
+    }
+}
+
+impl Asker for Asking<'_> {
+    ghost use Rattle.tenant_worlds.specs.Prepared.{IsReady, IsAsked};
+
+    ghost ready = { λ asker view. IsReady view.files asker };
+
+    ghost answered = { λ old view new. IsAsked view.files old new };
 
     fn ask<F: Listing>(&mut self, files: &mut F) {
-        let mut ports = ComputedPorts {
-            files,
-            settings: self.settings,
-        };
-        self.prepared = self.plain.prepare(
-            self.alloc,
-            &mut ports,
-            self.method,
-            self.target,
-            self.body,
-        );
+        self.answered.prepared = self.call.prepare(self.alloc, files, &mut *self.keeper);
     }
 }

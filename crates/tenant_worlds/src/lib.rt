@@ -1,7 +1,9 @@
-//! The worlds of all tenants, in one store, and a request answered over one of them.
+//! The worlds of all tenants, in one store, with an index of each that is kept, and a request answered over
+//! one of them.
 #![tactic(auto)]
 
 mod asking;
+mod keepers;
 mod world;
 mod worlds;
 

@@ -1,6 +1,9 @@
 //! The tenants' worlds in one store, and the plain service over them.
-use crate::world::reply_to;
-use computed_ports::computing_costs_no_more;
+use crate::keepers::{limit_keepers, open_keepers, reply_to_tenant};
+use crate::world::Incoming;
+use index_keep::Keeper;
+use index_store::IndexStore;
+use kept_ports::keeping_costs_no_more;
 use mk_paths::FilesFault;
 use ports_core::{Config, Tenants, Worked};
 use ports_http::{Reply, Request};
@@ -10,18 +13,20 @@ use std::marker::Model;
 use tenant_store::TenantStore;
 
 /// The world of each tenant, by the tenants' numbers, all in one store, and the plain service that answers
-/// over one of them. A contract sees the list of the worlds.
+/// over one of them. The index of each world is kept in a database of its own. A contract sees the list of
+/// the worlds.
 #[derive(Drop)]
 pub struct StoredTenants {
     store: TenantStore,
+    keepers: Vec<Keeper<IndexStore>>,
     plain: Plain,
-    count: usize,
 }
 
 impl Model for StoredTenants {
-    ghost use Rattle.std.specs.Prelude.{List};
+    ghost use Rattle.std.specs.Prelude.{List, length};
     ghost use Rattle.mk_paths.specs.World.{World};
     ghost use Rattle.tenant_worlds.specs.Stored.{worlds_in};
+    ghost use Rattle.tenant_worlds.specs.Kept.{IsKeptBy};
 
     ghost Value = { List World };
 
@@ -30,11 +35,9 @@ impl Model for StoredTenants {
 
     ghost coded = { Prim.hlevel (codes, world_code) };
 
-    ghost view = { λ w. worlds_in w.store w.count };
+    ghost view = { λ w. worlds_in w.store (length w.keepers.items) };
 
-    ghost use Rattle.std.specs.Prelude.{◌≤◌};
-
-    ghost invariant = { λ w. w.count ≤ 64 };
+    ghost invariant = { λ w. IsKeptBy w.store w.keepers.items };
 }
 
 impl Tenants for StoredTenants {
@@ -42,26 +45,24 @@ impl Tenants for StoredTenants {
 
     fn new(alloc: Global, config: &Config) -> Result<StoredTenants, FilesFault> {
         let store = TenantStore::open_in_memory(alloc)?;
+        let keepers = open_keepers(alloc, config.keys.len())?;
         let plain = Plain::new(alloc)?;
-        let count = config.keys.len();
         Ok(StoredTenants {
             store,
+            keepers,
             plain,
-            count,
         })
     }
 
     fn work(&mut self, alloc: Global, tenant: usize, request: &Request, close: bool) -> Worked {
-        computing_costs_no_more();
+        keeping_costs_no_more();
         never_answers_503();
-        match reply_to(
-            &mut self.store,
-            alloc,
-            &self.plain,
-            tenant as u32,
+        let incoming = Incoming {
+            plain: &self.plain,
             request,
             close,
-        ) {
+        };
+        match reply_to_tenant(alloc, &mut self.store, &mut self.keepers, tenant, &incoming) {
             Ok((reply, bytes, units)) => Worked {
                 reply,
                 bytes: Some(bytes),
@@ -77,5 +78,6 @@ impl Tenants for StoredTenants {
 
     fn limit_steps(&mut self, limit: Option<u64>) {
         self.store.limit_steps(limit);
+        limit_keepers(&mut self.keepers, limit);
     }
 }

@@ -12,21 +12,28 @@ mod streams;
 mod subjects;
 mod trickle;
 
-use case_lines::Cases;
+use case_lines::{Bench, Cases};
 use ports_host::words_given;
 use std::{fs, io};
 use subjects::Subjects;
 
 fn main(rt: HostRuntime) -> io::Result<()> {
     let words = words_given(&rt)?;
-    let mut cases = Cases::new(rt.alloc(), Subjects::new(rt.alloc(), &rt)?);
+    let subjects = Subjects::new(rt.alloc(), &rt)?;
+    take_files(&rt, &words, Cases::new(rt.alloc(), subjects))
+}
+
+/// Takes the files that the words name after the first, or standard input if they name none. It prints what
+/// is wrong, and how many cases there are.
+fn take_files<B: Bench>(rt: &HostRuntime, words: &[String], cases: Cases<B>) -> io::Result<()> {
+    let mut cases = cases;
     if words.len() < 2 {
         let input = io::read_to_string(rt.alloc(), rt.reader())?;
-        take_file(&rt, &mut cases, "standard input", input.as_str())?;
+        take_file(rt, &mut cases, "standard input", input.as_str())?;
     }
     for name in words.iter().skip(1) {
-        let input = fs::read_to_string(&rt, name.as_str())?;
-        take_file(&rt, &mut cases, name.as_str(), input.as_str())?;
+        let input = fs::read_to_string(rt, name.as_str())?;
+        take_file(rt, &mut cases, name.as_str(), input.as_str())?;
     }
     let count = cases.count();
     let wrong = cases.wrong();
@@ -34,9 +41,9 @@ fn main(rt: HostRuntime) -> io::Result<()> {
 }
 
 /// Takes each line of a file, and prints what is wrong.
-fn take_file(
+fn take_file<B: Bench>(
     rt: &HostRuntime,
-    cases: &mut Cases<Subjects<'_, HostRuntime>>,
+    cases: &mut Cases<B>,
     name: &str,
     input: &str,
 ) -> io::Result<()> {

@@ -1,0 +1,3 @@
+pub mod Costs
+pub mod Leaving
+pub mod Calls

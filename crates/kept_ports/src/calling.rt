@@ -1,0 +1,54 @@
+//! Requests over a world whose index is kept.
+ghost use Rattle.std.specs.Prelude.{IfOk};
+ghost use Rattle.mk_paths.specs.FilesView.{world_of};
+ghost use Rattle.index_keep.specs.Keeping.{IsKept, rows_of};
+
+use crate::keeping::KeptPorts;
+use index_keep::Keeper;
+use index_store::PathRows;
+use mk_files::Listing;
+use mk_paths::{FilesFault, Settings};
+use ports_http::Method;
+use ports_plain::{Plain, Prepared};
+use read_trace::{Recorder, Trace};
+use std::alloc::Global;
+
+/// A request to the plain service, over a world with these settings.
+#[derive(Clone, Copy)]
+pub struct PlainCall<'a> {
+    /// The service.
+    pub plain: &'a Plain,
+    /// The settings of the world.
+    pub settings: &'a Settings,
+    /// The method of the request.
+    pub method: Method,
+    /// Its target.
+    pub target: &'a str,
+    /// Its body, in bytes.
+    pub body: &'a [u8],
+}
+
+impl PlainCall<'_> {
+    ghost use Rattle.kept_ports.specs.Calls.{request_of, IsPrepared};
+
+    /// The answer to the request over these files, and the units that were spent. Nothing of the world is
+    /// changed yet. A request that needs the index refreshes the rows that the keeper has of it first.
+    ///
+    /// It fails if the files or the rows fail, or if memory runs out. The keeper stays right about the world.
+    pub fn prepare<F: Listing + Drop, R: PathRows + Drop>(
+        &self,
+        alloc: Global,
+        files: F,
+        keeper: &mut Keeper<R>,
+    ) -> Result<(Prepared, u64), FilesFault>
+        requires { IsKept R.entries (world_of (F.view files) self.now.settings.now) keeper.old }
+        ensures prepared { IfOk result (IsPrepared (world_of (F.view files) self.now.settings.now)
+            (rows_of R.entries keeper.old) (request_of self.now)) }
+        ensures kept { IsKept R.entries (world_of (F.view files) self.now.settings.now) keeper.new }
+    {
+        let mut files = Recorder::new(alloc, files, Trace::new(alloc));
+        let mut ports = KeptPorts::new(&mut files, self.settings, keeper);
+        self.plain
+            .prepare(alloc, &mut ports, self.method, self.target, self.body)
+    }
+}

@@ -1,0 +1,111 @@
+//! The ports of a world, whose index is kept.
+ghost use Rattle.std.specs.Prelude.{◌≡◌};
+ghost use Rattle.mk_paths.specs.FilesView.{world_of};
+ghost use Rattle.read_trace.specs.Recording.{view_of};
+ghost use Rattle.index_keep.specs.Keeping.{IsKept};
+ghost use Rattle.index_keep.proofs.Props.{IsKept-prop};
+
+use computed_ports::{find_record, find_value};
+use index_keep::Keeper;
+use index_store::PathRows;
+use mk_files::{Content, Files, Listing};
+use mk_paths::{FilesFault, Name, Names, Settings};
+use pkg_path::PkgPath;
+use port_deps::{Root, RootEdge};
+use ports_plain::{Ports, RecordFound, ValueFound, VariableQuestion};
+use ports_query::RowsInMemory;
+use read_trace::Recorder;
+use std::alloc::Global;
+
+/// The ports of the world of these files and settings. The index comes from rows that are kept, and is
+/// refreshed first. The rest is computed from the files.
+#[derive(Drop)]
+pub(crate) struct KeptPorts<'a, F: Listing + Drop, R: PathRows + Drop> {
+    files: &'a mut Recorder<F>,
+    settings: &'a Settings,
+    keeper: &'a mut Keeper<R>,
+    // the keeper is right about the world
+    ghost is_kept: { IsKept R.entries
+        (world_of (view_of F.view files.now) settings.now) keeper.now } by { IsKept-prop R.entries
+            (world_of (view_of F.view files.now) settings.now) keeper.now },
+}
+
+impl<'a, F: Listing + Drop, R: PathRows + Drop> KeptPorts<'a, F, R> {
+    ghost use Rattle.kept_ports.specs.Leaving.{world_at, IsOver};
+
+    /// The ports of the world of these files and settings, about which this keeper is right.
+    pub(crate) fn new(
+        files: &'a mut Recorder<F>,
+        settings: &'a Settings,
+        keeper: &'a mut Keeper<R>,
+    ) -> KeptPorts<'a, F, R>
+        requires { IsKept R.entries (world_of (view_of F.view files.old) settings.now) keeper.old }
+        ensures world { world_at F.view result ≡ world_of (view_of F.view files.old) settings.now }
+        ensures over { IsOver result keeper.entry }
+    {
+        KeptPorts {
+            files,
+            settings,
+            keeper,
+        }
+    }
+}
+
+impl<F: Listing + Drop, R: PathRows + Drop> Ports for KeptPorts<'_, F, R> {
+    ghost use Rattle.index_keep.specs.Keeping.{rows_of};
+    ghost use Rattle.kept_ports.specs.Costs.{kept_cost};
+    ghost use Rattle.kept_ports.specs.Leaving.{world_at, LeavesPorts, LeavesPorts-all};
+    ghost use Rattle.std.proofs.Common.{refl};
+
+    type Roots = RowsInMemory<Root>;
+
+    type Edges = RowsInMemory<RootEdge>;
+
+    ghost world = { world_at F.view };
+
+    ghost charge = { λ ports need.
+        kept_cost (world_at F.view ports) (rows_of R.entries ports.keeper.now) need };
+
+    ghost leaves = { λ fault. LeavesPorts F.view };
+
+    fn content(&mut self, name: &Name) -> Result<Option<Content>, FilesFault> {
+        self.files.read(name)
+    }
+
+    fn has_file(&mut self, name: &Name) -> Result<bool, FilesFault> {
+        self.files.has(name)
+    }
+
+    fn value(
+        &mut self,
+        alloc: Global,
+        question: &VariableQuestion,
+    ) -> Result<(ValueFound, u64), FilesFault> {
+        find_value(alloc, self.files, self.settings, question)
+    }
+
+    fn record(&mut self, alloc: Global, path: &PkgPath) -> Result<(RecordFound, u64), FilesFault> {
+        find_record(alloc, self.files, self.settings, path)
+    }
+
+    fn roots(&mut self, alloc: Global) -> Result<(RowsInMemory<Root>, u64), FilesFault> {
+        let (roots, units) = self.keeper.select(alloc, self.files, self.settings)?;
+        Ok((RowsInMemory::new(roots), units))
+    }
+
+    fn index(
+        &mut self,
+        alloc: Global,
+    ) -> Result<(RowsInMemory<Root>, RowsInMemory<RootEdge>, u64), FilesFault> {
+        let (roots, edges, units) = self.keeper.index(alloc, self.files, self.settings)?;
+        Ok((RowsInMemory::new(roots), RowsInMemory::new(edges), units))
+    }
+
+    ghost charges_nothing = { λ ports. refl };
+
+    ghost leaves_all = { LeavesPorts-all F.view };
+
+    ghost leaves_out_of_memory = { λ old new left. left };
+
+    ghost leaves_failing_rows = { λ old new fault fails left. left };
+}
