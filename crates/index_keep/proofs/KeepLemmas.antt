@@ -245,21 +245,23 @@ module _ (old new : Entries) (before after nothing : Progress) (none : HasForgot
   pub IsProgress-taken : (world : World) (rows : ShownRows) → IsProgress world rows after
   IsProgress-taken world rows = subst (λ (p : Progress). IsProgress world rows p) (sym is) (IsProgress-forgotten world rows nothing none)
 
--- ---- rows that are current say what the index is
+-- ---- rows that are right say what the index is
 
-module _ (enough : KnownRowsAreEnough) (world : World) (rows : ShownRows) (current : AreCurrent world rows) (known : List ℕ → Option PathOutcome)
-    (knows : (path : List ℕ) → known path ≡ fresh rows path) (paths : List (List ℕ)) (are : paths ≡ listed_paths world) where
-  have_rows : HaveRows world (fresh rows) (needed_paths world)
-  have_rows path is = ap (option_and_then fresh_outcome) (current.each path ∙ ap (λ (b : Bool). if b then Some (fresh_row world path) else None) is)
+-- what is fresh of current rows is right for each needed path
+pub have-current : (world : World) (rows : ShownRows) (known : List ℕ → Option PathOutcome) → AreCurrent world rows → ((path : List ℕ) → known path ≡ fresh rows path)
+    → HaveRows world known (needed_paths world)
+have-current world rows known current knows path is =
+    knows path ∙ ap (option_and_then fresh_outcome) (current.each path ∙ ap (λ (b : Bool). if b then Some (fresh_row world path) else None) is)
 
-  same_known : known ≡ fresh rows
-  same_known i path = knows path i
+module _ (enough : KnownRowsAreEnough) (world : World) (known : List ℕ → Option PathOutcome) (have : HaveRows world known (needed_paths world))
+    (paths : List (List ℕ)) (are : paths ≡ listed_paths world) where
+  pub roots-known : roots_among (known_in known) paths ≡ roots world
+  roots-known = ap (roots_among (known_in known)) are ∙ enough.roots world known have
 
-  pub roots-current : roots_among (known_in known) paths ≡ roots world
-  roots-current = ap (λ (k : List ℕ → Option PathOutcome). roots_among (known_in k) paths) same_known ∙ ap (roots_among (known_in (fresh rows))) are ∙ enough.roots world (fresh rows) have_rows
+  pub edges-known : edges_among (known_in known) paths ≡ edges world
+  edges-known = ap (edges_among (known_in known)) are ∙ enough.edges world known have
 
-  pub edges-current : edges_among (known_in known) paths ≡ edges world
-  edges-current = ap (λ (k : List ℕ → Option PathOutcome). edges_among (known_in k) paths) same_known ∙ ap (edges_among (known_in (fresh rows))) are ∙ enough.edges world (fresh rows) have_rows
-
-  pub IsListed-current : IsListed paths
-  IsListed-current = subst IsListed (sym are) (in_order-sorted (flat_map (named_at (outcome_at world)) (directories (files_in world)) ++ directories (files_in world)))
+-- the listed paths are listed in order
+pub IsListed-paths : (world : World) (paths : List (List ℕ)) → paths ≡ listed_paths world → IsListed paths
+IsListed-paths world paths are =
+    subst IsListed (sym are) (in_order-sorted (flat_map (named_at (outcome_at world)) (directories (files_in world)) ++ directories (files_in world)))

@@ -7,6 +7,8 @@ use Rattle.index_store.specs.Entries.{Entries}
 use Rattle.index_keep.specs.declared.keeper.Progress.{Progress}
 use Rattle.index_keep.specs.declared.keeper.Progress.TheVariants.{Changed, Walking, Current}
 use Rattle.index_keep.specs.declared.keeper.Keeper.{Keeper}
+use Rattle.index_keep.specs.declared.keeper.Turned.{Turned}
+use Rattle.index_keep.specs.declared.keeper.Turned.TheVariants as turned
 use Rattle.index_keep.specs.Shown.{ShownRows, shown, no_name}
 use Rattle.index_keep.specs.Right.{AreKept, AreCurrent}
 use Rattle.index_keep.specs.Walking.{IsWalk}
@@ -40,6 +42,11 @@ IsEnded (Current listed) = Unit {0}
 
 abbrev pub IsDone : {R : Type 0} → Keeper R → Type 0
 IsDone keeper = IsEnded keeper.progress
+
+-- a turn that ended the refresh leaves it done
+abbrev pub IsDoneAfter : {R : Type 0} → Keeper R → Turned → Type 0
+IsDoneAfter keeper (turned.Evaluated units) = Unit {0}
+IsDoneAfter keeper (turned.Done known) = IsDone keeper
 
 -- no refresh is under way or done
 abbrev pub IsDropped : Progress → Type 0

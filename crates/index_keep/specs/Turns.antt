@@ -1,18 +1,31 @@
 -- What one call of a refresh does.
-use Rattle.std.specs.Prelude.{ℕ}
+use Rattle.std.specs.Prelude.{ℕ, Option, Some, None}
 use Rattle.mk_paths.specs.World.{World}
 use Rattle.index_keep.specs.declared.walking.Refreshed.{Refreshed}
 use Rattle.index_keep.specs.declared.walking.Refreshed.TheVariants.{Evaluated, Done}
 use Rattle.ports_index.specs.Efforts.{cost_over, lacking}
 use Rattle.ports_index.specs.Index.{needed_paths}
 use Rattle.ports_index.specs.PathOutcomes.{counted}
+use Rattle.ports_index.specs.declared.keeping.MemoryRows.{MemoryRows}
+use Rattle.index_keep.specs.declared.keeper.Turned.{Turned}
+use Rattle.index_keep.specs.declared.keeper.Turned.TheVariants as turned
 use Rattle.index_keep.specs.Shown.{ShownRows, fresh}
 use Rattle.index_keep.specs.Right.{HaveFresh, AreCurrent, RenewsRow}
+pub use Rattle.index_keep.specs.Walking.{KnowsNeeded}
 
 -- either one row was renewed, or none was left to be renewed, and the rows are those of the index
 abbrev pub TakesTurn : World → ShownRows → ShownRows → Refreshed → Type 0
 TakesTurn world old new (Evaluated units) = RenewsRow world old new units
 TakesTurn world old new Done = HaveFresh world old × AreCurrent world new
+
+-- the same of a turn that may still know what the rows say, once they are those of the index
+abbrev pub KnowsAtEnd : World → Option MemoryRows → Type 0
+KnowsAtEnd world None = Unit {0}
+KnowsAtEnd world (Some known) = KnowsNeeded world known
+
+abbrev pub EndsTurn : World → ShownRows → ShownRows → Turned → Type 0
+EndsTurn world old new (turned.Evaluated units) = TakesTurn world old new (Evaluated units)
+EndsTurn world old new (turned.Done known) = TakesTurn world old new Done × KnowsAtEnd world known
 
 -- the units that are left to be spent: what the paths cost on which the index depends, and which have no
 -- fresh row

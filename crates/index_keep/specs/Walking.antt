@@ -6,7 +6,9 @@ use Rattle.ports_index.specs.Filling.{is_one_of}
 use Rattle.ports_index.specs.Index.{listed_paths, needed_among, needed_paths}
 use Rattle.ports_index.specs.Naming.{directories, listed_from}
 use Rattle.ports_index.specs.PathOutcomes.{PathOutcome}
+use Rattle.ports_index.specs.RowLaws.{HaveRows}
 use Rattle.ports_index.specs.Seen.{entries_in, known_in}
+use Rattle.ports_index.specs.declared.keeping.MemoryRows.{MemoryRows}
 use Rattle.index_store.specs.Entries.{Entries, SameRows}
 use Rattle.index_keep.specs.declared.walking.Stage.{Stage}
 use Rattle.index_keep.specs.declared.walking.Passed.{Passed}
@@ -38,11 +40,16 @@ pub record IsOnTheWay (world : World) (rows : ShownRows) (walk : Walk) : Type 0 
   pub kept : AreKept world rows
   pub far : IsWalk world rows walk
 
+-- what the rows in memory say of each needed path is right
+abbrev pub KnowsNeeded : World → MemoryRows → Type 0
+KnowsNeeded world known = HaveRows world (entries_in known) (needed_paths world)
+
 -- what a refresh that went on made of the rows, and what is left of it
 abbrev pub GoesOn : World → ShownRows → ShownRows → Onward → Type 0
 GoesOn world old new (onward.More units walk) = RenewsRow world old new units × IsOnTheWay world new walk
-GoesOn world old new (onward.Current listed) =
+GoesOn world old new (onward.Current listed known) =
     HaveFresh world old × AreCurrent world new × AreKept world new × (map string_bytes listed.items ≡ listed_paths world)
+    × KnowsNeeded world known
 
 -- the paths of a stage
 abbrev pub paths_of : Stage → List (List ℕ)

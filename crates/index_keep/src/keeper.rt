@@ -11,9 +11,9 @@ ghost use Rattle.mk_paths.specs.declared.search_path.Settings.{Settings};
 ghost use Rattle.index_store.specs.Entries.{SameRows};
 ghost use Rattle.index_keep.specs.Shown.{shown, no_name, ShowsSame, made_stale, stale_if_asked};
 ghost use Rattle.index_keep.specs.Right.{DifferAt, LeavesFiles};
-ghost use Rattle.index_keep.specs.Turns.{TakesTurn, units_left};
+ghost use Rattle.index_keep.specs.Turns.{TakesTurn, EndsTurn, KnowsNeeded, units_left};
 ghost use Rattle.index_keep.specs.Walking.{IsWalk, IsOnTheWay};
-ghost use Rattle.index_keep.specs.Keeping.{rows_of, changed_in, IsKept, IsDone, IsDropped, HasForgotten, Stops};
+ghost use Rattle.index_keep.specs.Keeping.{rows_of, changed_in, IsKept, IsDone, IsDoneAfter, IsDropped, HasForgotten, Stops};
 
 use crate::beginning::{begin, fresh_rows};
 use crate::names::insert_name;
@@ -23,8 +23,8 @@ use mk_files::Listing;
 use mk_paths::{FilesFault, Name, Settings};
 use port_deps::{Root, RootEdge};
 use ports_index::{
-    edges_among, known_rows_are_enough, one_row_more_leaves_less, path_is_the_same_where_answered,
-    roots_of_all,
+    MemoryRows, edges_among, known_rows_are_enough, one_row_more_leaves_less,
+    path_is_the_same_where_answered, roots_of_all,
 };
 use read_trace::Recorder;
 use std::alloc::{AllocError, Global};
@@ -44,6 +44,15 @@ pub(crate) enum Progress {
     Walking(Walk),
     /// All rows are right, and these are the listed paths.
     Current(Vec<String>),
+}
+
+/// What a turn of a refresh came to.
+#[derive(Drop)]
+enum Turned {
+    /// One path was evaluated. So many units were spent.
+    Evaluated(u64),
+    /// Each path has its row. If this turn ended the refresh, it still knows what the rows say.
+    Done(Option<MemoryRows>),
 }
 
 /// The index of one tenant: a row for each path on which it depends, and what has changed since.
@@ -121,6 +130,27 @@ impl<R: PathRows + Drop> Keeper<R> {
         ensures kept { IsKept R.entries (world_of (view_of F.view files.old) settings.now) self.new }
         ensures leaves { LeavesFiles (result_err result) (view_of F.view files.old) (view_of F.view files.new) }
     {
+        match self.turn(alloc, files, settings)? {
+            Turned::Evaluated(units) => Ok(Refreshed::Evaluated(units)),
+            Turned::Done(_known) => Ok(Refreshed::Done),
+        }
+    }
+
+    // Takes a turn of a refresh.
+    fn turn<F: Listing + Drop>(
+        &mut self,
+        alloc: Global,
+        files: &mut Recorder<F>,
+        settings: &Settings,
+    ) -> Result<Turned, FilesFault>
+        requires { IsKept R.entries (world_of (view_of F.view files.old) settings.now) self.old }
+        ensures turn { IfOk result (EndsTurn (world_of (view_of F.view files.old) settings.now)
+            (rows_of R.entries self.old) (rows_of R.entries self.new)) }
+        ensures done { IfOk result (IsDoneAfter self.new) }
+        ensures err { OnErr result (ShowsSame (rows_of R.entries self.old) (rows_of R.entries self.new)) }
+        ensures kept { IsKept R.entries (world_of (view_of F.view files.old) settings.now) self.new }
+        ensures leaves { LeavesFiles (result_err result) (view_of F.view files.old) (view_of F.view files.new) }
+    {
         match mem::replace(&mut self.progress, Progress::nothing(alloc)) {
             Progress::Changed(names) => {
                 let walk = self.begun(alloc, files, names)?;
@@ -129,7 +159,7 @@ impl<R: PathRows + Drop> Keeper<R> {
             Progress::Walking(walk) => self.walk_on(alloc, files, settings, walk),
             Progress::Current(listed) => {
                 self.progress = Progress::Current(listed);
-                Ok(Refreshed::Done)
+                Ok(Turned::Done(None))
             }
         }
     }
@@ -141,12 +171,12 @@ impl<R: PathRows + Drop> Keeper<R> {
         files: &mut Recorder<F>,
         settings: &Settings,
         walk: Walk,
-    ) -> Result<Refreshed, FilesFault>
+    ) -> Result<Turned, FilesFault>
         requires { IsOnTheWay (world_of (view_of F.view files.old) settings.now)
             (shown no_name (R.entries self.old.rows)) walk }
-        ensures turn { IfOk result (TakesTurn (world_of (view_of F.view files.old) settings.now)
+        ensures turn { IfOk result (EndsTurn (world_of (view_of F.view files.old) settings.now)
             (shown no_name (R.entries self.old.rows)) (rows_of R.entries self.new)) }
-        ensures done { result ≡ Ok Refreshed.Done → IsDone self.new }
+        ensures done { IfOk result (IsDoneAfter self.new) }
         ensures kept { OnOk result (IsKept R.entries (world_of (view_of F.view files.old) settings.now) self.new) }
         ensures err { OnErr result (SameRows (R.entries self.old.rows) (R.entries self.new.rows)
             × (self.new.progress ≡ self.old.progress)) }
@@ -155,11 +185,11 @@ impl<R: PathRows + Drop> Keeper<R> {
         match go_on(alloc, files, settings, &mut self.rows, walk)? {
             Onward::More(units, walk) => {
                 self.progress = Progress::Walking(walk);
-                Ok(Refreshed::Evaluated(units))
+                Ok(Turned::Evaluated(units))
             }
-            Onward::Current(listed) => {
+            Onward::Current(listed, known) => {
                 self.progress = Progress::Current(listed);
-                Ok(Refreshed::Done)
+                Ok(Turned::Done(Some(known)))
             }
         }
     }
@@ -189,16 +219,18 @@ impl<R: PathRows + Drop> Keeper<R> {
         }
     }
 
-    /// Goes on with a refresh until it is done. The result is the units that were spent.
+    // Goes on with a refresh until it is done. The result is what the rows say, and the units that were spent.
     fn refresh<F: Listing + Drop>(
         &mut self,
         alloc: Global,
         files: &mut Recorder<F>,
         settings: &Settings,
-    ) -> Result<u64, FilesFault>
+    ) -> Result<(MemoryRows, u64), FilesFault>
         requires { IsKept R.entries (world_of (view_of F.view files.old) settings.now) self.old }
         ensures done { OnOk result (IsDone self.new) }
-        ensures units { IfOk result (λ units. units ≡ units_left
+        ensures known { IfOk result (λ found.
+            KnowsNeeded (world_of (view_of F.view files.old) settings.now) found.0) }
+        ensures units { IfOk result (λ found. found.1 ≡ units_left
             (world_of (view_of F.view files.old) settings.now) (rows_of R.entries self.old)) }
         ensures kept { IsKept R.entries (world_of (view_of F.view files.old) settings.now) self.new }
         ensures leaves { LeavesFiles (result_err result) (view_of F.view files.old) (view_of F.view files.new) }
@@ -206,9 +238,10 @@ impl<R: PathRows + Drop> Keeper<R> {
         one_row_more_leaves_less();
         let mut units = 0u64;
         loop {
-            match self.refresh_turn(alloc, files, settings)? {
-                Refreshed::Evaluated(more) => units = units.saturating_add(more),
-                Refreshed::Done => return Ok(units),
+            match self.turn(alloc, files, settings)? {
+                Turned::Evaluated(more) => units = units.saturating_add(more),
+                Turned::Done(Some(known)) => return Ok((known, units)),
+                Turned::Done(None) => return Ok((fresh_rows(alloc, &mut self.rows)?, units)),
             }
         }
     }
@@ -232,11 +265,10 @@ impl<R: PathRows + Drop> Keeper<R> {
         ensures leaves { LeavesFiles (result_err result) (view_of F.view files.old) (view_of F.view files.new) }
     {
         known_rows_are_enough();
-        let units = self.refresh(alloc, files, settings)?;
+        let (mut known, units) = self.refresh(alloc, files, settings)?;
         let Progress::Current(listed) = &self.progress else {
             return Err(FilesFault::Memory);
         };
-        let mut known = fresh_rows(alloc, &mut self.rows)?;
         Ok((roots_of_all(alloc, listed, &mut known)?, units))
     }
 
@@ -258,11 +290,10 @@ impl<R: PathRows + Drop> Keeper<R> {
         ensures leaves { LeavesFiles (result_err result) (view_of F.view files.old) (view_of F.view files.new) }
     {
         known_rows_are_enough();
-        let units = self.refresh(alloc, files, settings)?;
+        let (mut known, units) = self.refresh(alloc, files, settings)?;
         let Progress::Current(listed) = &self.progress else {
             return Err(FilesFault::Memory);
         };
-        let mut known = fresh_rows(alloc, &mut self.rows)?;
         let edges = edges_among(alloc, listed, &known)?;
         Ok((roots_of_all(alloc, listed, &mut known)?, edges, units))
     }

@@ -85,13 +85,13 @@ pub(crate) enum Walk {
     Needed(Stage, Vec<String>),
 }
 
-/// How a walk goes on, or the listed paths once it is at its end.
+/// How a walk goes on.
 #[derive(Debug, Drop)]
 pub(crate) enum Onward {
     /// One path was evaluated for so many units, and this is left.
     More(u64, Walk),
-    /// Each path has its row.
-    Current(Vec<String>),
+    /// Each path has its row. These are the listed paths, and what the rows say.
+    Current(Vec<String>, MemoryRows),
 }
 
 /// What a stage came to.
@@ -231,8 +231,9 @@ fn pass_needed<F: Files + Drop, R: PathRows>(
     match pass(alloc, files, settings, rows, stage)? {
         Passed::One(units, stage) => Ok(Onward::More(units, Walk::Needed(stage, listed))),
         Passed::All(stage) => {
-            take_out_others(alloc, rows, &stage.paths)?;
-            Ok(Onward::Current(listed))
+            let Stage { paths, known, .. } = stage;
+            take_out_others(alloc, rows, &paths)?;
+            Ok(Onward::Current(listed, known))
         }
     }
 }

@@ -1,15 +1,26 @@
 // The elements of a path's text, and what they may be.
-ghost use Rattle.std.specs.Prelude.{◌≡◌, IfOk, map, filter, find, length, option_map};
+ghost use Rattle.std.specs.Prelude.{◌≡◌, ◌∷◌, IfOk, map, filter, find, length, option_map};
 ghost use Rattle.std.specs.List.{list_all, list_any};
 ghost use Rattle.std.specs.String.{string_bytes};
-ghost use Rattle.pkg_path.specs.Paths.{is_subpackage, is_flavor, flavors_of, may_occur, is_part, is_directory, is_bare_dash, is_well_cut};
+ghost use Rattle.pkg_path.specs.Paths.{elements_of, is_subpackage, is_flavor, flavors_of, may_occur, is_part, is_directory, is_bare_dash, is_well_cut};
 ghost use Rattle.text_parts.specs.Order.{in_order};
 ghost use Rattle.pkg_path.specs.Seen.{flavors_seen};
 ghost use Rattle.text_parts.specs.Cuts.{now_all};
 
 use crate::flavors::Flavors;
 use std::alloc::{AllocError, Global};
-use text_parts::put_in_order;
+use text_parts::{put_in_order, split_at};
+
+// The directory that the text of a path begins with, and the choices after it. Most texts have no choice, and
+// then nothing is allocated.
+pub(crate) fn cut_into_elements(alloc: Global, text: &str) -> Result<(&str, Vec<&str>), AllocError>
+    ensures { IfOk result (λ found. found.0.now ∷ now_all found.1.items ≡ elements_of text.now) }
+{
+    match text.split_once(',') {
+        Some((directory, choices)) => Ok((directory, split_at(alloc, choices, ',')?)),
+        None => Ok((text, Vec::new(alloc))),
+    }
+}
 
 // Whether a choice names a subpackage.
 fn is_subpackage(choice: &str) -> bool

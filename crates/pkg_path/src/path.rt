@@ -9,13 +9,14 @@ ghost use Rattle.std.proofs.lemmas.Cmp.{on_equiv, nat_list_eq_equiv};
 ghost use Rattle.pkg_path.specs.Paths.{path_of, path_if_one, canonical, port_path, IsPath, without_subpackage};
 ghost use Rattle.pkg_path.specs.Paths.{flavor_choices, choices_text};
 
-use crate::elements::{count_subpackages, flavors_of, is_well_written, subpackage_of};
+use crate::elements::{
+    count_subpackages, cut_into_elements, flavors_of, is_well_written, subpackage_of,
+};
 use crate::faults::PkgPathFault;
 use crate::flavors::{Flavors, copy_flavors, same_flavors, write_flavors};
 use std::alloc::{AllocError, Global};
 use std::fmt;
 use std::marker::Model;
-use text_parts::split_at;
 
 /// A package path: the directory of a port below a ports tree, the flavors that are chosen, and maybe a
 /// subpackage, as in `editors/vim,gtk3,-lang` (pkgpath(7)).
@@ -74,10 +75,8 @@ impl PkgPath {
         if text.is_empty() {
             return Err(PkgPathFault::Empty);
         }
-        let elements = split_at(alloc, text, ',')?;
-        let Some((directory, choices)) = elements.as_slice().split_first() else {
-            return Err(PkgPathFault::Empty);
-        };
+        let (directory, choices) = cut_into_elements(alloc, text)?;
+        let choices = choices.as_slice();
         if count_subpackages(choices) > 1 {
             return Err(PkgPathFault::TwoSubpackages);
         }
@@ -118,7 +117,10 @@ impl PkgPath {
     pub fn port_path(&self, alloc: Global) -> Result<String, AllocError>
         ensures { IfOk result (λ text. string_bytes text ≡ port_path self.now) }
     {
-        self.copy(alloc)?.without_sub().canonical(alloc)
+        match self.flavors {
+            Flavors::Default => String::from_str(alloc, self.directory.as_str()),
+            Flavors::Explicit(_) => self.copy(alloc)?.without_sub().canonical(alloc),
+        }
     }
 
     /// The same path without its subpackage.

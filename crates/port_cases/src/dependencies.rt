@@ -52,7 +52,7 @@ fn add_item(alloc: Global, answer: &mut Answer, item: &Item) -> Result<(), Troub
     match item.wanted() {
         Some(wanted) => {
             answer.text(wanted.path().canonical(alloc)?.as_bytes());
-            answer.printed(alloc, wanted.spec());
+            answer.text(wanted.spec_text().as_bytes());
         }
         None => answer.word("BadItem"),
     }
@@ -72,8 +72,8 @@ pub fn statuses(alloc: Global, world: &mut World, given: &[Vec<u8>]) -> Result<A
 
 fn statuses_answer(alloc: Global, port: &PortRecord, found: Found<'_>) -> Result<Answer, Trouble> {
     let mut answer = Answer::new(alloc);
-    for item in &items(alloc, port)? {
-        answer.word(resolve(alloc, item, found)?.status().as_str());
+    for item in items(alloc, port)? {
+        answer.word(resolve(item, found).status().as_str());
     }
     Ok(answer)
 }
@@ -178,14 +178,14 @@ fn roots(alloc: Global, world: &mut World) -> Result<Vec<Root>, Trouble> {
 fn edges(alloc: Global, world: &mut World) -> Result<Vec<RootEdge>, Trouble> {
     let port = port(alloc, world)?;
     let mut edges = Vec::new(alloc);
-    for item in &items(alloc, &port)? {
+    for item in items(alloc, &port)? {
         edges.push(edge(alloc, item, &port)?)?;
     }
     Ok(edges)
 }
 
-fn edge(alloc: Global, item: &Item, port: &PortRecord) -> Result<RootEdge, AllocError> {
-    let edge = resolve(alloc, item, Found::Port(port))?;
+fn edge(alloc: Global, item: Item, port: &PortRecord) -> Result<RootEdge, AllocError> {
+    let edge = resolve(item, Found::Port(port));
     Ok(RootEdge::new(String::from_str(alloc, ROOT)?, edge))
 }
 

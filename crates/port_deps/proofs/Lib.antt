@@ -1,1 +1,2 @@
+mod AnyPackage
 mod Signs

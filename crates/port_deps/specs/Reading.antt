@@ -68,6 +68,11 @@ spec_text None (sign ∷ versions) = Some (codes "STEM-" ++ sign ∷ versions)
 spec_text (Some spec) [] = Some spec
 spec_text (Some spec) (sign ∷ versions) = None
 
+-- the text of a spec that admits any package, if there is none
+abbrev pub spec_or_any : Option (List ℕ) → List ℕ
+spec_or_any None = codes "STEM-*"
+spec_or_any (Some spec) = spec
+
 -- the text of a spec, if it is one
 abbrev pub spec_if_one : List ℕ → Option (List ℕ)
 spec_if_one text = if is_ok (spec_of text) then Some text else None

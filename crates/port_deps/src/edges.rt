@@ -1,5 +1,5 @@
 //! Dependencies of ports on ports.
-ghost use Rattle.std.specs.Prelude.{◌≡◌, IfOk};
+ghost use Rattle.std.specs.Prelude.{◌≡◌};
 ghost use Rattle.std.specs.Option.{option_copied};
 ghost use Rattle.port_deps.specs.Edges as edges;
 ghost use Rattle.port_deps.specs.Seen.{found_seen};
@@ -8,7 +8,6 @@ use crate::statuses::{Found, Status, status_of};
 use crate::wanting::{Item, Wanted};
 use pkg_path::PkgPath;
 use port_rules::DependKind;
-use std::alloc::{AllocError, Global};
 use std::marker::Model;
 
 /// A dependency of a port: an item, with the status that it gets from the port at its path.
@@ -83,26 +82,31 @@ impl Edge {
 /// port doesn't have the package that the path names. It is `SpecMismatch` if the spec doesn't admit the
 /// package's name. Otherwise it is `Ok`. A path that names no subpackage means `-main` if there is one,
 /// and otherwise the first package.
-///
-/// It fails only if memory runs out.
-pub fn resolve(alloc: Global, item: &Item, found: Found<'_>) -> Result<Edge, AllocError>
-    ensures { IfOk result (λ edge. edge ≡ edges.edge_of item.now (found_seen found.entry)) }
+pub fn resolve(item: Item, found: Found<'_>) -> Edge
+    ensures { result ≡ edges.edge_of item (found_seen found.entry) }
 {
-    Ok(Edge {
-        kind: item.kind(),
-        subpackage: String::from_str(alloc, item.subpackage())?,
-        item: String::from_str(alloc, item.text())?,
-        target: target_of(alloc, item.wanted())?,
-        status: status_of(item.wanted(), found),
-    })
+    let status = status_of(item.wanted(), found);
+    let Item {
+        kind,
+        subpackage,
+        text,
+        wanted,
+    } = item;
+    Edge {
+        kind,
+        subpackage,
+        item: text,
+        target: target_of(wanted),
+        status,
+    }
 }
 
 /// The path that an item names.
-fn target_of(alloc: Global, wanted: Option<&Wanted>) -> Result<Option<PkgPath>, AllocError>
-    ensures { IfOk result (λ target. target ≡ edges.target_of (option_copied wanted.entry)) }
+fn target_of(wanted: Option<Wanted>) -> Option<PkgPath>
+    ensures { result ≡ edges.target_of wanted }
 {
     match wanted {
-        Some(wanted) => Ok(Some(wanted.path().copy(alloc)?)),
-        None => Ok(None),
+        Some(wanted) => Some(wanted.into_path()),
+        None => None,
     }
 }

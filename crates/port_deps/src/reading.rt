@@ -1,5 +1,5 @@
 //! How the text of an item is read.
-ghost use Rattle.std.specs.Prelude.{◌≡◌, ◌==◌, IfOk, option_map, position, string_bytes};
+ghost use Rattle.std.specs.Prelude.{◌≡◌, ◌==◌, ◌++◌, ℕ, List, IfOk, codes, option_map, position};
 ghost use Rattle.std.specs.List.{list_any};
 ghost use Rattle.std.specs.Option.{option_copied};
 ghost use Rattle.text_parts.specs.Cuts.{now_all};
@@ -18,8 +18,9 @@ pub(crate) struct Parts<'a> {
     pub(crate) path: &'a str,
 }
 
-/// What an item asks for; `None` if its text can't be read.
-pub(crate) fn read_wanted(alloc: Global, text: &str) -> Result<Option<Wanted>, AllocError>
+/// What the item of this text asks for, as `items` reads it; `None` if the text can't be read. It fails only if
+/// memory runs out.
+pub fn read_wanted(alloc: Global, text: &str) -> Result<Option<Wanted>, AllocError>
     ensures { IfOk result (λ wanted. wanted ≡ reading.wanted_of text.now) }
 {
     let parts = parts_of(alloc, text)?;
@@ -90,16 +91,25 @@ fn wanted_in(alloc: Global, spec: Option<&str>, path: &str) -> Result<Option<Wan
         ≡ reading.wanted_in (record { spec = option_copied spec.entry; path = path.now })) }
 {
     let (path, versions) = cut_at_sign(path);
-    let Some(spec) = spec_text(alloc, spec, versions)? else {
-        return Ok(None);
-    };
     let Some(path) = PkgPath::read_if_one(alloc, path)? else {
         return Ok(None);
     };
-    let Some(spec) = read_spec(alloc, spec.as_str())? else {
-        return Ok(None);
-    };
-    Ok(Some(Wanted::new(path, spec)))
+    match spec {
+        Some(spec) if versions.is_empty() => Ok(with_spec(path, read_spec(alloc, spec)?)),
+        Some(_) => Ok(None),
+        None if versions.is_empty() => Ok(Some(Wanted::new(path, None))),
+        None => Ok(with_spec(path, read_versions(alloc, versions)?)),
+    }
+}
+
+/// What a path and a spec ask for; `None` if the spec can't be read.
+fn with_spec(path: PkgPath, spec: Option<Spec>) -> Option<Wanted>
+    ensures { result ≡ option_map (λ (spec : List ℕ). record { path = path; spec = spec }) spec }
+{
+    match spec {
+        Some(spec) => Some(Wanted::new(path, Some(spec))),
+        None => None,
+    }
 }
 
 /// A path, and the versions after it.
@@ -127,21 +137,11 @@ fn is_sign(byte: u8) -> bool
     matches!(byte, b'<' | b'>' | b'=')
 }
 
-/// The text of the one spec; `None` if there are two.
-fn spec_text(
-    alloc: Global,
-    spec: Option<&str>,
-    versions: &str,
-) -> Result<Option<String>, AllocError>
-    ensures { IfOk result (λ text. option_map string_bytes text
-        ≡ reading.spec_text (option_copied spec.entry) versions.now) }
+/// The spec of these versions of any stem, if they are read as one.
+fn read_versions(alloc: Global, versions: &str) -> Result<Option<Spec>, AllocError>
+    ensures { IfOk result (λ spec. spec ≡ reading.spec_if_one (codes "STEM-" ++ versions.now)) }
 {
-    match spec {
-        Some(spec) if versions.is_empty() => Ok(Some(String::from_str(alloc, spec)?)),
-        Some(_) => Ok(None),
-        None if versions.is_empty() => Ok(Some(String::from_str(alloc, "STEM-*")?)),
-        None => Ok(Some(format!(in alloc; "STEM-{versions}")?)),
-    }
+    read_spec(alloc, format!(in alloc; "STEM-{versions}")?.as_str())
 }
 
 /// The spec that a text is, if it is one.

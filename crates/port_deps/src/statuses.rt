@@ -79,7 +79,7 @@ fn status_at(wanted: &Wanted, port: &PortRecord) -> Status
     ensures { result ≡ statuses.status_at wanted.now port.now }
 {
     match package_meant(port, wanted.path().subpackage()) {
-        Some(package) if wanted.spec().matches(package.name()) => Status::Ok,
+        Some(package) if wanted.admits(package.name()) => Status::Ok,
         Some(_) => Status::SpecMismatch,
         None => Status::NoSubpackage,
     }

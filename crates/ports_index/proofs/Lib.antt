@@ -11,3 +11,4 @@ pub mod Names
 pub mod SamePaths
 pub mod NamedPaths
 pub mod RowLemmas
+pub mod TargetLemmas

@@ -5,6 +5,7 @@ use Rattle.std.proofs.lemmas.List.{map-append, take_more}
 use Rattle.std.proofs.lemmas.List.Elements.{filter_map-append}
 use Rattle.std.specs.List.{filter_map, flat_map, cons_option}
 use Rattle.std.specs.Option.{option_to_list}
+use Rattle.general_facts.specs.Lists as general
 
 pub map-more : {X Y : Type 0} (view : X → Y) (items : List X) (i : ℕ) (item : X) → i < length items → item ≡ get_or items i item
     → map view (take (i + 1) items) ≡ map view (take i items) ++ view item ∷ []
@@ -44,3 +45,11 @@ pub flat-next : {X Y Z : Type 0} (f : Y → List Z) (view : X → Y) (items : Li
 flat-next f view items i item y now next added below is same so_far here step =
     step ∙ ap (λ n. n ++ added) so_far ∙ ap (λ more. flat_map f (map view (take i items)) ++ more) (here ∙ ap f same)
     ∙ sym (flat_map-more f view items i item below is)
+
+-- a filter with one item more, of items that are seen as they are
+pub filter-on : {X Y : Type 0} (f : X → Option Y) (items : List X) (i : ℕ) (item : X) (front now next : List Y) (found : Option Y) → i < length items → item ≡ get_or items i item
+    → now ≡ front ++ filter_map f (take i items) → found ≡ f item → next ≡ now ++ option_to_list found → next ≡ front ++ filter_map f (take (i + 1) items)
+filter-on f items i item front now next found below is so_far here step =
+    let before = filter_map f (take i items) in
+    step ∙ ap (λ n. n ++ option_to_list found) so_far ∙ append_assoc front before (option_to_list found)
+    ∙ ap (λ n. front ++ n) (ap (λ o. before ++ option_to_list o) (here ∙ ap f is) ∙ general.filter_map-more f items i item before (before ++ option_to_list (f (get_or items i item))) below refl refl)

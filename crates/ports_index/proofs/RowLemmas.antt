@@ -1,5 +1,5 @@
 -- What follows from the rows of paths, and what one row more saves.
-use Rattle.std.proofs.Common.{◌≡◌, ◌∙◌, sym, ap, subst, refl, ℕ, ◌+◌, Bool, true, false, ◌||◌, if◌then◌else◌, List, [], ◌∷◌, ◌++◌, map, Option, Some, None, is_none, arith}
+use Rattle.std.proofs.Common.{◌≡◌, ◌∙◌, sym, ap, subst, refl, ℕ, ◌+◌, Bool, true, false, ◌||◌, if◌then◌else◌, List, [], ◌∷◌, ◌++◌, map, Option, is_none, arith}
 use Rattle.std.proofs.lemmas.Bool.{or_right}
 use Rattle.std.proofs.lemmas.Slice.Eq.{bytes_eq-Decides}
 use Rattle.std.specs.List.{filter_map, sum_by}
@@ -10,8 +10,8 @@ use Rattle.ports_index.specs.PathOutcomes.{PathOutcome, outcome_at}
 use Rattle.ports_index.specs.Naming.{directories}
 use Rattle.ports_index.specs.Depending.{items_among, target_of, edge_at, roots_among, edges_among}
 use Rattle.ports_index.specs.Efforts.{lacking}
-use Rattle.ports_index.specs.Filling.{is_one_of, Fills}
-use Rattle.ports_index.specs.Index.{listed_paths, needed_among, needed_paths, roots, edges}
+use Rattle.ports_index.specs.Filling.{is_one_of}
+use Rattle.ports_index.specs.Index.{listed_paths, needed_paths, roots, edges}
 use Rattle.ports_index.specs.RowLaws.{HaveRows, KnownRowsAreEnough, OneRowMoreLeavesLess}
 use Rattle.ports_index.specs.Seen.{known_in}
 use Rattle.ports_index.proofs.EffortLemmas.{sum-on, lacking-same, in_order-same}

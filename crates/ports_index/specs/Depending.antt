@@ -4,7 +4,8 @@ use Rattle.std.specs.List.{filter_map, flat_map}
 use Rattle.mk_base.specs.FaultAt.{FaultAt}
 use Rattle.pkg_path.specs.Paths.{port_path}
 use Rattle.port_rules.specs.Ports.{PortValue}
-use Rattle.port_deps.specs.Items.{ItemValue, WantedValue, item_of}
+use Rattle.port_rules.specs.Depends.{DependValue}
+use Rattle.port_deps.specs.Items.{ItemValue, WantedValue, item_of, wanted_of}
 use Rattle.port_deps.specs.Statuses.{FoundValue}
 use Rattle.port_deps.specs.Statuses as found
 use Rattle.port_deps.specs.Edges.{edge_of}
@@ -52,12 +53,22 @@ items_at outcomes path = items_in path (outcomes path)
 abbrev pub items_among : (List ℕ → PathOutcome) → List (List ℕ) → List RootItemValue
 items_among outcomes paths = flat_map (items_at outcomes) paths
 
--- the path that an item names, without its subpackage, if the item can be read
-abbrev pub target_in : ItemValue → Option (List ℕ)
-target_in item = option_map (λ (wanted : WantedValue). port_path wanted.path) item.wanted
+-- the path that is asked for, without its subpackage, if something is
+abbrev pub target_in : Option WantedValue → Option (List ℕ)
+target_in wanted = option_map (λ (wanted : WantedValue). port_path wanted.path) wanted
 
+-- the path that an item names, if the item can be read
 abbrev pub target_of : RootItemValue → Option (List ℕ)
-target_of rooted = target_in rooted.item
+target_of rooted = target_in rooted.item.wanted
+
+-- the path that the item of a dependency names, if the item can be read
+abbrev pub target_by : DependValue → Option (List ℕ)
+target_by depend = target_in (wanted_of depend.item)
+
+-- the paths that the items of a port name, by what the port's path leads to
+abbrev pub targets_in : PathOutcome → List (List ℕ)
+targets_in (Port port) = filter_map target_by port.depends
+targets_in outcome = []
 
 -- what an item finds if its path leads to this: a list is no port, even if its SUBDIR has a fault
 abbrev pub found_of : PathOutcome → FoundValue

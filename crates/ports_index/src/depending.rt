@@ -1,6 +1,7 @@
 //! The ports of a ports tree, and what they depend on, by the rows of its paths.
 ghost use Rattle.std.specs.Prelude.{◌≡◌, ◌++◌, map, string_bytes, IfOk, OnOk, option_map, option_to_list};
-ghost use Rattle.std.specs.List.{filter_map};
+ghost use Rattle.std.specs.List.{filter_map, flat_map};
+ghost use Rattle.std.specs.Option.{option_copied};
 ghost use Rattle.port_deps.specs.Seen.{found_seen};
 ghost use Rattle.ports_index.specs.Depending as depending;
 ghost use Rattle.ports_index.specs.Filling.{IsListed};
@@ -11,8 +12,8 @@ use crate::evaluating::Row;
 use crate::keeping::Rows;
 use crate::naming::{add_found, append, copies_of};
 use mk_base::Fault;
-use port_deps::{Found, Item, Root, RootEdge, items, resolve};
-use port_rules::PortRecord;
+use port_deps::{Found, Item, Root, RootEdge, Wanted, items, read_wanted, resolve};
+use port_rules::{Depend, PortRecord};
 use std::alloc::{AllocError, Global};
 use text_parts::put_in_order;
 
@@ -75,8 +76,7 @@ fn put_items(
     Ok(())
 }
 
-/// The paths that items name, without subpackages, in the order of the items. An
-/// item that can't be read names
+/// The paths that items name, without subpackages, in the order of the items. An item that can't be read names
 /// none. It fails only if memory runs out.
 pub(crate) fn targets_of(alloc: Global, items: &[RootItem]) -> Result<Vec<String>, AllocError>
     ensures { IfOk result (λ found. map string_bytes found.items
@@ -84,19 +84,69 @@ pub(crate) fn targets_of(alloc: Global, items: &[RootItem]) -> Result<Vec<String
 {
     let mut found = Vec::new(alloc);
     for rooted in items {
-        add_found(&mut found, target_of(alloc, &rooted.item)?)?;
+        add_found(&mut found, target_of(alloc, rooted.item.wanted())?)?;
     }
     Ok(found)
 }
 
-// The path that an item names, without a subpackage, if the item can be read.
-fn target_of(alloc: Global, item: &Item) -> Result<Option<String>, AllocError>
-    ensures { IfOk result (λ path. option_map string_bytes path ≡ depending.target_in item.now) }
+// The path that is asked for, without a subpackage, if something is.
+fn target_of(alloc: Global, wanted: Option<&Wanted>) -> Result<Option<String>, AllocError>
+    ensures { IfOk result (λ path. option_map string_bytes path
+        ≡ depending.target_in (option_copied wanted.entry)) }
 {
-    match item.wanted() {
+    match wanted {
         Some(wanted) => Ok(Some(wanted.path().port_path(alloc)?)),
         None => Ok(None),
     }
+}
+
+/// The paths that the items of the ports at these paths name, without subpackages, in the order of the items.
+/// An item that can't be read names none. It fails only if memory runs out.
+fn targets_among<R: Rows>(
+    alloc: Global,
+    paths: &[String],
+    rows: &R,
+) -> Result<Vec<String>, AllocError>
+    ensures { IfOk result (λ found. map string_bytes found.items
+        ≡ flat_map (λ path. depending.targets_in (known_in (R.entries rows.now) path))
+        (map string_bytes paths.now)) }
+{
+    let mut found = Vec::new(alloc);
+    for path in paths {
+        add_targets(alloc, &mut found, rows.get(path))?;
+    }
+    Ok(found)
+}
+
+// Adds the paths that the items of the port in this row name. Without a row, or if the row is no port, it adds
+// none.
+fn add_targets(alloc: Global, found: &mut Vec<String>, row: Option<&Row>) -> Result<(), AllocError>
+    ensures { OnOk result (map string_bytes found.new.items ≡ map string_bytes found.old.items
+        ++ depending.targets_in (known_row (option_map (λ row. row_seen row.now) row.entry))) }
+{
+    match row {
+        Some(Row::Port(port)) => put_targets(alloc, found, port.depends()),
+        _ => Ok(()),
+    }
+}
+
+// Adds the paths that the items of dependencies name.
+fn put_targets(alloc: Global, found: &mut Vec<String>, depends: &[Depend]) -> Result<(), AllocError>
+    ensures { OnOk result (map string_bytes found.new.items ≡ map string_bytes found.old.items
+        ++ filter_map depending.target_by depends.now) }
+{
+    for depend in depends {
+        add_found(found, target_by(alloc, depend)?)?;
+    }
+    Ok(())
+}
+
+// The path that the item of a dependency names, without a subpackage, if the item can be read.
+fn target_by(alloc: Global, depend: &Depend) -> Result<Option<String>, AllocError>
+    ensures { IfOk result (λ path. option_map string_bytes path ≡ depending.target_by depend.now) }
+{
+    let wanted = read_wanted(alloc, depend.item())?;
+    target_of(alloc, wanted.as_ref())
 }
 
 /// The dependencies that items are, in their order. The status of each depends on the row of the path that
@@ -121,12 +171,12 @@ fn edge_of<R: Rows>(alloc: Global, rooted: RootItem, rows: &R) -> Result<RootEdg
     ensures { IfOk result (λ edge. edge
         ≡ depending.edge_at (known_in (R.entries rows.now)) (item_seen rooted)) }
 {
-    let found = match target_of(alloc, &rooted.item)? {
+    let RootItem { root, item } = rooted;
+    let found = match target_of(alloc, item.wanted())? {
         Some(path) => found_as(rows.get(path.as_str())),
         None => Found::NotThere,
     };
-    let edge = resolve(alloc, &rooted.item, found)?;
-    Ok(RootEdge::new(rooted.root, edge))
+    Ok(RootEdge::new(root, resolve(item, found)))
 }
 
 // What an item finds if the path that it names has this row, or no row.
@@ -168,10 +218,8 @@ pub fn needed_among<R: Rows>(
     ensures { IfOk result (λ found. map string_bytes found.items
         ≡ needed_among (known_in (R.entries rows.now)) (map string_bytes listed.now)) }
 {
-    let items = items_of_all(alloc, listed, rows)?;
-    let targets = targets_of(alloc, &items)?;
     let mut paths = copies_of(alloc, listed)?;
-    append(&mut paths, targets)?;
+    append(&mut paths, targets_among(alloc, listed, rows)?)?;
     put_in_order(&mut paths);
     Ok(paths)
 }

@@ -10,7 +10,7 @@ use Rattle.index_keep.specs.Keeping.{changed_in, rows_of, IsKept}
 use Rattle.index_keep.specs.Walking.{IsOnTheWay}
 use Rattle.index_keep.proofs.KeepLemmas.{AreKept-same, OnErr-map, OnErr-and, OnOk-or, shown-forgotten, IsProgress-taken}
 use Rattle.index_keep.proofs.ShownLemmas.{shown-same}
-use Rattle.index_keep.proofs.keeper.Keeper.refresh_turn.Goals as goal
+use Rattle.index_keep.proofs.keeper.Keeper.turn.Goals as goal
 
 pub walk_on-requires : goal.walk_on-requires
 walk_on-requires g c =
