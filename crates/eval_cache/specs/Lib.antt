@@ -1,0 +1,5 @@
+pub mod Keys
+pub mod Right
+pub mod Looking
+pub mod Cache
+pub mod Held
