@@ -23,13 +23,6 @@ AreRight-IsOneOf key [] evaluation right one = absurd one
 AreRight-IsOneOf key (first ∷ kept) evaluation right (inl same) = subst (IsRight key) same right.0
 AreRight-IsOneOf key (first ∷ kept) evaluation right (inr more) = AreRight-IsOneOf key kept evaluation right.1 more
 
--- the one at a place is one of them
-pub IsOneOf-at : (kept : List (Rc Evaluation Global)) (i : ℕ) (one : Rc Evaluation Global)
-    → i < length kept → one ≡ get_or kept i one → IsOneOf kept one.value
-IsOneOf-at [] i one within is = absurd (omega arith)
-IsOneOf-at (first ∷ kept) zero one within is = inl (sym (ap (λ r. r.value) is))
-IsOneOf-at (first ∷ kept) (suc i) one within is = inr (IsOneOf-at kept i one (omega arith) is)
-
 -- the trace at a place is short
 pub short-at : (kept : List (Rc Evaluation Global)) (i : ℕ) (one : Rc Evaluation Global)
     → AllByRecursion (λ evaluation. length evaluation.value.trace ≤ 257) kept → i < length kept → one ≡ get_or kept i one
@@ -66,17 +59,6 @@ pub record Checked (old : FilesView) (traces rest : List (List Question)) (count
   pub before : List Question
   pub in_log : new ≡ noted old before
   pub asked : checked_among old.files traces ≡ before ++ checked_among old.files rest
-
-pub Checked-nothing : (old : FilesView) (traces : List (List Question)) → Checked old traces traces 0 old
-Checked-nothing old traces = record {
-  agreeing_so_far = omega_pair (agreeing old.files traces);
-  before = [];
-  in_log = noted-nothing old;
-  asked = refl;
-}
-  where
-    omega_pair : (p : Bool × ℕ) → p ≡ after 0 p
-    omega_pair p = ap (λ n. (p.0, n)) (omega arith)
 
 after-twice : (count more : ℕ) (checked : Bool × ℕ) → after count (after more checked) ≡ after (count + more) checked
 after-twice count more checked = ap (λ n. (checked.0, n)) (omega arith)
@@ -117,32 +99,6 @@ Checked-more old traces trace rest count answer middle new so_far found asks dif
           ∙ ap (λ b. so_far.before ++ (checked_in old.files trace ++ (if b then [] else checked_among old.files rest))) differs'
           ∙ sym (append_assoc so_far.before (checked_in old.files trace) (checked_among old.files rest));
     }
-
--- the first trace that agrees
-pub Checked-agreed : (old : FilesView) (traces : List (List Question)) (trace : List Question) (rest : List (List Question)) (count : ℕ)
-    (answer : Bool × ℕ) (middle new : FilesView) → Checked old traces (trace ∷ rest) count middle → answer ≡ agreement middle.files trace
-    → AsksAgain middle trace answer.1 new → answer.0 ≡ true
-    → ((true, count + answer.1) ≡ agreeing old.files traces) × (new ≡ noted old (checked_among old.files traces)) × ((agreement old.files trace).0 ≡ true)
-Checked-agreed old traces trace rest count answer middle new so_far found asks agrees =
-    let same = agreement-checked old middle so_far.before trace answer so_far.in_log found in
-    let agrees' : (agreement old.files trace).0 ≡ true = ap (λ (p : Bool × ℕ). p.0) same ∙ agrees in (
-      sym (so_far.agreeing_so_far
-          ∙ ap (λ b. after count (if b then agreement old.files trace else after (agreement old.files trace).1 (agreeing old.files rest))) agrees'
-          ∙ ap (after count) same ∙ ap (λ b. (b, count + answer.1)) agrees),
-      log-more old middle new so_far.before trace answer.1 so_far.in_log (ap (λ (p : Bool × ℕ). p.1) same) asks
-          ∙ ap (noted old) (sym (so_far.asked
-          ∙ ap (λ b. so_far.before ++ (checked_in old.files trace ++ (if b then [] else checked_among old.files rest))) agrees'
-          ∙ ap (λ questions. so_far.before ++ questions) (append-nil (checked_in old.files trace)))),
-      agrees',
-    )
-
--- no trace agreed
-pub Checked-none : (old : FilesView) (traces : List (List Question)) (count : ℕ) (new : FilesView) → Checked old traces [] count new
-    → ((false, count) ≡ agreeing old.files traces) × (new ≡ noted old (checked_among old.files traces))
-Checked-none old traces count new so_far = (
-  sym (so_far.agreeing_so_far ∙ ap (λ n. (false, n)) (omega arith)),
-  so_far.in_log ∙ ap (noted old) (sym (so_far.asked ∙ append-nil so_far.before)),
-)
 
 -- the files failed at a question of a trace
 pub Checked-fails : (may : FilesFault → Type 0) (old : FilesView) (traces rest : List (List Question)) (count : ℕ) (middle new : FilesView) (fault : FilesFault)
