@@ -1,9 +1,8 @@
 -- The entries of the tables stay right.
-use Rattle.std.proofs.Common.{◌≡◌, ◌∙◌, ap, refl, sym, subst, cond, ℕ, ◌+◌, ◌≤◌, ◌-◌, ◌||◌, Bool, true, false, List, [], ◌∷◌, ◌++◌, map, length, take, Option, Some, None, option_map, is_some, unwrap_or, ◌⊎◌, inl, inr, Contains, Result, Ok, Err, OnOk, OnErr, Global, arith}
+use Rattle.std.proofs.Common.{◌≡◌, ◌∙◌, ap, refl, sym, subst, cond, ◌||◌, Bool, true, false, List, [], ◌∷◌, map, Option, Some, None, option_map, is_some, unwrap_or, inl, inr, Result, Ok, Err, OnOk, OnErr, Global, arith}
 use Rattle.std.specs.List.{list_any}
-use Rattle.std.specs.Map.{lookup, lookup_entry, remove_entry, keys_of}
+use Rattle.std.specs.Map.{lookup, remove_entry, keys_of}
 use Rattle.std.proofs.lemmas.Map.Made.{is_some-lookup}
-use Rattle.std.specs.Cmp.Lexicographic.{pointwise}
 use Rattle.std.specs.Str.{bytes_eq}
 use Rattle.std.specs.declared.rc.Rc.{Rc}
 use Rattle.std.specs.declared.vec.Vec.{Vec}
@@ -14,11 +13,10 @@ use Rattle.mk_ast.specs.Parsing.{parsed}
 use Rattle.mk_ast.specs.declared.nodes.Makefile.{Makefile}
 use Rattle.mk_ast.specs.declared.parsing.ParseFault.{ParseFault}
 use Rattle.mk_eval.specs.Trees.{tree_in}
-use Rattle.mk_paths.specs.FilesView.{Question}
 use Rattle.read_trace.specs.declared.evaluating.Evaluation.{Evaluation}
 use Rattle.eval_cache.specs.declared.contents.ContentKey.{ContentKey}
 use Rattle.eval_cache.specs.declared.key.EvalKey.{EvalKey}
-use Rattle.eval_cache.specs.Keys.{Key, key_of, same_key}
+use Rattle.eval_cache.specs.Keys.{key_of, same_key}
 use Rattle.eval_cache.specs.Held.{KeptParses, KeptEvaluations, contents_of, traces_of, traces_by_key, AreRight, AreShort, AreTrees, AreKept, items_of}
 use Rattle.eval_cache.proofs.KeyLemmas.{key_eq, key_eq-same_key, key_eq-≡}
 

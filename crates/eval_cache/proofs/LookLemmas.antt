@@ -1,12 +1,12 @@
 -- Traces are tried one after another.
-use Rattle.std.proofs.Common.{◌≡◌, ◌∙◌, ap, refl, sym, subst, arith, ℕ, suc, zero, ◌+◌, ◌*◌, ◌≤◌, ◌<◌, Bool, true, false, List, [], ◌∷◌, ◌++◌, map, length, take, drop, get_or, Option, Some, None, IfSome, ◌⊎◌, inl, inr, Global, append_assoc, append-nil}
+use Rattle.std.proofs.Common.{◌≡◌, ◌∙◌, ap, sym, subst, arith, ℕ, suc, zero, ◌+◌, ◌≤◌, ◌<◌, Bool, true, false, List, [], ◌∷◌, ◌++◌, map, length, take, drop, get_or, Option, Some, None, IfSome, inl, inr, Global, append_assoc}
 use Rattle.std.specs.Prelude.{if◌then◌else◌}
 use Rattle.std.proofs.lemmas.List.{drop_more}
 use Rattle.std.specs.List.{AllByRecursion}
 use Rattle.std.specs.declared.rc.Rc.{Rc}
 use Rattle.mk_paths.specs.World.{FileMap}
-use Rattle.mk_paths.specs.FilesView.{Question, FilesView, noted, noted-twice, noted-nothing}
-use Rattle.mk_files.specs.Looking.{AfterQuestions, AfterFailedQuestion, LeavesAtStop, LeavesAtStop-on, stop_of}
+use Rattle.mk_paths.specs.FilesView.{Question, FilesView, noted, noted-twice}
+use Rattle.mk_files.specs.Looking.{AfterFailedQuestion, LeavesAtStop-on, stop_of}
 use Rattle.mk_paths.specs.declared.asking.FilesFault.{FilesFault}
 use Rattle.mk_paths.specs.declared.asking.FilesFault.TheVariants as faults
 use Rattle.read_trace.specs.Agreement.{agreement, asked_again, has_reply, one_more, AsksAgain, IsAnswered}

@@ -16,6 +16,10 @@ pub record CacheValue : Type 0 where
   pub traces : List (Key × List (List Question))
   pub counts : Counts
 
+-- a cache that holds nothing, and has handed out nothing
+abbrev pub empty_cache : CacheValue
+empty_cache = record { contents = []; traces = []; counts = record { parses = 0; evals = 0 } }
+
 -- the parse of a content is kept
 abbrev pub holds_parse : CacheValue → List ℕ → Bool
 holds_parse cache content = list_any (bytes_eq content) cache.contents

@@ -1,11 +1,11 @@
 // The cache of parses and evaluations.
-ghost use Rattle.std.specs.Prelude.{◌≡◌, ◌≤◌, [], is_some, IfOk, IfErr, IfSome, OnOk, OnErr};
+ghost use Rattle.std.specs.Prelude.{◌≡◌, ◌≤◌, is_some, IfOk, IfErr, IfSome, OnOk, OnErr};
 ghost use Rattle.mk_ast.specs.Parsing.{parsed};
 ghost use Rattle.mk_eval.specs.Trees.{tree_in};
 ghost use Rattle.eval_cache.specs.Keys.{key_of};
 ghost use Rattle.eval_cache.specs.Right.{IsRight, evaluation_of};
 ghost use Rattle.eval_cache.specs.Looking.{agreeing, IsFound, ChecksAmong, FailsAmong};
-ghost use Rattle.eval_cache.specs.Cache.{holds_parse, traces_at, count_parse, count_look};
+ghost use Rattle.eval_cache.specs.Cache.{empty_cache, holds_parse, traces_at, count_parse, count_look};
 ghost use Rattle.eval_cache.specs.Held.{AreNewest, items_of};
 
 use crate::contents::ContentKey;
@@ -14,6 +14,7 @@ use crate::key::EvalKey;
 use crate::looking::{Look, cost_of, first_agreeing};
 use lru::LruCache;
 use mk_ast::{Makefile, ParseError, ParseFault, parse};
+use mk_eval::Parses;
 use mk_files::{Content, Files};
 use mk_paths::FilesFault;
 use read_trace::Evaluation;
@@ -63,11 +64,7 @@ impl EvalCache {
     /// A cache that holds nothing yet, and never more than so many parses and the evaluations of so many
     /// keys. A size of 0 counts as 1. It fails only if memory runs out.
     pub fn new(alloc: Global, parses: usize, evals: usize) -> Result<EvalCache, AllocError>
-        ensures { IfOk result (λ cache. cache ≡ record {
-          contents = [];
-          traces = [];
-          counts = record { parses = 0; evals = 0 };
-        }) }
+        ensures { IfOk result (λ cache. cache ≡ empty_cache) }
     {
         Ok(EvalCache {
             alloc,
@@ -85,33 +82,6 @@ impl EvalCache {
         ensures { result ≡ self.now.counts }
     {
         self.counts
-    }
-
-    /// The tree of a file with this content, or its fault: the one that is kept, or else a new one, which
-    /// is then kept if there is memory for that. It fails only if memory for the tree runs out, or if no
-    /// more can share it.
-    pub fn parsed(&mut self, content: &Content) -> Result<Parse, AllocError>
-        ensures tree { IfOk result (λ found. tree_in found ≡ parsed content.now) }
-        ensures counted { OnOk result (self.new.counts
-            ≡ count_parse (holds_parse self.old content.now) self.old.counts) }
-        ensures err { OnErr result (self.new.counts ≡ self.old.counts) }
-        ensures evals { self.new.traces ≡ self.old.traces }
-    {
-        let key = ContentKey {
-            content: content.share()?,
-        };
-        match self.kept_parse(&key)? {
-            Some(parse) => {
-                let _there = self.parses.promote(&key);
-                self.counts.parses = self.counts.parses.saturating_add(1);
-                Ok(parse)
-            }
-            None => {
-                let parse = parse_anew(self.alloc, content)?;
-                self.keep_parse(key, &parse);
-                Ok(parse)
-            }
-        }
     }
 
     /// Looks for the evaluation of this key among those that are kept, by the answers of the files. The
@@ -166,6 +136,32 @@ impl EvalCache {
         let _kept = self.evals.put(key, kept);
     }
 
+    // The parse that is kept for this content, or else a new one, which is then kept if there is memory for
+    // that.
+    fn kept_or_new(&mut self, content: &Content) -> Result<Parse, AllocError>
+        ensures tree { IfOk result (λ found. tree_in found ≡ parsed content.now) }
+        ensures counted { OnOk result (self.new.counts
+            ≡ count_parse (holds_parse self.old content.now) self.old.counts) }
+        ensures err { OnErr result (self.new.counts ≡ self.old.counts) }
+        ensures evals { self.new.traces ≡ self.old.traces }
+    {
+        let key = ContentKey {
+            content: content.share()?,
+        };
+        match self.kept_parse(&key)? {
+            Some(parse) => {
+                let _there = self.parses.promote(&key);
+                self.counts.parses = self.counts.parses.saturating_add(1);
+                Ok(parse)
+            }
+            None => {
+                let parse = parse_anew(self.alloc, content)?;
+                self.keep_parse(key, &parse);
+                Ok(parse)
+            }
+        }
+    }
+
     // The parse that is kept for this content, if one is.
     fn kept_parse(&self, key: &ContentKey) -> Result<Option<Parse>, AllocError>
         ensures held { IfOk result (λ found. is_some found ≡ holds_parse self.now key.now.content) }
@@ -184,9 +180,10 @@ impl EvalCache {
         ensures counts { self.new.counts ≡ self.old.counts }
         ensures traces { self.new.traces ≡ self.old.traces }
     {
-        if let Ok(parse) = share(parse) {
-            let _kept = self.parses.put(key, parse);
-        }
+        let Ok(parse) = share(parse) else {
+            return;
+        };
+        let _kept = self.parses.put(key, parse);
     }
 
     // The first evaluation that is kept under the key and whose trace agrees with the files, and how many
@@ -210,6 +207,30 @@ impl EvalCache {
             Some(kept) => first_agreeing(kept.as_slice(), files),
             None => Ok((None, 0)),
         }
+    }
+}
+
+impl Parses for EvalCache {
+    ghost use Rattle.eval_cache.specs.Parsing.{AsksParses, AsksParses-none, AsksParses-on};
+
+    ghost becomes = { AsksParses };
+
+    ghost stays = { AsksParses-none };
+
+    ghost goes_on = { AsksParses-on };
+
+    /// The tree of a file with this content, or its fault: the one that is kept, or else a new one, which
+    /// is then kept if there is memory for that. It fails only if memory for the tree runs out, or if no
+    /// more can share it.
+    fn parsed(&mut self, content: &Content) -> Result<Parse, AllocError>
+        ensures tree { IfOk result (λ found. tree_in found ≡ parsed content.now) }
+        ensures left { AsksParses self.old self.new }
+        ensures counted { OnOk result (self.new.counts
+            ≡ count_parse (holds_parse self.old content.now) self.old.counts) }
+        ensures err { OnErr result (self.new.counts ≡ self.old.counts) }
+        ensures evals { self.new.traces ≡ self.old.traces }
+    {
+        self.kept_or_new(content)
     }
 }
 

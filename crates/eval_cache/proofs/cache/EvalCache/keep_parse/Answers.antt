@@ -8,15 +8,3 @@ invariant_of-self c = record {
   trees = AreTrees-after-put c.put-kept.result c.self.inside.parses c.put-kept.new.self c.args.key c.in-Ok.parse c.self.invariant.trees (c.in-Ok.ensures ∙ c.requires) c.put-kept.ensures.entries c.put-kept.ensures.err;
   evaluations = c.self.invariant.evaluations;
 }
-
-pub invariant_of-self-in-Ok-2 : goal.invariant_of-self-in-Ok-2
-invariant_of-self-in-Ok-2 c = record {
-  trees = AreTrees-after-put c.put-kept.result c.self.inside.parses c.put-kept.new.self c.args.key c.in-Ok.parse c.self.invariant.trees (c.in-Ok.ensures ∙ c.requires) c.put-kept.ensures.entries c.put-kept.ensures.err;
-  evaluations = c.self.invariant.evaluations;
-}
-
-pub invariant_of-self-in-Ok-3 : goal.invariant_of-self-in-Ok-3
-invariant_of-self-in-Ok-3 c = record {
-  trees = AreTrees-after-put c.put-kept.result c.self.inside.parses c.put-kept.new.self c.args.key c.in-Ok.parse c.self.invariant.trees (c.in-Ok.ensures ∙ c.requires) c.put-kept.ensures.entries c.put-kept.ensures.err;
-  evaluations = c.self.invariant.evaluations;
-}

@@ -1,9 +1,8 @@
 -- What is kept under the key is looked at.
-use Rattle.std.proofs.Common.{◌≡◌, ◌∙◌, ap, subst, sym, is_some, IfOk, IfSome, OnOk, Some, None}
+use Rattle.std.proofs.Common.{◌≡◌, ◌∙◌, ap, subst, sym, is_some, IfOk, OnOk, Some, None}
 use Rattle.std.proofs.lemmas.Result.{IfOk-weaker}
 use Rattle.mk_paths.specs.FilesView.{noted-nothing, noted}
 use Rattle.eval_cache.specs.Keys.{key_of}
-use Rattle.eval_cache.specs.Right.{evaluation_of}
 use Rattle.eval_cache.specs.Looking.{agreeing, checked_among, ChecksAmong}
 use Rattle.eval_cache.specs.Cache.{traces_at}
 use Rattle.eval_cache.specs.Held.{AreShort, AreRight, traces_of}

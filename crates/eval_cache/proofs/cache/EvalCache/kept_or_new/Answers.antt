@@ -2,7 +2,7 @@
 use Rattle.std.proofs.Common.{subst, sym}
 use Rattle.eval_cache.specs.Held.{AreTrees}
 use Rattle.eval_cache.proofs.EntryLemmas.{AreTrees-promoted}
-use Rattle.eval_cache.proofs.cache.EvalCache.parsed.Goals as goal
+use Rattle.eval_cache.proofs.cache.EvalCache.kept_or_new.Goals as goal
 
 pub invariant_of-self : goal.invariant_of-self
 invariant_of-self c = record {
