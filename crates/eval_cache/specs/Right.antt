@@ -1,10 +1,12 @@
 -- When an evaluation may be used in place of another one.
-use Rattle.std.specs.Prelude.{◌≡◌}
+use Rattle.std.specs.Prelude.{◌≡◌, ℕ, List, Option}
+use Rattle.std.proofs.Common.{sym, subst}
 use Rattle.mk_paths.specs.World.{FileMap}
+use Rattle.mk_paths.specs.declared.search_path.Settings.{Settings}
 use Rattle.read_trace.specs.Agreement.{IsAnswered}
 use Rattle.read_trace.specs.Recorded.{recorded, IsTheSameWhereAgreed}
 use Rattle.read_trace.specs.declared.evaluating.Evaluation.{Evaluation}
-use Rattle.eval_cache.specs.Keys.{Key}
+use Rattle.eval_cache.specs.Keys.{Key, key_for}
 
 -- what the makefile of a key means among these files, at which cost, and what its evaluation asks
 abbrev pub evaluation_of : FileMap → Key → Evaluation
@@ -16,5 +18,8 @@ abbrev pub IsRight : Key → Evaluation → Type 0
 IsRight key evaluation = (files : FileMap) → IsAnswered files evaluation.trace → evaluation_of files key ≡ evaluation
 
 -- the evaluation in any world is right for its key
-pub IsRight-evaluation_of : IsTheSameWhereAgreed → (files : FileMap) (key : Key) → IsRight key (evaluation_of files key)
-IsRight-evaluation_of same files key other agrees = same files other key.settings key.name key.flavors agrees
+pub IsRight-recorded : IsTheSameWhereAgreed → (files : FileMap) (settings : Settings) (name : List ℕ) (flavors : Option (List (List ℕ)))
+    (key : Key) (evaluation : Evaluation) → key ≡ key_for settings name flavors → evaluation ≡ recorded (files, settings) name flavors
+    → IsRight key evaluation
+IsRight-recorded same files settings name flavors key evaluation is ends =
+    subst (λ k. IsRight k evaluation) (sym is) (subst (IsRight (key_for settings name flavors)) (sym ends) (λ other agrees. same files other settings name flavors agrees))

@@ -7,7 +7,8 @@ use mk_paths::{Name, Settings};
 use std::alloc::{AllocError, Global};
 
 /// Which evaluation is meant: that of the makefile of this name under these settings, with these flavors
-/// or with none given. Keys with the same texts are equal.
+/// or with none given. Keys with the same texts are equal, so the same flavors in another order make
+/// another key.
 #[derive(Debug, Drop, PartialEq, Eq, Hash)]
 pub struct EvalKey {
     trees: Vec<String>,
