@@ -4,9 +4,10 @@ use Rattle.std.proofs.Common.{refl, subst, inl, inr}
 use Rattle.eval_cache.specs.Cache.{CacheValue, holds_parse, count_parse}
 
 -- The parse of this content was asked for. If it was kept, it was counted, unless there was no memory to hand it
--- out. No evaluation came or went.
+-- out. No evaluation came or went, and the sizes stayed.
 pub record AsksParse (content : List ℕ) (old new : CacheValue) : Type 0 where
   pub traces : new.traces ≡ old.traces
+  pub sizes : new.sizes ≡ old.sizes
   pub counts : (new.counts ≡ count_parse (holds_parse old content) old.counts) ⊎ (new.counts ≡ old.counts)
 
 -- the parses of these contents were asked for, in order
@@ -37,8 +38,8 @@ AsksParses-on old middle new first second = record {
 -- one parse
 pub AsksParses-one : {A E : Type 0} (result : Result A E) (content : List ℕ) (old new : CacheValue)
     → OnOk result (new.counts ≡ count_parse (holds_parse old content) old.counts) → OnErr result (new.counts ≡ old.counts)
-    → new.traces ≡ old.traces → AsksParses old new
-AsksParses-one (Ok value) content old new ok err traces =
-    record { contents = content ∷ []; in_turn = (new, record { traces = traces; counts = inl ok }, refl) }
-AsksParses-one (Err fault) content old new ok err traces =
-    record { contents = content ∷ []; in_turn = (new, record { traces = traces; counts = inr err }, refl) }
+    → new.traces ≡ old.traces → new.sizes ≡ old.sizes → AsksParses old new
+AsksParses-one (Ok value) content old new ok err traces sizes =
+    record { contents = content ∷ []; in_turn = (new, record { traces = traces; sizes = sizes; counts = inl ok }, refl) }
+AsksParses-one (Err fault) content old new ok err traces sizes =
+    record { contents = content ∷ []; in_turn = (new, record { traces = traces; sizes = sizes; counts = inr err }, refl) }

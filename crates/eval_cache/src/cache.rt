@@ -1,11 +1,12 @@
 // The cache of parses and evaluations.
-ghost use Rattle.std.specs.Prelude.{◌≡◌, ◌≤◌, is_some, IfOk, IfErr, IfSome, OnOk, OnErr};
+ghost use Rattle.std.specs.Prelude.{◌≡◌, ◌≤◌, length, is_some, IfOk, IfErr, IfSome, OnOk, OnErr};
+ghost use Rattle.std.specs.NonZero.{non_zero_usize_get};
 ghost use Rattle.mk_ast.specs.Parsing.{parsed};
 ghost use Rattle.mk_eval.specs.Trees.{tree_in};
 ghost use Rattle.eval_cache.specs.Keys.{key_of};
 ghost use Rattle.eval_cache.specs.Right.{IsRight, evaluation_of};
 ghost use Rattle.eval_cache.specs.Looking.{agreeing, IsFound, ChecksAmong, FailsAmong};
-ghost use Rattle.eval_cache.specs.Cache.{empty_cache, holds_parse, traces_at, count_parse, count_look};
+ghost use Rattle.eval_cache.specs.Cache.{empty_cache, size_for, holds_parse, traces_at, count_parse, count_look};
 ghost use Rattle.eval_cache.specs.Held.{AreNewest, items_of};
 
 use crate::contents::ContentKey;
@@ -54,6 +55,7 @@ impl Model for EvalCache {
     ghost view = { λ cache. record {
       contents = contents_of cache.parses.entries;
       traces = traces_by_key cache.evals.entries;
+      sizes = record { parses = cache.parses.cap; keys = cache.evals.cap };
       counts = cache.counts;
     } };
 
@@ -64,7 +66,7 @@ impl EvalCache {
     /// A cache that holds nothing yet, and never more than so many parses and the evaluations of so many
     /// keys. A size of 0 counts as 1. It fails only if memory runs out.
     pub fn new(alloc: Global, parses: usize, evals: usize) -> Result<EvalCache, AllocError>
-        ensures { IfOk result (λ cache. cache ≡ empty_cache) }
+        ensures { IfOk result (λ cache. cache ≡ empty_cache parses evals) }
     {
         Ok(EvalCache {
             alloc,
@@ -75,6 +77,22 @@ impl EvalCache {
                 evals: 0,
             },
         })
+    }
+
+    /// How many parses are kept.
+    pub fn parses_kept(&self) -> usize
+        ensures kept { result ≡ length self.now.contents }
+        ensures within { result ≤ self.now.sizes.parses }
+    {
+        self.parses.len()
+    }
+
+    /// Under how many keys evaluations are kept.
+    pub fn keys_kept(&self) -> usize
+        ensures kept { result ≡ length self.now.traces }
+        ensures within { result ≤ self.now.sizes.keys }
+    {
+        self.evals.len()
     }
 
     /// How often something that was kept was used.
@@ -107,6 +125,7 @@ impl EvalCache {
         ensures counted { IfOk result (λ found. self.new.counts ≡ count_look found.0 self.old.counts) }
         ensures err { OnErr result (self.new ≡ self.old) }
         ensures parses { self.new.contents ≡ self.old.contents }
+        ensures sizes { self.new.sizes ≡ self.old.sizes }
     {
         let (found, checked) = self.kept_evaluation(key, files)?;
         match found {
@@ -127,6 +146,7 @@ impl EvalCache {
         requires { IsRight (key_of key) evaluation.value }
         ensures counts { self.new.counts ≡ self.old.counts }
         ensures parses { self.new.contents ≡ self.old.contents }
+        ensures sizes { self.new.sizes ≡ self.old.sizes }
     {
         if evaluation.trace.questions().len() > MOST_ANSWERS {
             return;
@@ -144,6 +164,7 @@ impl EvalCache {
             ≡ count_parse (holds_parse self.old content.now) self.old.counts) }
         ensures err { OnErr result (self.new.counts ≡ self.old.counts) }
         ensures evals { self.new.traces ≡ self.old.traces }
+        ensures sizes { self.new.sizes ≡ self.old.sizes }
     {
         let key = ContentKey {
             content: content.share()?,
@@ -179,6 +200,7 @@ impl EvalCache {
         requires { tree_in parse.now ≡ parsed key.content }
         ensures counts { self.new.counts ≡ self.old.counts }
         ensures traces { self.new.traces ≡ self.old.traces }
+        ensures sizes { self.new.sizes ≡ self.old.sizes }
     {
         let Ok(parse) = share(parse) else {
             return;
@@ -229,14 +251,20 @@ impl Parses for EvalCache {
             ≡ count_parse (holds_parse self.old content.now) self.old.counts) }
         ensures err { OnErr result (self.new.counts ≡ self.old.counts) }
         ensures evals { self.new.traces ≡ self.old.traces }
+        ensures sizes { self.new.sizes ≡ self.old.sizes }
     {
         self.kept_or_new(content)
     }
 }
 
-// A size that isn't 0.
-fn capacity(size: usize) -> NonZeroUsize {
-    NonZeroUsize::new(size).unwrap_or(NonZeroUsize::MIN)
+// The size that is asked for, of which 0 counts as 1.
+fn capacity(size: usize) -> NonZeroUsize
+    ensures { non_zero_usize_get result ≡ size_for size }
+{
+    match NonZeroUsize::new(size) {
+        Some(size) => size,
+        None => NonZeroUsize::MIN,
+    }
 }
 
 // The tree of a file with this content, or its fault.
