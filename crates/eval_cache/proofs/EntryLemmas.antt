@@ -1,14 +1,16 @@
 -- The entries of the tables stay right.
 use Rattle.std.proofs.Common.{◌≡◌, ◌∙◌, ap, refl, sym, subst, cond, ◌||◌, Bool, true, false, List, [], ◌∷◌, map, Option, Some, None, option_map, is_some, unwrap_or, inl, inr, Result, Ok, Err, OnOk, OnErr, Global, arith}
 use Rattle.std.specs.List.{list_any}
-use Rattle.std.specs.Map.{lookup, remove_entry, keys_of}
+use Rattle.std.specs.Option.{option_map_or}
+use Rattle.std.specs.Map.{lookup, lookup_entry, remove_entry, keys_of}
+use Rattle.std.proofs.lemmas.Bool.{true≢false}
 use Rattle.std.proofs.lemmas.Map.Made.{is_some-lookup}
 use Rattle.std.specs.Str.{bytes_eq}
 use Rattle.std.specs.declared.rc.Rc.{Rc}
 use Rattle.std.specs.declared.vec.Vec.{Vec}
 use Rattle.std.proofs.lemmas.Slice.Eq.{bytes_eq-Decides}
 use Rattle.lru.specs.LruCache.{LruCache, lru_cache, promoted, put_entries}
-use Rattle.lru.proofs.CallerLemmas.{Contains-lookup, Contains-remove_entry, Contains-promoted, Contains-put_entries}
+use Rattle.lru.proofs.CallerLemmas.{Contains-lookup, Contains-lookup_entry, Contains-remove_entry, Contains-promoted, Contains-put_entries}
 use Rattle.mk_ast.specs.Parsing.{parsed}
 use Rattle.mk_ast.specs.declared.nodes.Makefile.{Makefile}
 use Rattle.mk_ast.specs.declared.parsing.ParseFault.{ParseFault}
@@ -16,9 +18,9 @@ use Rattle.mk_eval.specs.Trees.{tree_in}
 use Rattle.read_trace.specs.declared.evaluating.Evaluation.{Evaluation}
 use Rattle.eval_cache.specs.declared.contents.ContentKey.{ContentKey}
 use Rattle.eval_cache.specs.declared.key.EvalKey.{EvalKey}
-use Rattle.eval_cache.specs.Keys.{key_of, same_key}
+use Rattle.eval_cache.specs.Keys.{Key, key_of, same_key}
 use Rattle.eval_cache.specs.Held.{KeptParses, KeptEvaluations, contents_of, traces_of, traces_by_key, AreRight, AreShort, AreTrees, AreKept, items_of}
-use Rattle.eval_cache.proofs.KeyLemmas.{key_eq, key_eq-same_key, key_eq-≡}
+use Rattle.eval_cache.proofs.KeyLemmas.{key_eq, key_eq-same_key, key_eq-≡, same_key-≡, ≡-key_eq}
 
 seen_step : {X Y : Type 0} (value : X → Y) (x : X) (b : Bool) (seen : Option Y) (found : Option X) → seen ≡ option_map value found
     → cond b (Some (value x)) seen ≡ option_map value (cond b (Some x) found)
@@ -92,6 +94,56 @@ traces-of-kept evals key kept found =
     by : (kept : Option (Vec (Rc Evaluation Global) Global)) → traces_of (items_of kept) ≡ unwrap_or (option_map (λ (kept : Vec (Rc Evaluation Global) Global). traces_of kept.items) kept) []
     by None = refl
     by (Some kept) = refl
+
+behind : {X : Type 0} (b c : Bool) (one other rest all : Option X) → (b ≡ true → c ≡ false) → cond b one rest ≡ all
+    → cond b one (cond c other rest) ≡ cond c other all
+behind true true one other rest all apart same = absurd (true≢false (apart refl))
+behind true false one other rest all apart same = same
+behind false true one other rest all apart same = refl
+behind false false one other rest all apart same = same
+
+front : {K X : Type 0} (test seen : K → Bool) → ((one other : K) → test one ≡ true → test other ≡ false → seen one ≡ true → seen other ≡ false)
+    → (entries : List (K × X)) (entry : K × X) → lookup_entry test entries ≡ Some entry
+    → cond (seen entry.0) (Some entry.1) (lookup seen (remove_entry test entries)) ≡ lookup seen entries
+front test seen apart [] entry found = cc
+front {K = K} {X = X} test seen apart (first ∷ entries) entry found =
+    (elim (test first.0) as (λ b. test first.0 ≡ b → cond b (Some first) (lookup_entry test entries) ≡ Some entry
+    → cond (seen entry.0) (Some entry.1) (lookup seen (cond b entries (first ∷ remove_entry test entries))) ≡ lookup seen (first ∷ entries)) [
+      | true ↦ λ is found. let same : first ≡ entry = cc in
+          ap (λ (e : K × X). cond (seen e.0) (Some e.1) (lookup seen entries)) (sym same)
+      | false ↦ λ is found. behind (seen entry.0) (seen first.0) (Some entry.1) (Some first.1) (lookup seen (remove_entry test entries)) (lookup seen entries)
+          (apart entry.0 first.0 (Contains-lookup_entry test entries entry found).1 is) (front test seen apart entries entry found)
+    ]) refl found
+
+promoted_by : {K X : Type 0} (seen : K → Bool) (entries rest : List (K × X)) (found : Option (K × X))
+    → ((entry : K × X) → found ≡ Some entry → cond (seen entry.0) (Some entry.1) (lookup seen rest) ≡ lookup seen entries)
+    → lookup seen (option_map_or (λ entry. entry ∷ rest) found entries) ≡ lookup seen entries
+promoted_by seen entries rest None first = refl
+promoted_by seen entries rest (Some entry) first = first entry refl
+
+-- a look-up finds the same after the entries of a key went first
+pub lookup-promoted : {K X : Type 0} (test seen : K → Bool) → ((one other : K) → test one ≡ true → test other ≡ false → seen one ≡ true → seen other ≡ false)
+    → (entries : List (K × X)) → lookup seen (promoted test entries) ≡ lookup seen entries
+lookup-promoted test seen apart entries = promoted_by seen entries (remove_entry test entries) (lookup_entry test entries) (front test seen apart entries)
+
+not_both : (b : Bool) → (b ≡ true → ⊥) → b ≡ false
+not_both true never = absurd (never refl)
+not_both false never = refl
+
+keys_apart : (key : EvalKey) (other : Key) (one two : EvalKey) → key_eq key one ≡ true → key_eq key two ≡ false
+    → same_key other (key_of one) ≡ true → same_key other (key_of two) ≡ false
+keys_apart key other one two same differs is = not_both (same_key other (key_of two)) (λ too.
+    let keys : key_of key ≡ key_of two = key_eq-≡ key one same ∙ sym (same_key-≡ other (key_of one) is) ∙ same_key-≡ other (key_of two) too in
+    true≢false (sym (≡-key_eq key two keys) ∙ differs))
+
+-- so the traces that a cache shows stay those of each key
+pub traces-promoted : (evals : KeptEvaluations) (key : EvalKey) (other : Key)
+    → lookup (same_key other) (traces_by_key (promoted (key_eq key) evals)) ≡ lookup (same_key other) (traces_by_key evals)
+traces-promoted evals key other =
+    let seen : EvalKey → Bool = λ k. same_key other (key_of k) in
+    lookup-seen key_of (λ (kept : Vec (Rc Evaluation Global) Global). traces_of kept.items) seen (same_key other) (λ k. refl) (promoted (key_eq key) evals)
+    ∙ ap (option_map (λ (kept : Vec (Rc Evaluation Global) Global). traces_of kept.items)) (lookup-promoted (key_eq key) seen (keys_apart key other) evals)
+    ∙ sym (lookup-seen key_of (λ (kept : Vec (Rc Evaluation Global) Global). traces_of kept.items) seen (same_key other) (λ k. refl) evals)
 
 -- how the code compares contents
 abbrev pub content_eq : ContentKey → ContentKey → Bool

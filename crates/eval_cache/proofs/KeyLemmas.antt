@@ -64,3 +64,20 @@ same_key-≡ one other same =
 
 pub key_eq-≡ : (one other : EvalKey) → key_eq one other ≡ true → key_of one ≡ key_of other
 key_eq-≡ one other same = same_key-≡ (key_of one) (key_of other) (sym (key_eq-same_key one other) ∙ same)
+
+same_flavors-refl : (flavors : Option (List (List ℕ))) → option_eq (pointwise bytes_eq) flavors flavors ≡ true
+same_flavors-refl None = refl
+same_flavors-refl (Some flavors) = (slice_eq-Decides bytes_eq-Decides flavors flavors (pointwise bytes_eq flavors flavors) refl).1 refl
+
+both-true : (b c : Bool) → b ≡ true → c ≡ true → b && c ≡ true
+both-true b c b_is c_is = ap₂ (λ b c. b && c) b_is c_is
+
+-- a key has the texts of itself
+pub same_key-refl : (key : Key) → same_key key key ≡ true
+same_key-refl key =
+    both-true _ _ ((slice_eq-Decides bytes_eq-Decides key.settings.path key.settings.path (pointwise bytes_eq key.settings.path key.settings.path) refl).1 refl)
+    (both-true _ _ ((bytes_eq-Decides key.name key.name).1 refl) (same_flavors-refl key.flavors))
+
+-- so keys that are the same are equal
+pub ≡-key_eq : (one other : EvalKey) → key_of one ≡ key_of other → key_eq one other ≡ true
+≡-key_eq one other is = key_eq-same_key one other ∙ ap (same_key (key_of one)) (sym is) ∙ same_key-refl (key_of one)

@@ -22,4 +22,5 @@ pub IsRight-recorded : IsTheSameWhereAgreed → (files : FileMap) (settings : Se
     (key : Key) (evaluation : Evaluation) → key ≡ key_for settings name flavors → evaluation ≡ recorded (files, settings) name flavors
     → IsRight key evaluation
 IsRight-recorded same files settings name flavors key evaluation is ends =
-    subst (λ k. IsRight k evaluation) (sym is) (subst (IsRight (key_for settings name flavors)) (sym ends) (λ other agrees. same files other settings name flavors agrees))
+    subst (λ k. IsRight k evaluation) (sym is)
+    (subst (IsRight (key_for settings name flavors)) (sym ends) (λ other agrees. same files other settings name flavors agrees))

@@ -3,7 +3,7 @@ ghost use Rattle.std.specs.Prelude.{◌≡◌, ◌≤◌, length, is_some, IfOk,
 ghost use Rattle.std.specs.NonZero.{non_zero_usize_get};
 ghost use Rattle.mk_ast.specs.Parsing.{parsed};
 ghost use Rattle.mk_eval.specs.Trees.{tree_in};
-ghost use Rattle.eval_cache.specs.Keys.{key_of};
+ghost use Rattle.eval_cache.specs.Keys.{Key, key_of};
 ghost use Rattle.eval_cache.specs.Right.{IsRight, evaluation_of};
 ghost use Rattle.eval_cache.specs.Looking.{agreeing, IsFound, ChecksAmong, FailsAmong};
 ghost use Rattle.eval_cache.specs.Cache.{empty_cache, size_for, holds_parse, traces_at, count_parse, count_look};
@@ -124,6 +124,7 @@ impl EvalCache {
             FailsAmong F.fails_with (F.view files.old) (F.view files.new) fault) }
         ensures counted { IfOk result (λ found. self.new.counts ≡ count_look found.0 self.old.counts) }
         ensures err { OnErr result (self.new ≡ self.old) }
+        ensures traces { (other : Key) → traces_at self.new other ≡ traces_at self.old other }
         ensures parses { self.new.contents ≡ self.old.contents }
         ensures sizes { self.new.sizes ≡ self.old.sizes }
     {
