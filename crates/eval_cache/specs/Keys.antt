@@ -1,6 +1,5 @@
 -- Which evaluation is meant.
-use Rattle.std.specs.Prelude.{ℕ, ◌&&◌, Bool, List, map, Option, option_map, refl, string_bytes}
-use Rattle.std.specs.Coded.{Coded, code_by, coded×, coded_list, coded_option, coded_ℕ}
+use Rattle.std.specs.Prelude.{ℕ, ◌&&◌, Bool, List, map, Option, option_map, string_bytes}
 use Rattle.std.specs.Cmp.Lexicographic.{pointwise}
 use Rattle.std.specs.Option.{option_eq}
 use Rattle.std.specs.Str.{bytes_eq}
@@ -27,10 +26,3 @@ abbrev pub same_key : Key → Key → Bool
 same_key one other =
     pointwise bytes_eq one.settings.path other.settings.path
     && (bytes_eq one.name other.name && option_eq (pointwise bytes_eq) one.flavors other.flavors)
-
--- how a proof tells keys apart
-abbrev pub key_code : Coded Key
-key_code =
-    code_by (List (List ℕ) × (List ℕ × Option (List (List ℕ))))
-    (coded× (coded_list (coded_list coded_ℕ)) (coded× (coded_list coded_ℕ) (coded_option (coded_list (coded_list coded_ℕ)))))
-    (λ key. (key.settings.path, (key.name, key.flavors))) (λ parts. key_for (record { path = parts.0 }) parts.1.0 parts.1.1) (λ _. refl)

@@ -24,10 +24,11 @@ use std::marker::Model;
 use std::num::NonZeroUsize;
 use std::rc::Rc;
 
-/// How many evaluations are kept under one key, and at most how many answers one of them has: that of the
-/// makefile itself, and those of 256 questions.
+/// The most evaluations that are kept under one key.
 const MOST_EVALUATIONS: usize = 4;
 
+/// The most answers that the trace of an evaluation has: that about the makefile itself, and those to 256
+/// questions.
 const MOST_ANSWERS: usize = 257;
 
 /// A file's tree, or its fault.
@@ -104,7 +105,7 @@ impl EvalCache {
 
     /// Looks for the evaluation of this key among those that are kept, by the answers of the files. The
     /// newest is tried first, and each up to the first answer that differs. The result is what was found,
-    /// and how many answers were checked.
+    /// and how many answers were checked. Nothing that is kept goes.
     ///
     /// If the files fail, their fault is returned as it is. It is also `Memory` if no more can share the
     /// evaluation.
@@ -142,7 +143,8 @@ impl EvalCache {
 
     /// Keeps an evaluation that is right for the key, as the newest one there. The oldest one goes if there
     /// are more than four. If there is no memory to keep it, or if it asked more than 256 questions, it
-    /// isn't kept, and others of the key may go.
+    /// isn't kept, and others of the key may go. What `evaluate_recorded` of `read_trace` gives is right for
+    /// the key of its arguments.
     pub fn keep(&mut self, key: EvalKey, evaluation: Rc<Evaluation>)
         requires { IsRight (key_of key) evaluation.value }
         ensures counts { self.new.counts ≡ self.old.counts }
