@@ -72,17 +72,34 @@ pub fn evaluate<F: Files>(
         (flavors_in flavors.entry)) result }
     ensures within { CostsAtMost (λ evaluated. evaluated.cost) UNITS result }
 {
-    let mut budget = Budget::new(UNITS);
     let mut parses = Anew::new(alloc);
-    match run(
-        alloc,
-        settings,
-        name,
-        flavors,
-        &mut parses,
-        files,
-        &mut budget,
-    ) {
+    evaluate_with(alloc, &mut parses, files, settings, name, flavors)
+}
+
+/// The same as `evaluate`, with trees that `parses` makes, or shares. Of `parses` itself becomes only what
+/// may become of it by making trees.
+///
+/// # Errors
+///
+/// They are those of `evaluate`.
+pub fn evaluate_with<F: Files, P: Parses>(
+    alloc: Global,
+    parses: &mut P,
+    files: &mut F,
+    settings: &Settings,
+    name: &Name,
+    flavors: Option<&[String]>,
+) -> Result<Evaluated, Stop<Failed>>
+    ensures means { Tells (λ x. x) result
+        (means (world_of (F.view files.old) settings.now) name.now (flavors_in flavors.entry)) }
+    ensures files { LeavesAsked F.fails_with (F.view files.old) (F.view files.new)
+        (questions_asked (world_of (F.view files.old) settings.now) name.now
+        (flavors_in flavors.entry)) result }
+    ensures within { CostsAtMost (λ evaluated. evaluated.cost) UNITS result }
+    ensures parses { P.becomes parses.old parses.new }
+{
+    let mut budget = Budget::new(UNITS);
+    match run(alloc, settings, name, flavors, parses, files, &mut budget) {
         Ok(state) => Ok(Evaluated {
             kind: state.kind,
             env: state.variables,
@@ -108,6 +125,7 @@ fn run<F: Files, P: Parses>(
         (flavors_in flavors.entry) (account budget.old (F.view files.old))) }
     ensures asks { Asks F.fails_with result (F.view files.old) (F.view files.new) }
     ensures later { IsLater budget.old budget.new }
+    ensures parses { P.becomes parses.old parses.new }
 {
     let Some(content) = look_read(files, name)? else {
         return Err(Stop::Fault(FaultKind::Include).blame(alloc, name.as_str(), 0));

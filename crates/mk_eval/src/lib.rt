@@ -15,8 +15,9 @@ mod running;
 mod starting;
 mod state;
 
-pub use evaluation::{evaluate, value};
+pub use evaluation::{evaluate, evaluate_with, value};
 pub use executing::perform;
 pub use laws::same_where_answered;
 pub use outcome::{Evaluated, Failed, Kind, Valued, with_units};
+pub use parses::Parses;
 pub use requests::Request;

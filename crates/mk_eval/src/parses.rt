@@ -1,5 +1,6 @@
 //! How a file's bytes become its tree.
-ghost use Rattle.std.specs.Prelude.{◌≡◌, IfOk};
+ghost use Rattle.std.specs.Prelude.{◌≡◌, refl, IfOk};
+ghost use Rattle.std.proofs.Common.{◌∙◌};
 ghost use Rattle.mk_ast.specs.Parsing.{parsed};
 ghost use Rattle.mk_eval.specs.Trees.{tree_in};
 
@@ -9,10 +10,21 @@ use std::alloc::{AllocError, Global};
 use std::rc::Rc;
 
 /// What makes the tree of a file, or shares one that was made before.
-pub(crate) trait Parses {
+///
+/// It says what may become of it by making trees (`becomes`). To make none is one way, and to make some and
+/// then more is another.
+pub trait Parses {
+    ghost becomes: { Self → Self → Type 0 };
+
     /// The tree of these bytes, or their fault. It fails only if memory runs out.
     fn parsed(&mut self, content: &Content) -> Result<Result<Rc<Makefile>, ParseFault>, AllocError>
-        ensures { IfOk result (λ found. tree_in found ≡ parsed content.now) };
+        ensures tree { IfOk result (λ found. tree_in found ≡ parsed content.now) }
+        ensures left { becomes self.old self.new };
+
+    ghost stays: { (parses : Self) → becomes parses parses };
+
+    ghost goes_on: { (old middle new : Self) → becomes old middle → becomes middle new
+        → becomes old new };
 }
 
 /// Reads each file anew.
@@ -28,6 +40,12 @@ impl Anew {
 }
 
 impl Parses for Anew {
+    ghost becomes = { λ old new. new ≡ old };
+
+    ghost stays = { λ parses. refl };
+
+    ghost goes_on = { λ old middle new first second. second ∙ first };
+
     fn parsed(
         &mut self,
         content: &Content,

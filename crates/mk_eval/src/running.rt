@@ -49,6 +49,7 @@ pub(crate) fn execute_file<F: Files, P: Parses>(
         (account budget.old (F.view files.old))) }
     ensures asks { Asks F.fails_with result (F.view files.old) (F.view files.new) }
     ensures later { IsLater budget.old budget.new }
+    ensures parses { P.becomes parses.old parses.new }
 {
     match parses.parsed(content)? {
         Ok(makefile) => execute_block(
@@ -85,6 +86,7 @@ fn execute_block<F: Files, P: Parses>(
         (loops_of scope.entry) state.old (account budget.old (F.view files.old))) }
     ensures asks { Asks F.fails_with result (F.view files.old) (F.view files.new) }
     ensures later { IsLater budget.old budget.new }
+    ensures parses { P.becomes parses.old parses.new }
 {
     for node in nodes {
         execute_node(alloc, here, scope, node, state, parses, files, budget)?;
@@ -110,6 +112,7 @@ fn execute_node<F: Files, P: Parses>(
         (account budget.old (F.view files.old))) }
     ensures asks { Asks F.fails_with result (F.view files.old) (F.view files.new) }
     ensures later { IsLater budget.old budget.new }
+    ensures parses { P.becomes parses.old parses.new }
 {
     match node {
         Node::Line(line) => { execute_line(alloc, here, scope, line, state, parses, files, budget) }
@@ -157,6 +160,7 @@ fn execute_branches<F: Files, P: Parses>(
         (account budget.old (F.view files.old))) }
     ensures asks { Asks F.fails_with result (F.view files.old) (F.view files.new) }
     ensures later { IsLater budget.old budget.new }
+    ensures parses { P.becomes parses.old parses.new }
 {
     for branch in branches {
         if holds(alloc, here, scope, &branch.head, state, files, budget)? {
@@ -190,6 +194,7 @@ fn execute_line<F: Files, P: Parses>(
         state.old (account budget.old (F.view files.old))) }
     ensures asks { Asks F.fails_with result (F.view files.old) (F.view files.new) }
     ensures later { IsLater budget.old budget.new }
+    ensures parses { P.becomes parses.old parses.new }
 {
     match open_line(alloc, here, scope, line, state, files, budget)? {
         None => Ok(()),
@@ -223,6 +228,7 @@ fn execute_loop<F: Files, P: Parses>(
         (account budget.old (F.view files.old))) }
     ensures asks { Asks F.fails_with result (F.view files.old) (F.view files.new) }
     ensures later { IsLater budget.old budget.new }
+    ensures parses { P.becomes parses.old parses.new }
 {
     let header = header_of(alloc, here, scope, head, state, budget)?;
     let turns = turns_of(alloc, here, header.as_str(), head, state, budget)?;
@@ -252,6 +258,7 @@ fn execute_turn<F: Files, P: Parses>(
         (loops_of scope.entry) state.old (account budget.old (F.view files.old))) }
     ensures asks { Asks F.fails_with result (F.view files.old) (F.view files.new) }
     ensures later { IsLater budget.old budget.new }
+    ensures parses { P.becomes parses.old parses.new }
 {
     begin_turn(alloc, here, head, budget)?;
     execute_block(alloc, here, scope, body, state, parses, files, budget)

@@ -39,6 +39,7 @@ execute_block-loop-node-preserved g t c =
           (subst (λ files. execute_tree (works_of c.args.here files) (tree_of c.node-item.result) (loops_of c.args.scope) c.loop-node.state (account c.loop-node.budget (view c.loop-node.files)) ≡ Ok (c.execute_node.new.state, account c.execute_node.new.budget (view c.execute_node.new.files))) same c.in_ok-execute_node.ensures.gives);
       asked = AfterQuestions-on (view c.args.files.now) (view c.loop-node.files) _ c.loop-node.invariant.asked c.in_ok-execute_node.ensures.asks;
       later = IsLater-on c.loop-node.invariant.later c.in_ok-execute_node.ensures.later;
+      parses = g.met.P.Parses.goes_on _ _ _ c.loop-node.invariant.parses c.in_ok-execute_node.ensures.parses;
     }
 
 pub execute_branches-returns-in_err-holds-clause-gives : goal.execute_branches-returns-in_err-holds-clause-gives
@@ -91,6 +92,7 @@ execute_branches-loop-branch-preserved g t c =
           c.if-branch.false;
       asked = AfterQuestions-on (view c.args.files.now) (view c.loop-branch.files) _ c.loop-branch.invariant.asked c.in_ok-holds.ensures.asks;
       later = IsLater-on c.loop-branch.invariant.later c.in_ok-holds.ensures.later;
+      parses = c.loop-branch.invariant.parses;
     }
 
 pub execute_branches-returns-in-Some-clause-gives : goal.execute_branches-returns-in-Some-clause-gives
@@ -132,7 +134,7 @@ execute_file-returns-in-Ok-clause-gives g t c =
     let nodes : c.in-Ok.makefile.value.nodes.value.items ≡ c.as_slice.result.now = search rules in
     Gives-same _ _ _ _ _
     (file_meaning-is files c.args.here.makefile.now c.args.here.levels c.args.here.file.now c.args.content.now c.args.state.now a
-    ∙ ap (λ found. execute_read (entering_at files c.args.here.makefile.now c.args.here.levels) (place_of c.args.here files) found c.args.state.now a) (sym c.in_ok-makefile.ensures ∙ ap tree_in c.in-Ok.is)
+    ∙ ap (λ found. execute_read (entering_at files c.args.here.makefile.now c.args.here.levels) (place_of c.args.here files) found c.args.state.now a) (sym c.in_ok-makefile.ensures.tree ∙ ap tree_in c.in-Ok.is)
     ∙ ap (λ items. execute (works_of c.args.here files) (block_of items) None c.args.state.now a) nodes)
     c.execute_block.ensures.gives
 
@@ -142,7 +144,7 @@ execute_file-returns-in_ok-fault-in-Err-clause-gives g t c =
     let files = (view c.args.files.now).files in
     let a = account c.args.budget.now (view c.args.files.now) in
     file_meaning-is files c.args.here.makefile.now c.args.here.levels c.args.here.file.now c.args.content.now c.args.state.now a
-    ∙ ap (λ found. execute_read (entering_at files c.args.here.makefile.now c.args.here.levels) (place_of c.args.here files) found c.args.state.now a) (sym c.in_ok-makefile.ensures ∙ ap tree_in c.in-Err.is)
+    ∙ ap (λ found. execute_read (entering_at files c.args.here.makefile.now c.args.here.levels) (place_of c.args.here files) found c.args.state.now a) (sym c.in_ok-makefile.ensures.tree ∙ ap tree_in c.in-Err.is)
     ∙ ap (λ fault. Err (fault, a)) (sym (c.in_ok-fault-in-Err.ensures ∙ ap (λ name. fault_at c.in-Err.fault.kind name c.in-Err.fault.line) c.as_str.ensures.text))
 
 pub execute_line-returns-in-Some-clause-asks : goal.execute_line-returns-in-Some-clause-asks
@@ -205,6 +207,7 @@ execute_loop-loop-index-preserved g t c =
       asked = AfterQuestions-on (view c.args.files.now) (view c.loop-index.files) _ c.loop-index.invariant.asked c.in_ok-execute_turn.ensures.asks;
       later = IsLater-on c.loop-index.invariant.later c.in_ok-execute_turn.ensures.later;
       behind = IsLater-on c.loop-index.invariant.behind c.in_ok-execute_turn.ensures.later;
+      parses = g.met.P.Parses.goes_on _ _ _ c.loop-index.invariant.parses c.in_ok-execute_turn.ensures.parses;
     }
 
 pub execute_loop-returns-clause-gives : goal.execute_loop-returns-clause-gives

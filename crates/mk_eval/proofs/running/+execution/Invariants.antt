@@ -43,6 +43,7 @@ invariant-execute_block-loop-node g l =
           ≡ execute works (block_of (drop l.node-index l.nodes)) (loops_of l.scope) l.state (account l.budget (view l.files));
       asked : AfterQuestions (view l.fn.files) (view l.files);
       later : IsLater l.fn.budget l.budget;
+      parses : g.P.Parses.becomes l.fn.parses l.parses;
     }
 
 -- the branches that are left, from here, end as all of them from the start
@@ -56,6 +57,7 @@ invariant-execute_branches-loop-branch g l =
           ≡ execute_branches works (branches_from (map branch_of (drop l.branch-index l.branches)) last) (loops_of l.scope) l.state (account l.budget (view l.files));
       asked : AfterQuestions (view l.fn.files) (view l.files);
       later : IsLater l.fn.budget l.budget;
+      parses : g.P.Parses.becomes l.fn.parses l.parses;
     }
 
 -- the turns that are left, from here, end as all of them from the first
@@ -70,4 +72,5 @@ invariant-execute_loop-loop-index g l =
       asked : AfterQuestions (view l.fn.files) (view l.files);
       later : IsLater l.fn.budget l.budget;
       behind : IsLater l.initial.budget l.budget;
+      parses : g.P.Parses.becomes l.fn.parses l.parses;
     }

@@ -1,0 +1,20 @@
+-- The evaluations that are kept stay the same.
+use Rattle.std.proofs.Common.{◌∙◌, ap, subst, sym, unwrap_or, []}
+use Rattle.std.specs.Map.{lookup}
+use Rattle.eval_cache.specs.Keys.{same_key}
+use Rattle.eval_cache.specs.Cache.{traces_at}
+use Rattle.eval_cache.specs.Held.{AreKept, traces_by_key}
+use Rattle.eval_cache.proofs.EntryLemmas.{AreKept-promoted, traces-promoted}
+use Rattle.eval_cache.proofs.cache.EvalCache.look.Goals as goal
+
+pub invariant_of-self : goal.invariant_of-self
+invariant_of-self g c = record {
+  trees = c.self.invariant.trees;
+  evaluations = subst (λ cache. AreKept cache.entries) (sym c.promote-there.ensures.entries) (AreKept-promoted c.self.inside.evals.entries c.args.key.now c.self.invariant.evaluations);
+}
+
+pub returns-in-Some-clause-traces : goal.returns-in-Some-clause-traces
+returns-in-Some-clause-traces g c = λ other.
+    ap (λ cache. unwrap_or (lookup (same_key other) (traces_by_key cache.entries)) []) c.promote-there.ensures.entries
+    ∙ ap (λ found. unwrap_or found []) (traces-promoted c.self.inside.evals.entries c.args.key.now other)
+    ∙ ap (λ cache. traces_at cache other) c.self.view_is

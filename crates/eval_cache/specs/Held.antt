@@ -1,0 +1,76 @@
+-- What the tables of a cache hold, and what makes it right.
+use Rattle.std.specs.Prelude.{◌≡◌, ◌≤◌, ◌⊎◌, ℕ, List, [], ◌∷◌, length, map, Option, Some, None, Result, Contains}
+use Rattle.std.specs.List.{AllByRecursion}
+use Rattle.std.specs.declared.alloc.Global.{Global}
+use Rattle.std.specs.declared.rc.Rc.{Rc}
+use Rattle.std.specs.declared.vec.Vec.{Vec}
+use Rattle.mk_ast.specs.Parsing.{parsed}
+use Rattle.mk_ast.specs.declared.nodes.Makefile.{Makefile}
+use Rattle.mk_ast.specs.declared.parsing.ParseFault.{ParseFault}
+use Rattle.mk_eval.specs.Trees.{tree_in}
+use Rattle.mk_paths.specs.FilesView.{Question}
+use Rattle.read_trace.specs.declared.evaluating.Evaluation.{Evaluation}
+use Rattle.eval_cache.specs.declared.contents.ContentKey.{ContentKey}
+use Rattle.eval_cache.specs.declared.key.EvalKey.{EvalKey}
+use Rattle.eval_cache.specs.Keys.{Key, key_of}
+use Rattle.eval_cache.specs.Right.{IsRight}
+
+-- the parses, each by its content
+abbrev pub KeptParses : Type 0
+KeptParses = List (ContentKey × Result (Rc Makefile Global) ParseFault)
+
+-- the evaluations, those of each key with the newest first
+abbrev pub KeptEvaluations : Type 0
+KeptEvaluations = List (EvalKey × Vec (Rc Evaluation Global) Global)
+
+-- the contents of the parses
+abbrev pub contents_of : KeptParses → List (List ℕ)
+contents_of parses = map (λ entry. entry.0.content) parses
+
+-- the traces of evaluations
+abbrev pub traces_of : List (Rc Evaluation Global) → List (List Question)
+traces_of kept = map (λ evaluation. evaluation.value.trace) kept
+
+-- the traces of the evaluations of each key
+abbrev pub traces_by_key : KeptEvaluations → List (Key × List (List Question))
+traces_by_key evals = map (λ entry. (key_of entry.0, traces_of entry.1.items)) evals
+
+-- each evaluation is right for the key
+abbrev pub AreRight : Key → List (Rc Evaluation Global) → Type 0
+AreRight key kept = AllByRecursion (λ evaluation. IsRight key evaluation.value) kept
+
+-- there are at most four evaluations, and none asks more than the makefile and 256 questions
+abbrev pub AreShort : List (Rc Evaluation Global) → Type 0
+AreShort kept = AllByRecursion (λ evaluation. length evaluation.value.trace ≤ 257) kept × (length kept ≤ 4)
+
+-- each parse that is kept is the tree of its content, or its fault
+abbrev pub AreTrees : KeptParses → Type 0
+AreTrees parses =
+    (content : ContentKey) (parse : Result (Rc Makefile Global) ParseFault) → Contains parses (content, parse)
+    → tree_in parse ≡ parsed content.content
+
+-- each evaluation that is kept is right for its key, and few of them are kept for each
+abbrev pub AreKept : KeptEvaluations → Type 0
+AreKept evals =
+    (key : EvalKey) (kept : Vec (Rc Evaluation Global) Global) → Contains evals (key, kept)
+    → AreRight (key_of key) kept.items × AreShort kept.items
+
+-- what is kept may be used
+pub record IsRightCache (parses : KeptParses) (evals : KeptEvaluations) : Type 0 where
+  pub trees : AreTrees parses
+  pub evaluations : AreKept evals
+
+-- the evaluation is one of those that are kept
+abbrev pub IsOneOf : List (Rc Evaluation Global) → Evaluation → Type 0
+IsOneOf [] evaluation = ⊥
+IsOneOf (one ∷ kept) evaluation = (one.value ≡ evaluation) ⊎ IsOneOf kept evaluation
+
+-- the evaluations of a key, or none
+abbrev pub items_of : Option (Vec (Rc Evaluation Global) Global) → List (Rc Evaluation Global)
+items_of None = []
+items_of (Some kept) = kept.items
+
+-- All that is right of older evaluations of a key and of a new one is right of these.
+pub record AreNewest (evaluation : Evaluation) (older kept : List (Rc Evaluation Global)) : Type 0 where
+  pub right : (key : Key) → IsRight key evaluation → AreRight key older → AreRight key kept
+  pub short : length evaluation.trace ≤ 257 → AreShort older → AreShort kept

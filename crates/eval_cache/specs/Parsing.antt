@@ -1,0 +1,45 @@
+-- What becomes of a cache by making trees.
+use Rattle.std.specs.Prelude.{◌≡◌, ◌⊎◌, ℕ, List, [], ◌∷◌, ◌++◌, Result, Ok, Err, OnOk, OnErr}
+use Rattle.std.proofs.Common.{refl, subst, inl, inr}
+use Rattle.eval_cache.specs.Cache.{CacheValue, holds_parse, count_parse}
+
+-- The parse of this content was asked for. If it was kept, it was counted, unless there was no memory to hand it
+-- out. No evaluation came or went, and the sizes stayed.
+pub record AsksParse (content : List ℕ) (old new : CacheValue) : Type 0 where
+  pub traces : new.traces ≡ old.traces
+  pub sizes : new.sizes ≡ old.sizes
+  pub counts : (new.counts ≡ count_parse (holds_parse old content) old.counts) ⊎ (new.counts ≡ old.counts)
+
+-- the parses of these contents were asked for, in order
+abbrev pub AsksInTurn : List (List ℕ) → CacheValue → CacheValue → Type 0
+AsksInTurn [] old new = new ≡ old
+AsksInTurn (content ∷ contents) old new = (middle : CacheValue) × AsksParse content old middle × AsksInTurn contents middle new
+
+-- some parses were asked for, or none
+pub record AsksParses (old new : CacheValue) : Type 0 where
+  pub contents : List (List ℕ)
+  pub in_turn : AsksInTurn contents old new
+
+pub AsksParses-none : (cache : CacheValue) → AsksParses cache cache
+AsksParses-none cache = record { contents = []; in_turn = refl }
+
+in_turn-on : (first second : List (List ℕ)) (old middle new : CacheValue) → AsksInTurn first old middle → AsksInTurn second middle new
+    → AsksInTurn (first ++ second) old new
+in_turn-on [] second old middle new none more = subst (λ cache. AsksInTurn second cache new) none more
+in_turn-on (content ∷ first) second old middle new one more = (one.0, one.1, in_turn-on first second one.0 middle new one.2 more)
+
+-- some parses, and then more
+pub AsksParses-on : (old middle new : CacheValue) → AsksParses old middle → AsksParses middle new → AsksParses old new
+AsksParses-on old middle new first second = record {
+  contents = first.contents ++ second.contents;
+  in_turn = in_turn-on first.contents second.contents old middle new first.in_turn second.in_turn;
+}
+
+-- one parse
+pub AsksParses-one : {A E : Type 0} (result : Result A E) (content : List ℕ) (old new : CacheValue)
+    → OnOk result (new.counts ≡ count_parse (holds_parse old content) old.counts) → OnErr result (new.counts ≡ old.counts)
+    → new.traces ≡ old.traces → new.sizes ≡ old.sizes → AsksParses old new
+AsksParses-one (Ok value) content old new ok err traces sizes =
+    record { contents = content ∷ []; in_turn = (new, record { traces = traces; sizes = sizes; counts = inl ok }, refl) }
+AsksParses-one (Err fault) content old new ok err traces sizes =
+    record { contents = content ∷ []; in_turn = (new, record { traces = traces; sizes = sizes; counts = inr err }, refl) }

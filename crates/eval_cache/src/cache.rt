@@ -1,0 +1,310 @@
+// The cache of parses and evaluations.
+ghost use Rattle.std.specs.Prelude.{◌≡◌, ◌≤◌, length, is_some, IfOk, IfErr, IfSome, OnOk, OnErr};
+ghost use Rattle.std.specs.NonZero.{non_zero_usize_get};
+ghost use Rattle.mk_ast.specs.Parsing.{parsed};
+ghost use Rattle.mk_eval.specs.Trees.{tree_in};
+ghost use Rattle.eval_cache.specs.Keys.{Key, key_of};
+ghost use Rattle.eval_cache.specs.Right.{IsRight, evaluation_of};
+ghost use Rattle.eval_cache.specs.Looking.{agreeing, IsFound, ChecksAmong, FailsAmong};
+ghost use Rattle.eval_cache.specs.Cache.{empty_cache, size_for, holds_parse, traces_at, count_parse, count_look};
+ghost use Rattle.eval_cache.specs.Held.{AreNewest, items_of};
+
+use crate::contents::ContentKey;
+use crate::counting::Counts;
+use crate::key::EvalKey;
+use crate::looking::{Look, cost_of, first_agreeing};
+use lru::LruCache;
+use mk_ast::{Makefile, ParseError, ParseFault, parse};
+use mk_eval::Parses;
+use mk_files::{Content, Files};
+use mk_paths::FilesFault;
+use read_trace::Evaluation;
+use std::alloc::{AllocError, Global};
+use std::marker::Model;
+use std::num::NonZeroUsize;
+use std::rc::Rc;
+
+/// The most evaluations that are kept under one key.
+const MOST_EVALUATIONS: usize = 4;
+
+/// The most answers that the trace of an evaluation has: that about the makefile itself, and those to 256
+/// questions.
+const MOST_ANSWERS: usize = 257;
+
+/// A file's tree, or its fault.
+type Parse = Result<Rc<Makefile>, ParseFault>;
+
+/// Parses and evaluations that are kept to be used again, and how often they were.
+///
+/// A parse that is kept is the tree of its content, or its fault. An evaluation that is kept is right in
+/// every world with its key's settings that agrees with its trace: there the makefile means the same, at
+/// the same cost, and its evaluation asks the same.
+#[derive(Drop)]
+pub struct EvalCache {
+    alloc: Global,
+    parses: LruCache<ContentKey, Parse>,
+    evals: LruCache<EvalKey, Vec<Rc<Evaluation>>>,
+    counts: Counts,
+}
+
+impl Model for EvalCache {
+    ghost use Rattle.eval_cache.specs.Cache.{CacheValue};
+    ghost use Rattle.eval_cache.specs.Held.{contents_of, traces_by_key, IsRightCache};
+
+    ghost Value = { CacheValue };
+
+    ghost view = { λ cache. record {
+      contents = contents_of cache.parses.entries;
+      traces = traces_by_key cache.evals.entries;
+      sizes = record { parses = cache.parses.cap; keys = cache.evals.cap };
+      counts = cache.counts;
+    } };
+
+    ghost invariant = { λ cache. IsRightCache cache.parses.entries cache.evals.entries };
+}
+
+impl EvalCache {
+    /// A cache that holds nothing yet, and never more than so many parses and the evaluations of so many
+    /// keys. A size of 0 counts as 1. It fails only if memory runs out.
+    pub fn new(alloc: Global, parses: usize, evals: usize) -> Result<EvalCache, AllocError>
+        ensures { IfOk result (λ cache. cache ≡ empty_cache parses evals) }
+    {
+        Ok(EvalCache {
+            alloc,
+            parses: LruCache::sparse(alloc, capacity(parses))?,
+            evals: LruCache::sparse(alloc, capacity(evals))?,
+            counts: Counts {
+                parses: 0,
+                evals: 0,
+            },
+        })
+    }
+
+    /// How many parses are kept.
+    pub fn parses_kept(&self) -> usize
+        ensures kept { result ≡ length self.now.contents }
+        ensures within { result ≤ self.now.sizes.parses }
+    {
+        self.parses.len()
+    }
+
+    /// Under how many keys evaluations are kept.
+    pub fn keys_kept(&self) -> usize
+        ensures kept { result ≡ length self.now.traces }
+        ensures within { result ≤ self.now.sizes.keys }
+    {
+        self.evals.len()
+    }
+
+    /// How often something that was kept was used.
+    pub fn counts(&self) -> Counts
+        ensures { result ≡ self.now.counts }
+    {
+        self.counts
+    }
+
+    /// Looks for the evaluation of this key among those that are kept, by the answers of the files. The
+    /// newest is tried first, and each up to the first answer that differs. The result is what was found,
+    /// and how many answers were checked. Nothing that is kept goes.
+    ///
+    /// If the files fail, their fault is returned as it is. It is also `Memory` if no more can share the
+    /// evaluation.
+    pub fn look<F: Files>(
+        &mut self,
+        key: &EvalKey,
+        files: &mut F,
+    ) -> Result<(Look, u64), FilesFault>
+        ensures found { IfOk result (λ found. IsFound (F.view files.old).files (key_of key.now)
+            (traces_at self.old (key_of key.now)) found.0) }
+        ensures checked { IfOk result (λ found. found.1
+            ≡ (agreeing (F.view files.old).files (traces_at self.old (key_of key.now))).1) }
+        ensures bound { IfOk result (λ found. found.1 ≤ 1028) }
+        ensures asks { OnOk result (ChecksAmong (F.view files.old)
+            (traces_at self.old (key_of key.now)) (F.view files.new)) }
+        ensures fails { IfErr result (λ fault.
+            FailsAmong F.fails_with (F.view files.old) (F.view files.new) fault) }
+        ensures counted { IfOk result (λ found. self.new.counts ≡ count_look found.0 self.old.counts) }
+        ensures err { OnErr result (self.new ≡ self.old) }
+        ensures traces { (other : Key) → traces_at self.new other ≡ traces_at self.old other }
+        ensures parses { self.new.contents ≡ self.old.contents }
+        ensures sizes { self.new.sizes ≡ self.old.sizes }
+    {
+        let (found, checked) = self.kept_evaluation(key, files)?;
+        match found {
+            Some(evaluation) => {
+                let _there = self.evals.promote(key);
+                self.counts.evals = self.counts.evals.saturating_add(1);
+                let cost = cost_of(&evaluation);
+                Ok((Look::Hit(evaluation, cost), checked))
+            }
+            None => Ok((Look::Miss, checked)),
+        }
+    }
+
+    /// Keeps an evaluation that is right for the key, as the newest one there. The oldest one goes if there
+    /// are more than four. If there is no memory to keep it, or if it asked more than 256 questions, it
+    /// isn't kept, and others of the key may go. What `evaluate_recorded` of `read_trace` gives is right for
+    /// the key of its arguments.
+    pub fn keep(&mut self, key: EvalKey, evaluation: Rc<Evaluation>)
+        requires { IsRight (key_of key) evaluation.value }
+        ensures counts { self.new.counts ≡ self.old.counts }
+        ensures parses { self.new.contents ≡ self.old.contents }
+        ensures sizes { self.new.sizes ≡ self.old.sizes }
+    {
+        if evaluation.trace.questions().len() > MOST_ANSWERS {
+            return;
+        }
+        let older = self.evals.pop(&key);
+        let kept = with_newest(self.alloc, older, evaluation);
+        let _kept = self.evals.put(key, kept);
+    }
+
+    // The parse that is kept for this content, or else a new one, which is then kept if there is memory for
+    // that.
+    fn kept_or_new(&mut self, content: &Content) -> Result<Parse, AllocError>
+        ensures tree { IfOk result (λ found. tree_in found ≡ parsed content.now) }
+        ensures counted { OnOk result (self.new.counts
+            ≡ count_parse (holds_parse self.old content.now) self.old.counts) }
+        ensures err { OnErr result (self.new.counts ≡ self.old.counts) }
+        ensures evals { self.new.traces ≡ self.old.traces }
+        ensures sizes { self.new.sizes ≡ self.old.sizes }
+    {
+        let key = ContentKey {
+            content: content.share()?,
+        };
+        match self.kept_parse(&key)? {
+            Some(parse) => {
+                let _there = self.parses.promote(&key);
+                self.counts.parses = self.counts.parses.saturating_add(1);
+                Ok(parse)
+            }
+            None => {
+                let parse = parse_anew(self.alloc, content)?;
+                self.keep_parse(key, &parse);
+                Ok(parse)
+            }
+        }
+    }
+
+    // The parse that is kept for this content, if one is.
+    fn kept_parse(&self, key: &ContentKey) -> Result<Option<Parse>, AllocError>
+        ensures held { IfOk result (λ found. is_some found ≡ holds_parse self.now key.now.content) }
+        ensures tree { IfOk result (λ found. IfSome found (λ parse.
+            tree_in parse ≡ parsed key.now.content)) }
+    {
+        match self.parses.peek(key) {
+            Some(parse) => Ok(Some(share(parse)?)),
+            None => Ok(None),
+        }
+    }
+
+    // Keeps the parse of a content, if there is memory for that.
+    fn keep_parse(&mut self, key: ContentKey, parse: &Parse)
+        requires { tree_in parse.now ≡ parsed key.content }
+        ensures counts { self.new.counts ≡ self.old.counts }
+        ensures traces { self.new.traces ≡ self.old.traces }
+        ensures sizes { self.new.sizes ≡ self.old.sizes }
+    {
+        let Ok(parse) = share(parse) else {
+            return;
+        };
+        let _kept = self.parses.put(key, parse);
+    }
+
+    // The first evaluation that is kept under the key and whose trace agrees with the files, and how many
+    // answers were checked.
+    fn kept_evaluation<F: Files>(
+        &self,
+        key: &EvalKey,
+        files: &mut F,
+    ) -> Result<(Option<Rc<Evaluation>>, u64), FilesFault>
+        ensures checked { IfOk result (λ found. (is_some found.0, found.1)
+            ≡ agreeing (F.view files.old).files (traces_at self.now (key_of key.now))) }
+        ensures found { IfOk result (λ found. IfSome found.0 (λ evaluation.
+            evaluation.value ≡ evaluation_of (F.view files.old).files (key_of key.now))) }
+        ensures asks { OnOk result (ChecksAmong (F.view files.old)
+            (traces_at self.now (key_of key.now)) (F.view files.new)) }
+        ensures bound { IfOk result (λ found. found.1 ≤ 1028) }
+        ensures fails { IfErr result (λ fault.
+            FailsAmong F.fails_with (F.view files.old) (F.view files.new) fault) }
+    {
+        match self.evals.peek(key) {
+            Some(kept) => first_agreeing(kept.as_slice(), files),
+            None => Ok((None, 0)),
+        }
+    }
+}
+
+impl Parses for EvalCache {
+    ghost use Rattle.eval_cache.specs.Parsing.{AsksParses, AsksParses-none, AsksParses-on};
+
+    ghost becomes = { AsksParses };
+
+    ghost stays = { AsksParses-none };
+
+    ghost goes_on = { AsksParses-on };
+
+    /// The tree of a file with this content, or its fault: the one that is kept, or else a new one, which
+    /// is then kept if there is memory for that. It fails only if memory for the tree runs out, or if no
+    /// more can share it.
+    fn parsed(&mut self, content: &Content) -> Result<Parse, AllocError>
+        ensures tree { IfOk result (λ found. tree_in found ≡ parsed content.now) }
+        ensures left { AsksParses self.old self.new }
+        ensures counted { OnOk result (self.new.counts
+            ≡ count_parse (holds_parse self.old content.now) self.old.counts) }
+        ensures err { OnErr result (self.new.counts ≡ self.old.counts) }
+        ensures evals { self.new.traces ≡ self.old.traces }
+        ensures sizes { self.new.sizes ≡ self.old.sizes }
+    {
+        self.kept_or_new(content)
+    }
+}
+
+// The size that is asked for, of which 0 counts as 1.
+fn capacity(size: usize) -> NonZeroUsize
+    ensures { non_zero_usize_get result ≡ size_for size }
+{
+    match NonZeroUsize::new(size) {
+        Some(size) => size,
+        None => NonZeroUsize::MIN,
+    }
+}
+
+// The tree of a file with this content, or its fault.
+fn parse_anew(alloc: Global, content: &Content) -> Result<Parse, AllocError>
+    ensures { IfOk result (λ found. tree_in found ≡ parsed content.now) }
+{
+    match parse(alloc, content.as_slice()) {
+        Ok(makefile) => Ok(Ok(Rc::new(alloc, makefile)?)),
+        Err(ParseError::Fault(fault)) => Ok(Err(fault)),
+        Err(ParseError::Memory) => Err(AllocError),
+    }
+}
+
+// The same parse once more, with the same tree.
+fn share(parse: &Parse) -> Result<Parse, AllocError>
+    ensures { IfOk result (λ shared. tree_in shared ≡ tree_in parse.now) }
+{
+    match parse {
+        Ok(makefile) => Ok(Ok(makefile.clone()?)),
+        Err(fault) => Ok(Err(*fault)),
+    }
+}
+
+// An evaluation before older ones of its key, of which the newest stay. If there is no memory for it, there are
+// older ones alone.
+fn with_newest(
+    alloc: Global,
+    older: Option<Vec<Rc<Evaluation>>>,
+    evaluation: Rc<Evaluation>,
+) -> Vec<Rc<Evaluation>>
+    ensures { AreNewest evaluation.value (items_of older) result.items }
+{
+    let mut kept = match older {
+        Some(kept) => kept,
+        None => Vec::new(alloc),
+    };
+    kept.truncate(MOST_EVALUATIONS - 1);
+    let _refused = kept.insert(0, evaluation);
+    kept
+}

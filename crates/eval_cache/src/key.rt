@@ -1,0 +1,61 @@
+// Keys of evaluations.
+ghost use Rattle.std.specs.Prelude.{◌≡◌, IfOk, map, option_map, string_bytes};
+ghost use Rattle.mk_eval.specs.Views.{flavors_in};
+ghost use Rattle.eval_cache.specs.Keys.{key_of, key_for};
+
+use mk_paths::{Name, Settings};
+use std::alloc::{AllocError, Global};
+
+/// Which evaluation is meant: that of the makefile of this name under these settings, with these flavors
+/// or with none given. Keys with the same texts are equal, so the same flavors in another order make
+/// another key.
+#[derive(Debug, Drop, PartialEq, Eq, Hash)]
+pub struct EvalKey {
+    trees: Vec<String>,
+    name: String,
+    flavors: Option<Vec<String>>,
+}
+
+impl EvalKey {
+    /// The key of that evaluation. It fails only if memory runs out.
+    pub fn new(
+        alloc: Global,
+        settings: &Settings,
+        name: &Name,
+        flavors: Option<&[String]>,
+    ) -> Result<EvalKey, AllocError>
+        ensures { IfOk result (λ key. key_of key
+            ≡ key_for settings.now name.now (flavors_in flavors.entry)) }
+    {
+        Ok(EvalKey {
+            trees: copies_of(alloc, settings.path.trees())?,
+            name: String::from_str(alloc, name.as_str())?,
+            flavors: copy_flavors(alloc, flavors)?,
+        })
+    }
+}
+
+// The same flavors, or none.
+fn copy_flavors(
+    alloc: Global,
+    flavors: Option<&[String]>,
+) -> Result<Option<Vec<String>>, AllocError>
+    ensures { IfOk result (λ copied. option_map (λ given. map string_bytes given.items) copied
+        ≡ flavors_in flavors.entry) }
+{
+    match flavors {
+        Some(flavors) => Ok(Some(copies_of(alloc, flavors)?)),
+        None => Ok(None),
+    }
+}
+
+// The same texts, in order.
+fn copies_of(alloc: Global, texts: &[String]) -> Result<Vec<String>, AllocError>
+    ensures { IfOk result (λ copies. map string_bytes copies.items ≡ map string_bytes texts.now) }
+{
+    let mut copies = Vec::with_capacity(alloc, texts.len())?;
+    for text in texts {
+        copies.push(String::from_str(alloc, text.as_str())?)?;
+    }
+    Ok(copies)
+}
