@@ -12,7 +12,7 @@ ghost use Rattle.eval_cache.specs.Held.{AreNewest, items_of};
 use crate::contents::ContentKey;
 use crate::counting::Counts;
 use crate::key::EvalKey;
-use crate::looking::{Look, cost_of, first_agreeing};
+use crate::looking::{Look, first_agreeing};
 use lru::LruCache;
 use mk_ast::{Makefile, ParseError, ParseFault, parse};
 use mk_eval::Parses;
@@ -134,7 +134,7 @@ impl EvalCache {
             Some(evaluation) => {
                 let _there = self.evals.promote(key);
                 self.counts.evals = self.counts.evals.saturating_add(1);
-                let cost = cost_of(&evaluation);
+                let cost = evaluation.cost();
                 Ok((Look::Hit(evaluation, cost), checked))
             }
             None => Ok((Look::Miss, checked)),

@@ -1,6 +1,5 @@
 // Evaluations that are kept under one key, looked at in turn.
 ghost use Rattle.std.specs.Prelude.{◌≡◌, ◌≤◌, is_some, IfOk, IfErr, IfSome, OnOk};
-ghost use Rattle.mk_eval.specs.Sharing as sharing;
 ghost use Rattle.read_trace.specs.Agreement.{IsAnswered};
 ghost use Rattle.eval_cache.specs.Held.{AreShort, IsOneOf, traces_of};
 ghost use Rattle.eval_cache.specs.Looking.{agreeing, ChecksAmong, FailsAmong};
@@ -47,14 +46,4 @@ pub(crate) fn first_agreeing<F: Files>(
         }
     }
     Ok((None, checked))
-}
-
-/// The units that an evaluation cost.
-pub(crate) fn cost_of(evaluation: &Evaluation) -> u64
-    ensures { result ≡ sharing.cost_of evaluation.now.outcome }
-{
-    match &evaluation.outcome {
-        Ok(evaluated) => evaluated.cost,
-        Err(failed) => failed.cost,
-    }
 }

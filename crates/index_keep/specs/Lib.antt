@@ -4,3 +4,4 @@ pub mod Judging
 pub mod Turns
 pub mod Walking
 pub mod Keeping
+pub mod Asking

@@ -2,6 +2,7 @@
 //! makes the rows right again, one path at a time. What the index is is read from them.
 #![tactic(auto)]
 
+mod asking;
 mod beginning;
 mod ending;
 mod evaluating;
@@ -9,5 +10,6 @@ mod keeper;
 mod names;
 mod walking;
 
+pub use asking::{Asked, ask};
 pub use keeper::Keeper;
 pub use walking::Refreshed;

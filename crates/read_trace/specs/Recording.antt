@@ -1,6 +1,6 @@
 -- Files that write down what they are asked.
-use Rattle.std.specs.Prelude.{◌≡◌, ◌⊎◌, List, [], Option, Some}
-use Rattle.mk_paths.specs.FilesView.{FilesView, Question}
+use Rattle.std.specs.Prelude.{◌≡◌, ◌⊎◌, List, [], Option, Some, None}
+use Rattle.mk_paths.specs.FilesView.{FilesView, Question, failed}
 use Rattle.mk_paths.specs.declared.asking.FilesFault.{FilesFault}
 use Rattle.mk_paths.specs.declared.asking.Names.{Ghosts}
 use Rattle.mk_paths.specs.declared.asking.FilesFault.TheVariants.{Memory}
@@ -29,3 +29,9 @@ asked_nothing view = record view { log = Some [] }
 -- a recorder fails as the files that it asks may, or with Memory if there is none for its trace
 abbrev pub MayFail : (FilesFault → Type 0) → FilesFault → Type 0
 MayFail may fault = may fault ⊎ (fault ≡ Memory)
+
+-- What work leaves of files whose log it may take. Their map stays. If the work failed, it may be that they failed,
+-- once.
+abbrev pub LeavesMap : Option FilesFault → FilesView → FilesView → Type 0
+LeavesMap None old new = (new.files ≡ old.files) × (new.failures ≡ old.failures)
+LeavesMap (Some fault) old new = (new.files ≡ old.files) × ((new.failures ≡ old.failures) ⊎ (new.failures ≡ (failed old).failures))

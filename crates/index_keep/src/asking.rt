@@ -1,0 +1,70 @@
+//! One evaluation that is asked for.
+ghost use Rattle.std.specs.Prelude.{◌≡◌, IfOk};
+ghost use Rattle.std.specs.Result.{result_err};
+ghost use Rattle.mk_eval.specs.Views.{flavors_in};
+ghost use Rattle.eval_cache.specs.Keys.{key_for};
+ghost use Rattle.read_trace.specs.Recording.{view_of, LeavesMap};
+ghost use Rattle.index_keep.specs.Asking.{IsAskedOf, counts_after};
+
+use eval_cache::{EvalCache, EvalKey, Look};
+use mk_files::Files;
+use mk_paths::{FilesFault, Name, Settings};
+use read_trace::{Evaluation, Recorder, evaluate_recorded};
+use std::alloc::Global;
+use std::rc::Rc;
+
+/// An evaluation that was asked for, and the work that this took.
+#[derive(Drop)]
+pub struct Asked {
+    /// What the makefile means, or its first fault, with what its evaluation asks.
+    pub evaluation: Rc<Evaluation>,
+    /// The units that were spent on lines: none if the evaluation was kept, and what it cost if it is new.
+    pub units: u64,
+    /// The answers that were checked, of evaluations that were kept.
+    pub checks: u64,
+}
+
+/// The evaluation of the makefile of this name in the world of these files and settings, with these flavors
+/// or with none given. It is one that the cache keeps, if the files answer as its trace says. Otherwise it is a
+/// new one, which is kept if there is memory for that.
+///
+/// What the recorder has written down is dropped, or holds no more than questions of kept evaluations. It
+/// fails if the files fail, or if memory runs out.
+pub fn ask<F: Files + Drop>(
+    alloc: Global,
+    cache: &mut EvalCache,
+    files: &mut Recorder<F>,
+    settings: &Settings,
+    name: &Name,
+    flavors: Option<&[String]>,
+) -> Result<Asked, FilesFault>
+    ensures asked { IfOk result (λ asked. IsAskedOf (view_of F.view files.old).files cache.old
+        (key_for settings.now name.now (flavors_in flavors.entry)) asked) }
+    ensures counted { IfOk result (λ asked. cache.new.counts.evals
+        ≡ (counts_after (view_of F.view files.old).files cache.old
+        (key_for settings.now name.now (flavors_in flavors.entry))).evals) }
+    ensures leaves { LeavesMap (result_err result) (view_of F.view files.old) (view_of F.view files.new) }
+{
+    let key = EvalKey::new(alloc, settings, name, flavors)?;
+    let (found, checks) = cache.look(&key, files)?;
+    match found {
+        Look::Hit(evaluation, _cost) => Ok(Asked {
+            evaluation,
+            units: 0,
+            checks,
+        }),
+        Look::Miss => {
+            let evaluation = evaluate_recorded(alloc, cache, files, settings, name, flavors)?;
+            let units = evaluation.cost();
+            let evaluation = Rc::new(alloc, evaluation)?;
+            if let Ok(shared) = evaluation.clone() {
+                cache.keep(key, shared);
+            }
+            Ok(Asked {
+                evaluation,
+                units,
+                checks,
+            })
+        }
+    }
+}
