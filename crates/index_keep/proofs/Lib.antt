@@ -5,3 +5,4 @@ pub mod WalkLemmas
 pub mod RowLemmas
 pub mod KeepLemmas
 pub mod Props
+pub mod AskLemmas

@@ -1,5 +1,5 @@
 -- One evaluation that is asked for, with a cache.
-use Rattle.std.specs.Prelude.{◌≡◌, ℕ, Bool, if◌then◌else◌}
+use Rattle.std.specs.Prelude.{◌≡◌, Bool, if◌then◌else◌}
 use Rattle.mk_paths.specs.World.{FileMap}
 use Rattle.mk_eval.specs.Sharing.{cost_of}
 use Rattle.eval_cache.specs.Cache.{CacheValue, traces_at, one_more}

@@ -2,15 +2,16 @@
 ghost use Rattle.std.specs.Prelude.{◌≡◌, IfOk};
 ghost use Rattle.std.specs.Result.{result_err};
 ghost use Rattle.mk_eval.specs.Views.{flavors_in};
-ghost use Rattle.eval_cache.specs.Keys.{key_for};
+ghost use Rattle.eval_cache.specs.Keys.{key_for, key_of};
+ghost use Rattle.eval_cache.specs.Right.{IsRight};
 ghost use Rattle.read_trace.specs.Recording.{view_of, LeavesMap};
 ghost use Rattle.index_keep.specs.Asking.{IsAskedOf, counts_after};
 
 use eval_cache::{EvalCache, EvalKey, Look};
 use mk_files::Files;
 use mk_paths::{FilesFault, Name, Settings};
-use read_trace::{Evaluation, Recorder, evaluate_recorded};
-use std::alloc::Global;
+use read_trace::{Evaluation, Recorder, evaluate_recorded, same_where_agreed};
+use std::alloc::{AllocError, Global};
 use std::rc::Rc;
 
 /// An evaluation that was asked for, and the work that this took.
@@ -45,6 +46,7 @@ pub fn ask<F: Files + Drop>(
         (key_for settings.now name.now (flavors_in flavors.entry))).evals) }
     ensures leaves { LeavesMap (result_err result) (view_of F.view files.old) (view_of F.view files.new) }
 {
+    same_where_agreed();
     let key = EvalKey::new(alloc, settings, name, flavors)?;
     let (found, checks) = cache.look(&key, files)?;
     match found {
@@ -56,15 +58,30 @@ pub fn ask<F: Files + Drop>(
         Look::Miss => {
             let evaluation = evaluate_recorded(alloc, cache, files, settings, name, flavors)?;
             let units = evaluation.cost();
-            let evaluation = Rc::new(alloc, evaluation)?;
-            if let Ok(shared) = evaluation.clone() {
-                cache.keep(key, shared);
-            }
+            let evaluation = shared(alloc, evaluation)?;
+            keep(cache, key, &evaluation);
             Ok(Asked {
                 evaluation,
                 units,
                 checks,
             })
         }
+    }
+}
+
+// The same evaluation, where it can be shared.
+fn shared(alloc: Global, evaluation: Evaluation) -> Result<Rc<Evaluation>, AllocError>
+    ensures { IfOk result (λ shared. shared.value ≡ evaluation) }
+{
+    Ok(Rc::new(alloc, evaluation)?)
+}
+
+// Keeps an evaluation, if it can be shared once more.
+fn keep(cache: &mut EvalCache, key: EvalKey, evaluation: &Rc<Evaluation>)
+    requires { IsRight (key_of key) evaluation.now.value }
+    ensures { cache.new.counts ≡ cache.old.counts }
+{
+    if let Ok(shared) = evaluation.clone() {
+        cache.keep(key, shared);
     }
 }

@@ -1,6 +1,7 @@
 //! Cases of ports: their records, the index of all of them, and questions about it.
 #![tactic(auto)]
 
+mod asking;
 mod dependencies;
 mod paths;
 mod records;
@@ -23,6 +24,7 @@ pub fn answer(
         "index" => dependencies::index(alloc, world),
         "finding" => paths::path_answer(alloc, world, given),
         "agrees" => paths::agrees_answer(alloc, world, given),
+        "asked" => asking::asked_answer(alloc, world, given),
         "items" => dependencies::items_answer(alloc, world),
         "statuses" => dependencies::statuses(alloc, world, given),
         "first" | "to" | "reached" | "reaching" => {
