@@ -6,7 +6,7 @@ use Rattle.eval_cache.specs.Keys.{Key}
 use Rattle.eval_cache.specs.Looking.{agreeing}
 use Rattle.eval_cache.specs.Parsing.{AsksParse, AsksInTurn, AsksParses}
 use Rattle.eval_cache.specs.declared.counting.Counts.{Counts}
-use Rattle.index_keep.specs.Asking.{counts_after}
+use Rattle.index_keep.specs.Asking.{evals_after}
 
 evals-count : (kept : Bool) (counts : Counts) → (count_parse kept counts).evals ≡ counts.evals
 evals-count true counts = refl
@@ -28,7 +28,7 @@ evals-after old new asks = evals-in_turn asks.contents old new asks.in_turn
 
 -- a look that finds nothing counts nothing
 pub evals-missed : (files : FileMap) (cache : CacheValue) (key wanted : Key) → key ≡ wanted → (agreeing files (traces_at cache key)).0 ≡ false
-    → cache.counts.evals ≡ (counts_after files cache wanted).evals
+    → cache.counts.evals ≡ evals_after files cache wanted
 evals-missed files cache key wanted same missed =
-    ap (λ (held : Bool). let counts : Counts = if held then record cache.counts { evals = one_more cache.counts.evals } else cache.counts in counts.evals)
+    ap (λ (held : Bool). if held then one_more cache.counts.evals else cache.counts.evals)
     (sym (ap (λ k. (agreeing files (traces_at cache k)).0) (sym same) ∙ missed))

@@ -1,12 +1,11 @@
 -- One evaluation that is asked for, with a cache.
-use Rattle.std.specs.Prelude.{◌≡◌, Bool, if◌then◌else◌}
+use Rattle.std.specs.Prelude.{◌≡◌, ℕ, Bool, if◌then◌else◌}
 use Rattle.mk_paths.specs.World.{FileMap}
 use Rattle.mk_eval.specs.Sharing.{cost_of}
 use Rattle.eval_cache.specs.Cache.{CacheValue, traces_at, one_more}
 use Rattle.eval_cache.specs.Keys.{Key}
 use Rattle.eval_cache.specs.Looking.{agreeing}
 use Rattle.eval_cache.specs.Right.{evaluation_of}
-use Rattle.eval_cache.specs.declared.counting.Counts.{Counts}
 use Rattle.index_keep.specs.declared.asking.Asked.{Asked}
 
 -- the files answer as one of the traces says that a cache holds under this key
@@ -20,7 +19,6 @@ pub record IsAskedOf (files : FileMap) (cache : CacheValue) (key : Key) (asked :
   pub units : asked.units ≡ (if is_held files cache key then 0 else cost_of (evaluation_of files key).outcome)
   pub checks : asked.checks ≡ (agreeing files (traces_at cache key)).1
 
--- the counts of a cache after that: one more evaluation was used again, if one is held
-abbrev pub counts_after : FileMap → CacheValue → Key → Counts
-counts_after files cache key =
-    if is_held files cache key then record cache.counts { evals = one_more cache.counts.evals } else cache.counts
+-- how often kept evaluations were used, after that: once more, if one is held
+abbrev pub evals_after : FileMap → CacheValue → Key → ℕ
+evals_after files cache key = if is_held files cache key then one_more cache.counts.evals else cache.counts.evals

@@ -5,7 +5,7 @@ ghost use Rattle.mk_eval.specs.Views.{flavors_in};
 ghost use Rattle.eval_cache.specs.Keys.{key_for, key_of};
 ghost use Rattle.eval_cache.specs.Right.{IsRight};
 ghost use Rattle.read_trace.specs.Recording.{view_of, LeavesMap};
-ghost use Rattle.index_keep.specs.Asking.{IsAskedOf, counts_after};
+ghost use Rattle.index_keep.specs.Asking.{IsAskedOf, evals_after};
 
 use eval_cache::{EvalCache, EvalKey, Look};
 use mk_files::Files;
@@ -29,8 +29,8 @@ pub struct Asked {
 /// or with none given. It is one that the cache keeps, if the files answer as its trace says. Otherwise it is a
 /// new one, which is kept if there is memory for that.
 ///
-/// What the recorder has written down is dropped, or holds no more than questions of kept evaluations. It
-/// fails if the files fail, or if memory runs out.
+/// What was asked for it is the trace of the evaluation. What the recorder wrote down is dropped or mixed with
+/// the questions that were checked. It fails if the files fail, or if memory runs out.
 pub fn ask<F: Files + Drop>(
     alloc: Global,
     cache: &mut EvalCache,
@@ -42,8 +42,8 @@ pub fn ask<F: Files + Drop>(
     ensures asked { IfOk result (λ asked. IsAskedOf (view_of F.view files.old).files cache.old
         (key_for settings.now name.now (flavors_in flavors.entry)) asked) }
     ensures counted { IfOk result (λ asked. cache.new.counts.evals
-        ≡ (counts_after (view_of F.view files.old).files cache.old
-        (key_for settings.now name.now (flavors_in flavors.entry))).evals) }
+        ≡ evals_after (view_of F.view files.old).files cache.old
+        (key_for settings.now name.now (flavors_in flavors.entry))) }
     ensures leaves { LeavesMap (result_err result) (view_of F.view files.old) (view_of F.view files.new) }
 {
     same_where_agreed();
