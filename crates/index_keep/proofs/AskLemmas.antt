@@ -1,11 +1,13 @@
 -- How often kept evaluations were used, after one was asked for.
-use Rattle.std.proofs.Common.{◌≡◌, ◌∙◌, ap, sym, refl, if◌then◌else◌, ℕ, Bool, true, false, List, [], ◌∷◌, inl, inr}
+use Rattle.std.proofs.Common.{◌≡◌, ◌∙◌, ap, sym, refl, if◌then◌else◌, ℕ, Bool, true, false, List, [], ◌∷◌, inl, inr, Result, Ok, Err, OnErr}
 use Rattle.mk_paths.specs.World.{FileMap}
-use Rattle.eval_cache.specs.Cache.{CacheValue, holds_parse, count_parse, traces_at, one_more}
+use Rattle.eval_cache.specs.Cache.{CacheValue, holds_parse, count_parse, count_look, traces_at, one_more}
 use Rattle.eval_cache.specs.Keys.{Key}
 use Rattle.eval_cache.specs.Looking.{agreeing}
 use Rattle.eval_cache.specs.Parsing.{AsksParse, AsksInTurn, AsksParses}
 use Rattle.eval_cache.specs.declared.counting.Counts.{Counts}
+use Rattle.eval_cache.specs.declared.looking.Look.{Look}
+use Rattle.eval_cache.specs.declared.looking.Look.TheVariants.{Miss}
 use Rattle.index_keep.specs.Asking.{evals_after}
 
 evals-count : (kept : Bool) (counts : Counts) → (count_parse kept counts).evals ≡ counts.evals
@@ -32,3 +34,13 @@ pub evals-missed : (files : FileMap) (cache : CacheValue) (key wanted : Key) →
 evals-missed files cache key wanted same missed =
     ap (λ (held : Bool). if held then one_more cache.counts.evals else cache.counts.evals)
     (sym (ap (λ k. (agreeing files (traces_at cache k)).0) (sym same) ∙ missed))
+
+-- a look that finds nothing, and then trees for a new evaluation
+pub evals-new : (found : Look) (old looked new : CacheValue) → found ≡ Miss → looked.counts ≡ count_look found old.counts → AsksParses looked new
+    → new.counts.evals ≡ old.counts.evals
+evals-new found old looked new none counted asks =
+    evals-after looked new asks ∙ ap (λ (counts : Counts). counts.evals) (counted ∙ ap (λ (f : Look). count_look f old.counts) none)
+
+pub OnErr-always : {A E P : Type 0} (result : Result A E) → P → OnErr result P
+OnErr-always (Ok value) p = tt
+OnErr-always (Err fault) p = p

@@ -1,10 +1,10 @@
 //! One evaluation that is asked for.
-ghost use Rattle.std.specs.Prelude.{◌≡◌, IfOk};
+ghost use Rattle.std.specs.Prelude.{◌≡◌, IfOk, IfErr, OnErr};
 ghost use Rattle.std.specs.Result.{result_err};
 ghost use Rattle.mk_eval.specs.Views.{flavors_in};
 ghost use Rattle.eval_cache.specs.Keys.{key_for, key_of};
 ghost use Rattle.eval_cache.specs.Right.{IsRight};
-ghost use Rattle.read_trace.specs.Recording.{view_of, LeavesMap};
+ghost use Rattle.read_trace.specs.Recording.{view_of, LeavesMap, MayFail};
 ghost use Rattle.index_keep.specs.Asking.{IsAskedOf, evals_after};
 
 use eval_cache::{EvalCache, EvalKey, Look};
@@ -30,7 +30,8 @@ pub struct Asked {
 /// new one, which is kept if there is memory for that.
 ///
 /// What was asked for it is the trace of the evaluation. What the recorder wrote down is dropped or mixed with
-/// the questions that were checked. It fails if the files fail, or if memory runs out.
+/// the questions that were checked. It fails if the files fail, or if memory runs out; then no evaluation counts
+/// as used again.
 pub fn ask<F: Files + Drop>(
     alloc: Global,
     cache: &mut EvalCache,
@@ -44,6 +45,8 @@ pub fn ask<F: Files + Drop>(
     ensures counted { IfOk result (λ asked. cache.new.counts.evals
         ≡ evals_after (view_of F.view files.old).files cache.old
         (key_for settings.now name.now (flavors_in flavors.entry))) }
+    ensures err { OnErr result (cache.new.counts.evals ≡ cache.old.counts.evals) }
+    ensures kind { IfErr result (MayFail F.fails_with) }
     ensures leaves { LeavesMap (result_err result) (view_of F.view files.old) (view_of F.view files.new) }
 {
     same_where_agreed();

@@ -8,7 +8,7 @@ use read_trace::{Recorder, Trace};
 use std::alloc::{AllocError, Global};
 
 /// `asked PARSES EVALS STEP..`: what the steps tell, with a cache of these sizes that holds nothing at first,
-/// and how often a parse and an evaluation were used again. The step `NAME` or `NAME FLAVORS` asks for the
+/// then how often a parse and an evaluation were used again, and how many parses and keys are kept. The step `NAME` or `NAME FLAVORS` asks for the
 /// evaluation of that makefile. It tells the fault if there is one, the units that were spent, and the answers
 /// that were checked. The step `+NAME CONTENT` stores a file, and `-NAME` removes it.
 pub fn asked_answer(
@@ -27,6 +27,8 @@ pub fn asked_answer(
     let counts = cache.counts();
     answer.number(counts.parses);
     answer.number(counts.evals);
+    answer.number(cache.parses_kept() as u64);
+    answer.number(cache.keys_kept() as u64);
     Ok(answer)
 }
 

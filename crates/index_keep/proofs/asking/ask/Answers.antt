@@ -1,13 +1,13 @@
 -- A look that finds nothing counts nothing, and neither does what comes after it.
-use Rattle.std.proofs.Common.{◌≡◌, ◌∙◌, ap, subst}
-use Rattle.eval_cache.specs.Cache.{CacheValue, traces_at, count_look}
+use Rattle.std.proofs.Common.{◌∙◌, ap, subst}
+use Rattle.eval_cache.specs.Cache.{CacheValue, traces_at}
 use Rattle.eval_cache.specs.Keys.{key_of}
 use Rattle.eval_cache.specs.Looking.{IsFound}
 use Rattle.eval_cache.specs.declared.counting.Counts.{Counts}
 use Rattle.eval_cache.specs.declared.looking.Look.{Look}
 use Rattle.eval_cache.specs.declared.looking.Look.TheVariants.{Miss}
 use Rattle.read_trace.specs.Recording.{view_of}
-use Rattle.index_keep.proofs.AskLemmas.{evals-after, evals-missed}
+use Rattle.index_keep.proofs.AskLemmas.{evals-missed, evals-new, OnErr-always}
 use Rattle.index_keep.proofs.asking.ask.Goals as goal
 
 pub returns-in_ok-evaluation-in-Miss-2-clause-counted : goal.returns-in_ok-evaluation-in-Miss-2-clause-counted
@@ -15,7 +15,17 @@ returns-in_ok-evaluation-in-Miss-2-clause-counted g c =
     let files = (view_of g.F.Names.view c.args.files.now).files in
     let cache : CacheValue = c.args.cache.now in
     let key = key_of c.in_ok-key.key in
-    let counted = subst (λ (found : Look). c.look.new.self.counts ≡ count_look found cache.counts) c.in-Miss.is c.in_ok-found.ensures.counted in
     let missed : IsFound files key (traces_at cache key) Miss = subst (λ (found : Look). IsFound files key (traces_at cache key) found) c.in-Miss.is c.in_ok-found.ensures.found in
-    ap (λ (counts : Counts). counts.evals) c.keep.ensures ∙ evals-after c.look.new.self c.evaluate_recorded.new.parses c.in_ok-evaluation-in-Miss.ensures.parses
-    ∙ ap (λ (counts : Counts). counts.evals) counted ∙ evals-missed files cache key _ c.in_ok-key.ensures missed
+    ap (λ (counts : Counts). counts.evals) c.keep.ensures
+    ∙ evals-new c.in_ok-found.found cache c.look.new.self c.evaluate_recorded.new.parses c.in-Miss.is c.in_ok-found.ensures.counted c.in_ok-evaluation-in-Miss.ensures.parses
+    ∙ evals-missed files cache key _ c.in_ok-key.ensures missed
+
+pub returns-in_err-evaluation-in-Miss-clause-err : goal.returns-in_err-evaluation-in-Miss-clause-err
+returns-in_err-evaluation-in-Miss-clause-err g c =
+    OnErr-always c.from_residual-in_err-evaluation-in-Miss.result
+    (evals-new c.in_ok-found.found c.args.cache.now c.look.new.self c.evaluate_recorded.new.parses c.in-Miss.is c.in_ok-found.ensures.counted c.evaluate_recorded.ensures.parses)
+
+pub returns-in_err-evaluation-in-Miss-2-clause-err : goal.returns-in_err-evaluation-in-Miss-2-clause-err
+returns-in_err-evaluation-in-Miss-2-clause-err g c =
+    OnErr-always c.from_residual-in_err-evaluation-in-Miss-2.result
+    (evals-new c.in_ok-found.found c.args.cache.now c.look.new.self c.evaluate_recorded.new.parses c.in-Miss.is c.in_ok-found.ensures.counted c.in_ok-evaluation-in-Miss.ensures.parses)
