@@ -1,7 +1,9 @@
 -- How many units it takes to compute what is needed.
-use Rattle.std.specs.Prelude.{ℕ, length}
+use Rattle.std.specs.Prelude.{◌≡◌, ℕ, length}
 use Rattle.mk_paths.specs.World.{World}
 use Rattle.ports_index.specs.declared.effort.Effort.{Effort}
+use Rattle.ports_index.specs.declared.spending.Spent.{Spent}
+use Rattle.ports_index.specs.Spending.{units_alone}
 use Rattle.ports_index.specs.PathOutcomes.{counted}
 use Rattle.ports_index.specs.Efforts.{cost_over}
 use Rattle.ports_index.specs.Index.{listed_paths, needed_paths}
@@ -15,6 +17,10 @@ computed_cost world (ValueNeed asked) = value_cost_at world asked
 computed_cost world (RecordNeed path) = record_cost_at world path
 computed_cost world RootsNeed = counted (cost_over world (listed_paths world))
 computed_cost world IndexNeed = counted (cost_over world (needed_paths world))
+
+-- these units are spent, and no answer is checked
+abbrev pub SpendsComputing : World → Need → Spent → Type 0
+SpendsComputing world need spent = spent ≡ units_alone (computed_cost world need)
 
 -- the makefiles on which it depends what is needed, by their number, and what they cost, as counts of 64 bits
 abbrev pub effort_for : World → Need → Effort

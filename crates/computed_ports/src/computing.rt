@@ -4,7 +4,7 @@ use mk_files::{Content, Files, Listing};
 use mk_paths::{FilesFault, Name, Names, Settings};
 use pkg_path::PkgPath;
 use port_deps::{Root, RootEdge};
-use ports_index::{Index, index_files, index_roots};
+use ports_index::{Index, Spent, index_files, index_roots};
 use ports_plain::{Ports, RecordFound, ValueFound, VariableQuestion};
 use ports_query::RowsInMemory;
 use std::alloc::Global;
@@ -21,7 +21,7 @@ pub struct ComputedPorts<'a, F: Listing> {
 impl<F: Listing> Ports for ComputedPorts<'_, F> {
     ghost use Rattle.mk_paths.specs.FilesView.{world_of};
     ghost use Rattle.ports_index.specs.Keeping.{Keeps};
-    ghost use Rattle.computed_ports.specs.Costs.{computed_cost};
+    ghost use Rattle.computed_ports.specs.Costs.{SpendsComputing};
     ghost use Rattle.computed_ports.specs.Leaving.{Keeps-nothing, Keeps-memory, Keeps-failing};
     ghost use Rattle.std.proofs.Common.{refl};
 
@@ -31,7 +31,7 @@ impl<F: Listing> Ports for ComputedPorts<'_, F> {
 
     ghost world = { λ ports. world_of (F.view ports.files.now) ports.settings.now };
 
-    ghost charge = { λ ports need. computed_cost (world_of (F.view ports.files.now) ports.settings.now) need };
+    ghost charges = { λ ports. SpendsComputing (world_of (F.view ports.files.now) ports.settings.now) };
 
     ghost leaves = { λ fault old new. Keeps fault (F.view old.files.now) (F.view new.files.now) };
 
@@ -47,23 +47,29 @@ impl<F: Listing> Ports for ComputedPorts<'_, F> {
         &mut self,
         alloc: Global,
         question: &VariableQuestion,
-    ) -> Result<(ValueFound, u64), FilesFault> {
-        find_value(alloc, self.files, self.settings, question)
+    ) -> Result<(ValueFound, Spent), FilesFault> {
+        let (found, units) = find_value(alloc, self.files, self.settings, question)?;
+        Ok((found, Spent::in_units(units)))
     }
 
-    fn record(&mut self, alloc: Global, path: &PkgPath) -> Result<(RecordFound, u64), FilesFault> {
-        find_record(alloc, self.files, self.settings, path)
+    fn record(
+        &mut self,
+        alloc: Global,
+        path: &PkgPath,
+    ) -> Result<(RecordFound, Spent), FilesFault> {
+        let (found, units) = find_record(alloc, self.files, self.settings, path)?;
+        Ok((found, Spent::in_units(units)))
     }
 
-    fn roots(&mut self, alloc: Global) -> Result<(RowsInMemory<Root>, u64), FilesFault> {
+    fn roots(&mut self, alloc: Global) -> Result<(RowsInMemory<Root>, Spent), FilesFault> {
         let (roots, effort) = index_roots(alloc, self.files, self.settings)?;
-        Ok((RowsInMemory::new(roots), effort.units))
+        Ok((RowsInMemory::new(roots), Spent::in_units(effort.units)))
     }
 
     fn index(
         &mut self,
         alloc: Global,
-    ) -> Result<(RowsInMemory<Root>, RowsInMemory<RootEdge>, u64), FilesFault> {
+    ) -> Result<(RowsInMemory<Root>, RowsInMemory<RootEdge>, Spent), FilesFault> {
         let Index {
             roots,
             edges,
@@ -72,7 +78,7 @@ impl<F: Listing> Ports for ComputedPorts<'_, F> {
         Ok((
             RowsInMemory::new(roots),
             RowsInMemory::new(edges),
-            effort.units,
+            Spent::in_units(effort.units),
         ))
     }
 

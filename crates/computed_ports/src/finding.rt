@@ -4,6 +4,7 @@ ghost use Rattle.std.specs.Prelude.{◌≡◌, IfOk};
 ghost use Rattle.std.specs.Result.{result_err};
 ghost use Rattle.mk_eval.specs.Meaning.{means};
 ghost use Rattle.mk_eval.specs.Expanded.{value_cost};
+ghost use Rattle.mk_eval.specs.Views.{flavors_in};
 ghost use Rattle.port_rules.specs.Records.{record_of};
 ghost use Rattle.ports_index.specs.Keeping.{Keeps};
 ghost use Rattle.ports_index.specs.PathOutcomes.{with_cost};
@@ -11,7 +12,7 @@ ghost use Rattle.ports_plain.specs.Answers.{value_found, record_found};
 ghost use Rattle.ports_plain.specs.Plain as plain;
 ghost use Rattle.ports_plain.specs.Resting as resting;
 
-use mk_base::{PureStop, Stop};
+use mk_base::{Fault, PureStop, Stop};
 use mk_eval::{Evaluated, Failed, Kind, Valued, evaluate, value};
 use mk_files::Files;
 use mk_paths::{FilesFault, Name, Settings, find};
@@ -22,7 +23,7 @@ use std::alloc::{AllocError, Global};
 
 /// What is found of a variable of a port, and the units that were spent. It fails if the files fail, or if
 /// memory runs out.
-pub fn find_value<F: Files>(
+pub(crate) fn find_value<F: Files>(
     alloc: Global,
     files: &mut F,
     settings: &Settings,
@@ -56,20 +57,28 @@ fn value_of_makefile<F: Files>(
         (means (world_of (F.view files.old) settings.now) makefile.now question.now.path.flavors)) }
     ensures keeps { Keeps (result_err result) (F.view files.old) (F.view files.new) }
 {
-    match evaluate(alloc, files, settings, makefile, question.path().flavors()) {
-        Ok(evaluated) => Ok(value_after(alloc, &evaluated, makefile, question.name())?),
-        Err(Stop::Fault(failed)) => Ok(failure(failed)),
-        Err(Stop::Store) => Err(FilesFault::Store),
-        Err(Stop::Memory) => Err(FilesFault::Memory),
-    }
+    let outcome = evaluation(alloc, files, settings, makefile, question.path().flavors())?;
+    Ok(value_of_evaluation(alloc, &outcome, makefile, question.name())?)
 }
 
-// A fault, and the units that were spent up to there.
-fn failure<T>(failed: Failed) -> (Result<Option<T>, Failed>, u64)
-    ensures { result ≡ record { 0 = Err failed; 1 = failed.cost } }
+/// The value of a variable of this makefile, given how the makefile's evaluation ended, and the units of both. If
+/// the evaluation ended with a fault, that is the fault, and nothing is spent on the value. It fails only if
+/// memory runs out.
+pub fn value_of_evaluation(
+    alloc: Global,
+    outcome: &Result<Evaluated, Failed>,
+    makefile: &Name,
+    name: &str,
+) -> Result<(Result<Option<Valued>, Failed>, u64), AllocError>
+    ensures found { IfOk result (λ found. found.0
+        ≡ plain.value_after makefile.now name.now outcome.now) }
+    ensures units { IfOk result (λ found. found.1
+        ≡ resting.value_cost_after makefile.now name.now outcome.now) }
 {
-    let units = failed.cost;
-    (Err(failed), units)
+    match outcome {
+        Ok(evaluated) => value_after(alloc, evaluated, makefile, name),
+        Err(failed) => Ok(failure(copy_of(alloc, failed)?)),
+    }
 }
 
 // The value of a variable of an evaluated makefile, and the units of both.
@@ -107,7 +116,7 @@ fn cost_of(found: &Option<Valued>) -> u64
 
 /// What is found of the port at a path, and the units that were spent. It fails if the files fail, or if
 /// memory runs out.
-pub fn find_record<F: Files>(
+pub(crate) fn find_record<F: Files>(
     alloc: Global,
     files: &mut F,
     settings: &Settings,
@@ -141,11 +150,25 @@ fn record_of_makefile<F: Files>(
         (means (world_of (F.view files.old) settings.now) makefile.now path.now.flavors)) }
     ensures keeps { Keeps (result_err result) (F.view files.old) (F.view files.new) }
 {
-    match evaluate(alloc, files, settings, makefile, path.flavors()) {
-        Ok(evaluated) => Ok(record_after(alloc, &evaluated, makefile)?),
-        Err(Stop::Fault(failed)) => Ok(failure(failed)),
-        Err(Stop::Store) => Err(FilesFault::Store),
-        Err(Stop::Memory) => Err(FilesFault::Memory),
+    let outcome = evaluation(alloc, files, settings, makefile, path.flavors())?;
+    Ok(record_of_evaluation(alloc, &outcome, makefile)?)
+}
+
+/// The record of the port that this makefile describes, if it describes one, given how the makefile's evaluation
+/// ended, and the units of both. If the evaluation ended with a fault, that is the fault, and nothing is spent on
+/// the record. It fails only if memory runs out.
+pub fn record_of_evaluation(
+    alloc: Global,
+    outcome: &Result<Evaluated, Failed>,
+    makefile: &Name,
+) -> Result<(Result<Option<Recorded>, Failed>, u64), AllocError>
+    ensures found { IfOk result (λ found. found.0 ≡ plain.record_after makefile.now outcome.now) }
+    ensures units { IfOk result (λ found. found.1
+        ≡ resting.record_cost_after makefile.now outcome.now) }
+{
+    match outcome {
+        Ok(evaluated) => record_after(alloc, evaluated, makefile),
+        Err(failed) => Ok(failure(copy_of(alloc, failed)?)),
     }
 }
 
@@ -186,4 +209,43 @@ fn port_record(
         Err(PureStop::Memory) => return Err(AllocError),
     };
     Ok((found, evaluated.cost.saturating_add(more)))
+}
+
+// How the evaluation of a makefile ends, with these flavors or with none given.
+fn evaluation<F: Files>(
+    alloc: Global,
+    files: &mut F,
+    settings: &Settings,
+    makefile: &Name,
+    flavors: Option<&[String]>,
+) -> Result<Result<Evaluated, Failed>, FilesFault>
+    ensures outcome { IfOk result (λ outcome. outcome
+        ≡ means (world_of (F.view files.old) settings.now) makefile.now (flavors_in flavors.entry)) }
+    ensures keeps { Keeps (result_err result) (F.view files.old) (F.view files.new) }
+{
+    match evaluate(alloc, files, settings, makefile, flavors) {
+        Ok(evaluated) => Ok(Ok(evaluated)),
+        Err(Stop::Fault(failed)) => Ok(Err(failed)),
+        Err(Stop::Store) => Err(FilesFault::Store),
+        Err(Stop::Memory) => Err(FilesFault::Memory),
+    }
+}
+
+// A fault, and the units that were spent up to there.
+fn failure<T>(failed: Failed) -> (Result<Option<T>, Failed>, u64)
+    ensures { result ≡ record { 0 = Err failed; 1 = failed.cost } }
+{
+    let units = failed.cost;
+    (Err(failed), units)
+}
+
+// The same fault once more, with its units.
+fn copy_of(alloc: Global, failed: &Failed) -> Result<Failed, AllocError>
+    ensures { IfOk result (λ copied. copied ≡ failed.now) }
+{
+    let fault = &failed.fault;
+    Ok(Failed {
+        fault: Fault::new(alloc, fault.kind(), fault.name(), fault.line())?,
+        cost: failed.cost,
+    })
 }

@@ -6,5 +6,5 @@ mod finding;
 mod resting;
 
 pub use computing::ComputedPorts;
-pub use finding::{find_record, find_value};
+pub use finding::{record_of_evaluation, value_of_evaluation};
 pub use resting::effort_for;

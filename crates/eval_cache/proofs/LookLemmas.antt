@@ -12,9 +12,9 @@ use Rattle.mk_paths.specs.declared.asking.FilesFault.TheVariants as faults
 use Rattle.read_trace.specs.Agreement.{agreement, asked_again, has_reply, one_more, AsksAgain, IsAnswered}
 use Rattle.read_trace.specs.declared.evaluating.Evaluation.{Evaluation}
 use Rattle.eval_cache.specs.Keys.{Key}
-use Rattle.eval_cache.specs.Right.{IsRight, evaluation_of}
-use Rattle.eval_cache.specs.Looking.{after, agreeing, checked_in, checked_among, FailsAmong}
-use Rattle.eval_cache.specs.Held.{AreRight, AreShort, IsOneOf, traces_of}
+use Rattle.eval_cache.specs.Right.{IsRight}
+use Rattle.eval_cache.specs.Looking.{after, agreeing, checked_in, checked_among, FailsAmong, IsAgreed}
+use Rattle.eval_cache.specs.Held.{AreRight, AreShort, HasFewAnswers, IsOneOf, traces_of}
 
 -- what is right of each is right of one of them
 pub AreRight-IsOneOf : (key : Key) (kept : List (Rc Evaluation Global)) (evaluation : Evaluation)
@@ -25,11 +25,18 @@ AreRight-IsOneOf key (first ∷ kept) evaluation right (inr more) = AreRight-IsO
 
 -- the trace at a place is short
 pub short-at : (kept : List (Rc Evaluation Global)) (i : ℕ) (one : Rc Evaluation Global)
-    → AllByRecursion (λ evaluation. length evaluation.value.trace ≤ 257) kept → i < length kept → one ≡ get_or kept i one
-    → length one.value.trace ≤ 257
+    → AllByRecursion (λ evaluation. HasFewAnswers evaluation.value.trace) kept → i < length kept → one ≡ get_or kept i one
+    → HasFewAnswers one.value.trace
 short-at [] i one short within is = absurd (omega arith)
-short-at (first ∷ kept) zero one short within is = subst (λ r. length r.value.trace ≤ 257) (sym is) short.0
+short-at (first ∷ kept) zero one short within is = subst (λ r. HasFewAnswers r.value.trace) (sym is) short.0
 short-at (first ∷ kept) (suc i) one short within is = short-at kept i one short.1 (omega arith) is
+
+-- what is at a place is one of them
+pub IsOneOf-at : (kept : List (Rc Evaluation Global)) (i : ℕ) (one : Rc Evaluation Global) (evaluation : Evaluation)
+    → i < length kept → one ≡ get_or kept i one → evaluation ≡ one.value → IsOneOf kept evaluation
+IsOneOf-at [] i one evaluation within is same = absurd (omega arith)
+IsOneOf-at (first ∷ kept) zero one evaluation within is same = inl (sym (same ∙ ap (λ (r : Rc Evaluation Global). r.value) is))
+IsOneOf-at (first ∷ kept) (suc i) one evaluation within is same = inr (IsOneOf-at kept i one evaluation (omega arith) is same)
 
 agreed_step : (files : FileMap) (question : Question) (questions : List Question) (same : Bool)
     → (agreement files questions).1 ≤ length questions
@@ -42,15 +49,25 @@ pub agreement-≤ : (files : FileMap) (questions : List Question) → (agreement
 agreement-≤ files [] = omega arith
 agreement-≤ files (question ∷ questions) = agreed_step files question questions (has_reply files question) (agreement-≤ files questions)
 
--- so one trace adds few of them
+one_more-checked : (files : FileMap) (questions : List Question) (same : Bool)
+    → 1 ≤ (if same then one_more (agreement files questions) else (false, 1)).1
+one_more-checked files questions true = omega arith
+one_more-checked files questions false = omega arith
+
+-- of a trace that has answers at least one is checked
+pub agreement-some : (files : FileMap) (questions : List Question) → 1 ≤ length questions → 1 ≤ (agreement files questions).1
+agreement-some files [] some = absurd (omega (arith, some))
+agreement-some files (question ∷ questions) some = one_more-checked files questions (has_reply files question)
+
+-- so one trace adds few of them, and at least one
 pub few-more : (kept : List (Rc Evaluation Global)) (i : ℕ) (one : Rc Evaluation Global) (evaluation : Evaluation) (files : FileMap) (answer : Bool × ℕ)
     → AreShort kept → i < length kept → one ≡ get_or kept i one → evaluation ≡ one.value → answer ≡ agreement files evaluation.trace
-    → (answer.1 ≤ 257) × (i < 4)
+    → (answer.1 ≤ 257) × (i < 4) × (1 ≤ answer.1)
 few-more kept i one evaluation files answer short within is same found =
-    let at : length one.value.trace ≤ 257 = short-at kept i one short.0 within is in
-    let trace : length evaluation.trace ≤ 257 = subst (λ (e : Evaluation). length e.trace ≤ 257) (sym same) at in
+    let at : HasFewAnswers one.value.trace = short-at kept i one short.0 within is in
+    let trace : HasFewAnswers evaluation.trace = subst (λ (e : Evaluation). HasFewAnswers e.trace) (sym same) at in
     let count : answer.1 ≡ (agreement files evaluation.trace).1 = ap (λ (p : Bool × ℕ). p.1) found in
-    (omega (arith, agreement-≤ files evaluation.trace), omega (arith, short.1))
+    (omega (arith, agreement-≤ files evaluation.trace, trace.1), omega (arith, short.1), omega (arith, agreement-some files evaluation.trace trace.0))
 
 -- What was checked before the rest of the traces: none agreed, so many answers were checked, and the view of the
 -- files is this.
@@ -70,6 +87,12 @@ agreement-checked : (old middle : FilesView) (before : List Question) (trace : L
     → middle ≡ noted old before → answer ≡ agreement middle.files trace → agreement old.files trace ≡ answer
 agreement-checked old middle before trace answer is found =
     sym (found ∙ ap (λ files. agreement files trace) (files-checked old middle before is))
+
+-- a trace that was found to agree is answered as the files answer it
+pub IsAnswered-checked : (old : FilesView) (traces rest : List (List Question)) (count : ℕ) (middle : FilesView) (answer : Bool × ℕ) (trace : List Question)
+    → Checked old traces rest count middle → answer ≡ agreement middle.files trace → answer.0 ≡ true → IsAnswered old.files trace
+IsAnswered-checked old traces rest count middle answer trace so_far found same =
+    ap (λ (p : Bool × ℕ). p.0) (agreement-checked old middle so_far.before trace answer so_far.in_log found) ∙ same
 
 -- the files after one more trace
 log-more : (old middle new : FilesView) (before trace : List Question) (more : ℕ) → middle ≡ noted old before
@@ -121,11 +144,15 @@ Checked-at old kept i one evaluation count new within is same so_far =
     so_far
 
 -- the evaluation that is found is the one that is asked for
-pub AreRight-found : (files : FileMap) (key : Key) (kept : List (Rc Evaluation Global)) (found : Option (Rc Evaluation Global)) → AreRight key kept
-    → IfSome found (λ evaluation. IsOneOf kept evaluation.value × IsAnswered files evaluation.value.trace)
-    → IfSome found (λ evaluation. evaluation.value ≡ evaluation_of files key)
-AreRight-found files key kept None right found = tt
-AreRight-found files key kept (Some evaluation) right found = sym (AreRight-IsOneOf key kept evaluation.value right found.0 files found.1)
+pub AreRight-found : (files : FileMap) (key : Key) (checked : ℕ) (kept : List (Rc Evaluation Global)) (found : Option (Rc Evaluation Global)) → AreRight key kept
+    → IfSome found (λ evaluation. IsOneOf kept evaluation.value × IsAnswered files evaluation.value.trace × (1 ≤ checked))
+    → IfSome found (λ evaluation. IsAgreed files key checked evaluation.value)
+AreRight-found files key checked kept None right found = tt
+AreRight-found files key checked kept (Some evaluation) right found = record {
+  same = sym (AreRight-IsOneOf key kept evaluation.value right found.0 files found.1);
+  answered = found.1;
+  some = found.2;
+}
 
 -- no more can share an evaluation whose trace agrees
 pub Checked-alone : (may : FilesFault → Type 0) (old : FilesView) (traces : List (List Question)) (trace : List Question) (rest : List (List Question)) (count : ℕ)

@@ -39,9 +39,13 @@ traces_by_key evals = map (λ entry. (key_of entry.0, traces_of entry.1.items)) 
 abbrev pub AreRight : Key → List (Rc Evaluation Global) → Type 0
 AreRight key kept = AllByRecursion (λ evaluation. IsRight key evaluation.value) kept
 
--- there are at most four evaluations, and none asks more than the makefile and 256 questions
+-- a trace has an answer, and no more than that about the makefile and those to 256 questions
+abbrev pub HasFewAnswers : List Question → Type 0
+HasFewAnswers trace = (1 ≤ length trace) × (length trace ≤ 257)
+
+-- there are at most four evaluations, and the trace of each has few answers
 abbrev pub AreShort : List (Rc Evaluation Global) → Type 0
-AreShort kept = AllByRecursion (λ evaluation. length evaluation.value.trace ≤ 257) kept × (length kept ≤ 4)
+AreShort kept = AllByRecursion (λ evaluation. HasFewAnswers evaluation.value.trace) kept × (length kept ≤ 4)
 
 -- each parse that is kept is the tree of its content, or its fault
 abbrev pub AreTrees : KeptParses → Type 0
@@ -73,4 +77,4 @@ items_of (Some kept) = kept.items
 -- All that is right of older evaluations of a key and of a new one is right of these.
 pub record AreNewest (evaluation : Evaluation) (older kept : List (Rc Evaluation Global)) : Type 0 where
   pub right : (key : Key) → IsRight key evaluation → AreRight key older → AreRight key kept
-  pub short : length evaluation.trace ≤ 257 → AreShort older → AreShort kept
+  pub short : HasFewAnswers evaluation.trace → AreShort older → AreShort kept

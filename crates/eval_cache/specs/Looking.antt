@@ -1,11 +1,12 @@
 -- A look at what is kept under a key.
-use Rattle.std.specs.Prelude.{◌≡◌, ℕ, ◌+◌, Bool, true, false, if◌then◌else◌, List, [], ◌∷◌, ◌++◌, map, take}
+use Rattle.std.specs.Prelude.{◌≡◌, ◌≤◌, ℕ, ◌+◌, Bool, true, false, if◌then◌else◌, List, [], ◌∷◌, ◌++◌, map, take}
 use Rattle.mk_paths.specs.World.{FileMap}
 use Rattle.mk_paths.specs.FilesView.{Question, FilesView, noted}
 use Rattle.mk_paths.specs.declared.asking.FilesFault.{FilesFault}
 use Rattle.mk_files.specs.Looking.{LeavesAtStop, stop_of}
 use Rattle.mk_eval.specs.Sharing.{cost_of}
-use Rattle.read_trace.specs.Agreement.{agreement, asked_again}
+use Rattle.read_trace.specs.Agreement.{agreement, asked_again, IsAnswered}
+use Rattle.read_trace.specs.declared.evaluating.Evaluation.{Evaluation}
 use Rattle.eval_cache.specs.Keys.{Key}
 use Rattle.eval_cache.specs.Right.{evaluation_of}
 use Rattle.eval_cache.specs.declared.looking.Look.{Look}
@@ -32,13 +33,20 @@ checked_among files [] = []
 checked_among files (trace ∷ traces) =
     checked_in files trace ++ (if (agreement files trace).0 then [] else checked_among files traces)
 
--- A look at these traces, of the evaluations kept under this key, found this among the files. It is a hit
--- exactly where a trace agrees. Then it is what the key's makefile means, at its cost.
-abbrev pub IsFound : FileMap → Key → List (List Question) → Look → Type 0
-IsFound files key traces (Hit evaluation cost) =
-    ((agreeing files traces).0 ≡ true) × (evaluation.value ≡ evaluation_of files key)
+-- The evaluation is that of the key among these files, and they answer each of its questions as its trace says. At
+-- least one answer was checked for that.
+pub record IsAgreed (files : FileMap) (key : Key) (checked : ℕ) (evaluation : Evaluation) : Type 0 where
+  pub same : evaluation ≡ evaluation_of files key
+  pub answered : IsAnswered files evaluation.trace
+  pub some : 1 ≤ checked
+
+-- A look at these traces, of the evaluations kept under this key, found this among the files, after so many answers
+-- were checked. It is a hit exactly where a trace agrees. Then it is what the key's makefile means, at its cost.
+abbrev pub IsFound : FileMap → Key → List (List Question) → ℕ → Look → Type 0
+IsFound files key traces checked (Hit evaluation cost) =
+    ((agreeing files traces).0 ≡ true) × IsAgreed files key checked evaluation.value
     × (cost ≡ cost_of (evaluation_of files key).outcome)
-IsFound files key traces Miss = (agreeing files traces).0 ≡ false
+IsFound files key traces checked Miss = (agreeing files traces).0 ≡ false
 
 -- what it left of the files
 abbrev pub ChecksAmong : FilesView → List (List Question) → FilesView → Type 0

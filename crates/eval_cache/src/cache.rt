@@ -4,8 +4,8 @@ ghost use Rattle.std.specs.NonZero.{non_zero_usize_get};
 ghost use Rattle.mk_ast.specs.Parsing.{parsed};
 ghost use Rattle.mk_eval.specs.Trees.{tree_in};
 ghost use Rattle.eval_cache.specs.Keys.{Key, key_of};
-ghost use Rattle.eval_cache.specs.Right.{IsRight, evaluation_of};
-ghost use Rattle.eval_cache.specs.Looking.{agreeing, IsFound, ChecksAmong, FailsAmong};
+ghost use Rattle.eval_cache.specs.Right.{IsRight};
+ghost use Rattle.eval_cache.specs.Looking.{agreeing, IsAgreed, IsFound, ChecksAmong, FailsAmong};
 ghost use Rattle.eval_cache.specs.Cache.{empty_cache, size_for, holds_parse, traces_at, count_parse, count_look};
 ghost use Rattle.eval_cache.specs.Held.{AreNewest, items_of};
 
@@ -105,7 +105,7 @@ impl EvalCache {
 
     /// Looks for the evaluation of this key among those that are kept, by the answers of the files. The
     /// newest is tried first, and each up to the first answer that differs. The result is what was found,
-    /// and how many answers were checked. Nothing that is kept goes.
+    /// and how many answers were checked: at least one if something was found. Nothing that is kept goes.
     ///
     /// If the files fail, their fault is returned as it is. It is also `Memory` if no more can share the
     /// evaluation.
@@ -115,7 +115,7 @@ impl EvalCache {
         files: &mut F,
     ) -> Result<(Look, u64), FilesFault>
         ensures found { IfOk result (λ found. IsFound (F.view files.old).files (key_of key.now)
-            (traces_at self.old (key_of key.now)) found.0) }
+            (traces_at self.old (key_of key.now)) found.1 found.0) }
         ensures checked { IfOk result (λ found. found.1
             ≡ (agreeing (F.view files.old).files (traces_at self.old (key_of key.now))).1) }
         ensures bound { IfOk result (λ found. found.1 ≤ 1028) }
@@ -142,16 +142,17 @@ impl EvalCache {
     }
 
     /// Keeps an evaluation that is right for the key, as the newest one there. The oldest one goes if there
-    /// are more than four. If there is no memory to keep it, or if it asked more than 256 questions, it
-    /// isn't kept, and others of the key may go. What `evaluate_recorded` of `read_trace` gives is right for
-    /// the key of its arguments.
+    /// are more than four. If there is no memory to keep it, it isn't kept, and others of the key may go. It
+    /// isn't kept either if its trace has no answer, or more than 257. What `evaluate_recorded` of
+    /// `read_trace` gives is right for the key of its arguments.
     pub fn keep(&mut self, key: EvalKey, evaluation: Rc<Evaluation>)
         requires { IsRight (key_of key) evaluation.value }
         ensures counts { self.new.counts ≡ self.old.counts }
         ensures parses { self.new.contents ≡ self.old.contents }
         ensures sizes { self.new.sizes ≡ self.old.sizes }
     {
-        if evaluation.trace.questions().len() > MOST_ANSWERS {
+        let answers = evaluation.trace.questions().len();
+        if answers == 0 || answers > MOST_ANSWERS {
             return;
         }
         let older = self.evals.pop(&key);
@@ -221,7 +222,7 @@ impl EvalCache {
         ensures checked { IfOk result (λ found. (is_some found.0, found.1)
             ≡ agreeing (F.view files.old).files (traces_at self.now (key_of key.now))) }
         ensures found { IfOk result (λ found. IfSome found.0 (λ evaluation.
-            evaluation.value ≡ evaluation_of (F.view files.old).files (key_of key.now))) }
+            IsAgreed (F.view files.old).files (key_of key.now) found.1 evaluation.value)) }
         ensures asks { OnOk result (ChecksAmong (F.view files.old)
             (traces_at self.now (key_of key.now)) (F.view files.new)) }
         ensures bound { IfOk result (λ found. found.1 ≤ 1028) }

@@ -30,7 +30,7 @@ pub(crate) fn first_agreeing<F: Files>(
         ≡ agreeing (F.view files.old).files (traces_of kept.now)) }
     ensures found { IfOk result (λ found. IfSome found.0 (λ evaluation.
         IsOneOf kept.now evaluation.value × IsAnswered
-        (F.view files.old).files evaluation.value.trace)) }
+        (F.view files.old).files evaluation.value.trace × (1 ≤ found.1))) }
     ensures bound { IfOk result (λ found. found.1 ≤ 1028) }
     ensures asks { OnOk result (ChecksAmong (F.view files.old) (traces_of kept.now)
         (F.view files.new)) }

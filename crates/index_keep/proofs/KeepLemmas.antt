@@ -1,5 +1,5 @@
 -- What a change of a file, and what is known of changes, makes of rows; and what is left of a refresh.
-use Rattle.std.proofs.Common.{◌≡◌, ◌∙◌, sym, ap, subst, refl, ℕ, ◌+◌, ◌-◌, ◌^◌, min, Bool, true, false, ◌||◌, if◌then◌else◌, List, [], ◌∷◌, ◌++◌, Result, Ok, Err, OnOk, OnErr, Option, Some, None, is_some, is_none, option_map, option_and_then, arith, String, Global, string_bytes}
+use Rattle.std.proofs.Common.{◌≡◌, ◌∙◌, sym, ap, subst, refl, ℕ, ◌+◌, Bool, true, false, ◌||◌, if◌then◌else◌, List, [], ◌∷◌, ◌++◌, Result, Ok, Err, OnOk, OnErr, Option, Some, None, is_some, is_none, option_map, option_and_then, String, Global, string_bytes}
 use Rattle.std.proofs.lemmas.Bool.{false≢true, or_right}
 use Rattle.std.proofs.lemmas.Slice.Eq.{bytes_eq-Decides}
 use Rattle.std.specs.BTreeSet.{BTreeSet, contains_text, keys}
@@ -13,10 +13,11 @@ use Rattle.mk_paths.specs.World.{World, files_in}
 use Rattle.mk_paths.specs.FilesView.{Question, Reply, Presence, Contents, IsReply}
 use Rattle.mk_eval.specs.Sharing.{Agrees}
 use Rattle.ports_index.specs.Efforts.{lacking}
+use Rattle.ports_index.specs.declared.spending.Spent.{Spent}
 use Rattle.ports_index.specs.Filling.{is_one_of, Fills, IsListed}
 use Rattle.ports_index.specs.Index.{listed_paths, needed_paths, roots, edges}
 use Rattle.ports_index.specs.PathLaws.{PathIsTheSameWhereAnswered}
-use Rattle.ports_index.specs.PathOutcomes.{PathOutcome, Finding, finding_at, outcome_at, counted}
+use Rattle.ports_index.specs.PathOutcomes.{PathOutcome, Finding, finding_at, outcome_at}
 use Rattle.ports_index.specs.PathQuestions.{questions_at}
 use Rattle.ports_index.specs.RowLaws.{HaveRows, KnownRowsAreEnough, OneRowMoreLeavesLess}
 use Rattle.ports_index.specs.Depending.{roots_among, edges_among}
@@ -27,12 +28,9 @@ use Rattle.index_store.specs.Entries.{StoredValue, Entries}
 use Rattle.index_keep.specs.declared.keeper.Progress.{Progress}
 use Rattle.index_keep.specs.declared.keeper.Progress.TheVariants.{Changed, Walking, Current}
 use Rattle.index_keep.specs.Shown.{ShownRow, ShownRows, shown, show_row, show_stored, asked_one, no_name, fresh, fresh_outcome, stale_if_asked, made_stale, ShowsSame}
-use Rattle.index_keep.specs.Right.{names_in, IsRightRow, AreKept, AreCurrent, HaveFresh, DifferAt, RenewsOneOf, fresh_row}
+use Rattle.index_keep.specs.Right.{names_in, row_with, IsRightRow, AreKept, AreCurrent, HaveFresh, DifferAt, RenewsOneOf, fresh_row}
 use Rattle.index_keep.specs.Keeping.{changed_in, IsProgress, HasForgotten, IsDropped}
 use Rattle.index_keep.proofs.ShownLemmas.{shown-test}
-
-abbrev row_by : Finding → List Question → RowValue
-row_by found questions = record { outcome = found.outcome; cost = found.cost; names = names_in questions }
 
 -- ---- another world, which differs at one name
 
@@ -73,8 +71,8 @@ module _ (name : List ℕ) (world other : World) (differ : DifferAt name world o
           answered = subst (λ questions. Agrees (files_in other) questions) (sym same.1) (agrees_too (questions_at world path) apart' right.answered);
         }
       where
-        rows : (one other : Finding) (questions more : List Question) → one ≡ other → questions ≡ more → row_by one questions ≡ row_by other more
-        rows one other questions more e f = ap (λ found. row_by found questions) e ∙ ap (row_by other) f
+        rows : (one other : Finding) (questions more : List Question) → one ≡ other → questions ≡ more → row_with one questions ≡ row_with other more
+        rows one other questions more e f = ap (λ found. row_with found questions) e ∙ ap (row_with other) f
 
     module _ (old new : ShownRows) (noted : (path : List ℕ) → new path ≡ option_map (stale_if_asked name) (old path)) (kept : AreKept world old) where
       kept_by : (path : List ℕ) (row before : ShownRow) → old path ≡ Some before → stale_if_asked name before ≡ row → (stale asked : Bool)
@@ -174,7 +172,7 @@ module _ (name : List ℕ) (one more : List ℕ → Bool) (is : (other : List �
 
 -- ---- what is left of a refresh
 
-module _ (law : OneRowMoreLeavesLess) (world : World) (old new : ShownRows) (units : ℕ) (renews : RenewsOneOf world (needed_paths world) old new units) where
+module _ (law : OneRowMoreLeavesLess) (world : World) (old new : ShownRows) (spent : Spent) (renews : RenewsOneOf world (needed_paths world) old new spent) where
   fresh_put : (other : List ℕ) (same : Bool) → option_and_then fresh_outcome (if same then Some (fresh_row world renews.path) else old other) ≡ (if same then Some (outcome_at world renews.path) else fresh old other)
   fresh_put other true = refl
   fresh_put other false = refl
@@ -192,13 +190,6 @@ module _ (law : OneRowMoreLeavesLess) (world : World) (old new : ShownRows) (uni
 
   pub left_less : (weight : List ℕ → ℕ) → weight renews.path + sum_by weight (lacking (fresh new) (needed_paths world)) ≡ sum_by weight (lacking (fresh old) (needed_paths world))
   left_less weight = law world weight (needed_paths world) renews.path (fresh old) (fresh new) renews.needed renews.lacking fills
-
-counted_sum : (most spent units left all : ℕ) → units + left ≡ all → min (min (spent + units) most + left) most ≡ min (spent + all) most
-counted_sum most spent units left all is = omega arith
-
--- units that were spent, and those that are left
-pub counted-on : (spent units left all : ℕ) → units + left ≡ all → counted (counted (spent + units) + left) ≡ counted (spent + all)
-counted-on spent units left all is = counted_sum (2 ^ 64 - 1) spent units left all is
 
 none_left : (entries : List ℕ → Option PathOutcome) (paths : List (List ℕ)) → ((path : List ℕ) → is_one_of path paths ≡ true → is_some (entries path) ≡ true)
     → filter (λ path. is_none (entries path)) paths ≡ []

@@ -6,3 +6,5 @@ pub mod RowLemmas
 pub mod KeepLemmas
 pub mod Props
 pub mod AskLemmas
+pub mod MadeLemmas
+pub mod SpendLemmas

@@ -37,7 +37,7 @@ AreCurrent-prop world rows = hlevel props
 IsWalk-prop : (world : World) (rows : ShownRows) (walk : Walk) → IsProp (IsWalk world rows walk)
 IsWalk-prop world rows (Directories stage) = hlevel props
 IsWalk-prop world rows (Listed stage) = hlevel props
-IsWalk-prop world rows (Needed stage listed) = hlevel props
+IsWalk-prop world rows (Needed last) = hlevel props
 
 IsProgress-prop : (world : World) (rows : ShownRows) (progress : Progress) → IsProp (IsProgress world rows progress)
 IsProgress-prop world rows (Changed names) = Unit-prop

@@ -1,5 +1,5 @@
 -- A refresh that goes through paths.
-use Rattle.std.proofs.Common.{◌≡◌, ◌∙◌, sym, ap, subst, refl, ℕ, zero, suc, Bool, true, false, ◌||◌, ◌⊎◌, inl, inr, if◌then◌else◌, List, [], ◌∷◌, ◌++◌, take, Option, Some, None, is_some, option_and_then, slice_get}
+use Rattle.std.proofs.Common.{map, string_bytes, ◌≡◌, ◌∙◌, sym, ap, subst, refl, ℕ, zero, suc, Bool, true, false, ◌||◌, ◌⊎◌, inl, inr, if◌then◌else◌, List, [], ◌∷◌, ◌++◌, take, Option, Some, None, is_some, option_and_then, slice_get}
 use Rattle.std.proofs.lemmas.Bool.{false≢true, or_right}
 use Rattle.std.proofs.lemmas.Slice.Eq.{bytes_eq-Decides}
 use Rattle.std.specs.List.{filter_map, flat_map}
@@ -14,11 +14,15 @@ use Rattle.ports_index.specs.Filling.{is_one_of}
 use Rattle.ports_index.specs.Index.{listed_paths, needed_among, needed_paths}
 use Rattle.ports_index.specs.Keeping.{Counts, Keeps}
 use Rattle.ports_index.specs.Naming.{directories, listed_from, named_at}
-use Rattle.ports_index.specs.PathOutcomes.{outcome_at, cost_at}
+use Rattle.ports_index.specs.PathOutcomes.{outcome_at}
+use Rattle.ports_index.specs.Spending.{SpendsOnPath}
+use Rattle.ports_index.specs.declared.spending.Spent.{Spent}
+use Rattle.row_text.specs.Rows.{RowValue}
 use Rattle.ports_index.specs.RowLaws.{HaveRows, KnownRowsAreEnough}
 use Rattle.ports_index.specs.Seen.{entries_in, known_in}
 use Rattle.index_store.specs.Entries.{Entries, SameRows}
 use Rattle.index_keep.specs.declared.walking.Stage.{Stage}
+use Rattle.index_keep.specs.declared.walking.LastStage.{LastStage}
 use Rattle.ports_index.specs.declared.keeping.MemoryRows.{MemoryRows}
 use Rattle.index_keep.specs.Shown.{ShownRow, ShownRows, fresh, fresh_outcome, shown, no_name}
 use Rattle.index_keep.specs.Right.{IsRightRow, AreKept, AreCurrent, right_row, fresh_row, LeavesFiles, RenewsOneOf, RenewsRow}
@@ -134,12 +138,12 @@ module _ (world : World) (rows : ShownRows) (kept : AreKept world rows) where
       passed = nothing_passed (listed_paths world) stage.place lists.place;
     }
 
-    pub IsStage-needed : (listed : List (List ℕ)) → paths_of before ≡ listed_paths world → NeedsPaths before stage listed → IsStage (fresh rows) (needed_paths world) stage
-    IsStage-needed listed are needs = record {
+    pub IsStage-needed : (last : LastStage) → paths_of before ≡ listed_paths world → NeedsPaths before last → IsStage (fresh rows) (needed_paths world) last.stage
+    IsStage-needed last are needs = record {
       through = needs.paths ∙ ap (λ known. needed_among (known_in known) (paths_of before)) same_known ∙ ap (needed_among (known_in (fresh rows))) are
           ∙ enough.needed world (fresh rows) (have-fresh (listed_paths world) (all_known (listed_paths world) are));
       knows = λ path. needs.known path ∙ knows path;
-      passed = nothing_passed (needed_paths world) stage.place needs.place;
+      passed = nothing_passed (needed_paths world) last.stage.place needs.place;
     }
 
 -- ---- what is left of files
@@ -185,38 +189,42 @@ module _ (enough : KnownRowsAreEnough) (world : World) (old new : Entries) (same
       subst (λ (entries : Entries). IsStage (fresh (shown no_name entries)) (listed_paths world) stage) (sym entries_same)
       (IsStage-listed world (shown no_name old) kept enough before stage none is.knows is.through (subst (λ (s : Stage). ListsPaths s stage) e lists))
 
-  pub needed-after : (before same stage : Stage) (listed : List (List ℕ)) → IsStage (fresh (shown no_name old)) (listed_paths world) before → same ≡ before → LacksNone before
-      → NeedsPaths same stage listed → IsStage (fresh (shown no_name new)) (needed_paths world) stage × (listed ≡ listed_paths world)
-  needed-after before same stage listed is e none needs =
-      let needs' : NeedsPaths before stage listed = subst (λ (s : Stage). NeedsPaths s stage listed) e needs in (
-        subst (λ (entries : Entries). IsStage (fresh (shown no_name entries)) (needed_paths world) stage) (sym entries_same)
-            (IsStage-needed world (shown no_name old) kept enough before stage none is.knows listed is.through needs'),
+  pub needed-after : (before same : Stage) (last : LastStage) → IsStage (fresh (shown no_name old)) (listed_paths world) before → same ≡ before → LacksNone before
+      → NeedsPaths same last → IsStage (fresh (shown no_name new)) (needed_paths world) last.stage × (map string_bytes last.listed.items ≡ listed_paths world)
+  needed-after before same last is e none needs =
+      let needs' : NeedsPaths before last = subst (λ (s : Stage). NeedsPaths s last) e needs in (
+        subst (λ (entries : Entries). IsStage (fresh (shown no_name entries)) (needed_paths world) last.stage) (sym entries_same)
+            (IsStage-needed world (shown no_name old) kept enough before last.stage none is.knows last is.through needs'),
         needs'.kept ∙ is.through,
       )
 
 -- one row was renewed, of a stage whose paths are needed
-pub RenewsRow-among : (world : World) (paths : List (List ℕ)) (old new : ShownRows) (units : ℕ) → ((path : List ℕ) → is_one_of path paths ≡ true → is_one_of path (needed_paths world) ≡ true)
-    → RenewsOneOf world paths old new units → RenewsRow world old new units
-RenewsRow-among world paths old new units needed renews = record {
+pub RenewsRow-among : (world : World) (paths : List (List ℕ)) (old new : ShownRows) (spent : Spent) → ((path : List ℕ) → is_one_of path paths ≡ true → is_one_of path (needed_paths world) ≡ true)
+    → RenewsOneOf world paths old new spent → RenewsRow world old new spent
+RenewsRow-among world paths old new spent needed renews = record {
   path = renews.path;
   needed = needed renews.path renews.needed;
   lacking = renews.lacking;
-  cost = renews.cost;
+  spent = renews.spent;
   rows = renews.rows;
 }
 
 -- the next path of a stage that has no fresh row was given its row
 pub pass-one : (world : World) (old new : ShownRows) (kept : AreKept world old) (stage : Stage) (is : IsStage (fresh old) (paths_of stage) stage) (place : ℕ) (found : IsLackingAt stage place)
-    (path : List ℕ) → slice_get (paths_of stage) place ≡ Some path → (units : ℕ) → units ≡ cost_at world path → (right : IsRightRow world path (right_row world path))
-    → (put : (other : List ℕ) → new other ≡ (if bytes_eq path other then Some (fresh_row world path) else old other))
-    → (known : MemoryRows) → ((other : List ℕ) → entries_in known other ≡ (if bytes_eq path other then Some (outcome_at world path) else entries_in stage.known other))
-    → RenewsOneOf world (paths_of stage) old new units × AreKept world new × IsStage (fresh new) (paths_of stage) (record { paths = stage.paths; place = place; known = known })
-pass-one world old new kept stage is place found path at units cost right put known puts = (
-  record { path = path; needed = one_of-at (paths_of stage) place path at; lacking = sym (is.knows path) ∙ found.lacking path at; cost = cost; rows = put },
-  AreKept-put world old kept path right new put,
-  record {
-    through = refl;
-    knows = λ other. puts other ∙ ap (λ row. if bytes_eq path other then Some (outcome_at world path) else row) (is.knows other) ∙ sym (fresh-put world old kept path right new put other);
-    passed = λ other one. still-fresh world old kept path right new put other (ap is_some (sym (is.knows other)) ∙ found.passed other one);
-  },
-)
+    (path : List ℕ) → slice_get (paths_of stage) place ≡ Some path → (spent : Spent) → SpendsOnPath world path spent → (row : RowValue) (right : IsRightRow world path row)
+    → ((other : List ℕ) → new other ≡ (if bytes_eq path other then Some (record { row = row; stale = false }) else old other))
+    → (known : MemoryRows) → ((other : List ℕ) → entries_in known other ≡ (if bytes_eq path other then Some row.outcome else entries_in stage.known other))
+    → RenewsOneOf world (paths_of stage) old new spent × AreKept world new × IsStage (fresh new) (paths_of stage) (record { paths = stage.paths; place = place; known = known })
+pass-one world old new kept stage is place found path at spent spends row right puts known knows =
+    let put : (other : List ℕ) → new other ≡ (if bytes_eq path other then Some (fresh_row world path) else old other) =
+    λ other. puts other ∙ ap (λ (r : RowValue). if bytes_eq path other then Some (let one : ShownRow = record { row = r; stale = false } in one) else old other) right.same in
+    let itself : IsRightRow world path (right_row world path) = record { same = refl; answered = right.answered } in (
+      record { path = path; needed = one_of-at (paths_of stage) place path at; lacking = sym (is.knows path) ∙ found.lacking path at; spent = spends; rows = put },
+      AreKept-put world old kept path itself new put,
+      record {
+        through = refl;
+        knows = λ other. knows other ∙ ap (λ (r : RowValue). if bytes_eq path other then Some r.outcome else entries_in stage.known other) right.same
+            ∙ ap (λ known. if bytes_eq path other then Some (outcome_at world path) else known) (is.knows other) ∙ sym (fresh-put world old kept path itself new put other);
+        passed = λ other one. still-fresh world old kept path itself new put other (ap is_some (sym (is.knows other)) ∙ found.passed other one);
+      },
+    )

@@ -45,7 +45,7 @@ IsDone keeper = IsEnded keeper.progress
 
 -- a turn that ended the refresh leaves it done
 abbrev pub IsDoneAfter : {R : Type 0} → Keeper R → Turned → Type 0
-IsDoneAfter keeper (turned.Evaluated units) = Unit {0}
+IsDoneAfter keeper (turned.Evaluated spent) = Unit {0}
 IsDoneAfter keeper (turned.Done known) = IsDone keeper
 
 -- no refresh is under way or done

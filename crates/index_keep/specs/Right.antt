@@ -2,15 +2,17 @@
 use Rattle.std.specs.Prelude.{◌≡◌, ◌⊎◌, ℕ, if◌then◌else◌, true, false, List, map, Option, Some, None, is_some}
 use Rattle.std.specs.FinMap.{get}
 use Rattle.std.specs.Str.{bytes_eq}
-use Rattle.mk_paths.specs.World.{World, files_in}
+use Rattle.mk_paths.specs.World.{World, FileMap, files_in}
 use Rattle.mk_paths.specs.FilesView.{Question, FilesView, failed}
 use Rattle.mk_paths.specs.declared.asking.FilesFault.{FilesFault}
 use Rattle.mk_eval.specs.Sharing.{Agrees}
 use Rattle.ports_index.specs.Filling.{is_one_of}
 use Rattle.ports_index.specs.Index.{needed_paths}
 use Rattle.ports_index.specs.Keeping.{Keeps}
-use Rattle.ports_index.specs.PathOutcomes.{outcome_at, cost_at}
+use Rattle.ports_index.specs.PathOutcomes.{Finding, finding_at}
 use Rattle.ports_index.specs.PathQuestions.{questions_at}
+use Rattle.ports_index.specs.Spending.{SpendsOnPath}
+use Rattle.ports_index.specs.declared.spending.Spent.{Spent}
 use Rattle.row_text.specs.Rows.{RowValue}
 use Rattle.index_keep.specs.Shown.{ShownRow, ShownRows, fresh}
 
@@ -18,18 +20,22 @@ use Rattle.index_keep.specs.Shown.{ShownRow, ShownRows, fresh}
 abbrev pub names_in : List Question → List (List ℕ)
 names_in questions = map (λ (question : Question). question.0) questions
 
--- the names that are asked for to learn what a path leads to
-abbrev pub names_at : World → List ℕ → List (List ℕ)
-names_at world path = names_in (questions_at world path)
+-- the row that says what was found, and what was asked for that
+abbrev pub row_with : Finding → List Question → RowValue
+row_with found questions = record { outcome = found.outcome; cost = found.cost; names = names_in questions }
 
 -- the row of a path in a world
 abbrev pub right_row : World → List ℕ → RowValue
-right_row world path = record { outcome = outcome_at world path; cost = cost_at world path; names = names_at world path }
+right_row world path = row_with (finding_at world path) (questions_at world path)
+
+-- The row says what was found, and what was asked for that. Each question has the answer that the files give.
+pub record IsRowOf (files : FileMap) (found : Finding) (questions : List Question) (row : RowValue) : Type 0 where
+  pub same : row ≡ row_with found questions
+  pub answered : Agrees files questions
 
 -- the row is that of the path, and what was asked for it was answered as the world answers it
-pub record IsRightRow (world : World) (path : List ℕ) (row : RowValue) : Type 0 where
-  pub same : row ≡ right_row world path
-  pub answered : Agrees (files_in world) (questions_at world path)
+abbrev pub IsRightRow : World → List ℕ → RowValue → Type 0
+IsRightRow world path row = IsRowOf (files_in world) (finding_at world path) (questions_at world path) row
 
 -- each row that isn't stale is right
 pub record AreKept (world : World) (rows : ShownRows) : Type 0 where
@@ -52,18 +58,18 @@ pub record DifferAt (name : List ℕ) (world other : World) : Type 0 where
   pub settings : other.1 ≡ world.1
   pub files : (file : List ℕ) → bytes_eq name file ≡ false → get (files_in other) file ≡ get (files_in world) file
 
--- One of these paths had no row, or a stale one. Now it has its row, and so many units are what the path
--- costs. All other rows are as they were.
-pub record RenewsOneOf (world : World) (paths : List (List ℕ)) (old new : ShownRows) (units : ℕ) : Type 0 where
+-- One of these paths had no row, or a stale one. Now it has its row, and so much was spent on that. All other rows
+-- are as they were.
+pub record RenewsOneOf (world : World) (paths : List (List ℕ)) (old new : ShownRows) (spending : Spent) : Type 0 where
   pub path : List ℕ
   pub needed : is_one_of path paths ≡ true
   pub lacking : fresh old path ≡ None
-  pub cost : units ≡ cost_at world path
+  pub spent : SpendsOnPath world path spending
   pub rows : (other : List ℕ) → new other ≡ (if bytes_eq path other then Some (fresh_row world path) else old other)
 
 -- the same of one of the paths on which the index depends
-abbrev pub RenewsRow : World → ShownRows → ShownRows → ℕ → Type 0
-RenewsRow world old new units = RenewsOneOf world (needed_paths world) old new units
+abbrev pub RenewsRow : World → ShownRows → ShownRows → Spent → Type 0
+RenewsRow world old new spending = RenewsOneOf world (needed_paths world) old new spending
 
 -- What work leaves of files. Their map stays. If the work failed, it may be that they failed, once.
 abbrev pub LeavesFiles : Option FilesFault → FilesView → FilesView → Type 0

@@ -11,6 +11,7 @@ use Rattle.ports_index.specs.Seen.{entries_in, known_in}
 use Rattle.ports_index.specs.declared.keeping.MemoryRows.{MemoryRows}
 use Rattle.index_store.specs.Entries.{Entries, SameRows}
 use Rattle.index_keep.specs.declared.walking.Stage.{Stage}
+use Rattle.index_keep.specs.declared.walking.LastStage.{LastStage}
 use Rattle.index_keep.specs.declared.walking.Passed.{Passed}
 use Rattle.index_keep.specs.declared.walking.Passed.TheVariants as passed
 use Rattle.index_keep.specs.declared.walking.Onward.{Onward}
@@ -32,8 +33,8 @@ pub record IsStage (known : List ℕ → Option PathOutcome) (paths : List (List
 abbrev pub IsWalk : World → ShownRows → Walk → Type 0
 IsWalk world rows (Directories stage) = IsStage (fresh rows) (directories (files_in world)) stage
 IsWalk world rows (Listed stage) = IsStage (fresh rows) (listed_paths world) stage
-IsWalk world rows (Needed stage listed) =
-    IsStage (fresh rows) (needed_paths world) stage × (map string_bytes listed.items ≡ listed_paths world)
+IsWalk world rows (Needed last) =
+    IsStage (fresh rows) (needed_paths world) last.stage × (map string_bytes last.listed.items ≡ listed_paths world)
 
 -- the rows are right, and a refresh is so far
 pub record IsOnTheWay (world : World) (rows : ShownRows) (walk : Walk) : Type 0 where
@@ -46,7 +47,7 @@ KnowsNeeded world known = HaveRows world (entries_in known) (needed_paths world)
 
 -- what a refresh that went on made of the rows, and what is left of it
 abbrev pub GoesOn : World → ShownRows → ShownRows → Onward → Type 0
-GoesOn world old new (onward.More units walk) = RenewsRow world old new units × IsOnTheWay world new walk
+GoesOn world old new (onward.More spent walk) = RenewsRow world old new spent × IsOnTheWay world new walk
 GoesOn world old new (onward.Current listed known) =
     HaveFresh world old × AreCurrent world new × AreKept world new × (map string_bytes listed.items ≡ listed_paths world)
     × KnowsNeeded world known
@@ -71,8 +72,8 @@ LacksNone stage = (path : List ℕ) → is_one_of path (paths_of stage) ≡ true
 
 -- what became of a stage and of the rows: one row was renewed, or each path has a fresh row already
 abbrev pub PassesStage : World → Stage → Entries → Entries → Passed → Type 0
-PassesStage world stage old new (passed.One units more) =
-    RenewsOneOf world (paths_of stage) (shown no_name old) (shown no_name new) units
+PassesStage world stage old new (passed.One spent more) =
+    RenewsOneOf world (paths_of stage) (shown no_name old) (shown no_name new) spent
     × AreKept world (shown no_name new) × IsStage (fresh (shown no_name new)) (paths_of stage) more
 PassesStage world stage old new (passed.All same) = (same ≡ stage) × LacksNone stage × SameRows old new
 
@@ -83,9 +84,9 @@ pub record ListsPaths (before stage : Stage) : Type 0 where
   pub place : stage.place ≡ 0
   pub known : (path : List ℕ) → entries_in stage.known path ≡ entries_in before.known path
 
--- a stage of needed paths comes after that of listed ones, which are kept
-pub record NeedsPaths (before stage : Stage) (listed : List (List ℕ)) : Type 0 where
-  pub paths : paths_of stage ≡ needed_among (known_in (entries_in before.known)) (paths_of before)
-  pub place : stage.place ≡ 0
-  pub known : (path : List ℕ) → entries_in stage.known path ≡ entries_in before.known path
-  pub kept : listed ≡ paths_of before
+-- the last stage, of needed paths, comes after that of listed ones, which are kept
+pub record NeedsPaths (before : Stage) (last : LastStage) : Type 0 where
+  pub paths : paths_of last.stage ≡ needed_among (known_in (entries_in before.known)) (paths_of before)
+  pub place : last.stage.place ≡ 0
+  pub known : (path : List ℕ) → entries_in last.stage.known path ≡ entries_in before.known path
+  pub kept : map string_bytes last.listed.items ≡ paths_of before

@@ -5,12 +5,15 @@ ghost use Rattle.mk_eval.specs.Views.{flavors_in};
 ghost use Rattle.eval_cache.specs.Keys.{key_for, key_of};
 ghost use Rattle.eval_cache.specs.Right.{IsRight};
 ghost use Rattle.read_trace.specs.Recording.{view_of, LeavesMap, MayFail};
-ghost use Rattle.index_keep.specs.Asking.{IsAskedOf, evals_after};
+ghost use Rattle.index_keep.specs.Asking.{IsAskedOf, evals_after, spent_on};
 
 use eval_cache::{EvalCache, EvalKey, Look};
 use mk_files::Files;
 use mk_paths::{FilesFault, Name, Settings};
-use read_trace::{Evaluation, Recorder, evaluate_recorded, same_where_agreed};
+use ports_index::Spent;
+use read_trace::{
+    Evaluation, Recorder, agrees_where_answered, evaluate_recorded, same_where_agreed,
+};
 use std::alloc::{AllocError, Global};
 use std::rc::Rc;
 
@@ -23,6 +26,20 @@ pub struct Asked {
     pub units: u64,
     /// The answers that were checked, of evaluations that were kept.
     pub checks: u64,
+}
+
+impl Asked {
+    /// What was spent on what is made of the evaluation, if it costs so many units together with the evaluation:
+    /// all of these units, less those that were saved since the evaluation was kept.
+    pub fn spent_on(&self, cost: u64) -> Spent
+        ensures { result ≡ spent_on self.now cost }
+    {
+        let saved = self.evaluation.cost().saturating_sub(self.units);
+        Spent {
+            units: cost.saturating_sub(saved),
+            checks: self.checks,
+        }
+    }
 }
 
 /// The evaluation of the makefile of this name in the world of these files and settings, with these flavors
@@ -50,6 +67,7 @@ pub fn ask<F: Files + Drop>(
     ensures leaves { LeavesMap (result_err result) (view_of F.view files.old) (view_of F.view files.new) }
 {
     same_where_agreed();
+    agrees_where_answered();
     let key = EvalKey::new(alloc, settings, name, flavors)?;
     let (found, checks) = cache.look(&key, files)?;
     match found {

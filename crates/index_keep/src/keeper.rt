@@ -11,20 +11,21 @@ ghost use Rattle.mk_paths.specs.declared.search_path.Settings.{Settings};
 ghost use Rattle.index_store.specs.Entries.{SameRows};
 ghost use Rattle.index_keep.specs.Shown.{shown, no_name, ShowsSame, made_stale, stale_if_asked};
 ghost use Rattle.index_keep.specs.Right.{DifferAt, LeavesFiles};
-ghost use Rattle.index_keep.specs.Turns.{TakesTurn, EndsTurn, KnowsNeeded, units_left};
+ghost use Rattle.index_keep.specs.Turns.{TakesTurn, EndsTurn, KnowsNeeded, SpendsOnRows};
 ghost use Rattle.index_keep.specs.Walking.{IsWalk, IsOnTheWay};
 ghost use Rattle.index_keep.specs.Keeping.{rows_of, changed_in, IsKept, IsDone, IsDoneAfter, IsDropped, HasForgotten, Stops};
 
 use crate::beginning::{begin, fresh_rows};
 use crate::names::insert_name;
 use crate::walking::{Onward, Refreshed, Walk, begin_walk, go_on};
+use eval_cache::EvalCache;
 use index_store::PathRows;
 use mk_files::Listing;
 use mk_paths::{FilesFault, Name, Settings};
 use port_deps::{Root, RootEdge};
 use ports_index::{
-    MemoryRows, edges_among, known_rows_are_enough, one_row_more_leaves_less,
-    path_is_the_same_where_answered, roots_of_all,
+    MemoryRows, Spent, edges_among, known_rows_are_enough, makefiles_are_evaluated,
+    one_row_more_leaves_less, path_is_the_same_where_answered, roots_of_all,
 };
 use read_trace::Recorder;
 use std::alloc::{AllocError, Global};
@@ -49,8 +50,8 @@ pub(crate) enum Progress {
 /// What a turn of a refresh came to.
 #[derive(Drop)]
 enum Turned {
-    /// One path was evaluated. So many units were spent.
-    Evaluated(u64),
+    /// One path was evaluated, and so much was spent.
+    Evaluated(Spent),
     /// Each path has its row. If this turn ended the refresh, it still knows what the rows say.
     Done(Option<MemoryRows>),
 }
@@ -112,13 +113,15 @@ impl<R: PathRows + Drop> Keeper<R> {
     }
 
     /// Goes on with a refresh, or begins one, up to the next path that has no fresh row: that path is
-    /// evaluated in these files under these settings, and its row is written. Once each path has its row,
-    /// the rows that nothing needs are taken out, and the refresh is done.
+    /// evaluated in these files under these settings, and its row is written. The evaluation is one that the
+    /// cache keeps, if the files agree with it. Once each path has its row, the rows that nothing needs are
+    /// taken out, and the refresh is done.
     ///
     /// It fails if the files or the rows fail, or if memory runs out. Then no row changes.
     pub fn refresh_turn<F: Listing + Drop>(
         &mut self,
         alloc: Global,
+        cache: &mut EvalCache,
         files: &mut Recorder<F>,
         settings: &Settings,
     ) -> Result<Refreshed, FilesFault>
@@ -130,8 +133,8 @@ impl<R: PathRows + Drop> Keeper<R> {
         ensures kept { IsKept R.entries (world_of (view_of F.view files.old) settings.now) self.new }
         ensures leaves { LeavesFiles (result_err result) (view_of F.view files.old) (view_of F.view files.new) }
     {
-        match self.turn(alloc, files, settings)? {
-            Turned::Evaluated(units) => Ok(Refreshed::Evaluated(units)),
+        match self.turn(alloc, cache, files, settings)? {
+            Turned::Evaluated(spent) => Ok(Refreshed::Evaluated(spent)),
             Turned::Done(_known) => Ok(Refreshed::Done),
         }
     }
@@ -140,6 +143,7 @@ impl<R: PathRows + Drop> Keeper<R> {
     fn turn<F: Listing + Drop>(
         &mut self,
         alloc: Global,
+        cache: &mut EvalCache,
         files: &mut Recorder<F>,
         settings: &Settings,
     ) -> Result<Turned, FilesFault>
@@ -154,9 +158,9 @@ impl<R: PathRows + Drop> Keeper<R> {
         match mem::replace(&mut self.progress, Progress::nothing(alloc)) {
             Progress::Changed(names) => {
                 let walk = self.begun(alloc, files, names)?;
-                self.walk_on(alloc, files, settings, walk)
+                self.walk_on(alloc, cache, files, settings, walk)
             }
-            Progress::Walking(walk) => self.walk_on(alloc, files, settings, walk),
+            Progress::Walking(walk) => self.walk_on(alloc, cache, files, settings, walk),
             Progress::Current(listed) => {
                 self.progress = Progress::Current(listed);
                 Ok(Turned::Done(None))
@@ -168,6 +172,7 @@ impl<R: PathRows + Drop> Keeper<R> {
     fn walk_on<F: Listing + Drop>(
         &mut self,
         alloc: Global,
+        cache: &mut EvalCache,
         files: &mut Recorder<F>,
         settings: &Settings,
         walk: Walk,
@@ -182,10 +187,10 @@ impl<R: PathRows + Drop> Keeper<R> {
             × (self.new.progress ≡ self.old.progress)) }
         ensures leaves { LeavesFiles (result_err result) (view_of F.view files.old) (view_of F.view files.new) }
     {
-        match go_on(alloc, files, settings, &mut self.rows, walk)? {
-            Onward::More(units, walk) => {
+        match go_on(alloc, cache, files, settings, &mut self.rows, walk)? {
+            Onward::More(spent, walk) => {
                 self.progress = Progress::Walking(walk);
-                Ok(Turned::Evaluated(units))
+                Ok(Turned::Evaluated(spent))
             }
             Onward::Current(listed, known) => {
                 self.progress = Progress::Current(listed);
@@ -219,83 +224,87 @@ impl<R: PathRows + Drop> Keeper<R> {
         }
     }
 
-    // Goes on with a refresh until it is done. The result is what the rows say, and the units that were spent.
+    // Goes on with a refresh until it is done. The result is what the rows say, and what was spent.
     fn refresh<F: Listing + Drop>(
         &mut self,
         alloc: Global,
+        cache: &mut EvalCache,
         files: &mut Recorder<F>,
         settings: &Settings,
-    ) -> Result<(MemoryRows, u64), FilesFault>
+    ) -> Result<(MemoryRows, Spent), FilesFault>
         requires { IsKept R.entries (world_of (view_of F.view files.old) settings.now) self.old }
         ensures done { OnOk result (IsDone self.new) }
         ensures known { IfOk result (λ found.
             KnowsNeeded (world_of (view_of F.view files.old) settings.now) found.0) }
-        ensures units { IfOk result (λ found. found.1 ≡ units_left
-            (world_of (view_of F.view files.old) settings.now) (rows_of R.entries self.old)) }
+        ensures spent { IfOk result (λ found. SpendsOnRows
+            (world_of (view_of F.view files.old) settings.now) (rows_of R.entries self.old) found.1) }
         ensures kept { IsKept R.entries (world_of (view_of F.view files.old) settings.now) self.new }
         ensures leaves { LeavesFiles (result_err result) (view_of F.view files.old) (view_of F.view files.new) }
     {
         one_row_more_leaves_less();
-        let mut units = 0u64;
+        makefiles_are_evaluated();
+        let mut spent = Spent::nothing();
         loop {
-            match self.turn(alloc, files, settings)? {
-                Turned::Evaluated(more) => units = units.saturating_add(more),
-                Turned::Done(Some(known)) => return Ok((known, units)),
-                Turned::Done(None) => return Ok((fresh_rows(alloc, &mut self.rows)?, units)),
+            match self.turn(alloc, cache, files, settings)? {
+                Turned::Evaluated(more) => spent = spent.and(more),
+                Turned::Done(Some(known)) => return Ok((known, spent)),
+                Turned::Done(None) => return Ok((fresh_rows(alloc, &mut self.rows)?, spent)),
             }
         }
     }
 
-    /// The roots of the index of these files under these settings, once it is refreshed, and the units that
-    /// were spent: what the paths cost that had no fresh row.
+    /// The roots of the index of these files under these settings, once it is refreshed, and what was spent on
+    /// the paths that had no fresh row: the units that they cost, but for evaluations that the cache keeps.
     ///
     /// It fails if the files or the rows fail, or if memory runs out. The rows that were made until then stay.
     pub fn select<F: Listing + Drop>(
         &mut self,
         alloc: Global,
+        cache: &mut EvalCache,
         files: &mut Recorder<F>,
         settings: &Settings,
-    ) -> Result<(Vec<Root>, u64), FilesFault>
+    ) -> Result<(Vec<Root>, Spent), FilesFault>
         requires { IsKept R.entries (world_of (view_of F.view files.old) settings.now) self.old }
         ensures roots { IfOk result (λ found. found.0.items
             ≡ indexed.roots (world_of (view_of F.view files.old) settings.now)) }
-        ensures units { IfOk result (λ found. found.1 ≡ units_left
-            (world_of (view_of F.view files.old) settings.now) (rows_of R.entries self.old)) }
+        ensures spent { IfOk result (λ found. SpendsOnRows
+            (world_of (view_of F.view files.old) settings.now) (rows_of R.entries self.old) found.1) }
         ensures kept { IsKept R.entries (world_of (view_of F.view files.old) settings.now) self.new }
         ensures leaves { LeavesFiles (result_err result) (view_of F.view files.old) (view_of F.view files.new) }
     {
         known_rows_are_enough();
-        let (mut known, units) = self.refresh(alloc, files, settings)?;
+        let (mut known, spent) = self.refresh(alloc, cache, files, settings)?;
         let Progress::Current(listed) = &self.progress else {
             return Err(FilesFault::Memory);
         };
-        Ok((roots_of_all(alloc, listed, &mut known)?, units))
+        Ok((roots_of_all(alloc, listed, &mut known)?, spent))
     }
 
     /// The roots and the dependencies of the index, as `select` gives the roots alone.
     pub fn index<F: Listing + Drop>(
         &mut self,
         alloc: Global,
+        cache: &mut EvalCache,
         files: &mut Recorder<F>,
         settings: &Settings,
-    ) -> Result<(Vec<Root>, Vec<RootEdge>, u64), FilesFault>
+    ) -> Result<(Vec<Root>, Vec<RootEdge>, Spent), FilesFault>
         requires { IsKept R.entries (world_of (view_of F.view files.old) settings.now) self.old }
         ensures roots { IfOk result (λ found. found.0.items
             ≡ indexed.roots (world_of (view_of F.view files.old) settings.now)) }
         ensures edges { IfOk result (λ found. found.1.items
             ≡ indexed.edges (world_of (view_of F.view files.old) settings.now)) }
-        ensures units { IfOk result (λ found. found.2 ≡ units_left
-            (world_of (view_of F.view files.old) settings.now) (rows_of R.entries self.old)) }
+        ensures spent { IfOk result (λ found. SpendsOnRows
+            (world_of (view_of F.view files.old) settings.now) (rows_of R.entries self.old) found.2) }
         ensures kept { IsKept R.entries (world_of (view_of F.view files.old) settings.now) self.new }
         ensures leaves { LeavesFiles (result_err result) (view_of F.view files.old) (view_of F.view files.new) }
     {
         known_rows_are_enough();
-        let (mut known, units) = self.refresh(alloc, files, settings)?;
+        let (mut known, spent) = self.refresh(alloc, cache, files, settings)?;
         let Progress::Current(listed) = &self.progress else {
             return Err(FilesFault::Memory);
         };
         let edges = edges_among(alloc, listed, &known)?;
-        Ok((roots_of_all(alloc, listed, &mut known)?, edges, units))
+        Ok((roots_of_all(alloc, listed, &mut known)?, edges, spent))
     }
 
     /// Limits the steps of each later statement of the rows; with `None` they are no longer limited. No row

@@ -7,9 +7,11 @@ mod beginning;
 mod ending;
 mod evaluating;
 mod keeper;
+mod laws;
 mod names;
 mod walking;
 
 pub use asking::{Asked, ask};
 pub use keeper::Keeper;
+pub use laws::asking_spends;
 pub use walking::Refreshed;

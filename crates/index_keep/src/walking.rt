@@ -1,29 +1,31 @@
 //! A refresh: the paths on which the index depends, one after another, until each has its row.
-ghost use Rattle.std.specs.Prelude.{◌≡◌, ◌<◌, ◌≤◌, ℕ, List, if◌then◌else◌, Some, None, map, take, length, string_bytes, is_some, true};
+ghost use Rattle.std.specs.Prelude.{◌≡◌, ◌<◌, ◌≤◌, ℕ, List, if◌then◌else◌, Some, None, map, take, length, string_bytes};
+ghost use Rattle.std.specs.Prelude.{is_some, false, true};
 ghost use Rattle.std.specs.Prelude.{IfOk, IfSome, IfNone, OnOk, OnErr};
 ghost use Rattle.std.specs.Result.{result_err};
 ghost use Rattle.std.specs.Str.{bytes_eq};
 ghost use Rattle.mk_paths.specs.FilesView.{world_of};
 ghost use Rattle.ports_index.specs.Filling.{is_one_of};
-ghost use Rattle.ports_index.specs.PathOutcomes.{cost_at, outcome_at};
 ghost use Rattle.ports_index.specs.Seen.{entries_in};
 ghost use Rattle.read_trace.specs.Recording.{view_of};
 ghost use Rattle.index_store.specs.Entries.{SameRows};
 ghost use Rattle.index_keep.specs.Shown.{shown, no_name, fresh, ShowsSame};
 ghost use Rattle.mk_paths.specs.declared.search_path.Settings.{Settings};
 ghost use Rattle.std.specs.BTreeSet.{contains_text};
-ghost use Rattle.index_keep.specs.Right.{AreKept, IsRightRow, right_row, fresh_row, LeavesFiles};
+ghost use Rattle.index_keep.specs.Right.{AreKept, LeavesFiles};
+ghost use Rattle.row_text.specs.Seen.{row_seen};
 ghost use Rattle.index_keep.specs.Walking as walking;
 ghost use Rattle.index_keep.specs.declared.walking.Walk.TheVariants.{Directories, Listed, Needed};
 
 use crate::beginning::begin;
 use crate::ending::take_out_others;
-use crate::evaluating::row_of_path;
+use crate::evaluating::{MadeRow, row_of_path};
+use eval_cache::EvalCache;
 use index_store::PathRows;
 use mk_files::{Files, Listing};
 use mk_paths::{FilesFault, Settings};
 use ports_index::{
-    Finding, MemoryRows, Rows, directories, known_rows_are_enough, listed, needed_among,
+    MemoryRows, Rows, Spent, directories, known_rows_are_enough, listed, needed_among,
 };
 use read_trace::Recorder;
 use row_text::{KeptRow, write_row};
@@ -33,8 +35,8 @@ use std::collections::BTreeSet;
 /// What one call of a refresh did.
 #[derive(Clone, Copy, Debug, PartialEq, Eq)]
 pub enum Refreshed {
-    /// One path was evaluated, and has its row now. So many units were spent.
-    Evaluated(u64),
+    /// One path was evaluated, and has its row now. So much was spent.
+    Evaluated(Spent),
     /// Each path has its row: the index is current.
     Done,
 }
@@ -74,6 +76,14 @@ impl Stage {
     }
 }
 
+/// The last stage, that of all paths on which the index depends, and the listed paths, which are kept for the
+/// end.
+#[derive(Debug, Drop)]
+pub(crate) struct LastStage {
+    pub(crate) stage: Stage,
+    pub(crate) listed: Vec<String>,
+}
+
 /// A refresh that is under way.
 #[derive(Debug, Drop)]
 pub(crate) enum Walk {
@@ -81,23 +91,23 @@ pub(crate) enum Walk {
     Directories(Stage),
     /// It goes through the listed paths: directories, and what lists among them name.
     Listed(Stage),
-    /// It goes through all paths on which the index depends. The listed paths are kept for the end.
-    Needed(Stage, Vec<String>),
+    /// It goes through all paths on which the index depends.
+    Needed(LastStage),
 }
 
 /// How a walk goes on.
 #[derive(Debug, Drop)]
 pub(crate) enum Onward {
-    /// One path was evaluated for so many units, and this is left.
-    More(u64, Walk),
+    /// One path was evaluated, so much was spent, and this is left.
+    More(Spent, Walk),
     /// Each path has its row. These are the listed paths, and what the rows say.
     Current(Vec<String>, MemoryRows),
 }
 
 /// What a stage came to.
 enum Passed {
-    /// One path was evaluated for so many units.
-    One(u64, Stage),
+    /// One path was evaluated, and so much was spent.
+    One(Spent, Stage),
     /// Each path of the stage has a fresh row.
     All(Stage),
 }
@@ -128,6 +138,7 @@ pub(crate) fn begin_walk<F: Listing + Drop, R: PathRows>(
 /// It fails if the files or the rows fail, or if memory runs out; then all rows are as they were.
 pub(crate) fn go_on<F: Files + Drop, R: PathRows>(
     alloc: Global,
+    cache: &mut EvalCache,
     files: &mut Recorder<F>,
     settings: &Settings,
     rows: &mut R,
@@ -140,14 +151,15 @@ pub(crate) fn go_on<F: Files + Drop, R: PathRows>(
     ensures leaves { LeavesFiles (result_err result) (view_of F.view files.old) (view_of F.view files.new) }
 {
     match walk {
-        Walk::Directories(stage) => pass_directories(alloc, files, settings, rows, stage),
-        Walk::Listed(stage) => pass_listed(alloc, files, settings, rows, stage),
-        Walk::Needed(stage, listed) => pass_needed(alloc, files, settings, rows, stage, listed),
+        Walk::Directories(stage) => pass_directories(alloc, cache, files, settings, rows, stage),
+        Walk::Listed(stage) => pass_listed(alloc, cache, files, settings, rows, stage),
+        Walk::Needed(last) => pass_needed(alloc, cache, files, settings, rows, last),
     }
 }
 
 fn pass_directories<F: Files + Drop, R: PathRows>(
     alloc: Global,
+    cache: &mut EvalCache,
     files: &mut Recorder<F>,
     settings: &Settings,
     rows: &mut R,
@@ -161,11 +173,11 @@ fn pass_directories<F: Files + Drop, R: PathRows>(
     ensures leaves { LeavesFiles (result_err result) (view_of F.view files.old) (view_of F.view files.new) }
 {
     known_rows_are_enough();
-    match pass(alloc, files, settings, rows, stage)? {
-        Passed::One(units, stage) => Ok(Onward::More(units, Walk::Directories(stage))),
+    match pass(alloc, cache, files, settings, rows, stage)? {
+        Passed::One(spent, stage) => Ok(Onward::More(spent, Walk::Directories(stage))),
         Passed::All(stage) => {
             let stage = listed_stage(alloc, stage)?;
-            pass_listed(alloc, files, settings, rows, stage)
+            pass_listed(alloc, cache, files, settings, rows, stage)
         }
     }
 }
@@ -181,6 +193,7 @@ fn listed_stage(alloc: Global, stage: Stage) -> Result<Stage, AllocError>
 
 fn pass_listed<F: Files + Drop, R: PathRows>(
     alloc: Global,
+    cache: &mut EvalCache,
     files: &mut Recorder<F>,
     settings: &Settings,
     rows: &mut R,
@@ -194,42 +207,47 @@ fn pass_listed<F: Files + Drop, R: PathRows>(
     ensures leaves { LeavesFiles (result_err result) (view_of F.view files.old) (view_of F.view files.new) }
 {
     known_rows_are_enough();
-    match pass(alloc, files, settings, rows, stage)? {
-        Passed::One(units, stage) => Ok(Onward::More(units, Walk::Listed(stage))),
+    match pass(alloc, cache, files, settings, rows, stage)? {
+        Passed::One(spent, stage) => Ok(Onward::More(spent, Walk::Listed(stage))),
         Passed::All(stage) => {
-            let (stage, listed) = needed_stage(alloc, stage)?;
-            pass_needed(alloc, files, settings, rows, stage, listed)
+            let last = last_stage(alloc, stage)?;
+            pass_needed(alloc, cache, files, settings, rows, last)
         }
     }
 }
 
-// The stage of the needed paths, after that of the listed ones, and those.
-fn needed_stage(alloc: Global, stage: Stage) -> Result<(Stage, Vec<String>), AllocError>
-    ensures { IfOk result (λ found.
-        walking.NeedsPaths stage found.0 (map string_bytes found.1.items)) }
+// The stage of the needed paths, after that of the listed ones.
+fn last_stage(alloc: Global, stage: Stage) -> Result<LastStage, AllocError>
+    ensures { IfOk result (walking.NeedsPaths stage) }
 {
     let Stage { paths, known, .. } = stage;
     let needed = needed_among(alloc, &paths, &known)?;
-    Ok((Stage::new(needed, known), paths))
+    Ok(LastStage {
+        stage: Stage::new(needed, known),
+        listed: paths,
+    })
 }
 
 fn pass_needed<F: Files + Drop, R: PathRows>(
     alloc: Global,
+    cache: &mut EvalCache,
     files: &mut Recorder<F>,
     settings: &Settings,
     rows: &mut R,
-    stage: Stage,
-    listed: Vec<String>,
+    last: LastStage,
 ) -> Result<Onward, FilesFault>
     requires { walking.IsOnTheWay (world_of (view_of F.view files.old) settings.now)
-        (shown no_name (R.entries rows.old)) (Needed stage listed) }
+        (shown no_name (R.entries rows.old)) (Needed last) }
     ensures goes { IfOk result (walking.GoesOn (world_of (view_of F.view files.old) settings.now)
         (shown no_name (R.entries rows.old)) (shown no_name (R.entries rows.new))) }
     ensures err { OnErr result (SameRows (R.entries rows.old) (R.entries rows.new)) }
     ensures leaves { LeavesFiles (result_err result) (view_of F.view files.old) (view_of F.view files.new) }
 {
-    match pass(alloc, files, settings, rows, stage)? {
-        Passed::One(units, stage) => Ok(Onward::More(units, Walk::Needed(stage, listed))),
+    let LastStage { stage, listed } = last;
+    match pass(alloc, cache, files, settings, rows, stage)? {
+        Passed::One(spent, stage) => {
+            Ok(Onward::More(spent, Walk::Needed(LastStage { stage, listed })))
+        }
         Passed::All(stage) => {
             let Stage { paths, known, .. } = stage;
             take_out_others(alloc, rows, &paths)?;
@@ -241,6 +259,7 @@ fn pass_needed<F: Files + Drop, R: PathRows>(
 // Evaluates the next path of a stage that has no fresh row, and gives it its row.
 fn pass<F: Files + Drop, R: PathRows>(
     alloc: Global,
+    cache: &mut EvalCache,
     files: &mut Recorder<F>,
     settings: &Settings,
     rows: &mut R,
@@ -261,16 +280,11 @@ fn pass<F: Files + Drop, R: PathRows>(
         mut known,
         ..
     } = stage;
-    let units = renew(
-        alloc,
-        files,
-        settings,
-        rows,
-        &mut known,
-        paths[place].as_str(),
-    )?;
+    let path = paths[place].as_str();
+    let MadeRow { row, spent } = row_of_path(alloc, cache, files, settings, path)?;
+    put_row(alloc, rows, &mut known, path, row)?;
     Ok(Passed::One(
-        units,
+        spent,
         Stage {
             paths,
             place,
@@ -279,36 +293,27 @@ fn pass<F: Files + Drop, R: PathRows>(
     ))
 }
 
-// Evaluates a path, and gives it its row. The result is the units that were spent.
-fn renew<F: Files + Drop, R: PathRows>(
+// Gives a path this row, which is fresh.
+fn put_row<R: PathRows>(
     alloc: Global,
-    files: &mut Recorder<F>,
-    settings: &Settings,
     rows: &mut R,
     known: &mut MemoryRows,
     path: &str,
-) -> Result<u64, FilesFault>
-    ensures units { IfOk result (λ units.
-        units ≡ cost_at (world_of (view_of F.view files.old) settings.now) path.now) }
-    ensures right { OnOk result (IsRightRow (world_of (view_of F.view files.old) settings.now) path.now
-        (right_row (world_of (view_of F.view files.old) settings.now) path.now)) }
+    row: KeptRow,
+) -> Result<(), FilesFault>
     ensures rows { OnOk result ((other : List ℕ) → shown no_name (R.entries rows.new) other
         ≡ (if bytes_eq path.now other
-        then Some (fresh_row (world_of (view_of F.view files.old) settings.now) path.now)
+        then Some (record { row = row_seen row; stale = false })
         else shown no_name (R.entries rows.old) other)) }
     ensures known { OnOk result ((other : List ℕ) → entries_in known.new other
         ≡ (if bytes_eq path.now other
-        then Some (outcome_at (world_of (view_of F.view files.old) settings.now) path.now)
+        then Some (row_seen row).outcome
         else entries_in known.old other)) }
     ensures err { OnErr result (SameRows (R.entries rows.old) (R.entries rows.new)) }
-    ensures leaves { LeavesFiles (result_err result) (view_of F.view files.old) (view_of F.view files.new) }
 {
-    let row = row_of_path(alloc, files, settings, path)?;
     let text = write_row(alloc, &row)?;
     let key = String::from_str(alloc, path)?;
-    let KeptRow { found, .. } = row;
-    let Finding { row, cost } = found;
-    known.put(key, row)?;
+    known.put(key, row.found.row)?;
     rows.put(path, &text)?;
-    Ok(cost)
+    Ok(())
 }

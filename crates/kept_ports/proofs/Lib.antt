@@ -1,1 +1,1 @@
-mod CostLemmas
+pub mod SpendingLemmas

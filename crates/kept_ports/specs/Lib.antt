@@ -1,3 +1,3 @@
-pub mod Costs
+pub mod Spending
 pub mod Leaving
 pub mod Calls

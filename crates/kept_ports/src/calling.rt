@@ -4,11 +4,13 @@ ghost use Rattle.mk_paths.specs.FilesView.{world_of};
 ghost use Rattle.index_keep.specs.Keeping.{IsKept, rows_of};
 
 use crate::keeping::KeptPorts;
+use eval_cache::EvalCache;
 use index_keep::Keeper;
 use index_store::PathRows;
 use mk_files::Listing;
 use mk_paths::{FilesFault, Settings};
 use ports_http::Method;
+use ports_index::Spent;
 use ports_plain::{Plain, Prepared};
 use read_trace::{Recorder, Trace};
 use std::alloc::Global;
@@ -31,23 +33,25 @@ pub struct PlainCall<'a> {
 impl PlainCall<'_> {
     ghost use Rattle.kept_ports.specs.Calls.{request_of, IsPrepared};
 
-    /// The answer to the request over these files, and the units that were spent. Nothing of the world is
-    /// changed yet. A request that needs the index refreshes the rows that the keeper has of it first.
+    /// The answer to the request over these files, and what was spent. Nothing of the world is changed yet. A
+    /// request that needs the index refreshes the rows that the keeper has of it first. An evaluation is one
+    /// that the cache keeps, if the files agree with it, and else a new one.
     ///
     /// It fails if the files or the rows fail, or if memory runs out. The keeper stays right about the world.
     pub fn prepare<F: Listing + Drop, R: PathRows + Drop>(
         &self,
         alloc: Global,
+        cache: &mut EvalCache,
         files: F,
         keeper: &mut Keeper<R>,
-    ) -> Result<(Prepared, u64), FilesFault>
+    ) -> Result<(Prepared, Spent), FilesFault>
         requires { IsKept R.entries (world_of (F.view files) self.now.settings.now) keeper.old }
         ensures prepared { IfOk result (IsPrepared (world_of (F.view files) self.now.settings.now)
             (rows_of R.entries keeper.old) (request_of self.now)) }
         ensures kept { IsKept R.entries (world_of (F.view files) self.now.settings.now) keeper.new }
     {
         let mut files = Recorder::new(alloc, files, Trace::new(alloc));
-        let mut ports = KeptPorts::new(&mut files, self.settings, keeper);
+        let mut ports = KeptPorts::new(cache, &mut files, self.settings, keeper);
         self.plain
             .prepare(alloc, &mut ports, self.method, self.target, self.body)
     }

@@ -5,22 +5,25 @@ ghost use Rattle.read_trace.specs.Recording.{view_of};
 ghost use Rattle.index_keep.specs.Keeping.{IsKept};
 ghost use Rattle.index_keep.proofs.Props.{IsKept-prop};
 
-use computed_ports::{find_record, find_value};
+use crate::finding::{find_record, find_value};
+use eval_cache::EvalCache;
 use index_keep::Keeper;
 use index_store::PathRows;
 use mk_files::{Content, Files, Listing};
 use mk_paths::{FilesFault, Name, Names, Settings};
 use pkg_path::PkgPath;
 use port_deps::{Root, RootEdge};
+use ports_index::Spent;
 use ports_plain::{Ports, RecordFound, ValueFound, VariableQuestion};
 use ports_query::RowsInMemory;
 use read_trace::Recorder;
 use std::alloc::Global;
 
 /// The ports of the world of these files and settings. The index comes from rows that are kept, and is
-/// refreshed first. The rest is computed from the files.
+/// refreshed first. Each evaluation is asked of the cache.
 #[derive(Drop)]
 pub(crate) struct KeptPorts<'a, F: Listing + Drop, R: PathRows + Drop> {
+    cache: &'a mut EvalCache,
     files: &'a mut Recorder<F>,
     settings: &'a Settings,
     keeper: &'a mut Keeper<R>,
@@ -35,6 +38,7 @@ impl<'a, F: Listing + Drop, R: PathRows + Drop> KeptPorts<'a, F, R> {
 
     /// The ports of the world of these files and settings, about which this keeper is right.
     pub(crate) fn new(
+        cache: &'a mut EvalCache,
         files: &'a mut Recorder<F>,
         settings: &'a Settings,
         keeper: &'a mut Keeper<R>,
@@ -44,6 +48,7 @@ impl<'a, F: Listing + Drop, R: PathRows + Drop> KeptPorts<'a, F, R> {
         ensures over { IsOver result keeper.entry }
     {
         KeptPorts {
+            cache,
             files,
             settings,
             keeper,
@@ -53,7 +58,7 @@ impl<'a, F: Listing + Drop, R: PathRows + Drop> KeptPorts<'a, F, R> {
 
 impl<F: Listing + Drop, R: PathRows + Drop> Ports for KeptPorts<'_, F, R> {
     ghost use Rattle.index_keep.specs.Keeping.{rows_of};
-    ghost use Rattle.kept_ports.specs.Costs.{kept_cost};
+    ghost use Rattle.kept_ports.specs.Spending.{SpendsOnKept};
     ghost use Rattle.kept_ports.specs.Leaving.{world_at, LeavesPorts, LeavesPorts-all};
     ghost use Rattle.std.proofs.Common.{refl};
 
@@ -63,8 +68,8 @@ impl<F: Listing + Drop, R: PathRows + Drop> Ports for KeptPorts<'_, F, R> {
 
     ghost world = { world_at F.view };
 
-    ghost charge = { λ ports need.
-        kept_cost (world_at F.view ports) (rows_of R.entries ports.keeper.now) need };
+    ghost charges = { λ ports need.
+        SpendsOnKept (world_at F.view ports) (rows_of R.entries ports.keeper.now) need };
 
     ghost leaves = { λ fault. LeavesPorts F.view };
 
@@ -80,25 +85,33 @@ impl<F: Listing + Drop, R: PathRows + Drop> Ports for KeptPorts<'_, F, R> {
         &mut self,
         alloc: Global,
         question: &VariableQuestion,
-    ) -> Result<(ValueFound, u64), FilesFault> {
-        find_value(alloc, self.files, self.settings, question)
+    ) -> Result<(ValueFound, Spent), FilesFault> {
+        find_value(alloc, self.cache, self.files, self.settings, question)
     }
 
-    fn record(&mut self, alloc: Global, path: &PkgPath) -> Result<(RecordFound, u64), FilesFault> {
-        find_record(alloc, self.files, self.settings, path)
+    fn record(
+        &mut self,
+        alloc: Global,
+        path: &PkgPath,
+    ) -> Result<(RecordFound, Spent), FilesFault> {
+        find_record(alloc, self.cache, self.files, self.settings, path)
     }
 
-    fn roots(&mut self, alloc: Global) -> Result<(RowsInMemory<Root>, u64), FilesFault> {
-        let (roots, units) = self.keeper.select(alloc, self.files, self.settings)?;
-        Ok((RowsInMemory::new(roots), units))
+    fn roots(&mut self, alloc: Global) -> Result<(RowsInMemory<Root>, Spent), FilesFault> {
+        let (roots, spent) = self
+            .keeper
+            .select(alloc, self.cache, self.files, self.settings)?;
+        Ok((RowsInMemory::new(roots), spent))
     }
 
     fn index(
         &mut self,
         alloc: Global,
-    ) -> Result<(RowsInMemory<Root>, RowsInMemory<RootEdge>, u64), FilesFault> {
-        let (roots, edges, units) = self.keeper.index(alloc, self.files, self.settings)?;
-        Ok((RowsInMemory::new(roots), RowsInMemory::new(edges), units))
+    ) -> Result<(RowsInMemory<Root>, RowsInMemory<RootEdge>, Spent), FilesFault> {
+        let (roots, edges, spent) = self
+            .keeper
+            .index(alloc, self.cache, self.files, self.settings)?;
+        Ok((RowsInMemory::new(roots), RowsInMemory::new(edges), spent))
     }
 
     ghost charges_nothing = { λ ports. refl };

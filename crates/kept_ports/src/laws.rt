@@ -1,7 +1,11 @@
 //! What holds of every world, as a function that does nothing.
-ghost use Rattle.kept_ports.specs.Costs.{KeepingCostsNoMore};
+ghost use Rattle.kept_ports.specs.Spending.{KeepingSpendsNoMore};
 
-/// Whatever rows are kept, what is needed takes no more units than all on which the answer rests.
-pub fn keeping_costs_no_more()
-    ensures { KeepingCostsNoMore }
-{}
+use ports_index::makefiles_are_evaluated;
+
+/// Whatever rows are kept, no more is spent than what is needed may take without them.
+pub fn keeping_spends_no_more()
+    ensures { KeepingSpendsNoMore }
+{
+    makefiles_are_evaluated();
+}

@@ -1,2 +1,3 @@
 mod AnyPackage
 mod Signs
+mod Colons

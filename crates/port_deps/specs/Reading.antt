@@ -22,13 +22,17 @@ pub record PartsValue : Type 0 where
 abbrev pub colon : ℕ
 colon = 58
 
+-- the parts of a text between its colons
+abbrev pub cut_at_colons : List ℕ → List (List ℕ)
+cut_at_colons text = slice_split (λ byte. byte == colon) text
+
 -- the parts without the empty ones that come first
 abbrev pub after_empty : List (List ℕ) → List (List ℕ)
 after_empty parts = drop (prefix_len (λ part. length part == 0) parts) parts
 
 -- the parts of an item: colons separate them, and empty parts that come first are dropped
 abbrev pub parts_of : List ℕ → List (List ℕ)
-parts_of text = after_empty (slice_split (λ byte. byte == colon) text)
+parts_of text = after_empty (cut_at_colons text)
 
 -- the first of two parts is a spec if it has no slash (47), or has `*` (42) or `|` (124)
 abbrev pub is_spec : List ℕ → Bool

@@ -1,6 +1,7 @@
--- How the definitions see the types of the code.
+-- How the definitions see the types and the texts of the code.
+use Rattle.std.specs.Prelude.{◌≢◌, ℕ, List, ◌∷◌}
 use Rattle.std.specs.Option.{option_copied}
-use Rattle.port_deps.specs.Reading.{PartsValue}
+use Rattle.port_deps.specs.Reading.{PartsValue, colon}
 use Rattle.port_deps.specs.Statuses.{FoundValue}
 use Rattle.port_deps.specs.Statuses as found
 use Rattle.port_deps.specs.declared.reading.Parts.{Parts}
@@ -17,3 +18,7 @@ found_seen NotThere = found.NotThere
 found_seen (Faulted kind) = found.Faulted kind
 found_seen NotPort = found.NotPort
 found_seen (Port port) = found.Port port.now
+
+-- a text doesn't begin with a colon
+abbrev pub BeginsWithNoColon : List ℕ → Type 0
+BeginsWithNoColon text = (rest : List ℕ) → text ≢ colon ∷ rest

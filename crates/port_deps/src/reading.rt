@@ -1,10 +1,9 @@
 //! How the text of an item is read.
-ghost use Rattle.std.specs.Prelude.{◌≡◌, ◌==◌, ◌++◌, ℕ, List, IfOk, codes, option_map, position};
+ghost use Rattle.std.specs.Prelude.{◌≡◌, ◌==◌, ◌++◌, ◌∷◌, ℕ, List, IfOk, codes, option_map, position};
 ghost use Rattle.std.specs.List.{list_any};
 ghost use Rattle.std.specs.Option.{option_copied};
-ghost use Rattle.text_parts.specs.Cuts.{now_all};
 ghost use Rattle.port_deps.specs.Reading as reading;
-ghost use Rattle.port_deps.specs.Seen.{parts_seen};
+ghost use Rattle.port_deps.specs.Seen.{parts_seen, BeginsWithNoColon};
 
 use crate::wanting::Wanted;
 use pkg_path::PkgPath;
@@ -23,34 +22,53 @@ pub(crate) struct Parts<'a> {
 pub fn read_wanted(alloc: Global, text: &str) -> Result<Option<Wanted>, AllocError>
     ensures { IfOk result (λ wanted. wanted ≡ reading.wanted_of text.now) }
 {
-    let parts = parts_of(alloc, text)?;
-    match named_parts(&parts) {
+    match named_parts(behind_colons(text)) {
         Some(parts) => wanted_in(alloc, parts.spec, parts.path),
         None => Ok(None),
     }
 }
 
-/// The parts of an item after the empty ones that come first.
-fn parts_of(alloc: Global, text: &str) -> Result<Vec<&str>, AllocError>
-    ensures { IfOk result (λ parts. now_all parts.items ≡ reading.parts_of text.now) }
+/// An item without the colons that come first.
+fn behind_colons(text: &str) -> &str
+    ensures parts { reading.parts_of result.now ≡ reading.parts_of text.now }
+    ensures begins { BeginsWithNoColon result.now }
 {
-    text.split(':')
-        .skip_while(|part| part.is_empty())
-        .collect(alloc)
+    let mut left = text;
+    while let Some(behind) = left.strip_prefix(':') {
+        left = behind;
+    }
+    left
 }
 
 /// Which of an item's parts say what it asks for; `None` if there are none or more than three.
-fn named_parts<'a>(parts: &[&'a str]) -> Option<Parts<'a>>
-    ensures { option_map parts_seen result ≡ reading.named_parts (now_all parts.now) }
+fn named_parts(text: &str) -> Option<Parts<'_>>
+    requires { BeginsWithNoColon text.now }
+    ensures { option_map parts_seen result ≡ reading.named_parts (reading.parts_of text.now) }
 {
-    match parts {
-        [path] => Some(Parts { spec: None, path }),
-        [first, second] => Some(of_two(first, second)),
-        [spec, path, _target] => Some(Parts {
-            spec: Some(spec),
+    if text.is_empty() {
+        return None;
+    }
+    match text.split_once(':') {
+        Some((first, others)) => of_more(first, others),
+        None => Some(Parts {
+            spec: None,
+            path: text,
+        }),
+    }
+}
+
+/// The same of a first part and of others, which colons separate.
+fn of_more<'a>(first: &'a str, others: &'a str) -> Option<Parts<'a>>
+    ensures { option_map parts_seen result
+        ≡ reading.named_parts (first.now ∷ reading.cut_at_colons others.now) }
+{
+    match others.split_once(':') {
+        Some((_path, targets)) if targets.contains(':') => None,
+        Some((path, _target)) => Some(Parts {
+            spec: Some(first),
             path,
         }),
-        _ => None,
+        None => Some(of_two(first, others)),
     }
 }
 

@@ -1,6 +1,7 @@
 -- What an event tells.
 use Rattle.std.specs.Prelude.{◌≡◌, ℕ, Bool, true, ◌==◌, MatchOption, Some, None}
 use Rattle.ports_http.specs.Messages.{ReplyMessage}
+use Rattle.ports_index.specs.declared.spending.Spent.{Spent}
 use Rattle.ports_core.specs.declared.event.Event.{Event}
 use Rattle.ports_core.specs.declared.event.Event.TheVariants.{Open, Piece, End, Fault, Wrote, Turn}
 use Rattle.ports_core.specs.declared.event.Told.{Told}
@@ -17,6 +18,10 @@ in_turn tenant conn reply = record { tenant = Some tenant; conn = conn; reply = 
 -- 503, which is answered if the service failed: it changed nothing
 abbrev pub is_failure : ℕ → Bool
 is_failure status = status == 503
+
+-- what an event tells as spent
+abbrev pub spent_in : Told → Spent
+spent_in told = record { units = told.units; checks = told.checks }
 
 -- no unit of work and no checked answer is counted
 abbrev pub CountsNone : Told → Type 0

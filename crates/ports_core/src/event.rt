@@ -1,8 +1,9 @@
 //! What happens to a service, and what it tells.
 ghost use Rattle.std.specs.Prelude.{◌≡◌, Some, None};
-ghost use Rattle.ports_core.specs.Telling.{CountsNone};
+ghost use Rattle.ports_core.specs.Telling.{CountsNone, spent_in};
 
 use ports_http::Reply;
+use ports_index::Spent;
 
 /// Something that happens to a service. Connections go by the number that they had when they opened,
 /// tenants by the place of their key.
@@ -43,7 +44,7 @@ pub enum Refused {
 
 /// What an event told: at most one reply, the refusal of a connection that was to open, the connection that
 /// closed, and the counts of units of work and of answers checked. Both counts are 0 in every event but a
-/// turn, and in a turn that tells 503. No answers are checked yet.
+/// turn, and in a turn that tells 503.
 #[derive(Drop)]
 pub struct Told {
     pub reply: Option<Tell>,
@@ -80,20 +81,19 @@ impl Told {
         }
     }
 
-    /// A turn tells this reply, after so many units of work, and a connection closes, or none.
-    pub(crate) fn answer(tell: Tell, closed: Option<u64>, units: u64) -> Told
+    /// A turn tells this reply, for which this was spent, and a connection closes, or none.
+    pub(crate) fn answer(tell: Tell, closed: Option<u64>, spent: Spent) -> Told
         ensures reply { result.reply ≡ Some tell }
         ensures refused { result.refused ≡ None }
         ensures closed { result.closed ≡ closed }
-        ensures units { result.units ≡ units }
-        ensures checks { result.checks ≡ 0 }
+        ensures spent { spent_in result ≡ spent }
     {
         Told {
             reply: Some(tell),
             refused: None,
             closed,
-            units,
-            checks: 0,
+            units: spent.units,
+            checks: spent.checks,
         }
     }
 

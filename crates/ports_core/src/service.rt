@@ -260,7 +260,7 @@ impl<K: Tenants> Service<K> {
         let Worked {
             reply,
             bytes,
-            units,
+            spent,
         } = self.worlds.work(self.alloc, tenant, &request, close);
         answer_connection(&mut self.connections, conn, &reply, bytes);
         let closed = close_done(&mut self.connections, conn);
@@ -269,7 +269,7 @@ impl<K: Tenants> Service<K> {
             conn,
             reply,
         };
-        Told::answer(tell, closed, units)
+        Told::answer(tell, closed, spent)
     }
 }
 

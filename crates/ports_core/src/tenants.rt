@@ -8,6 +8,7 @@ ghost use Rattle.ports_core.specs.Keys.{is_fit};
 use crate::keys::Config;
 use mk_paths::FilesFault;
 use ports_http::{Reply, Request};
+use ports_index::Spent;
 use std::alloc::Global;
 
 /// What was done for a tenant's first request.
@@ -18,8 +19,9 @@ pub struct Worked {
     /// The reply's bytes, which say whether the connection closes; `None` if it is one of the fixed replies,
     /// for which room is reserved.
     pub bytes: Option<Vec<u8>>,
-    /// The units that were spent on lines, records and values; 0 with 503.
-    pub units: u64,
+    /// What was spent: units on lines, records and values, and answers checked of evaluations that were kept.
+    /// Nothing with 503.
+    pub spent: Spent,
 }
 
 /// The world of each tenant, by the tenants' numbers, wherever these worlds are kept, and the plain service
@@ -39,11 +41,13 @@ pub trait Tenants: Sized + Drop {
     /// keeps the worlds fails, or there is no memory, the world is unchanged. Then the reply is the fixed
     /// one that says so, without bytes, and nothing is told as spent.
     ///
-    /// A request that asks for the index spends at most what it costs, and any other spends just that.
+    /// A request that asks for the index spends at most the units that it costs. Any other spends just these. Or the
+    /// one evaluation that it needs was kept: then at least one answer is checked, and the evaluation's units aren't
+    /// spent. At most 1,028 answers are checked for each makefile on which the reply rests.
     fn work(&mut self, alloc: Global, tenant: usize, request: &Request, close: bool) -> Worked
         requires { tenant < length (worlds self.old) }
         ensures answers { AnswersFor tenant request.now result.reply (worlds self.old) (worlds self.new) }
-        ensures charges { ChargesFor tenant request.now result.reply result.units (worlds self.old) }
+        ensures charges { ChargesFor tenant request.now result.reply result.spent (worlds self.old) }
         ensures bytes { AreBytesOf result.reply close result.bytes }
         ensures count { length (worlds self.new) ≡ length (worlds self.old) };
 

@@ -9,6 +9,5 @@ pub mod More
 pub mod Lookups
 pub mod Names
 pub mod SamePaths
-pub mod NamedPaths
 pub mod RowLemmas
 pub mod TargetLemmas

@@ -10,3 +10,5 @@ pub mod Efforts
 pub mod Pairs
 pub mod Seen
 pub mod RowLaws
+pub mod Spending
+pub mod NamedPaths

@@ -159,7 +159,7 @@ pub(crate) fn edges_of_all<R: Rows>(
     ensures { IfOk result (λ found. found.items
         ≡ map (depending.edge_at (known_in (R.entries rows.now))) (map item_seen items.items)) }
 {
-    let mut found = Vec::new(alloc);
+    let mut found = Vec::with_capacity(alloc, items.len())?;
     for rooted in items {
         found.push(edge_of(alloc, rooted, rows)?)?;
     }

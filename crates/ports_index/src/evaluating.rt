@@ -13,7 +13,7 @@ ghost use Rattle.ports_index.specs.PathQuestions as asked;
 ghost use Rattle.ports_index.specs.Seen.{finding_seen};
 
 use mk_base::{Fault, PureStop, Stop};
-use mk_eval::{Evaluated, Kind, evaluate, value};
+use mk_eval::{Evaluated, Failed, Kind, evaluate, value};
 use mk_files::Files;
 use mk_paths::{FilesFault, Name, Settings, find};
 use pkg_path::PkgPath;
@@ -81,8 +81,8 @@ pub fn evaluate_path<F: Files>(
 }
 
 impl Finding {
-    // There is no makefile, and that cost nothing.
-    fn nothing() -> Finding
+    /// What a path leads to without a makefile: nothing, at no cost.
+    pub fn nothing() -> Finding
         ensures { finding_seen result ≡ outcomes.nothing_found }
     {
         Finding {
@@ -109,13 +109,13 @@ fn finding_in<F: Files>(
     ensures keeps { Keeps (result_err result) (F.view files.old) (F.view files.new) }
 {
     match find(alloc, files, &settings.path, directory)? {
-        Some(makefile) => finding_of(alloc, files, settings, &makefile, flavors),
+        Some(makefile) => finding_at(alloc, files, settings, &makefile, flavors),
         None => Ok(Finding::nothing()),
     }
 }
 
 // What a makefile describes.
-fn finding_of<F: Files>(
+fn finding_at<F: Files>(
     alloc: Global,
     files: &mut F,
     settings: &Settings,
@@ -129,15 +129,40 @@ fn finding_of<F: Files>(
         (questions_of (F.view files.old).files settings.now makefile.now (flavors_in flavors.entry))) }
     ensures keeps { Keeps (result_err result) (F.view files.old) (F.view files.new) }
 {
-    match evaluate(alloc, files, settings, makefile, flavors) {
-        Ok(evaluated) => Ok(finding_after(alloc, &evaluated, makefile, flavors)?),
-        Err(Stop::Fault(failed)) => Ok(Finding {
-            row: Row::Faulty(failed.fault),
+    let outcome = match evaluate(alloc, files, settings, makefile, flavors) {
+        Ok(evaluated) => Ok(evaluated),
+        Err(Stop::Fault(failed)) => Err(failed),
+        Err(Stop::Store) => return Err(FilesFault::Store),
+        Err(Stop::Memory) => return Err(FilesFault::Memory),
+    };
+    Ok(finding_of(alloc, &outcome, makefile, flavors)?)
+}
+
+/// What the makefile of this name describes, given how its evaluation with these flavors, or with none given,
+/// ended. It fails only if memory runs out.
+pub fn finding_of(
+    alloc: Global,
+    outcome: &Result<Evaluated, Failed>,
+    makefile: &Name,
+    flavors: Option<&[String]>,
+) -> Result<Finding, AllocError>
+    ensures { IfOk result (λ found. finding_seen found
+        ≡ outcomes.finding_of_evaluation makefile.now (flavors_in flavors.entry) outcome.now) }
+{
+    match outcome {
+        Ok(evaluated) => finding_after(alloc, evaluated, makefile, flavors),
+        Err(failed) => Ok(Finding {
+            row: Row::Faulty(copy_of(alloc, &failed.fault)?),
             cost: failed.cost,
         }),
-        Err(Stop::Store) => Err(FilesFault::Store),
-        Err(Stop::Memory) => Err(FilesFault::Memory),
     }
+}
+
+// The same fault once more.
+fn copy_of(alloc: Global, fault: &Fault) -> Result<Fault, AllocError>
+    ensures { IfOk result (λ copied. copied ≡ fault.now) }
+{
+    Fault::new(alloc, fault.kind(), fault.name(), fault.line())
 }
 
 // What an evaluated makefile describes.

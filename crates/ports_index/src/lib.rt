@@ -10,10 +10,11 @@ mod indexing;
 mod keeping;
 mod laws;
 mod naming;
+mod spending;
 
 pub use depending::{edges_among, needed_among, roots_of_all};
 pub use effort::Effort;
-pub use evaluating::{Finding, Row, evaluate_path};
+pub use evaluating::{Finding, Row, evaluate_path, finding_of};
 pub use filling::fill;
 pub use indexing::{Index, index_files, index_roots};
 pub use keeping::{MemoryRows, Rows};
@@ -22,3 +23,4 @@ pub use laws::{
     one_row_more_leaves_less, path_is_the_same_where_answered,
 };
 pub use naming::{directories, listed};
+pub use spending::Spent;

@@ -7,3 +7,4 @@ mod RouteTable
 mod TargetLemmas
 mod TrimmingLemmas
 mod ListFloats
+mod SpendingLemmas

@@ -17,3 +17,4 @@ pub mod Plain
 pub mod Questions
 pub mod Answers
 pub mod Resting
+pub mod Spending

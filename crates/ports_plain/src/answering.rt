@@ -22,6 +22,7 @@ use crate::target::path_and_query;
 use crate::variables::{variable_question, variable_reply};
 use mk_paths::FilesFault;
 use ports_http::{Method, Reply, StatusCode};
+use ports_index::Spent;
 use std::alloc::{AllocError, Global};
 
 /// The plain service: its routes, made once. It holds nothing of a tenant.
@@ -39,7 +40,7 @@ impl Plain {
     }
 
     /// The answer to one request over the ports of one tenant's world: its reply, and what is to be changed,
-    /// with the units that were spent. Nothing of the world is changed yet.
+    /// with what was spent. Nothing of the world is changed yet.
     ///
     /// `/v1/file?name=N` is about the file that N names. `GET` gives its bytes. `PUT` stores the body, in
     /// bytes, as that file: 200 `{"stored":true}`. `DELETE` removes it: 200 `{"removed":true}`. If the
@@ -79,11 +80,11 @@ impl Plain {
         method: Method,
         target: &str,
         body: &[u8],
-    ) -> Result<(Prepared, u64), FilesFault>
+    ) -> Result<(Prepared, Spent), FilesFault>
         ensures answer { IfOk result (λ found. (found.0.reply, found.0.change)
             ≡ answer (P.world ports.old) (plain_request method target.now body.now)) }
-        ensures units { IfOk result (λ found. found.1
-            ≡ P.charge ports.old (need_of (question_of (plain_request method target.now body.now)))) }
+        ensures spent { IfOk result (λ found. P.charges ports.old
+            (need_of (question_of (plain_request method target.now body.now))) found.1) }
         ensures leaves { P.leaves (result_err result) ports.old ports.new }
     {
         questions_have_the_answers();
@@ -154,21 +155,21 @@ fn get_question(alloc: Global, route: Route, query: &str) -> Result<Question, Al
 }
 
 /// The answer to a question over the ports of a tenant's world: its reply, and what is to be changed, with
-/// the units that were spent. It fails if finding out what is needed fails, or if memory runs out.
+/// what was spent. It fails if finding out what is needed fails, or if memory runs out.
 pub fn answer_question<P: Ports>(
     alloc: Global,
     ports: &mut P,
     question: Question,
-) -> Result<(Prepared, u64), FilesFault>
+) -> Result<(Prepared, Spent), FilesFault>
     ensures answer { IfOk result (λ found. (found.0.reply, found.0.change)
         ≡ answer_to (P.world ports.old) question) }
-    ensures units { IfOk result (λ found. found.1 ≡ P.charge ports.old (need_of question)) }
+    ensures spent { IfOk result (λ found. P.charges ports.old (need_of question) found.1) }
     ensures leaves { P.leaves (result_err result) ports.old ports.new }
 {
     match question {
-        Question::Settled(prepared) => Ok((prepared, 0)),
-        Question::ShowFile(name) => Ok((show_file(alloc, ports, &name)?, 0)),
-        Question::RemoveFile(name) => Ok((remove_file(alloc, ports, name)?, 0)),
+        Question::Settled(prepared) => Ok((prepared, Spent::nothing())),
+        Question::ShowFile(name) => Ok((show_file(alloc, ports, &name)?, Spent::nothing())),
+        Question::RemoveFile(name) => Ok((remove_file(alloc, ports, name)?, Spent::nothing())),
         Question::Variable(asked) => Ok(reply_alone(variable_reply(alloc, ports, &asked)?)),
         Question::Port(path) => Ok(reply_alone(port_reply(alloc, ports, &path)?)),
         Question::List(conditions) => Ok(reply_alone(list_reply(alloc, ports, &conditions)?)),
@@ -180,10 +181,10 @@ pub fn answer_question<P: Ports>(
     }
 }
 
-// The answer that is a reply alone, with the units that were spent.
-fn reply_alone(told: (Reply, u64)) -> (Prepared, u64)
+// The answer that is a reply alone, with what was spent.
+fn reply_alone(told: (Reply, Spent)) -> (Prepared, Spent)
     ensures { result ≡ record { 0 = record { reply = told.0; change = None }; 1 = told.1 } }
 {
-    let (reply, units) = told;
-    (Prepared::reply_alone(reply), units)
+    let (reply, spent) = told;
+    (Prepared::reply_alone(reply), spent)
 }

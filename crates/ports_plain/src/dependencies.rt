@@ -19,6 +19,7 @@ use mk_paths::FilesFault;
 use pkg_path::PkgPath;
 use port_deps::{Root, RootEdge};
 use ports_http::{Reply, StatusCode};
+use ports_index::Spent;
 use ports_query::{Cursor, Kinds, edges_to, first_edges, reached, reaching, root_at};
 use serde_json::Value;
 use std::alloc::{AllocError, Global};
@@ -89,21 +90,21 @@ fn question_on(
     }
 }
 
-// What a port depends on, or what depends on it, and the units that were spent.
+// What a port depends on, or what depends on it, and what was spent.
 pub fn dependency_reply<P: Ports>(
     alloc: Global,
     ports: &mut P,
     direction: Direction,
     question: &DependencyQuestion,
-) -> Result<(Reply, u64), FilesFault>
+) -> Result<(Reply, Spent), FilesFault>
     ensures reply { IfOk result (λ told. told.0
         ≡ routes.dependency_reply (P.world ports.old) direction question.now) }
-    ensures units { IfOk result (λ told. told.1 ≡ P.charge ports.old IndexNeed) }
+    ensures spent { IfOk result (λ told. P.charges ports.old IndexNeed told.1) }
     ensures leaves { P.leaves (result_err result) ports.old ports.new }
 {
-    let (mut roots, mut edges, units) = ports.index(alloc)?;
+    let (mut roots, mut edges, spent) = ports.index(alloc)?;
     let reply = reply_to(alloc, &mut roots, &mut edges, direction, question)?;
-    Ok((reply, units))
+    Ok((reply, spent))
 }
 
 // What a port depends on, or what depends on it, by these roots and dependencies.

@@ -3,6 +3,7 @@ ghost use Rattle.std.specs.Prelude.{◌≡◌, ◌==◌, false};
 ghost use Rattle.mk_paths.specs.World.{World};
 ghost use Rattle.ports_plain.specs.Answers.{QuestionsHaveTheAnswers};
 ghost use Rattle.ports_plain.specs.Plain.{PlainRequest, plain};
+ghost use Rattle.ports_plain.specs.Spending.{ChecksNoMore, SpendsAllUnchecked, SpendsNoMore};
 
 /// The plain service never answers 503. A service over many tenants answers that if it fails.
 pub fn never_answers_503()
@@ -13,4 +14,13 @@ pub fn never_answers_503()
 /// In every world the answer to a request is the answer to the question that it asks.
 pub fn questions_have_the_answers()
     ensures { QuestionsHaveTheAnswers }
+{}
+
+/// What is spent for a question is never more units than it costs, and at most 1,028 answers are checked for each
+/// makefile on which its answer rests. If one makefile at most is needed and no answer is checked, all these units
+/// are spent.
+pub fn spending_is_bounded()
+    ensures within { SpendsNoMore }
+    ensures few { ChecksNoMore }
+    ensures whole { SpendsAllUnchecked }
 {}

@@ -13,6 +13,7 @@ use crate::replies::json_reply;
 use mk_paths::FilesFault;
 use pkg_spec::{Spec, SpecFault};
 use ports_http::{Reply, StatusCode};
+use ports_index::Spent;
 use ports_query::{Listed, Query, QueryFault, admitted, answer};
 use std::alloc::{AllocError, Global};
 
@@ -30,20 +31,20 @@ pub fn list_question(alloc: Global, query: &str) -> Result<Question, AllocError>
     }
 }
 
-// The packages that meet all these conditions, and the units that were spent.
+// The packages that meet all these conditions, and what was spent.
 pub fn list_reply<P: Ports>(
     alloc: Global,
     ports: &mut P,
     conditions: &Query,
-) -> Result<(Reply, u64), FilesFault>
+) -> Result<(Reply, Spent), FilesFault>
     ensures reply { IfOk result (λ told. told.0
         ≡ routes.list_reply (P.world ports.old) conditions.now) }
-    ensures units { IfOk result (λ told. told.1 ≡ P.charge ports.old RootsNeed) }
+    ensures spent { IfOk result (λ told. P.charges ports.old RootsNeed told.1) }
     ensures leaves { P.leaves (result_err result) ports.old ports.new }
 {
-    let (mut roots, units) = ports.roots(alloc)?;
+    let (mut roots, spent) = ports.roots(alloc)?;
     let packages = answer(alloc, conditions, &mut roots)?;
-    Ok((packages_reply(alloc, packages.as_slice())?, units))
+    Ok((packages_reply(alloc, packages.as_slice())?, spent))
 }
 
 // The question about the packages that are admitted by the spec that the query gives.
@@ -60,20 +61,20 @@ pub fn match_question(alloc: Global, query: &str) -> Result<Question, AllocError
     }
 }
 
-// The packages that a spec admits, and the units that were spent.
+// The packages that a spec admits, and what was spent.
 pub fn match_reply<P: Ports>(
     alloc: Global,
     ports: &mut P,
     spec: &Spec,
-) -> Result<(Reply, u64), FilesFault>
+) -> Result<(Reply, Spent), FilesFault>
     ensures reply { IfOk result (λ told. told.0
         ≡ routes.match_reply (P.world ports.old) spec.now) }
-    ensures units { IfOk result (λ told. told.1 ≡ P.charge ports.old RootsNeed) }
+    ensures spent { IfOk result (λ told. P.charges ports.old RootsNeed told.1) }
     ensures leaves { P.leaves (result_err result) ports.old ports.new }
 {
-    let (mut roots, units) = ports.roots(alloc)?;
+    let (mut roots, spent) = ports.roots(alloc)?;
     let packages = admitted(alloc, spec, &mut roots)?;
-    Ok((packages_reply(alloc, packages.as_slice())?, units))
+    Ok((packages_reply(alloc, packages.as_slice())?, spent))
 }
 
 // The reply that lists packages.
@@ -84,13 +85,13 @@ fn packages_reply(alloc: Global, packages: &[Listed]) -> Result<Reply, AllocErro
     json_reply(alloc, StatusCode::OK, &body)
 }
 
-// The faults of ports and lists, and the units that were spent.
-pub fn faults_reply<P: Ports>(alloc: Global, ports: &mut P) -> Result<(Reply, u64), FilesFault>
+// The faults of ports and lists, and what was spent.
+pub fn faults_reply<P: Ports>(alloc: Global, ports: &mut P) -> Result<(Reply, Spent), FilesFault>
     ensures reply { IfOk result (λ told. told.0 ≡ routes.get_faults (P.world ports.old)) }
-    ensures units { IfOk result (λ told. told.1 ≡ P.charge ports.old RootsNeed) }
+    ensures spent { IfOk result (λ told. P.charges ports.old RootsNeed told.1) }
     ensures leaves { P.leaves (result_err result) ports.old ports.new }
 {
-    let (mut roots, units) = ports.roots(alloc)?;
+    let (mut roots, spent) = ports.roots(alloc)?;
     let body = list_bodies::faults(alloc, &mut roots)?;
-    Ok((json_reply(alloc, StatusCode::OK, &body)?, units))
+    Ok((json_reply(alloc, StatusCode::OK, &body)?, spent))
 }

@@ -16,6 +16,7 @@ use mk_paths::FilesFault;
 use pkg_path::PkgPath;
 use port_rules::PortRecord;
 use ports_http::{Reply, StatusCode};
+use ports_index::Spent;
 use std::alloc::{AllocError, Global};
 
 // The question about the port whose path the query gives.
@@ -28,18 +29,18 @@ pub fn port_question(alloc: Global, query: &str) -> Result<Question, AllocError>
     }
 }
 
-// The reply to it, and the units that were spent.
+// The reply to it, and what was spent.
 pub fn port_reply<P: Ports>(
     alloc: Global,
     ports: &mut P,
     path: &PkgPath,
-) -> Result<(Reply, u64), FilesFault>
+) -> Result<(Reply, Spent), FilesFault>
     ensures reply { IfOk result (λ told. told.0 ≡ port_of (P.world ports.old) path.now) }
-    ensures units { IfOk result (λ told. told.1 ≡ P.charge ports.old (RecordNeed path.now)) }
+    ensures spent { IfOk result (λ told. P.charges ports.old (RecordNeed path.now) told.1) }
     ensures leaves { P.leaves (result_err result) ports.old ports.new }
 {
-    let (found, units) = ports.record(alloc, path)?;
-    Ok((record_reply(alloc, path, &found)?, units))
+    let (found, spent) = ports.record(alloc, path)?;
+    Ok((record_reply(alloc, path, &found)?, spent))
 }
 
 // The reply to what is found of the port at a path.

@@ -1,11 +1,13 @@
 //! What answers ask of a tenant's world.
 ghost use Rattle.mk_paths.specs.World.{World, files_in};
-ghost use Rattle.std.specs.Prelude.{◌≡◌, ℕ, Option, Some, None, IfOk};
+ghost use Rattle.std.specs.Prelude.{◌≡◌, Option, Some, None, IfOk};
 ghost use Rattle.std.specs.FinMap.{get, contains_key};
 ghost use Rattle.std.specs.Result.{result_err};
 ghost use Rattle.mk_paths.specs.declared.asking.FilesFault.{FilesFault};
 ghost use Rattle.mk_paths.specs.declared.asking.FilesFault.TheVariants.{Memory};
 ghost use Rattle.ports_index.specs.Index as indexed;
+ghost use Rattle.ports_index.specs.Spending.{no_spending};
+ghost use Rattle.ports_index.specs.declared.spending.Spent.{Spent};
 ghost use Rattle.ports_query.specs.Failing.{EitherMayFail};
 ghost use Rattle.ports_plain.specs.Answers.{value_found, record_found};
 ghost use Rattle.ports_plain.specs.Resting.{Need, NoNeed, ValueNeed, RecordNeed, RootsNeed, IndexNeed};
@@ -17,6 +19,7 @@ use mk_paths::{FilesFault, Name};
 use pkg_path::PkgPath;
 use port_deps::{Root, RootEdge};
 use port_rules::Recorded;
+use ports_index::Spent;
 use ports_query::Cursor;
 use std::alloc::Global;
 
@@ -30,8 +33,8 @@ pub type RecordFound = Option<Result<Option<Recorded>, Failed>>;
 
 /// The ports of a tenant's world, and its files, as far as answers ask for them, however they are found.
 ///
-/// `world` is that world. `charge` says how many units these ports spend to find what is needed. `leaves`
-/// says what work leaves of them that ended with this fault, or with none.
+/// `world` is that world. `charges` says what these ports may spend to find what is needed. `leaves` says what
+/// work leaves of them that ended with this fault, or with none.
 pub trait Ports {
     type Roots: Cursor<Root> + Drop;
 
@@ -39,7 +42,7 @@ pub trait Ports {
 
     ghost world: { Self → World };
 
-    ghost charge: { Self → Need → ℕ };
+    ghost charges: { Self → Need → Spent → Type 0 };
 
     ghost leaves: { Option FilesFault → Self → Self → Type 0 };
 
@@ -54,38 +57,38 @@ pub trait Ports {
             ≡ contains_key (files_in (world self.old)) name.now) }
         ensures leaves { leaves (result_err result) self.old self.new };
 
-    /// What is found of a variable of a port, and the units that were spent.
+    /// What is found of a variable of a port, and what was spent.
     fn value(
         &mut self,
         alloc: Global,
         question: &VariableQuestion,
-    ) -> Result<(ValueFound, u64), FilesFault>
+    ) -> Result<(ValueFound, Spent), FilesFault>
         ensures found { IfOk result (λ found. found.0 ≡ value_found (world self.old) question.now) }
-        ensures units { IfOk result (λ found. found.1 ≡ charge self.old (ValueNeed question.now)) }
+        ensures spent { IfOk result (λ found. charges self.old (ValueNeed question.now) found.1) }
         ensures leaves { leaves (result_err result) self.old self.new };
 
-    /// What is found of the port at a path, and the units that were spent.
-    fn record(&mut self, alloc: Global, path: &PkgPath) -> Result<(RecordFound, u64), FilesFault>
+    /// What is found of the port at a path, and what was spent.
+    fn record(&mut self, alloc: Global, path: &PkgPath) -> Result<(RecordFound, Spent), FilesFault>
         ensures found { IfOk result (λ found. found.0 ≡ record_found (world self.old) path.now) }
-        ensures units { IfOk result (λ found. found.1 ≡ charge self.old (RecordNeed path.now)) }
+        ensures spent { IfOk result (λ found. charges self.old (RecordNeed path.now) found.1) }
         ensures leaves { leaves (result_err result) self.old self.new };
 
-    /// The roots of the index, row by row, and the units that were spent.
-    fn roots(&mut self, alloc: Global) -> Result<(Self::Roots, u64), FilesFault>
+    /// The roots of the index, row by row, and what was spent.
+    fn roots(&mut self, alloc: Global) -> Result<(Self::Roots, Spent), FilesFault>
         ensures found { IfOk result (λ found. Self.Roots.left found.0 ≡ indexed.roots (world self.old)) }
-        ensures units { IfOk result (λ found. found.1 ≡ charge self.old RootsNeed) }
+        ensures spent { IfOk result (λ found. charges self.old RootsNeed found.1) }
         ensures leaves { leaves (result_err result) self.old self.new };
 
-    /// The roots and the dependencies of the index, row by row, and the units that were spent.
-    fn index(&mut self, alloc: Global) -> Result<(Self::Roots, Self::Edges, u64), FilesFault>
+    /// The roots and the dependencies of the index, row by row, and what was spent.
+    fn index(&mut self, alloc: Global) -> Result<(Self::Roots, Self::Edges, Spent), FilesFault>
         ensures roots { IfOk result (λ found. Self.Roots.left found.0 ≡ indexed.roots (world self.old)) }
         ensures edges { IfOk result (λ found. Self.Edges.left found.1 ≡ indexed.edges (world self.old)) }
-        ensures units { IfOk result (λ found. found.2 ≡ charge self.old IndexNeed) }
+        ensures spent { IfOk result (λ found. charges self.old IndexNeed found.2) }
         ensures leaves { leaves (result_err result) self.old self.new };
 
-    // where nothing is needed, nothing is spent; no work leaves all as it is; after work that went well memory
+    // where nothing is needed, nothing may be spent; no work leaves all as it is; after work that went well memory
     // may run out, or the rows may fail that it handed out
-    ghost charges_nothing: { (ports : Self) → charge ports NoNeed ≡ 0 };
+    ghost charges_nothing: { (ports : Self) → charges ports NoNeed no_spending };
 
     ghost leaves_all: { (ports : Self) → leaves None ports ports };
 

@@ -13,6 +13,7 @@ use crate::questions::{Question, VariableQuestion};
 use crate::replies::{faulty, refusal, variable};
 use mk_paths::FilesFault;
 use ports_http::{Reply, StatusCode};
+use ports_index::Spent;
 use std::alloc::{AllocError, Global};
 
 // The question about the variable that the query names, of the port whose path it gives.
@@ -31,19 +32,19 @@ pub fn variable_question(alloc: Global, query: &str) -> Result<Question, AllocEr
     }
 }
 
-// The reply to it, and the units that were spent.
+// The reply to it, and what was spent.
 pub fn variable_reply<P: Ports>(
     alloc: Global,
     ports: &mut P,
     question: &VariableQuestion,
-) -> Result<(Reply, u64), FilesFault>
+) -> Result<(Reply, Spent), FilesFault>
     ensures reply { IfOk result (λ told. told.0
         ≡ variable_of (P.world ports.old) question.now.name question.now.path) }
-    ensures units { IfOk result (λ told. told.1 ≡ P.charge ports.old (ValueNeed question.now)) }
+    ensures spent { IfOk result (λ told. P.charges ports.old (ValueNeed question.now) told.1) }
     ensures leaves { P.leaves (result_err result) ports.old ports.new }
 {
-    let (found, units) = ports.value(alloc, question)?;
-    Ok((value_reply(alloc, &found)?, units))
+    let (found, spent) = ports.value(alloc, question)?;
+    Ok((value_reply(alloc, &found)?, spent))
 }
 
 // The reply to what is found of a variable.

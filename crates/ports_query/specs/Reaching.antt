@@ -13,6 +13,8 @@ use Rattle.ports_query.specs.Kinds.{has_kind}
 use Rattle.ports_query.specs.Edges.{first_edges_of}
 use Rattle.ports_query.specs.declared.kinds.Kinds.{Kinds}
 use Rattle.ports_query.specs.declared.reach.Step.{Step}
+use Rattle.ports_query.specs.declared.reach.PortPath.{PortPath}
+use Rattle.ports_query.specs.declared.reach.PortPath.TheVariants.{Plain, Flavored}
 
 -- a dependency with this status is met
 abbrev pub is_met : Status → Bool
@@ -48,6 +50,11 @@ reached_from kinds path edges = reached_of kinds (first_edges_of kinds path edge
 abbrev pub reaching_of : Kinds → PathValue → List RootEdgeValue → List (List ℕ)
 reaching_of kinds path edges = reaching_list (arrows_of kinds edges) (port_path path)
 
+-- the path of a port, as text
+abbrev pub path_seen : PortPath → List ℕ
+path_seen (Plain path) = path.directory
+path_seen (Flavored text) = string_bytes text
+
 -- a step of the code
 abbrev pub step_seen : Step → ArrowValue
-step_seen step = record { from = string_bytes step.from; to = string_bytes step.to }
+step_seen step = record { from = string_bytes step.from; to = path_seen step.to }

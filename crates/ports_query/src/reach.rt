@@ -1,5 +1,7 @@
 //! The ports that are reached over dependencies that are met, and those that reach one.
-ghost use Rattle.std.specs.Prelude.{◌≡◌, ◌++◌, IfOk, IfErr, OnOk, map, string_bytes, option_to_list};
+ghost use Rattle.std.specs.Prelude.{◌≡◌, ◌++◌, IfOk, IfErr, OnOk, map, string_bytes, option_map, option_to_list};
+ghost use Rattle.std.specs.Option.{option_copied};
+ghost use Rattle.pkg_path.specs.Paths.{port_path};
 ghost use Rattle.text_graph.specs.Arrows.{arrows_seen};
 ghost use Rattle.text_graph.specs.Listed.{reached_list, reaching_list};
 ghost use Rattle.ports_query.specs.Failing.{MayFail};
@@ -36,10 +38,12 @@ pub fn reached<C: Cursor<RootEdge>>(
     let mut first = Vec::new(alloc);
     let mut steps = Vec::new(alloc);
     while let Some(edge) = edges.next()? {
-        if is_first(kinds, root.as_str(), path.subpackage(), &edge) {
-            add_step(alloc, kinds, &edge, &mut first)?;
+        let begins = is_first(kinds, root.as_str(), path.subpackage(), &edge);
+        let step = Step::over(alloc, kinds, edge)?;
+        if begins {
+            add_step(Step::copy_of(alloc, step.as_ref())?, &mut first)?;
         }
-        add_step(alloc, kinds, &edge, &mut steps)?;
+        add_step(step, &mut steps)?;
     }
     Ok(reached_over(alloc, &first, &steps)?)
 }
@@ -75,7 +79,7 @@ pub fn reaching<C: Cursor<RootEdge>>(
     let goal = path.port_path(alloc)?;
     let mut steps = Vec::new(alloc);
     while let Some(edge) = edges.next()? {
-        add_step(alloc, kinds, &edge, &mut steps)?;
+        add_step(Step::over(alloc, kinds, edge)?, &mut steps)?;
     }
     Ok(reaching_over(alloc, &steps, goal.as_str())?)
 }
@@ -93,30 +97,82 @@ fn reaching_over(alloc: Global, steps: &[Step], goal: &str) -> Result<Vec<String
 /// A step from a port to one that it depends on.
 #[derive(Drop)]
 struct Step {
+    /// The path of the port that depends.
     from: String,
-    to: String,
+    to: PortPath,
 }
 
-/// Adds the step over a dependency, if that is of these kinds and met.
-fn add_step(
-    alloc: Global,
-    kinds: Kinds,
-    edge: &RootEdge,
-    steps: &mut Vec<Step>,
-) -> Result<(), AllocError>
+/// The path of a port. A path without flavors is the text of its directory, and needs no other.
+#[derive(Drop)]
+enum PortPath {
+    /// Without flavors.
+    Plain(PkgPath),
+    /// The text of one with flavors.
+    Flavored(String),
+}
+
+impl Step {
+    /// The step over a dependency, if that is of these kinds and met.
+    fn over(alloc: Global, kinds: Kinds, edge: RootEdge) -> Result<Option<Step>, AllocError>
+        ensures { IfOk result (λ step. option_map reaching.step_seen step
+            ≡ reaching.arrow_of kinds edge) }
+    {
+        if !kinds.have(edge.edge().kind()) || !is_met(edge.edge().status()) {
+            return Ok(None);
+        }
+        match edge.into_ends() {
+            (from, Some(target)) => {
+                let to = PortPath::of(alloc, target)?;
+                Ok(Some(Step { from, to }))
+            }
+            (_from, None) => Ok(None),
+        }
+    }
+
+    /// Another step that is the same, if there is one.
+    fn copy_of(alloc: Global, step: Option<&Step>) -> Result<Option<Step>, AllocError>
+        ensures { IfOk result (λ copied. option_map reaching.step_seen copied
+            ≡ option_map reaching.step_seen (option_copied step.entry)) }
+    {
+        let Some(step) = step else {
+            return Ok(None);
+        };
+        let from = String::from_str(alloc, step.from.as_str())?;
+        let to = PortPath::Flavored(String::from_str(alloc, step.to.text())?);
+        Ok(Some(Step { from, to }))
+    }
+}
+
+impl PortPath {
+    /// The path of the port that a path names.
+    fn of(alloc: Global, target: PkgPath) -> Result<PortPath, AllocError>
+        ensures { IfOk result (λ path. reaching.path_seen path ≡ port_path target) }
+    {
+        if target.flavors().is_none() {
+            return Ok(PortPath::Plain(target));
+        }
+        Ok(PortPath::Flavored(target.port_path(alloc)?))
+    }
+
+    fn text(&self) -> &str
+        ensures { result.now ≡ reaching.path_seen self.now }
+    {
+        match self {
+            PortPath::Plain(path) => path.directory(),
+            PortPath::Flavored(text) => text.as_str(),
+        }
+    }
+}
+
+/// Adds a step, if there is one.
+fn add_step(step: Option<Step>, steps: &mut Vec<Step>) -> Result<(), AllocError>
     ensures { OnOk result (map reaching.step_seen steps.new.items
         ≡ map reaching.step_seen steps.old.items
-        ++ option_to_list (reaching.arrow_of kinds edge.now)) }
+        ++ option_to_list (option_map reaching.step_seen step)) }
 {
-    if !kinds.have(edge.edge().kind()) || !is_met(edge.edge().status()) {
-        return Ok(());
+    if let Some(step) = step {
+        steps.push(step)?;
     }
-    let Some(target) = edge.edge().target() else {
-        return Ok(());
-    };
-    let to = target.port_path(alloc)?;
-    let from = String::from_str(alloc, edge.root())?;
-    steps.push(Step { from, to })?;
     Ok(())
 }
 
@@ -135,7 +191,7 @@ fn arrows_over<'a>(alloc: Global, steps: &'a [Step]) -> Result<Vec<Arrow<'a>>, A
     for step in steps {
         arrows.push(Arrow {
             from: step.from.as_str(),
-            to: step.to.as_str(),
+            to: step.to.text(),
         })?;
     }
     Ok(arrows)

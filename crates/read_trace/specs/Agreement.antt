@@ -5,6 +5,7 @@ use Rattle.std.specs.Bool.{beq}
 use Rattle.std.specs.Str.{bytes_eq}
 use Rattle.mk_paths.specs.World.{FileMap}
 use Rattle.mk_paths.specs.FilesView.{Presence, Contents, Question, FilesView, noted}
+use Rattle.mk_eval.specs.Sharing.{Agrees}
 
 -- two contents with the same bytes, or both of no file
 abbrev pub same_content : Option (List ℕ) → Option (List ℕ) → Bool
@@ -32,6 +33,10 @@ agreement files (question ∷ questions) =
 -- each question has the reply that the files give
 abbrev pub IsAnswered : FileMap → List Question → Type 0
 IsAnswered files questions = (agreement files questions).0 ≡ true
+
+-- so each is answered as the files answer it
+abbrev pub AgreesWhereAnswered : Type 0
+AgreesWhereAnswered = (files : FileMap) (questions : List Question) → IsAnswered files questions → Agrees files questions
 
 -- the question with the reply that the files give
 abbrev pub asked_again : FileMap → Question → Question

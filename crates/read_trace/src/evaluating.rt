@@ -2,7 +2,7 @@
 ghost use Rattle.std.specs.Prelude.{◌≡◌, IfOk, IfErr};
 ghost use Rattle.std.specs.Result.{result_err};
 ghost use Rattle.mk_paths.specs.FilesView.{world_of};
-ghost use Rattle.mk_eval.specs.Sharing.{cost_of};
+ghost use Rattle.mk_eval.specs.Sharing.{cost_of, Agrees};
 ghost use Rattle.mk_eval.specs.Views.{flavors_in};
 ghost use Rattle.read_trace.specs.Recorded.{recorded};
 ghost use Rattle.read_trace.specs.Recording.{MayFail, LeavesMap, view_of};
@@ -38,8 +38,8 @@ impl Evaluation {
 
 /// What the makefile of this name means in the world of these files and settings, as
 /// `mk_eval::evaluate_with` gives it, with the trace of what its evaluation asked. The first question is the
-/// one for the makefile itself. What the recorder had written down before is dropped, and the trace is taken
-/// out.
+/// one for the makefile itself, and each has the answer that the files give. What the recorder had written
+/// down before is dropped, and the trace is taken out.
 ///
 /// If the files fail, their fault is returned. It is `Memory` if memory runs out.
 pub fn evaluate_recorded<F: Files + Drop, P: Parses>(
@@ -52,6 +52,7 @@ pub fn evaluate_recorded<F: Files + Drop, P: Parses>(
 ) -> Result<Evaluation, FilesFault>
     ensures evaluation { IfOk result (λ found. found
         ≡ recorded (world_of (view_of F.view files.old) settings.now) name.now (flavors_in flavors.entry)) }
+    ensures answered { IfOk result (λ found. Agrees (view_of F.view files.old).files found.trace) }
     ensures kind { IfErr result (MayFail F.fails_with) }
     ensures leaves { LeavesMap (result_err result) (view_of F.view files.old) (view_of F.view files.new) }
     ensures parses { P.becomes parses.old parses.new }

@@ -1,4 +1,5 @@
-//! What holds of all traces. The function does nothing else: its clause is the law.
+//! What holds of all traces. The functions do nothing else: their clauses are the laws.
+ghost use Rattle.read_trace.specs.Agreement.{AgreesWhereAnswered};
 ghost use Rattle.read_trace.specs.Recorded.{IsTheSameWhereAgreed};
 
 use mk_eval::same_where_answered;
@@ -10,3 +11,8 @@ pub fn same_where_agreed()
 {
     same_where_answered();
 }
+
+/// If the answers of a trace were checked and are those of the files, the files agree with each.
+pub fn agrees_where_answered()
+    ensures { AgreesWhereAnswered }
+{}

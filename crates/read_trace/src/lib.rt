@@ -10,6 +10,6 @@ mod trace;
 
 pub use agreeing::agrees;
 pub use evaluating::{Evaluation, evaluate_recorded};
-pub use laws::same_where_agreed;
+pub use laws::{agrees_where_answered, same_where_agreed};
 pub use recorder::Recorder;
 pub use trace::{Question, Reply, Trace};

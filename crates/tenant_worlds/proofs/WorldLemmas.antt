@@ -15,16 +15,16 @@ use Rattle.ports_plain.specs.Changing.{settle_change}
 use Rattle.ports_plain.specs.Plain.{PlainRequest, Served, plain, answer}
 use Rattle.tenant_store.specs.Holdings.{Holdings, nothing, files_of, path_of}
 use Rattle.ports_core.specs.Answering.{Answers, AnswersFor, plain_request_of, plain_answer}
-use Rattle.ports_core.specs.Charging.{is_of_index, Spends, ChargesFor}
+use Rattle.ports_core.specs.Charging.{Spends, ChargesFor}
 use Rattle.ports_core.specs.Keys.{is_size, is_key, are_apart, key_texts, is_fit}
 use Rattle.ports_core.specs.Telling.{is_failure}
 use Rattle.ports_core.specs.declared.keys.Config.{Config}
 use Rattle.ports_plain.specs.Questions.{question_of}
-use Rattle.ports_plain.specs.Resting.{Need, NoNeed, ValueNeed, RecordNeed, RootsNeed, IndexNeed, need_of, cost_for}
-use Rattle.index_keep.specs.Shown.{ShownRows}
-use Rattle.kept_ports.specs.Costs.{kept_cost, KeepingCostsNoMore}
+use Rattle.ports_plain.specs.Resting.{need_of}
+use Rattle.ports_index.specs.Spending.{no_spending}
+use Rattle.ports_index.specs.declared.spending.Spent.{Spent}
+use Rattle.kept_ports.specs.Spending.{KeepingSpendsNoMore}
 use Rattle.tenant_worlds.specs.Kept.{TenantKeeper}
-use Rattle.kept_ports.specs.Calls.{kept_cost_of}
 use Rattle.tenant_worlds.specs.Prepared.{SpendsAt}
 use Rattle.tenant_worlds.specs.Stored.{world_in, worlds_in, KeepsOtherWorlds}
 
@@ -97,38 +97,23 @@ answers_for old new count t request reply within answers keeps = record {
 some_same : {A : Type 0} {x y : A} → ◌≡◌ {A = Option A} (Some x) (Some y) → x ≡ y
 some_same e = cc
 
--- what is needed costs all of what the answer rests on, but for the index
-whole : (world : World) (rows : ShownRows) (need : Need) → is_of_index need ≡ false → kept_cost world rows need ≡ cost_for world need
-whole world rows NoNeed none = refl
-whole world rows (ValueNeed asked) none = refl
-whole world rows (RecordNeed path) none = refl
-whole world rows RootsNeed none = absurd cc
-whole world rows IndexNeed none = absurd cc
-
--- what was spent by the rows that are kept is no more than it may be
-spends_by : (world : World) (rows : ShownRows) (request : PlainRequest) (units : ℕ) → KeepingCostsNoMore → units ≡ kept_cost_of world rows request → Spends world request units
-spends_by world rows request units no_more spent =
-    let need : Need = need_of (question_of request) in
-    record {
-      within = omega (arith, spent, no_more world rows need);
-      whole = λ none. spent ∙ whole world rows need none;
-    }
-
-spends : (world : World) (keeper : Option TenantKeeper) (request : PlainRequest) (units : ℕ) → KeepingCostsNoMore → SpendsAt world keeper request units → Spends world request units
-spends world None request units no_more spent = absurd spent
-spends world (Some keeper) request units no_more spent = spends_by world _ request units no_more spent
+-- what is spent by the rows that are kept is what may be spent
+spends : (world : World) (keeper : Option TenantKeeper) (request : RequestMessage) (spent : Spent) → KeepingSpendsNoMore → SpendsAt world keeper (plain_request_of request) spent
+    → Spends world request spent
+spends world None request spent no_more spends_at = absurd spends_at
+spends world (Some keeper) request spent no_more spends_at = no_more world _ (need_of (question_of (plain_request_of request))) spent spends_at
 
 -- what was spent is what is told
-pub charges_for : (held : Holdings) (count t : ℕ) (keeper : Option TenantKeeper) (request : RequestMessage) (reply : ReplyMessage) (units : ℕ) (after : World) → t < count
-    → KeepingCostsNoMore
+pub charges_for : (held : Holdings) (count t : ℕ) (keeper : Option TenantKeeper) (request : RequestMessage) (reply : ReplyMessage) (spent : Spent) (after : World) → t < count
+    → KeepingSpendsNoMore
     → ((world : World) (request : PlainRequest) → ((plain world request).0.status == 503) ≡ false)
-    → plain_answer (world_in held t) request ≡ (reply, after) → SpendsAt (world_in held t) keeper (plain_request_of request) units
-    → ChargesFor t request reply units (worlds_in held count)
-charges_for held count t keeper request reply units after within no_more never is spent world there =
+    → plain_answer (world_in held t) request ≡ (reply, after) → SpendsAt (world_in held t) keeper (plain_request_of request) spent
+    → ChargesFor t request reply spent (worlds_in held count)
+charges_for held count t keeper request reply spent after within no_more never is spends_at world there =
     let fine : is_failure reply.status ≡ false = ap (λ (end : Served). is_failure end.0.status) (sym is) ∙ never (world_in held t) (plain_request_of request) in
     let this : world_in held t ≡ world = some_same (sym (world_there held count t within) ∙ there) in
-    subst (λ failed. MatchBool failed (units ≡ 0) (Spends world (plain_request_of request) units)) (sym fine)
-    (subst (λ (w : World). Spends w (plain_request_of request) units) this (spends (world_in held t) keeper (plain_request_of request) units no_more spent))
+    subst (λ failed. MatchBool failed (spent ≡ no_spending) (Spends world request spent)) (sym fine)
+    (subst (λ (w : World). Spends w request spent) this (spends (world_in held t) keeper request spent no_more spends_at))
 
 few_of : (parses evals all apart : Bool) (n : ℕ) → (parses && evals && (nat_le 1 n && nat_le n 64 && all && apart)) ≡ true → n ≤ 64
 few_of true true true true n fit = grind (arith, nat_tests)

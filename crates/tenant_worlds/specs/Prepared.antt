@@ -1,17 +1,18 @@
 -- What is prepared for a request of a tenant.
-use Rattle.std.specs.Prelude.{◌≡◌, ℕ, Option, Some, None, IfOk}
+use Rattle.std.specs.Prelude.{◌≡◌, Option, Some, None, IfOk}
 use Rattle.mk_paths.specs.World.{World, FileMap}
 use Rattle.ports_plain.specs.Plain.{PlainRequest}
 use Rattle.index_store.specs.PortTable.{stored_by}
+use Rattle.ports_index.specs.declared.spending.Spent.{Spent}
 use Rattle.index_keep.specs.Keeping.{rows_of, IsKept}
-use Rattle.kept_ports.specs.Calls.{request_of, kept_cost_of, IsPrepared}
+use Rattle.kept_ports.specs.Calls.{request_of, SpendsOnRequest, IsPrepared}
 use Rattle.tenant_worlds.specs.Kept.{TenantKeeper}
 use Rattle.tenant_worlds.specs.declared.asking.Asking.{Asking}
 
--- the units that were spent on a request of a tenant, by the rows of its keeper
-abbrev pub SpendsAt : World → Option TenantKeeper → PlainRequest → ℕ → Type 0
-SpendsAt world None request units = ⊥
-SpendsAt world (Some keeper) request units = units ≡ kept_cost_of world (rows_of stored_by keeper) request
+-- what is spent on a request of a tenant, by the rows of its keeper
+abbrev pub SpendsAt : World → Option TenantKeeper → PlainRequest → Spent → Type 0
+SpendsAt world None request spent = ⊥
+SpendsAt world (Some keeper) request spent = SpendsOnRequest world (rows_of stored_by keeper) request spent
 
 -- the world of these files, and of the settings with which a request is asked
 abbrev pub world_asked : FileMap → Asking → World

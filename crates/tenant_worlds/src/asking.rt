@@ -1,17 +1,19 @@
 //! A request that is asked over a tenant's files.
+use eval_cache::EvalCache;
 use index_keep::Keeper;
 use index_store::IndexStore;
 use kept_ports::PlainCall;
 use mk_files::Listing;
 use mk_paths::FilesFault;
+use ports_index::Spent;
 use ports_plain::Prepared;
 use std::alloc::Global;
 use tenant_store::{Asker, TenantStore};
 
-/// What was prepared for a request, with the units that were spent, once it was asked.
+/// What was prepared for a request, with what was spent, once it was asked.
 #[derive(Drop)]
 pub(crate) struct Answered {
-    pub(crate) prepared: Result<(Prepared, u64), FilesFault>,
+    pub(crate) prepared: Result<(Prepared, Spent), FilesFault>,
 }
 
 /// A request over a world about which the keeper is right, and the place of its answer.
@@ -19,6 +21,7 @@ pub(crate) struct Answered {
 pub(crate) struct Asking<'a> {
     pub(crate) alloc: Global,
     pub(crate) call: PlainCall<'a>,
+    pub(crate) cache: &'a mut EvalCache,
     pub(crate) keeper: &'a mut Keeper<IndexStore>,
     pub(crate) answered: &'a mut Answered,
 }
@@ -55,6 +58,8 @@ impl Asker for Asking<'_> {
     ghost answered = { λ old view new. IsAsked view.files old new };
 
     fn ask<F: Listing>(&mut self, files: &mut F) {
-        self.answered.prepared = self.call.prepare(self.alloc, files, &mut *self.keeper);
+        self.answered.prepared = self
+            .call
+            .prepare(self.alloc, &mut *self.cache, files, &mut *self.keeper);
     }
 }

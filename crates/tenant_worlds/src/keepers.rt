@@ -9,10 +9,12 @@ ghost use Rattle.tenant_worlds.specs.Stored.{world_in, KeepsOtherWorlds};
 ghost use Rattle.tenant_worlds.specs.Kept.{AreKeptFor};
 
 use crate::world::{Incoming, reply_to};
+use eval_cache::EvalCache;
 use index_keep::Keeper;
 use index_store::IndexStore;
 use mk_paths::FilesFault;
 use ports_http::Reply;
+use ports_index::Spent;
 use std::alloc::{AllocError, Global};
 use tenant_store::TenantStore;
 
@@ -62,16 +64,17 @@ pub(crate) fn reply_to_tenant(
     alloc: Global,
     store: &mut TenantStore,
     keepers: &mut [Keeper<IndexStore>],
+    cache: &mut EvalCache,
     tenant: usize,
     incoming: &Incoming,
-) -> Result<(Reply, Vec<u8>, u64), FilesFault>
+) -> Result<(Reply, Vec<u8>, Spent), FilesFault>
     requires there { tenant < length keepers.old }
     requires few { length keepers.old ≤ 64 }
     requires kept { AreKeptFor (world_in store.old) keepers.old }
     ensures reply { IfOk result (λ r.
         plain_answer (world_in store.old tenant) incoming.now.request.now
         ≡ (r.0, world_in store.new tenant)) }
-    ensures units { IfOk result (λ r. SpendsAt (world_in store.old tenant)
+    ensures spent { IfOk result (λ r. SpendsAt (world_in store.old tenant)
         (slice_get keepers.old tenant) (plain_request_of incoming.now.request.now) r.2) }
     ensures others { OnOk result (KeepsOtherWorlds tenant store.old store.new) }
     ensures bytes { IfOk result (λ r. r.1.items ≡ reply_text r.0 incoming.now.close) }
@@ -81,5 +84,12 @@ pub(crate) fn reply_to_tenant(
     ensures same { (other : ℕ) → other ≢ tenant
         → slice_get keepers.new other ≡ slice_get keepers.old other }
 {
-    reply_to(alloc, store, &mut keepers[tenant], tenant as u32, incoming)
+    reply_to(
+        alloc,
+        store,
+        &mut keepers[tenant],
+        cache,
+        tenant as u32,
+        incoming,
+    )
 }

@@ -6,21 +6,23 @@ ghost use Rattle.ports_plain.specs.Replies.{full as full_reply};
 ghost use Rattle.ports_core.specs.Answering.{plain_request_of, plain_answer};
 ghost use Rattle.index_store.specs.PortTable.{stored_by};
 ghost use Rattle.index_keep.specs.Keeping.{IsKept, rows_of};
-ghost use Rattle.kept_ports.specs.Calls.{request_of, IsPrepared, kept_cost_of};
+ghost use Rattle.kept_ports.specs.Calls.{request_of, IsPrepared, SpendsOnRequest};
 ghost use Rattle.tenant_worlds.specs.Stored.{world_in, KeepsOtherWorlds};
 
 use crate::asking::{Answered, Asking};
+use eval_cache::EvalCache;
 use index_keep::Keeper;
 use index_store::IndexStore;
 use kept_ports::PlainCall;
 use mk_paths::{FilesFault, Settings};
 use ports_http::{Reply, Request, write_reply};
+use ports_index::Spent;
 use ports_plain::{Change, Plain, Prepared, full};
 use std::alloc::{AllocError, Global};
 use tenant_store::{PutFault, TenantStore};
 
 /// A request as it came, with the service that answers it, and whether the connection closes after it.
-#[derive(Clone, Copy)]
+#[derive(Drop)]
 pub(crate) struct Incoming<'a> {
     pub(crate) plain: &'a Plain,
     pub(crate) request: &'a Request,
@@ -28,22 +30,23 @@ pub(crate) struct Incoming<'a> {
 }
 
 /// The reply to a request over a tenant's world, its bytes, which say whether the connection closes, and
-/// the units that were spent. The bytes are made before the world changes. No other tenant's world changes.
-/// It fails if the store or the index's fails, or if memory runs out; then the world has not changed.
-/// Whatever happens, the tenant's keeper is right about the world.
+/// what was spent. The bytes are made before the world changes. No other tenant's world changes.
+/// It fails if the store of the files or that of the index fails, or if memory runs out; then the world has
+/// not changed. Whatever happens, the tenant's keeper is right about the world.
 pub(crate) fn reply_to(
     alloc: Global,
     store: &mut TenantStore,
     keeper: &mut Keeper<IndexStore>,
+    cache: &mut EvalCache,
     tenant: u32,
     incoming: &Incoming,
-) -> Result<(Reply, Vec<u8>, u64), FilesFault>
+) -> Result<(Reply, Vec<u8>, Spent), FilesFault>
     requires { IsKept stored_by (world_in store.old tenant) keeper.old }
     ensures reply { IfOk result (λ r.
         plain_answer (world_in store.old tenant) incoming.now.request.now
         ≡ (r.0, world_in store.new tenant)) }
-    ensures units { IfOk result (λ r. r.2 ≡ kept_cost_of (world_in store.old tenant)
-        (rows_of stored_by keeper.old) (plain_request_of incoming.now.request.now)) }
+    ensures spent { IfOk result (λ r. SpendsOnRequest (world_in store.old tenant)
+        (rows_of stored_by keeper.old) (plain_request_of incoming.now.request.now) r.2) }
     ensures others { OnOk result (KeepsOtherWorlds tenant store.old store.new) }
     ensures bytes { IfOk result (λ r. r.1.items ≡ reply_text r.0 incoming.now.close) }
     ensures err { OnErr result (store.new ≡ store.old) }
@@ -51,9 +54,9 @@ pub(crate) fn reply_to(
 {
     let settings = store.settings(alloc, tenant)?;
     let call = call_of(incoming.plain, &settings, incoming.request);
-    let (prepared, units) = prepare(alloc, store, keeper, tenant, &call)?;
+    let (prepared, spent) = prepare(alloc, store, keeper, cache, tenant, &call)?;
     let (reply, bytes) = settle(alloc, store, keeper, tenant, prepared, incoming.close)?;
-    Ok((reply, bytes, units))
+    Ok((reply, bytes, spent))
 }
 
 /// The call by which the plain service is asked a request over a world with these settings.
@@ -70,15 +73,16 @@ fn call_of<'x>(plain: &'x Plain, settings: &'x Settings, request: &'x Request) -
     }
 }
 
-/// What is prepared for a request over a tenant's files, and the units that were spent. Nothing is changed
-/// yet, but rows of the index may be renewed.
+/// What is prepared for a request over a tenant's files, and what was spent. Nothing is changed yet, but rows
+/// of the index may be renewed.
 fn prepare<'x>(
     alloc: Global,
     store: &mut TenantStore,
     keeper: &'x mut Keeper<IndexStore>,
+    cache: &'x mut EvalCache,
     tenant: u32,
     call: &'x PlainCall<'x>,
-) -> Result<(Prepared, u64), FilesFault>
+) -> Result<(Prepared, Spent), FilesFault>
     requires { IsKept stored_by ((world_in store.old tenant).0, call.now.settings.now) keeper.old }
     ensures ok { IfOk result (IsPrepared ((world_in store.old tenant).0, call.now.settings.now)
         (rows_of stored_by keeper.old) (request_of call.now)) }
@@ -92,6 +96,7 @@ fn prepare<'x>(
     let mut asking = Asking {
         alloc,
         call: *call,
+        cache,
         keeper,
         answered: &mut answered,
     };

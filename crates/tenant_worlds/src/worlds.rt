@@ -1,24 +1,27 @@
 //! The tenants' worlds in one store, and the plain service over them.
 use crate::keepers::{limit_keepers, open_keepers, reply_to_tenant};
 use crate::world::Incoming;
+use eval_cache::EvalCache;
 use index_keep::Keeper;
 use index_store::IndexStore;
-use kept_ports::keeping_costs_no_more;
+use kept_ports::keeping_spends_no_more;
 use mk_paths::FilesFault;
 use ports_core::{Config, Tenants, Worked};
 use ports_http::{Reply, Request};
+use ports_index::Spent;
 use ports_plain::{Plain, never_answers_503};
 use std::alloc::Global;
 use std::marker::Model;
 use tenant_store::TenantStore;
 
 /// The world of each tenant, by the tenants' numbers, all in one store, and the plain service that answers
-/// over one of them. The index of each world is kept in a database of its own. A contract sees the list of
-/// the worlds.
+/// over one of them. The index of each world is kept in a database of its own. Parses and evaluations are kept
+/// in one cache, which all tenants share. A contract sees the list of the worlds.
 #[derive(Drop)]
 pub struct StoredTenants {
     store: TenantStore,
     keepers: Vec<Keeper<IndexStore>>,
+    cache: EvalCache,
     plain: Plain,
 }
 
@@ -46,32 +49,41 @@ impl Tenants for StoredTenants {
     fn new(alloc: Global, config: &Config) -> Result<StoredTenants, FilesFault> {
         let store = TenantStore::open_in_memory(alloc)?;
         let keepers = open_keepers(alloc, config.keys.len())?;
+        let cache = EvalCache::new(alloc, config.parses as usize, config.evals as usize)?;
         let plain = Plain::new(alloc)?;
         Ok(StoredTenants {
             store,
             keepers,
+            cache,
             plain,
         })
     }
 
     fn work(&mut self, alloc: Global, tenant: usize, request: &Request, close: bool) -> Worked {
-        keeping_costs_no_more();
+        keeping_spends_no_more();
         never_answers_503();
         let incoming = Incoming {
             plain: &self.plain,
             request,
             close,
         };
-        match reply_to_tenant(alloc, &mut self.store, &mut self.keepers, tenant, &incoming) {
-            Ok((reply, bytes, units)) => Worked {
+        match reply_to_tenant(
+            alloc,
+            &mut self.store,
+            &mut self.keepers,
+            &mut self.cache,
+            tenant,
+            &incoming,
+        ) {
+            Ok((reply, bytes, spent)) => Worked {
                 reply,
                 bytes: Some(bytes),
-                units,
+                spent,
             },
             Err(_refused) => Worked {
                 reply: Reply::store_failed(),
                 bytes: None,
-                units: 0,
+                spent: Spent::nothing(),
             },
         }
     }

@@ -6,3 +6,5 @@ mod Turning
 mod Keeping
 mod Short
 mod Listed
+mod Numbered
+mod NumberSearches

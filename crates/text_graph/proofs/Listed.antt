@@ -1,9 +1,9 @@
 -- The lists of the texts that are reached have just these, in order; and no other list has.
-use Rattle.std.proofs.Common.{◌≡◌, ◌∙◌, sym, ap, refl, subst, ℕ, zero, suc, ◌≤◌, ◌↔◌, Bool, true, false, ◌||◌, List, [], ◌∷◌, ◌++◌, map, length, arith, ◌⊎◌, inl, inr, le_refl}
+use Rattle.std.proofs.Common.{◌≡◌, ◌∙◌, sym, ap, refl, subst, ℕ, zero, suc, ◌≤◌, ◌↔◌, Bool, ◌||◌, List, [], ◌∷◌, map, length, arith, inl, inr, le_refl}
 use Rattle.std.proofs.lemmas.List.Elements.{Contains-append_left, Contains-append_right, Contains-append_cases}
 use Rattle.std.proofs.lemmas.Map.Text.{is_eq-slice_cmp}
 use Rattle.std.specs.Bool.{one_answer}
-use Rattle.std.specs.List.{Contains, All, filter, list_any}
+use Rattle.std.specs.List.{Contains, All, filter}
 use Rattle.std.specs.Cmp.Lexicographic.{slice_cmp}
 use Rattle.std.specs.Ordering.{nat_cmp, eq_by_cmp}
 use Rattle.std.specs.Str.{bytes_eq}

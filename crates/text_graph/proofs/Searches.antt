@@ -9,8 +9,7 @@ use Rattle.std.specs.List.{Contains, All, IsDistinct}
 use Rattle.std.specs.Str.{bytes_eq}
 use Rattle.general_facts.specs.Bools.{or_elim}
 use Rattle.text_graph.specs.Arrows.{ArrowValue, Lead}
-use Rattle.text_graph.specs.Searching.{is_among, all_added, next_of, found_texts, KnowsItsTexts, IsFrom, FindsAll}
-use Rattle.text_graph.specs.declared.searching.Found.{Found}
+use Rattle.text_graph.specs.Searching.{is_among, all_added, next_of, IsFrom, FindsAll}
 use Rattle.text_graph.proofs.Adding.{among-all_added, all_apart, same_front, no_shorter}
 use Rattle.text_graph.proofs.Members.{in_map, from_map, in_filter, from_filter, among_from, among_by_equal, equal_texts, equal_itself}
 use Rattle.text_graph.proofs.Ways.{stay, farther, first_of, behind_first}
@@ -131,8 +130,3 @@ search-ends starts arrows found place so_far past = λ text.
       so_far.is_from text,
       λ from. closed_over arrows found closed from.way.way from.start text from.way.are_arrows from.way.lead (so_far.begun from.start (among_from from.start starts from.is_start)),
     )
-
--- the search and the set of known texts go together
-pub record KeepsSearching (starts : List (List ℕ)) (arrows : List ArrowValue) (place : ℕ) (found : Found) : Type 0 where
-  pub searched : Searched starts arrows (found_texts found) place
-  pub knows : KnowsItsTexts found

@@ -1,4 +1,5 @@
 pub mod Arrows
 pub mod Reaching
 pub mod Searching
+pub mod Numbering
 pub mod Listed

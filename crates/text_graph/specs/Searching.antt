@@ -1,16 +1,8 @@
--- What a search over arrows keeps: where the arrows from each text lead, and the texts that were found.
+-- What a search over arrows finds: where the arrows from each text lead, and which texts are found.
 use Rattle.std.specs.Prelude.{◌≡◌, ◌↔◌, ℕ, Contains, true, if◌then◌else◌, Bool, List, [], ◌∷◌, ◌++◌, map, filter, fold}
-use Rattle.std.specs.BTreeMap as tree
-use Rattle.std.specs.BTreeSet as sorted
-use Rattle.std.specs.Cmp.Lexicographic.{slice_cmp}
 use Rattle.std.specs.List.{list_any}
-use Rattle.std.specs.Option.{option_map_or}
-use Rattle.std.specs.Ordering.{nat_cmp}
 use Rattle.std.specs.Str.{bytes_eq}
-use Rattle.text_parts.specs.Cuts.{now_all}
 use Rattle.text_graph.specs.Arrows.{ArrowValue, Way}
-use Rattle.text_graph.specs.declared.steps.Steps.{Steps}
-use Rattle.text_graph.specs.declared.searching.Found.{Found}
 
 -- a text is one of these
 abbrev pub is_among : List ℕ → List (List ℕ) → Bool
@@ -24,25 +16,12 @@ turned arrow = record { from = arrow.to; to = arrow.from }
 abbrev pub next_of : List ArrowValue → List ℕ → List (List ℕ)
 next_of arrows text = map (λ (arrow : ArrowValue). arrow.to) (filter (λ (arrow : ArrowValue). bytes_eq text arrow.from) arrows)
 
-abbrev pub next_kept : Steps → List ℕ → List (List ℕ)
-next_kept steps text = now_all (option_map_or (λ next. next.items) (tree.get_by (λ key. slice_cmp nat_cmp text key.now) steps.next) [])
-
 -- the texts with one more, unless it is one of them
 abbrev pub added : List (List ℕ) → List ℕ → List (List ℕ)
 added texts text = if is_among text texts then texts else texts ++ text ∷ []
 
 abbrev pub all_added : List (List ℕ) → List (List ℕ) → List (List ℕ)
 all_added texts more = fold added texts more
-
--- the texts that were found, in the order in which they were found
-abbrev pub found_texts : Found → List (List ℕ)
-found_texts found = now_all found.texts.items
-
--- the set knows exactly these texts
-abbrev pub KnowsItsTexts : Found → Type 0
-KnowsItsTexts found =
-    (text : List ℕ)
-    → sorted.contains_by (λ held. slice_cmp nat_cmp text held.now) found.known ≡ is_among text (found_texts found)
 
 -- a text is one of the starts, or is reached from one of them
 pub record IsFrom (starts : List (List ℕ)) (arrows : List ArrowValue) (text : List ℕ) : Type 0 where

@@ -3,6 +3,7 @@
 
 mod arrow;
 mod laws;
+mod numbers;
 mod reach;
 mod searching;
 mod steps;

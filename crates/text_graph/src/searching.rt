@@ -1,57 +1,68 @@
 //! A search for all texts that are reached, breadth first.
-ghost use Rattle.std.specs.Prelude.{◌≡◌, ◌<◌, ℕ, List, [], IfOk, length};
+ghost use Rattle.std.specs.Prelude.{◌≡◌, ◌<◌, [], IfOk, length};
+ghost use Rattle.std.specs.List.{All};
 ghost use Rattle.text_parts.specs.Cuts.{now_all};
 ghost use Rattle.text_graph.specs.Arrows.{arrows_seen};
-ghost use Rattle.text_graph.specs.Searching.{added, all_added, found_texts, KnowsItsTexts, FindsAll};
+ghost use Rattle.text_graph.specs.Numbering.{number_added, numbers_added, KnowsItsNumbers};
+ghost use Rattle.text_graph.specs.Searching.{FindsAll};
 
 use crate::arrow::Arrow;
+use crate::numbers::Numbers;
 use crate::steps::Steps;
 use std::alloc::{AllocError, Global};
-use std::collections::BTreeSet;
 
-/// The texts that were found so far, each once, in the order in which they were found.
+/// The numbers of the texts that were found so far, each once, in the order in which they were found.
 #[derive(Drop)]
-struct Found<'a> {
-    texts: Vec<&'a str>,
-    known: BTreeSet<&'a str>,
+struct Found {
+    numbers: Vec<usize>,
+    /// For each number, whether its text was found.
+    known: Vec<bool>,
 }
 
-impl<'a> Found<'a> {
-    /// No text is found yet.
-    fn new(alloc: Global) -> Found<'a>
-        ensures texts { found_texts result ≡ [] }
-        ensures knows { KnowsItsTexts result }
+impl Found {
+    /// None of so many texts is found yet.
+    fn new(alloc: Global, count: usize) -> Result<Found, AllocError>
+        ensures numbers { IfOk result (λ found. found.numbers.items ≡ []) }
+        ensures knows { IfOk result KnowsItsNumbers }
+        ensures count { IfOk result (λ found. length found.known.items ≡ count) }
     {
-        Found {
-            texts: Vec::new(alloc),
-            known: BTreeSet::new(alloc),
-        }
+        Ok(Found {
+            numbers: Vec::new(alloc),
+            known: vec![in alloc; false; count]?,
+        })
     }
 
     /// The same with one more text, if it is new.
-    fn with(mut self, text: &'a str) -> Result<Found<'a>, AllocError>
-        requires { KnowsItsTexts self }
-        ensures texts { IfOk result (λ found. found_texts found
-            ≡ added (found_texts self.entry) text.now) }
-        ensures knows { IfOk result KnowsItsTexts }
+    fn with(mut self, number: usize) -> Result<Found, AllocError>
+        requires knows { KnowsItsNumbers self }
+        requires inside { number < length self.known.items }
+        ensures numbers { IfOk result (λ found. found.numbers.items
+            ≡ number_added self.numbers.items number) }
+        ensures knows { IfOk result KnowsItsNumbers }
+        ensures count { IfOk result (λ found. length found.known.items
+            ≡ length self.known.items) }
     {
-        if !self.known.insert(text)? {
+        if self.known[number] {
             return Ok(self);
         }
-        self.texts.push(text)?;
+        self.known[number] = true;
+        self.numbers.push(number)?;
         Ok(self)
     }
 
     /// The same with those of these texts that are new.
-    fn with_all(self, texts: &[&'a str]) -> Result<Found<'a>, AllocError>
-        requires { KnowsItsTexts self }
-        ensures texts { IfOk result (λ found. found_texts found
-            ≡ all_added (found_texts self.entry) (now_all texts.now)) }
-        ensures knows { IfOk result KnowsItsTexts }
+    fn with_all(self, numbers: &[usize]) -> Result<Found, AllocError>
+        requires knows { KnowsItsNumbers self }
+        requires inside { All (λ number. number < length self.known.items) numbers.now }
+        ensures numbers { IfOk result (λ found. found.numbers.items
+            ≡ numbers_added self.numbers.items numbers.now) }
+        ensures knows { IfOk result KnowsItsNumbers }
+        ensures count { IfOk result (λ found. length found.known.items
+            ≡ length self.known.items) }
     {
         let mut found = self;
-        for text in texts {
-            found = found.with(text)?;
+        for number in numbers {
+            found = found.with(*number)?;
         }
         Ok(found)
     }
@@ -66,14 +77,16 @@ pub(crate) fn search<'a>(
     ensures { IfOk result (λ texts. FindsAll (now_all starts.now) (arrows_seen arrows.now)
         (now_all texts.items)) }
 {
-    let steps = Steps::over(alloc, arrows)?;
-    let mut found = Found::new(alloc).with_all(starts)?;
+    let mut numbers = Numbers::new(alloc)?;
+    let numbered = numbers.of_arrows(alloc, arrows)?;
+    let first = numbers.of_texts(alloc, starts)?;
+    let steps = Steps::over(alloc, numbers.count(), &numbered)?;
+    let mut found = Found::new(alloc, numbers.count())?.with_all(&first)?;
     let mut place = 0;
-    while place < found.texts.len() {
-        if let Some(next) = steps.next(found.texts[place]) {
-            found = found.with_all(next)?;
-        }
+    while place < found.numbers.len() {
+        let next = steps.next(found.numbers[place]);
+        found = found.with_all(next)?;
         place += 1;
     }
-    Ok(found.texts)
+    numbers.texts_of(alloc, &found.numbers)
 }

@@ -1,40 +1,54 @@
 //! Where the arrows from each text lead.
-ghost use Rattle.std.specs.Prelude.{◌≡◌, ℕ, List, [], IfOk};
-ghost use Rattle.std.specs.Option.{option_map_or};
-ghost use Rattle.text_parts.specs.Cuts.{now_all};
-ghost use Rattle.text_graph.specs.Arrows.{arrows_seen};
-ghost use Rattle.text_graph.specs.Searching.{next_of, next_kept};
+ghost use Rattle.std.specs.Prelude.{◌≡◌, ◌<◌, ℕ, [], IfOk, length};
+ghost use Rattle.std.specs.List.{All};
+ghost use Rattle.text_graph.specs.Numbering.{next_numbers, next_kept};
+ghost use Rattle.text_graph.specs.declared.numbers.NumberedArrow.{NumberedArrow};
 
-use crate::arrow::Arrow;
+use crate::numbers::NumberedArrow;
 use std::alloc::{AllocError, Global};
-use std::collections::BTreeMap;
 
-/// Where the arrows from each text lead. Looking one up takes time in proportion to the logarithm of
-/// the number of texts.
+/// Where the arrows from each text lead, by the texts' numbers.
 #[derive(Drop)]
-pub(crate) struct Steps<'a> {
-    next: BTreeMap<&'a str, Vec<&'a str>>,
+pub(crate) struct Steps {
+    next: Vec<Vec<usize>>,
 }
 
-impl<'a> Steps<'a> {
-    /// The steps over these arrows.
-    pub(crate) fn over(alloc: Global, arrows: &[Arrow<'a>]) -> Result<Steps<'a>, AllocError>
-        ensures { IfOk result (λ steps. (text : List ℕ)
-            → next_kept steps text ≡ next_of (arrows_seen arrows.now) text) }
+impl Steps {
+    /// The steps over these arrows between this many texts.
+    pub(crate) fn over(
+        alloc: Global,
+        count: usize,
+        arrows: &[NumberedArrow],
+    ) -> Result<Steps, AllocError>
+        requires { All (λ (arrow : NumberedArrow). arrow.from < count) arrows.now }
+        ensures count { IfOk result (λ steps. length steps.next.items ≡ count) }
+        ensures next { IfOk result (λ steps. (number : ℕ) → number < count
+            → next_kept steps number ≡ next_numbers arrows.now number) }
     {
-        let mut next: BTreeMap<&'a str, Vec<&'a str>> = BTreeMap::new(alloc);
+        let mut next = nowhere(alloc, count)?;
         for arrow in arrows {
-            next.entry(arrow.from)?.or_default().push(arrow.to)?;
+            next[arrow.from].push(arrow.to)?;
         }
         Ok(Steps { next })
     }
 
-    /// Where the arrows from a text lead, in the order of the arrows; `None` if there are no arrows
-    /// from it.
-    pub(crate) fn next(&self, text: &'a str) -> Option<&Vec<&'a str>>
-        ensures { option_map_or (λ next. now_all next.now.items) result []
-            ≡ next_kept self.now text.now }
+    /// Where the arrows from a text lead, in the order of the arrows.
+    pub(crate) fn next(&self, number: usize) -> &[usize]
+        requires { number < length self.now.next.items }
+        ensures { result.now ≡ next_kept self.now number }
     {
-        self.next.get(&text)
+        self.next[number].as_slice()
     }
+}
+
+/// So many texts from which no arrow leads.
+fn nowhere(alloc: Global, count: usize) -> Result<Vec<Vec<usize>>, AllocError>
+    ensures count { IfOk result (λ next. length next.items ≡ count) }
+    ensures none { IfOk result (λ next. All (λ numbers. numbers.items ≡ []) next.items) }
+{
+    let mut next = Vec::with_capacity(alloc, count)?;
+    while next.len() < count {
+        next.push(Vec::with_capacity(alloc, 8)?)?;
+    }
+    Ok(next)
 }

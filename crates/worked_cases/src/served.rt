@@ -35,18 +35,38 @@ impl<'a> CaseRequest<'a> {
     }
 }
 
-/// `new service`: for the tenants 0 and 1.
-pub fn new(alloc: Global) -> Result<StoredService, Trouble> {
+/// How many parses and evaluations are kept if a line doesn't say.
+const SIZES: (u32, u32) = (256, 1024);
+
+/// `new service`, `new service PARSES EVALS`: for the tenants 0 and 1, with a cache of these sizes.
+pub fn new(alloc: Global, given: &[Vec<u8>]) -> Result<StoredService, Trouble> {
     let mut keys = Vec::new(alloc);
     for key in KEYS {
         keys.push(String::from_str(alloc, key)?)?;
     }
+    let (parses, evals) = sizes(given)?;
     let config = Config {
         keys,
-        parses: 1,
-        evals: 1,
+        parses,
+        evals,
     };
     Service::new(alloc, config).map_err(|_| Trouble::NoCase)
+}
+
+fn sizes(given: &[Vec<u8>]) -> Result<(u32, u32), Trouble> {
+    match given {
+        [] => Ok(SIZES),
+        [parses, evals] => Ok((size(parses)?, size(evals)?)),
+        _ => Err(Trouble::NoCase),
+    }
+}
+
+fn size(given: &[u8]) -> Result<u32, Trouble> {
+    let size = as_number(given)?;
+    if size > u32::MAX as u64 {
+        return Err(Trouble::NoCase);
+    }
+    Ok(size as u32)
 }
 
 /// What the service answers to requests.
@@ -88,7 +108,7 @@ fn asked_answer(
     Ok(reply_answer(alloc, &reply))
 }
 
-/// `service units TENANT TARGET`: the status of a GET, and how many units its turn tells.
+/// `service units TENANT TARGET`: the status of a GET, and how many units and checked answers its turn tells.
 fn units_answer(
     alloc: Global,
     service: &mut StoredService,
@@ -98,9 +118,10 @@ fn units_answer(
         return Err(Trouble::NoCase);
     };
     let request = CaseRequest::read(Method::Get, tenant, target, &[])?;
-    let (reply, units) = ask_counted(alloc, service, request)?;
-    let mut answer = Answer::of_word(alloc, reply.status.as_str());
-    answer.number(units);
+    let told = ask_counted(alloc, service, request)?;
+    let mut answer = Answer::of_word(alloc, told.reply.status.as_str());
+    answer.number(told.units);
+    answer.number(told.checks);
     Ok(answer)
 }
 
@@ -110,24 +131,41 @@ fn ask(
     service: &mut StoredService,
     request: CaseRequest<'_>,
 ) -> Result<Reply, Trouble> {
-    let (reply, _units) = ask_counted(alloc, service, request)?;
-    Ok(reply)
+    let told = ask_counted(alloc, service, request)?;
+    Ok(told.reply)
 }
 
-/// The same, and how many units its turn tells.
+/// A reply, and how many units and checked answers its turn tells.
+#[derive(Drop)]
+struct Counted {
+    reply: Reply,
+    units: u64,
+    checks: u64,
+}
+
+/// The same, with what its turn tells as spent.
 fn ask_counted(
     alloc: Global,
     service: &mut StoredService,
     request: CaseRequest<'_>,
-) -> Result<(Reply, u64), Trouble> {
+) -> Result<Counted, Trouble> {
     let conn = service.next_conn();
     let piece = Event::Piece(conn, stream_of(alloc, request)?);
     let _opened = happen(service, &Event::Open(conn))?;
     let _came = happen(service, &piece)?;
-    let Told { reply, units, .. } = happen(service, &Event::Turn(request.tenant))?;
+    let Told {
+        reply,
+        units,
+        checks,
+        ..
+    } = happen(service, &Event::Turn(request.tenant))?;
     let _lost = happen(service, &Event::Fault(conn))?;
     let Tell { reply, .. } = reply.ok_or(Trouble::NoCase)?;
-    Ok((reply, units))
+    Ok(Counted {
+        reply,
+        units,
+        checks,
+    })
 }
 
 /// What an event tells.
@@ -174,7 +212,8 @@ fn fill(alloc: Global, service: &mut StoredService, given: &[Vec<u8>]) -> Result
 
 /// `service PUT stopped TENANT TARGET BODY by PROBE`, `service DELETE stopped TENANT TARGET by PROBE`: the
 /// request under a limit of 1, 2, 3 .. steps of the store until it isn't answered 503. It gives whether a
-/// GET of the probe gave after each 503 what it gave before, and each 503 told no units; and the last status.
+/// GET of the probe gave after each 503 what it gave before, and each 503 told nothing as spent; and the last
+/// status.
 fn stopped(
     alloc: Global,
     service: &mut StoredService,
@@ -203,12 +242,13 @@ fn stopped_by(
     let mut is_kept = true;
     for limit in 1..MOST_LIMITS {
         service.limit_steps(Some(limit));
-        let (reply, units) = ask_counted(alloc, service, request)?;
+        let told = ask_counted(alloc, service, request)?;
         service.limit_steps(None);
-        if reply.status != StatusCode::SERVICE_UNAVAILABLE {
-            return Ok(stops_answer(alloc, limit, is_kept, reply.status.as_str()));
+        if told.reply.status != StatusCode::SERVICE_UNAVAILABLE {
+            return Ok(stops_answer(alloc, limit, is_kept, told.reply.status.as_str()));
         }
-        is_kept = is_kept && units == 0 && ask(alloc, service, probe)?.body() == was.body();
+        let spends_nothing = told.units == 0 && told.checks == 0;
+        is_kept = is_kept && spends_nothing && ask(alloc, service, probe)?.body() == was.body();
     }
     Err(Trouble::NoCase)
 }

@@ -152,7 +152,7 @@ fn prepare(
 ) -> Result<Prepared, Trouble> {
     let mut ports = ComputedPorts { files, settings };
     let plain = Plain::new(alloc)?;
-    let (prepared, _units) = plain.prepare(alloc, &mut ports, method, target, body)?;
+    let (prepared, _spent) = plain.prepare(alloc, &mut ports, method, target, body)?;
     Ok(prepared)
 }
 

@@ -64,7 +64,7 @@ impl<N: Net> Bench for Subjects<'_, N> {
     fn set_up(&mut self, call: &str, given: &[Vec<u8>]) -> Result<(), Trouble> {
         match call {
             "empty store" => self.store = Some(store_cases::empty(self.alloc)?),
-            "new service" => self.service = Some(served::new(self.alloc)?),
+            "new service" => self.service = Some(served::new(self.alloc, given)?),
             _ => self.setup.set_up(call, given)?,
         }
         Ok(())

@@ -1,7 +1,9 @@
 -- The traces are tried one after another.
-use Rattle.std.proofs.Common.{ℕ, Bool, arith}
+use Rattle.std.proofs.Common.{◌∙◌, sym, subst, ℕ, Bool, arith}
 use Rattle.std.proofs.lemmas.Result.{err_from_is_err_and}
-use Rattle.eval_cache.proofs.LookLemmas.{Checked-at, Checked-more, Checked-fails, Checked-alone, few-more}
+use Rattle.read_trace.specs.Agreement.{IsAnswered}
+use Rattle.read_trace.specs.declared.evaluating.Evaluation.{Evaluation}
+use Rattle.eval_cache.proofs.LookLemmas.{IsOneOf-at, IsAnswered-checked, Checked-at, Checked-more, Checked-fails, Checked-alone, few-more}
 use Rattle.eval_cache.proofs.looking.first_agreeing.Goals as goal
 
 pub returns-in_err-same-clause-fails : goal.returns-in_err-same-clause-fails
@@ -31,6 +33,17 @@ pub returns-then-same-clause-bound : goal.returns-then-same-clause-bound
 returns-then-same-clause-bound g c =
     let few = few-more c.args.kept.now c.loop-evaluation.evaluation-index c.evaluation-item.result c.deref.result.now _ (c.in_ok-same.same, c.in_ok-same.more) c.requires c.loop-evaluation-test.true c.evaluation-item.is c.deref.ensures c.in_ok-same.ensures.agreement in
     omega (arith, few.0, few.1, c.loop-evaluation.invariant.bound)
+
+pub returns-then-same-clause-found : goal.returns-then-same-clause-found
+returns-then-same-clause-found g c =
+    let few = few-more c.args.kept.now c.loop-evaluation.evaluation-index c.evaluation-item.result c.deref.result.now _ (c.in_ok-same.same, c.in_ok-same.more) c.requires c.loop-evaluation-test.true c.evaluation-item.is c.deref.ensures c.in_ok-same.ensures.agreement in
+    let copied = c.in_ok-clone.ensures.cases ∙ sym c.deref.ensures in (
+      IsOneOf-at c.args.kept.now c.loop-evaluation.evaluation-index c.evaluation-item.result c.in_ok-clone.field-0.value c.loop-evaluation-test.true c.evaluation-item.is c.in_ok-clone.ensures.cases,
+      subst (λ (e : Evaluation). IsAnswered (g.F.Names.view c.args.files.now).files e.trace) (sym copied)
+          (IsAnswered-checked (g.F.Names.view c.args.files.now) _ _ _ (g.F.Names.view c.loop-evaluation.files) (c.in_ok-same.same, c.in_ok-same.more) c.deref.result.now.trace
+          c.loop-evaluation.invariant.so_far c.in_ok-same.ensures.agreement c.if-same.true),
+      omega (arith, few.2),
+    )
 
 pub loop-evaluation-preserved : goal.loop-evaluation-preserved
 loop-evaluation-preserved g c =

@@ -15,7 +15,7 @@ returns-in_ok-evaluation-in-Miss-2-clause-counted g c =
     let files = (view_of g.F.Names.view c.args.files.now).files in
     let cache : CacheValue = c.args.cache.now in
     let key = key_of c.in_ok-key.key in
-    let missed : IsFound files key (traces_at cache key) Miss = subst (λ (found : Look). IsFound files key (traces_at cache key) found) c.in-Miss.is c.in_ok-found.ensures.found in
+    let missed : IsFound files key (traces_at cache key) c.in_ok-found.checks Miss = subst (λ (found : Look). IsFound files key (traces_at cache key) c.in_ok-found.checks found) c.in-Miss.is c.in_ok-found.ensures.found in
     ap (λ (counts : Counts). counts.evals) c.keep.ensures
     ∙ evals-new c.in_ok-found.found cache c.look.new.self c.evaluate_recorded.new.parses c.in-Miss.is c.in_ok-found.ensures.counted c.in_ok-evaluation-in-Miss.ensures.parses
     ∙ evals-missed files cache key _ c.in_ok-key.ensures missed

@@ -17,11 +17,11 @@ pass_needed-requires g c =
     let world : World = world_of (seen c.args.files.now) c.args.settings.now in
     let old = g.R.PathRows.entries c.args.rows.now in
     let new = g.R.PathRows.entries c.pass.new.rows in
-    let passes : PassesStage world c.args.stage old new (passed.All c.in-All.stage) = subst (λ (p : Passed). PassesStage world c.args.stage old new p) c.in-All.is c.in_ok-units.ensures.passes in
+    let passes : PassesStage world c.args.stage old new (passed.All c.in-All.stage) = subst (λ (p : Passed). PassesStage world c.args.stage old new p) c.in-All.is c.in_ok-spent.ensures.passes in
     let enough = c.known_rows_are_enough.ensures in
-    let after = needed-after enough world old new passes.2 c.requires.kept c.args.stage c.in-All.stage c.in_ok-stage-in-All.stage _ c.requires.far passes.0 passes.1 c.in_ok-stage-in-All.ensures in
-    let there : IsOnTheWay world (shown no_name new) (Needed c.in_ok-stage-in-All.stage c.in_ok-stage-in-All.listed) = record { kept = AreKept-after enough world old new passes.2 c.requires.kept; far = after } in
-    subst (λ (files : FileMap). let w : World = (files, c.args.settings.now) in IsOnTheWay w (shown no_name new) (Needed c.in_ok-stage-in-All.stage c.in_ok-stage-in-All.listed)) (sym c.in_ok-units.ensures.leaves.files) there
+    let after = needed-after enough world old new passes.2 c.requires.kept c.args.stage c.in-All.stage c.in_ok-last-in-All.last c.requires.far passes.0 passes.1 c.in_ok-last-in-All.ensures in
+    let there : IsOnTheWay world (shown no_name new) (Needed c.in_ok-last-in-All.last) = record { kept = AreKept-after enough world old new passes.2 c.requires.kept; far = after } in
+    subst (λ (files : FileMap). let w : World = (files, c.args.settings.now) in IsOnTheWay w (shown no_name new) (Needed c.in_ok-last-in-All.last)) (sym c.in_ok-spent.ensures.leaves.files) there
 
 pub returns-in-One-clause-goes : goal.returns-in-One-clause-goes
 returns-in-One-clause-goes g c =
@@ -29,8 +29,8 @@ returns-in-One-clause-goes g c =
     let world : World = world_of (seen c.args.files.now) c.args.settings.now in
     let old = g.R.PathRows.entries c.args.rows.now in
     let new = g.R.PathRows.entries c.pass.new.rows in
-    let passes : PassesStage world c.args.stage old new (passed.One c.in-One.units c.in-One.stage) = subst (λ (p : Passed). PassesStage world c.args.stage old new p) c.in-One.is c.in_ok-units.ensures.passes in
+    let passes : PassesStage world c.args.stage old new (passed.One c.in-One.spent c.in-One.stage) = subst (λ (p : Passed). PassesStage world c.args.stage old new p) c.in-One.is c.in_ok-spent.ensures.passes in
     let through = c.requires.far.through in (
-      RenewsRow-among world (paths_of c.args.stage) (shown no_name old) (shown no_name new) c.in-One.units (λ path is. needed-has world path (ap (is_one_of path) (sym through) ∙ is)) passes.0,
+      RenewsRow-among world (paths_of c.args.stage) (shown no_name old) (shown no_name new) c.in-One.spent (λ path is. needed-has world path (ap (is_one_of path) (sym through) ∙ is)) passes.0,
       record { kept = passes.1; far = subst (λ paths. IsStage (fresh (shown no_name new)) paths c.in-One.stage) through passes.2 },
     )

@@ -7,7 +7,7 @@ use Rattle.mk_eval.specs.Views.{flavors_in}
 use Rattle.ports_index.specs.PathOutcomes.{finding_in, finding_at}
 use Rattle.ports_index.specs.PathQuestions.{questions_in, questions_at}
 use Rattle.ports_index.specs.Seen.{finding_seen}
-use Rattle.ports_index.proofs.NamedPaths.{finding-named, questions-named}
+use Rattle.ports_index.specs.NamedPaths.{finding-named, questions-named}
 use Rattle.ports_index.proofs.evaluating.evaluate_path.Goals as goal
 
 pub returns-in-Some-clause-finding : goal.returns-in-Some-clause-finding

@@ -12,13 +12,13 @@ use Rattle.tenant_worlds.proofs.keepers.reply_to_tenant.Goals as goal
 pub reply_to-requires : goal.reply_to-requires
 reply_to-requires c = kept_at (world_in c.args.store.now) c.args.keepers.now c.args.tenant c.index-keepers-tenant.result c.requires.there c.requires.kept
 
-pub returns-clause-units : goal.returns-clause-units
-returns-clause-units c =
+pub returns-clause-spent : goal.returns-clause-spent
+returns-clause-spent c =
     let world = world_in c.args.store.now c.args.tenant in
     let request = plain_request_of c.args.incoming.now.request.now in
     if_ok c.reply_to.result
     (λ r spent. subst (λ (keeper : Option TenantKeeper). SpendsAt world keeper request r.2) (sym (slice_get-get_or c.args.keepers.now c.args.tenant c.index-keepers-tenant.result c.requires.there)) spent)
-    c.reply_to.ensures.units
+    c.reply_to.ensures.spent
 
 pub returns-clause-kept : goal.returns-clause-kept
 returns-clause-kept c =

@@ -2,11 +2,12 @@
 use Rattle.std.proofs.Common.{◌+◌, ◌-◌, length}
 use Rattle.text_parts.specs.Cuts.{now_all}
 use Rattle.text_graph.specs.Arrows.{arrows_seen}
-use Rattle.text_graph.proofs.Searches.{KeepsSearching}
+use Rattle.text_graph.specs.Numbering.{texts_met}
+use Rattle.text_graph.proofs.NumberSearches.{KeepsSearching}
 use Rattle.text_graph.proofs.searching.search.Given as goal
 
 abbrev pub invariant-loop-place : goal.invariant-loop-place
-invariant-loop-place l = KeepsSearching (now_all l.starts) (arrows_seen l.arrows) l.place l.found
+invariant-loop-place l = KeepsSearching (now_all l.starts) (arrows_seen l.arrows) (texts_met l.numbers) l.place l.found
 
 abbrev pub decreases-loop-place : goal.decreases-loop-place
 decreases-loop-place l = length l.starts + length l.arrows - l.place

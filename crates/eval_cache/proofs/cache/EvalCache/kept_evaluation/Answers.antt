@@ -27,7 +27,7 @@ returns-in-Some-clause-found g c =
     let files = (g.F.Names.view c.args.files.now).files in
     let right = kept_at-AreRight c.self.inside.evals.entries c.args.key.now c.in-Some.kept.now c.self.invariant.evaluations (sym c.in-Some.ensures) in
     IfOk-weaker c.first_agreeing.result _ _
-    (λ found. AreRight-found files (key_of c.args.key.now) c.as_slice.result.now found.0 (subst (AreRight (key_of c.args.key.now)) (sym c.as_slice.ensures.value) right.0))
+    (λ found. AreRight-found files (key_of c.args.key.now) found.1 c.as_slice.result.now found.0 (subst (AreRight (key_of c.args.key.now)) (sym c.as_slice.ensures.value) right.0))
     c.first_agreeing.ensures.found
 
 pub returns-in-Some-clause-asks : goal.returns-in-Some-clause-asks

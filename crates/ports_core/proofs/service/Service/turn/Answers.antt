@@ -56,16 +56,16 @@ invariant_of-self-2 g c =
 pub returns-clause-counts : goal.returns-clause-counts
 returns-clause-counts g c =
     let within : c.args.tenant < length c.self.inside.queues.items = within_keys c.args.tenant c.args.self.now c.self.inside.keys.items (g.K.Tenants.worlds c.self.inside.worlds) c.self.inside.queues.items c.self.inside.connections.entries c.self.inside.next c.self.inside.queues.items c.self.view_is c.self.invariant.queues c.requires in
-    turn_counts c.args.tenant c.answer.result (g.K.Tenants.worlds c.self.inside.worlds) c.self.inside.queues.items c.index_mut-queue.result.now c.next.new.self c.in-Some.field-0 c.work-reply.result.reply c.work-reply.result.units c.work-reply.ensures.answers.world
+    turn_counts c.args.tenant c.answer.result (g.K.Tenants.worlds c.self.inside.worlds) c.self.inside.queues.items c.index_mut-queue.result.now c.next.new.self c.in-Some.field-0 c.work-reply.result.reply c.work-reply.result.spent c.work-reply.ensures.answers.world
     c.work-reply.ensures.answers.was
     (slice_get_read c.self.inside.queues.items (length c.self.inside.queues.items) c.args.tenant c.index_mut-queue.result.now refl within c.index_mut-queue.ensures.value)
-    c.in-Some.ensures.some c.work-reply.ensures.charges c.answer.ensures.reply c.answer.ensures.units c.answer.ensures.checks
+    c.in-Some.ensures.some c.work-reply.ensures.charges c.answer.ensures.reply c.answer.ensures.spent
 
 pub returns-clause-spends : goal.returns-clause-spends
 returns-clause-spends g c =
     let within : c.args.tenant < length c.self.inside.queues.items = within_keys c.args.tenant c.args.self.now c.self.inside.keys.items (g.K.Tenants.worlds c.self.inside.worlds) c.self.inside.queues.items c.self.inside.connections.entries c.self.inside.next c.self.inside.queues.items c.self.view_is c.self.invariant.queues c.requires in
     rw (← c.self.view_is)
-    (turn_spends c.args.tenant c.answer.result (g.K.Tenants.worlds c.self.inside.worlds) c.self.inside.queues.items c.index_mut-queue.result.now c.next.new.self c.in-Some.field-0 c.work-reply.result.reply c.work-reply.result.units c.work-reply.ensures.answers.world
+    (turn_spends c.args.tenant c.answer.result (g.K.Tenants.worlds c.self.inside.worlds) c.self.inside.queues.items c.index_mut-queue.result.now c.next.new.self c.in-Some.field-0 c.work-reply.result.reply c.work-reply.result.spent c.work-reply.ensures.answers.world
     c.work-reply.ensures.answers.was
     (slice_get_read c.self.inside.queues.items (length c.self.inside.queues.items) c.args.tenant c.index_mut-queue.result.now refl within c.index_mut-queue.ensures.value)
-    c.in-Some.ensures.some c.work-reply.ensures.charges c.answer.ensures.reply c.answer.ensures.units c.answer.ensures.checks)
+    c.in-Some.ensures.some c.work-reply.ensures.charges c.answer.ensures.reply c.answer.ensures.spent)

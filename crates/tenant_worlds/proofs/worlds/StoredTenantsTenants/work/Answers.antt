@@ -51,6 +51,6 @@ returns-clause-charges c =
     in
     rw (← c.self.view_is)
     (elim c.match-reply_to_tenant.branch [
-      | in-Ok w ↦ rw w.result-is (charges_for old (length items) c.args.tenant _ c.args.request.now _ _ _ within c.keeping_costs_no_more.ensures c.never_answers_503.ensures w.in-Ok.ensures.reply w.in-Ok.ensures.units)
-      | in-Err w ↦ rw w.result-is (λ world there. subst (λ (reply : ReplyMessage). Charges world c.args.request.now reply 0) (sym w.store_failed.ensures.value) refl)
+      | in-Ok w ↦ rw w.result-is (charges_for old (length items) c.args.tenant _ c.args.request.now _ _ _ within c.keeping_spends_no_more.ensures c.never_answers_503.ensures w.in-Ok.ensures.reply w.in-Ok.ensures.spent)
+      | in-Err w ↦ rw w.result-is (λ world there. subst (λ (reply : ReplyMessage). Charges world c.args.request.now reply w.nothing.result) (sym w.store_failed.ensures.value) w.nothing.ensures)
     ])
