@@ -1,12 +1,10 @@
 //! Loops: their headers, and lines with words put in.
-ghost use Rattle.std.specs.Prelude.{◌<◌, length, IfOk};
-ghost use Rattle.mk_loop.specs.Scopes.{turns_in};
-
 use case_lines::{Answer, Trouble, as_number, as_text};
 use mk_base::{Budget, FaultKind, PureStop, Stop, UNITS};
 use mk_env::Env;
-use mk_loop::{Iterations, LoopScope, put_words, read_header};
+use mk_loop::{Iteration, put_words, read_header};
 use std::alloc::Global;
+use std::rc::Rc;
 
 /// A line with words put in. `None` if there are none to put in.
 type Put = Result<Option<String>, PureStop<FaultKind>>;
@@ -24,9 +22,10 @@ pub fn turns_of(alloc: Global, variables: &Env, given: &[Vec<u8>]) -> Result<Ans
     let mut answer = Answer::new(alloc);
     match read_header(alloc, variables, header, &mut budget) {
         Ok(turns) => {
+            let turns = Rc::new(alloc, turns)?;
             for index in 0..turns.count() {
-                let scope = LoopScope::Iteration(turns.turn(index), &LoopScope::Outside);
-                let put = put_words(alloc, variables, scope, line, &mut budget);
+                let loops = [Iteration::new(turns.clone()?, index)];
+                let put = put_words(alloc, variables, &loops, line, &mut budget);
                 add_put(&mut answer, put);
             }
         }
@@ -76,31 +75,18 @@ fn put_in(
     line: &str,
     budget: &mut Budget,
 ) -> Result<Put, Trouble> {
-    match headers {
-        [] => Ok(put_words(alloc, variables, LoopScope::Outside, line, budget)),
-        [header] => {
-            let turns = turns(alloc, variables, header)?;
-            let scope = LoopScope::Iteration(turns.turn(0), &LoopScope::Outside);
-            Ok(put_words(alloc, variables, scope, line, budget))
-        }
-        [first, second] => {
-            let outer = turns(alloc, variables, first)?;
-            let inner = turns(alloc, variables, second)?;
-            let around = LoopScope::Iteration(outer.turn(0), &LoopScope::Outside);
-            let scope = LoopScope::Iteration(inner.turn(0), &around);
-            Ok(put_words(alloc, variables, scope, line, budget))
-        }
-        _ => Err(Trouble::NoCase),
+    let mut loops = Vec::new(alloc);
+    for header in headers {
+        loops.push(first_turn(alloc, variables, header)?)?;
     }
+    Ok(put_words(alloc, variables, loops.as_slice(), line, budget))
 }
 
-/// The turns of a loop, at least one.
-fn turns<'a>(alloc: Global, variables: &Env, header: &'a [u8]) -> Result<Iterations<'a>, Trouble>
-    ensures { IfOk result (λ turns. 0 < length (turns_in turns)) }
-{
+/// The first turn of a loop.
+fn first_turn(alloc: Global, variables: &Env, header: &[u8]) -> Result<Iteration, Trouble> {
     let mut budget = Budget::new(UNITS);
     match read_header(alloc, variables, as_text(header)?, &mut budget) {
-        Ok(turns) if turns.count() > 0 => Ok(turns),
+        Ok(turns) if turns.count() > 0 => Ok(Iteration::new(Rc::new(alloc, turns)?, 0)),
         _ => Err(Trouble::NoCase),
     }
 }

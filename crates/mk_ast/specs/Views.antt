@@ -21,7 +21,7 @@ abbrev pub node_step : Node-F Tree (LogicalLine × Block) → Tree
 node_step (Node-F.Line line) = LineTree line
 node_step (Node-F.Choice head body branches otherwise) =
     ChoiceTree head (block_from body.value.items)
-    (branches_from branches.items (last_branch (option_map (λ block. block_from block.value.items) otherwise)))
+    (branches_from branches.value.items (last_branch (option_map (λ block. block_from block.value.items) otherwise)))
 node_step (Node-F.Loop head body) = LoopTree head (block_from body.value.items)
 
 -- the tree of a node

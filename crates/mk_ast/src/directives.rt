@@ -13,7 +13,7 @@ pub(crate) fn directive_in(text: &str) -> Option<LineKind<'_>>
     ensures { option_map shown_kind result ≡ directive_in text.now }
 {
     match text.strip_prefix('.') {
-        Some(behind) => directive_after_dot(skip_blanks(behind)),
+        Some(after_dot) => directive_after_dot(skip_blanks(after_dot)),
         None => None,
     }
 }

@@ -18,5 +18,5 @@ pub use laws::{
     parts_have_one_block,
 };
 pub use line_kinds::{line_kind, plain_kind};
-pub use nodes::{BLOCKS, Block, Branch, Makefile, Node};
+pub use nodes::{BLOCKS, Block, Branch, Branches, Makefile, Node};
 pub use parsing::{ParseError, ParseFault, parse};

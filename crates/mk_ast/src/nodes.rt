@@ -9,6 +9,9 @@ pub const BLOCKS: usize = 64;
 /// Lines and blocks in order. They are shared: a copy of the pointer is a copy of them all.
 pub type Block = Rc<Vec<Node>>;
 
+/// The later branches of a choice, in order. They are shared as the lines of a `Block` are.
+pub type Branches = Rc<Vec<Branch>>;
+
 /// A line that isn't part of a block's frame, or a block.
 #[derive(Debug, Drop)]
 #[cycle(tree)]
@@ -22,7 +25,7 @@ pub enum Node {
         /// What follows that line.
         body: Block,
         /// Its forms of `.elif`, in order.
-        branches: Vec<Branch>,
+        branches: Branches,
         /// What follows its `.else`, if it has one.
         otherwise: Option<Block>,
     },

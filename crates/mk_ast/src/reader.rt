@@ -130,7 +130,7 @@ impl OpenBlock {
             (InnerPart::Elif, Content::Choice(ended, None)) => Progress::Elif(ended, line),
             (InnerPart::Else, Content::Choice(ended, None)) => Progress::Else(ended),
             (InnerPart::Endif, Content::Choice(ended, otherwise)) => {
-                return Ok(ending(before, choice(head, ended, otherwise))?);
+                return Ok(ending(before, choice(alloc, head, ended, otherwise)?)?);
             }
             (InnerPart::Endfor, Content::Loop(body)) => {
                 return Ok(ending(before, Node::Loop { head, body })?);
@@ -146,17 +146,23 @@ impl OpenBlock {
 }
 
 /// A choice with this first line, these branches, and that of its `.else`, if it has one.
-fn choice(head: Logical, ended: EndedBranches, otherwise: Option<Block>) -> Node
-    ensures { tree_of result ≡ ChoiceTree head (block_of ended.first.value.items)
+fn choice(
+    alloc: Global,
+    head: Logical,
+    ended: EndedBranches,
+    otherwise: Option<Block>,
+) -> Result<Node, AllocError>
+    ensures { IfOk result (λ node. tree_of node
+        ≡ ChoiceTree head (block_of ended.first.value.items)
         (branches_from (map branch_of ended.later.items)
-        (last_branch (option_map (λ block. block_of block.value.items) otherwise))) }
+        (last_branch (option_map (λ block. block_of block.value.items) otherwise)))) }
 {
-    Node::Choice {
+    Ok(Node::Choice {
         head,
         body: ended.first,
-        branches: ended.later,
+        branches: Rc::new(alloc, ended.later)?,
         otherwise,
-    }
+    })
 }
 
 /// The effect of a part that ends a block as this node, after those before it.

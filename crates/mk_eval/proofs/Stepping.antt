@@ -1,5 +1,5 @@
 -- How the code's steps go over nodes, branches and turns, and what they leave of the files.
-use Rattle.std.proofs.Common.{◌≡◌, ◌<◌, ◌+◌, ◌∙◌, ℕ, suc, zero, Bool, true, false, List, [], ◌∷◌, map, drop, length, get_or, Option, unwrap_or, Result, Ok, Err, if◌then◌else◌, refl, sym, ap, subst, arith}
+use Rattle.std.proofs.Common.{◌≡◌, ◌<◌, ◌+◌, ◌∙◌, ℕ, suc, zero, Bool, true, false, List, ◌∷◌, map, drop, length, get_or, Option, Result, Ok, Err, if◌then◌else◌, refl, sym, ap, subst, arith}
 use Rattle.std.proofs.lemmas.List.{drop_more, drop_all}
 use Rattle.mk_base.specs.declared.faults.FaultKind.{FaultKind}
 use Rattle.mk_base.specs.declared.stopping.Stop.{Stop}
@@ -20,13 +20,10 @@ use Rattle.mk_paths.specs.FilesView.{Question}
 use Rattle.mk_files.specs.Asking.{Account, beside}
 use Rattle.mk_loop.specs.LoopWords.{LoopWords}
 use Rattle.mk_loop.specs.Header.{header}
-use Rattle.mk_loop.specs.declared.scopes.LoopScope.{LoopScope, Outside, Iteration'}
-use Rattle.mk_loop.specs.Scopes.{words_in}
 use Rattle.mk_eval.specs.Lines.{Loops}
 use Rattle.mk_eval.specs.Execution.{LineWorks, execute, execute_tree, execute_branches, chosen}
 use Rattle.mk_eval.specs.Meaning.{file_meaning, execute_read}
 use Rattle.mk_eval.specs.Running.{entering_at}
-use Rattle.mk_eval.specs.Views.{loops_of}
 use Rattle.mk_eval.specs.declared.state.EvalState.{EvalState}
 
 -- work that ends as other work
@@ -92,11 +89,6 @@ pub file_meaning-is : (files : FileMap) (makefile : List ℕ) (levels : ℕ) (na
 unfolding file_meaning
 file_meaning-is files makefile zero name bytes state a = refl
 file_meaning-is files makefile (suc levels) name bytes state a = refl
-
--- the words of the loops round a line, if there are any
-pub scope-words : (scope : LoopScope) → unwrap_or (loops_of scope) [] ≡ words_in scope
-scope-words Outside = refl
-scope-words (Iteration' turn pointer outer) = refl
 
 abbrev IsNoValue : {A B : Type 0} → Result A B → Type 0
 IsNoValue (Ok x) = ⊥

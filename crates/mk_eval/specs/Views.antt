@@ -1,19 +1,34 @@
 -- What the code has, as the definitions see it.
-use Rattle.std.specs.Prelude.{ℕ, List, ◌++◌, map, Option, Some, None, option_map, String, string_bytes}
+use Rattle.std.specs.Prelude.{◌≡◌, ℕ, List, [], ◌∷◌, ◌++◌, refl, map, Option, Some, None, option_map, String, string_bytes}
+use Rattle.std.proofs.Common.{ap}
 use Rattle.std.specs.Borrow.{Bor}
 use Rattle.std.specs.declared.alloc.Global.{Global}
 use Rattle.mk_paths.specs.World.{FileMap}
-use Rattle.mk_loop.specs.declared.scopes.LoopScope.{LoopScope, Outside, Iteration'}
-use Rattle.mk_loop.specs.Scopes.{turn_words, words_in}
-use Rattle.mk_eval.specs.Lines.{Loops}
+use Rattle.mk_loop.specs.declared.turn.Iteration.{Iteration}
+use Rattle.mk_loop.specs.Scopes.{turn_words, words_in, words_in-inside, words_in-alike}
+use Rattle.mk_eval.specs.Lines.{Loops, inside_turn}
 use Rattle.mk_eval.specs.Includes.{Place, File}
 use Rattle.mk_eval.specs.declared.including.ExecutedFile.{ExecutedFile}
 use Rattle.mk_eval.specs.declared.including.Included.{Included}
 
--- the loops around a line
-abbrev pub loops_of : LoopScope → Loops
-loops_of Outside = None
-loops_of (Iteration' turn pointer outer) = Some (turn_words turn ++ words_in outer)
+-- the loops around a line, of which the innermost is the last
+abbrev pub loops_of : List Iteration → Loops
+loops_of [] = None
+loops_of (turn ∷ loops) = Some (words_in (turn ∷ loops))
+
+-- the loops with one more inside them, at this iteration
+pub loops_of-inside : (loops : List Iteration) (turn : Iteration)
+    → loops_of (loops ++ turn ∷ []) ≡ inside_turn (loops_of loops) (turn_words turn)
+loops_of-inside [] turn = ap Some (words_in-inside [] turn)
+loops_of-inside (outer ∷ loops) turn = ap Some (words_in-inside (outer ∷ loops) turn)
+
+-- loops are the same around a line if each has the words of the other's
+pub loops_of-alike : (loops others : List Iteration) → map turn_words loops ≡ map turn_words others
+    → loops_of loops ≡ loops_of others
+loops_of-alike [] [] same = refl
+loops_of-alike [] (other ∷ others) same = cc
+loops_of-alike (outer ∷ loops) [] same = cc
+loops_of-alike (outer ∷ loops) (other ∷ others) same = ap Some (words_in-alike (outer ∷ loops) (other ∷ others) same)
 
 -- the flavors that are given
 abbrev pub flavors_in : Option (Bor (List (String Global))) → Option (List (List ℕ))

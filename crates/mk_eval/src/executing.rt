@@ -14,12 +14,12 @@ use crate::requests::Request;
 use mk_ast::{Directive, LineKind, Operator, is_word, line_kind, plain_kind};
 use mk_base::{Budget, FaultKind, PureStop};
 use mk_env::{Env, expand, expand_now};
-use mk_loop::{LoopScope, put_words};
+use mk_loop::{Iteration, put_words};
 use mk_text::{TEXT_LIMIT, words};
 use std::alloc::{AllocError, Global};
 
-/// Does what the line with this text says. The line doesn't begin, part or end a block. `scope` has the
-/// loops around it. The answer is the file that the line asks for, if it asks for one: opening it is all
+/// Does what the line with this text says. The line doesn't begin, part or end a block. `loops`
+/// are the loops around it, the innermost last. The answer is the file that the line asks for, if it asks for one: opening it is all
 /// that is left to do for `.include` and `.sinclude`.
 ///
 /// A line that isn't blank costs a unit, before anything else: so it is `Budget` first if no unit is
@@ -34,12 +34,12 @@ use std::alloc::{AllocError, Global};
 pub fn perform(
     alloc: Global,
     variables: &mut Env,
-    scope: LoopScope<'_>,
+    loops: &[Iteration],
     text: &str,
     budget: &mut Budget,
 ) -> Result<Option<Request>, PureStop<FaultKind>>
     ensures gives { GivesPurely (λ request. (variables.new, request)) result budget.new
-        (lines.perform variables.old (loops_of scope.entry) text.now budget.old) }
+        (lines.perform variables.old (loops_of loops.now) text.now budget.old) }
     ensures err { OnErr result (variables.new ≡ variables.old) }
     ensures later { IsLater budget.old budget.new }
     ensures paid { IfOk result (Requests budget.old budget.new) }
@@ -49,38 +49,38 @@ pub fn perform(
         return Ok(None);
     }
     budget.pay()?;
-    execute_in(alloc, variables, scope, text, kind, budget)
+    execute_in(alloc, variables, loops, text, kind, budget)
 }
 
 /// Does what a line says whose text, as written, is of this kind.
 fn execute_in(
     alloc: Global,
     variables: &mut Env,
-    scope: LoopScope<'_>,
+    loops: &[Iteration],
     text: &str,
     kind: LineKind<'_>,
     budget: &mut Budget,
 ) -> Result<Option<Request>, PureStop<FaultKind>>
     ensures gives { GivesPurely (λ request. (variables.new, request)) result budget.new
-        (lines.execute_in variables.old (loops_of scope.entry) text.now
+        (lines.execute_in variables.old (loops_of loops.now) text.now
         (shown_kind kind.entry) budget.old) }
     ensures err { OnErr result (variables.new ≡ variables.old) }
     ensures later { IsLater budget.old budget.new }
 {
-    if let LoopScope::Outside = scope {
+    if loops.is_empty() {
         return execute_kind(alloc, variables, kind, budget);
     }
     match kind {
         LineKind::Directive { word, rest } => {
-            let put = put_words(alloc, variables, scope, rest, budget)?;
+            let put = put_words(alloc, variables, loops, rest, budget)?;
             direct(alloc, variables, word, put_or(&put, rest), budget)
         }
         LineKind::Command => {
-            put_words(alloc, variables, scope, text, budget)?;
+            put_words(alloc, variables, loops, text, budget)?;
             Ok(None)
         }
         _ => {
-            let put = put_words(alloc, variables, scope, text, budget)?;
+            let put = put_words(alloc, variables, loops, text, budget)?;
             let kind = plain_kind(alloc, put_or(&put, text))?;
             execute_kind(alloc, variables, kind, budget)
         }

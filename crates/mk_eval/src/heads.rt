@@ -16,7 +16,7 @@ use mk_ast::{Directive, LineKind, line_kind};
 use mk_base::{Budget, FaultKind, PureStop, Stop};
 use mk_cond::{Form, Setting, directive_truth};
 use mk_env::Env;
-use mk_loop::{LoopScope, put_words};
+use mk_loop::{Iteration, put_words};
 use mk_paths::{Name, Names};
 use std::alloc::{AllocError, Global};
 
@@ -55,18 +55,18 @@ fn form_in(kind: LineKind<'_>) -> Option<Form>
 fn put_in(
     alloc: Global,
     variables: &Env,
-    scope: LoopScope<'_>,
+    loops: &[Iteration],
     text: &str,
     budget: &mut Budget,
 ) -> Result<Option<String>, PureStop<FaultKind>>
     ensures gives { GivesPurely (text_of text.now) result budget.new
-        (lines.put_in variables.now (loops_of scope.entry) text.now budget.old) }
+        (lines.put_in variables.now (loops_of loops.now) text.now budget.old) }
     ensures later { IsLater budget.old budget.new }
 {
-    match scope {
-        LoopScope::Outside => Ok(None),
-        LoopScope::Iteration(_, _) => put_words(alloc, variables, scope, text, budget),
+    if loops.is_empty() {
+        return Ok(None);
     }
+    put_words(alloc, variables, loops, text, budget)
 }
 
 /// What follows the word of a line of this kind, with the words of the loops around it put in. It costs
@@ -74,12 +74,12 @@ fn put_in(
 fn head_text(
     alloc: Global,
     variables: &Env,
-    scope: LoopScope<'_>,
+    loops: &[Iteration],
     kind: LineKind<'_>,
     budget: &mut Budget,
 ) -> Result<String, PureStop<FaultKind>>
     ensures gives { GivesPurely string_bytes result budget.new
-        (heads.head_text variables.now (loops_of scope.entry) (shown_kind kind.entry) budget.old) }
+        (heads.head_text variables.now (loops_of loops.now) (shown_kind kind.entry) budget.old) }
     ensures later { IsLater budget.old budget.new }
     ensures paid { IfOk result (λ _. Pays budget.old budget.new) }
 {
@@ -87,7 +87,7 @@ fn head_text(
         return Err(PureStop::Fault(FaultKind::Block)); // no other line begins a block
     };
     budget.pay()?;
-    match put_in(alloc, variables, scope, rest, budget)? {
+    match put_in(alloc, variables, loops, rest, budget)? {
         Some(put) => Ok(put),
         None => Ok(String::from_str(alloc, rest)?),
     }
@@ -99,20 +99,20 @@ pub(crate) fn judge<F: Names>(
     alloc: Global,
     makefile: &Name,
     variables: &Env,
-    scope: LoopScope<'_>,
+    loops: &[Iteration],
     line: &str,
     files: &mut F,
     budget: &mut Budget,
 ) -> Result<bool, Stop<FaultKind>>
     ensures gives { Gives (λ held. held) result (account budget.new (F.view files.new))
-        (heads.judge (F.view files.old).files makefile.now variables.now (loops_of scope.entry)
+        (heads.judge (F.view files.old).files makefile.now variables.now (loops_of loops.now)
         line.now (account budget.old (F.view files.old))) }
     ensures asks { Asks F.fails_with result (F.view files.old) (F.view files.new) }
     ensures later { IsLater budget.old budget.new }
     ensures paid { IfOk result (λ held. Pays budget.old budget.new) }
 {
     let kind = line_kind(alloc, line)?;
-    let text = head_text(alloc, variables, scope, kind, budget)?;
+    let text = head_text(alloc, variables, loops, kind, budget)?;
     let Some(form) = form_in(kind) else {
         return Err(Stop::Fault(FaultKind::Condition)); // no other line has a condition
     };
@@ -130,15 +130,15 @@ pub(crate) fn judge<F: Names>(
 pub(crate) fn header_text(
     alloc: Global,
     variables: &Env,
-    scope: LoopScope<'_>,
+    loops: &[Iteration],
     line: &str,
     budget: &mut Budget,
 ) -> Result<String, PureStop<FaultKind>>
     ensures gives { GivesPurely string_bytes result budget.new
-        (heads.head_text variables.now (loops_of scope.entry) (line_kind line.now) budget.old) }
+        (heads.head_text variables.now (loops_of loops.now) (line_kind line.now) budget.old) }
     ensures later { IsLater budget.old budget.new }
     ensures paid { IfOk result (λ _. Pays budget.old budget.new) }
 {
     let kind = line_kind(alloc, line)?;
-    head_text(alloc, variables, scope, kind, budget)
+    head_text(alloc, variables, loops, kind, budget)
 }

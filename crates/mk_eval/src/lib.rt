@@ -14,6 +14,7 @@ mod requests;
 mod running;
 mod starting;
 mod state;
+mod turns;
 
 pub use evaluation::{evaluate, evaluate_with, value};
 pub use executing::perform;

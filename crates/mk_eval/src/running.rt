@@ -1,33 +1,27 @@
 //! Makefiles executed: blocks, loops and included files.
-ghost use Rattle.std.specs.Prelude.{IfOk, None, map, option_map, string_bytes};
-ghost use Rattle.mk_base.specs.Meter.{IsLater, pay};
-ghost use Rattle.mk_base.specs.Outcome.{tell};
-ghost use Rattle.mk_base.specs.Stopping.{Gives, GivesPurely};
+ghost use Rattle.std.specs.Prelude.{IfOk, None, map, option_map};
+ghost use Rattle.mk_base.specs.Meter.{IsLater};
+ghost use Rattle.mk_base.specs.Stopping.{Gives};
 ghost use Rattle.mk_ast.specs.Blocks.{branches_from};
 ghost use Rattle.mk_ast.specs.Trees.{LoopTree};
 ghost use Rattle.mk_ast.specs.Views.{block_of, tree_of, branch_of, last_branch};
 ghost use Rattle.mk_files.specs.Asking.{account};
 ghost use Rattle.mk_files.specs.Working.{Asks};
-ghost use Rattle.mk_ast.specs.Kinds.{line_kind};
-ghost use Rattle.mk_loop.specs.Header as headers;
-ghost use Rattle.mk_loop.specs.Scopes.{turns_in};
 ghost use Rattle.mk_eval.specs.Execution as execution;
 ghost use Rattle.mk_eval.specs.Meaning as meaning;
 ghost use Rattle.mk_eval.specs.Views.{loops_of, place_of, file_of};
-ghost use Rattle.mk_eval.specs.Includes.{Place};
-ghost use Rattle.mk_eval.specs.Heads as heads;
-ghost use Rattle.mk_eval.specs.Lines as lines;
 ghost use Rattle.mk_eval.specs.Running.{works_of, Opens, Pays};
 
 use crate::executing::perform;
-use crate::heads::{header_text, judge};
+use crate::heads::judge;
 use crate::including::{ExecutedFile, Included, open_request};
 use crate::parses::Parses;
 use crate::state::EvalState;
+use crate::turns::{begin_turn, header_of, loops_at, turns_of};
 use mk_ast::{Block, Branch, Node};
-use mk_base::{Budget, Fault, PureStop, Stop};
+use mk_base::{Budget, Fault, Stop};
 use mk_files::{Content, Files};
-use mk_loop::{Iterations, LoopScope, read_header};
+use mk_loop::Iteration;
 use mk_paths::{Name, Names};
 use mk_text::Logical;
 use std::alloc::Global;
@@ -55,7 +49,7 @@ pub(crate) fn execute_file<F: Files, P: Parses>(
         Ok(makefile) => execute_block(
             alloc,
             here,
-            LoopScope::Outside,
+            &[],
             makefile.nodes.as_slice(),
             state,
             parses,
@@ -74,7 +68,7 @@ pub(crate) fn execute_file<F: Files, P: Parses>(
 fn execute_block<F: Files, P: Parses>(
     alloc: Global,
     here: ExecutedFile<'_>,
-    scope: LoopScope<'_>,
+    loops: &[Iteration],
     nodes: &[Node],
     state: &mut EvalState,
     parses: &mut P,
@@ -83,13 +77,13 @@ fn execute_block<F: Files, P: Parses>(
 ) -> Result<(), Stop<Fault>>
     ensures gives { Gives (λ _. state.new) result (account budget.new (F.view files.new))
         (execution.execute (works_of here.entry (F.view files.old).files) (block_of nodes.now)
-        (loops_of scope.entry) state.old (account budget.old (F.view files.old))) }
+        (loops_of loops.now) state.old (account budget.old (F.view files.old))) }
     ensures asks { Asks F.fails_with result (F.view files.old) (F.view files.new) }
     ensures later { IsLater budget.old budget.new }
     ensures parses { P.becomes parses.old parses.new }
 {
     for node in nodes {
-        execute_node(alloc, here, scope, node, state, parses, files, budget)?;
+        execute_node(alloc, here, loops, node, state, parses, files, budget)?;
     }
     Ok(())
 }
@@ -99,7 +93,7 @@ fn execute_block<F: Files, P: Parses>(
 fn execute_node<F: Files, P: Parses>(
     alloc: Global,
     here: ExecutedFile<'_>,
-    scope: LoopScope<'_>,
+    loops: &[Iteration],
     node: &Node,
     state: &mut EvalState,
     parses: &mut P,
@@ -108,32 +102,32 @@ fn execute_node<F: Files, P: Parses>(
 ) -> Result<(), Stop<Fault>>
     ensures gives { Gives (λ _. state.new) result (account budget.new (F.view files.new))
         (execution.execute_tree (works_of here.entry (F.view files.old).files)
-        (tree_of node.now) (loops_of scope.entry) state.old
+        (tree_of node.now) (loops_of loops.now) state.old
         (account budget.old (F.view files.old))) }
     ensures asks { Asks F.fails_with result (F.view files.old) (F.view files.new) }
     ensures later { IsLater budget.old budget.new }
     ensures parses { P.becomes parses.old parses.new }
 {
     match node {
-        Node::Line(line) => { execute_line(alloc, here, scope, line, state, parses, files, budget) }
+        Node::Line(line) => { execute_line(alloc, here, loops, line, state, parses, files, budget) }
         Node::Choice {
             head,
             body,
             branches,
             otherwise,
         } => {
-            if holds(alloc, here, scope, head, state, files, budget)? {
+            if holds(alloc, here, loops, head, state, files, budget)? {
                 let body = body.as_slice();
-                return execute_block(alloc, here, scope, body, state, parses, files, budget);
+                return execute_block(alloc, here, loops, body, state, parses, files, budget);
             }
             let branches = branches.as_slice();
             execute_branches(
-                alloc, here, scope, branches, otherwise, state, parses, files, budget,
+                alloc, here, loops, branches, otherwise, state, parses, files, budget,
             )
         }
         Node::Loop { head, body } => {
             let body = body.as_slice();
-            execute_loop(alloc, here, scope, head, body, state, parses, files, budget)
+            execute_loop(alloc, here, loops, head, body, state, parses, files, budget)
         }
     }
 }
@@ -144,7 +138,7 @@ fn execute_node<F: Files, P: Parses>(
 fn execute_branches<F: Files, P: Parses>(
     alloc: Global,
     here: ExecutedFile<'_>,
-    scope: LoopScope<'_>,
+    loops: &[Iteration],
     branches: &[Branch],
     otherwise: &Option<Block>,
     state: &mut EvalState,
@@ -156,22 +150,22 @@ fn execute_branches<F: Files, P: Parses>(
         (execution.execute_branches (works_of here.entry (F.view files.old).files)
         (branches_from (map branch_of branches.now)
         (last_branch (option_map (λ block. block_of block.value.items) otherwise.now)))
-        (loops_of scope.entry) state.old
+        (loops_of loops.now) state.old
         (account budget.old (F.view files.old))) }
     ensures asks { Asks F.fails_with result (F.view files.old) (F.view files.new) }
     ensures later { IsLater budget.old budget.new }
     ensures parses { P.becomes parses.old parses.new }
 {
     for branch in branches {
-        if holds(alloc, here, scope, &branch.head, state, files, budget)? {
+        if holds(alloc, here, loops, &branch.head, state, files, budget)? {
             let body = branch.body.as_slice();
-            return execute_block(alloc, here, scope, body, state, parses, files, budget);
+            return execute_block(alloc, here, loops, body, state, parses, files, budget);
         }
     }
     match otherwise {
         Some(body) => {
             let body = body.as_slice();
-            execute_block(alloc, here, scope, body, state, parses, files, budget)
+            execute_block(alloc, here, loops, body, state, parses, files, budget)
         }
         None => Ok(()),
     }
@@ -182,7 +176,7 @@ fn execute_branches<F: Files, P: Parses>(
 fn execute_line<F: Files, P: Parses>(
     alloc: Global,
     here: ExecutedFile<'_>,
-    scope: LoopScope<'_>,
+    loops: &[Iteration],
     line: &Logical,
     state: &mut EvalState,
     parses: &mut P,
@@ -190,13 +184,13 @@ fn execute_line<F: Files, P: Parses>(
     budget: &mut Budget,
 ) -> Result<(), Stop<Fault>>
     ensures gives { Gives (λ _. state.new) result (account budget.new (F.view files.new))
-        ((works_of here.entry (F.view files.old).files).performs (loops_of scope.entry) line.now
+        ((works_of here.entry (F.view files.old).files).performs (loops_of loops.now) line.now
         state.old (account budget.old (F.view files.old))) }
     ensures asks { Asks F.fails_with result (F.view files.old) (F.view files.new) }
     ensures later { IsLater budget.old budget.new }
     ensures parses { P.becomes parses.old parses.new }
 {
-    match open_line(alloc, here, scope, line, state, files, budget)? {
+    match open_line(alloc, here, loops, line, state, files, budget)? {
         None => Ok(()),
         Some(Included { name, content }) => {
             let inside = ExecutedFile {
@@ -214,7 +208,7 @@ fn execute_line<F: Files, P: Parses>(
 fn execute_loop<F: Files, P: Parses>(
     alloc: Global,
     here: ExecutedFile<'_>,
-    scope: LoopScope<'_>,
+    loops: &[Iteration],
     head: &Logical,
     body: &[Node],
     state: &mut EvalState,
@@ -224,17 +218,18 @@ fn execute_loop<F: Files, P: Parses>(
 ) -> Result<(), Stop<Fault>>
     ensures gives { Gives (λ _. state.new) result (account budget.new (F.view files.new))
         (execution.execute_tree (works_of here.entry (F.view files.old).files)
-        (LoopTree head.now (block_of body.now)) (loops_of scope.entry) state.old
+        (LoopTree head.now (block_of body.now)) (loops_of loops.now) state.old
         (account budget.old (F.view files.old))) }
     ensures asks { Asks F.fails_with result (F.view files.old) (F.view files.new) }
     ensures later { IsLater budget.old budget.new }
     ensures parses { P.becomes parses.old parses.new }
 {
-    let header = header_of(alloc, here, scope, head, state, budget)?;
+    let header = header_of(alloc, here, loops, head, state, budget)?;
     let turns = turns_of(alloc, here, header.as_str(), head, state, budget)?;
     for index in 0..turns.count() {
-        let scope = LoopScope::Iteration(turns.turn(index), &scope);
-        execute_turn(alloc, here, scope, head, body, state, parses, files, budget)?;
+        let inner = loops_at(alloc, loops, &turns, index)?;
+        let inner = inner.as_slice();
+        execute_turn(alloc, here, inner, head, body, state, parses, files, budget)?;
     }
     Ok(())
 }
@@ -244,7 +239,7 @@ fn execute_loop<F: Files, P: Parses>(
 fn execute_turn<F: Files, P: Parses>(
     alloc: Global,
     here: ExecutedFile<'_>,
-    scope: LoopScope<'_>,
+    loops: &[Iteration],
     head: &Logical,
     body: &[Node],
     state: &mut EvalState,
@@ -255,20 +250,20 @@ fn execute_turn<F: Files, P: Parses>(
     ensures gives { Gives (λ _. state.new) result (account budget.new (F.view files.new))
         (execution.turn_in ((works_of here.entry (F.view files.old).files).begins head.now)
         (execution.execute (works_of here.entry (F.view files.old).files) (block_of body.now))
-        (loops_of scope.entry) state.old (account budget.old (F.view files.old))) }
+        (loops_of loops.now) state.old (account budget.old (F.view files.old))) }
     ensures asks { Asks F.fails_with result (F.view files.old) (F.view files.new) }
     ensures later { IsLater budget.old budget.new }
     ensures parses { P.becomes parses.old parses.new }
 {
     begin_turn(alloc, here, head, budget)?;
-    execute_block(alloc, here, scope, body, state, parses, files, budget)
+    execute_block(alloc, here, loops, body, state, parses, files, budget)
 }
 
 /// Does what a line that frames no block says, except executing the file that it opens, if any.
 fn open_line<F: Files>(
     alloc: Global,
     here: ExecutedFile<'_>,
-    scope: LoopScope<'_>,
+    loops: &[Iteration],
     line: &Logical,
     state: &mut EvalState,
     files: &mut F,
@@ -277,13 +272,13 @@ fn open_line<F: Files>(
     ensures gives { Gives (λ included. (state.new, option_map file_of included)) result
         (account budget.new (F.view files.new))
         (meaning.blamed_at (place_of here.entry (F.view files.old).files) line.now
-        (meaning.open_line (place_of here.entry (F.view files.old).files) (loops_of scope.entry)
+        (meaning.open_line (place_of here.entry (F.view files.old).files) (loops_of loops.now)
         line.now state.old) (account budget.old (F.view files.old))) }
     ensures asks { Asks F.fails_with result (F.view files.old) (F.view files.new) }
     ensures later { IsLater budget.old budget.new }
     ensures opens { IfOk result (Opens here.entry.levels budget.old budget.new) }
 {
-    let opened = match perform(alloc, &mut state.variables, scope, line.text(), budget) {
+    let opened = match perform(alloc, &mut state.variables, loops, line.text(), budget) {
         Ok(None) => Ok(None),
         Ok(Some(request)) => open_request(alloc, here, state, &request, files, budget),
         Err(stop) => Err(Stop::from(stop)),
@@ -298,14 +293,14 @@ fn open_line<F: Files>(
 fn holds<F: Names>(
     alloc: Global,
     here: ExecutedFile<'_>,
-    scope: LoopScope<'_>,
+    loops: &[Iteration],
     line: &Logical,
     state: &EvalState,
     files: &mut F,
     budget: &mut Budget,
 ) -> Result<bool, Stop<Fault>>
     ensures gives { Gives (λ held. held) result (account budget.new (F.view files.new))
-        ((works_of here.entry (F.view files.old).files).holds (loops_of scope.entry) line.now
+        ((works_of here.entry (F.view files.old).files).holds (loops_of loops.now) line.now
         state.now (account budget.old (F.view files.old))) }
     ensures asks { Asks F.fails_with result (F.view files.old) (F.view files.new) }
     ensures later { IsLater budget.old budget.new }
@@ -316,72 +311,12 @@ fn holds<F: Names>(
         alloc,
         here.makefile,
         variables,
-        scope,
+        loops,
         line.text(),
         files,
         budget,
     ) {
         Ok(held) => Ok(held),
         Err(stop) => Err(stop.blame(alloc, here.file.as_str(), line.line())),
-    }
-}
-
-/// The header of the loop that this line begins.
-fn header_of(
-    alloc: Global,
-    here: ExecutedFile<'_>,
-    scope: LoopScope<'_>,
-    line: &Logical,
-    state: &EvalState,
-    budget: &mut Budget,
-) -> Result<String, PureStop<Fault>>
-    ensures gives { GivesPurely string_bytes result budget.new
-        (tell (meaning.at here.entry.file.now line.now.line)
-        (heads.head_text state.now.variables (loops_of scope.entry)
-        (line_kind line.now.text) budget.old)) }
-    ensures later { IsLater budget.old budget.new }
-    ensures paid { IfOk result (λ _. Pays budget.old budget.new) }
-{
-    match header_text(alloc, &state.variables, scope, line.text(), budget) {
-        Ok(header) => Ok(header),
-        Err(stop) => Err(stop.blame(alloc, here.file.as_str(), line.line())),
-    }
-}
-
-/// The iterations of the loop with this header.
-fn turns_of<'a>(
-    alloc: Global,
-    here: ExecutedFile<'_>,
-    header: &'a str,
-    line: &Logical,
-    state: &EvalState,
-    budget: &mut Budget,
-) -> Result<Iterations<'a>, PureStop<Fault>>
-    ensures gives { GivesPurely turns_in result budget.new
-        (tell (meaning.at here.entry.file.now line.now.line)
-        (headers.header state.now.variables header.now budget.old)) }
-    ensures later { IsLater budget.old budget.new }
-{
-    match read_header(alloc, &state.variables, header, budget) {
-        Ok(turns) => Ok(turns),
-        Err(stop) => Err(stop.blame(alloc, here.file.as_str(), line.line())),
-    }
-}
-
-/// Spends the unit of an iteration.
-fn begin_turn(
-    alloc: Global,
-    here: ExecutedFile<'_>,
-    line: &Logical,
-    budget: &mut Budget,
-) -> Result<(), PureStop<Fault>>
-    ensures gives { GivesPurely (λ _. tt) result budget.new
-        (tell (meaning.at here.entry.file.now line.now.line) (pay budget.old)) }
-    ensures later { IsLater budget.old budget.new }
-    ensures paid { IfOk result (λ _. Pays budget.old budget.new) }
-{
-    match budget.pay() {
-        Ok(()) => Ok(()),
-        Err(kind) => Err(PureStop::Fault(kind).blame(alloc, here.file.as_str(), line.line())),
     }
 }

@@ -14,7 +14,7 @@ length-turns (suc turns) names words = let more = length-turns turns names (drop
 next-first : (index size : ℕ) → size + index * size ≡ suc index * size
 next-first index size = omega (arith, suc-mul index size)
 
--- each has the words behind those of the turns before it
+-- each has the words that follow those of the turns before it
 pub turn-at : (turns index : ℕ) (names words : List (List ℕ)) → index < turns → slice_get (turns_from turns names words) index ≡ Some (zip names (drop (index * length names) words))
 unfolding turns_from
 turn-at zero index names words below = absurd (omega (arith, below))

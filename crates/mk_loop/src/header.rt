@@ -1,46 +1,23 @@
 //! The header of `.for`.
-ghost use Rattle.std.specs.Prelude.{◌≡◌, ◌<◌, ◌≤◌, ◌+◌, length, map, drop, slice_get, string_bytes, Some, IfOk};
-ghost use Rattle.std.specs.List.{zip};
+ghost use Rattle.std.specs.Prelude.{◌≡◌, ◌<◌, length, map, string_bytes, IfOk};
 ghost use Rattle.mk_base.specs.Meter.{Meter, IsLater};
 ghost use Rattle.mk_base.specs.Stopping.{GivesPurely};
-ghost use Rattle.mk_text.specs.Words.{word_spans, span_text};
+ghost use Rattle.mk_text.specs.Words.{word_spans};
 ghost use Rattle.mk_loop.specs.Header as headers;
-ghost use Rattle.mk_loop.specs.Scopes.{turn_words, turns_in};
+ghost use Rattle.mk_loop.specs.Scopes.{turns_in};
 
-use crate::turn::{Iteration, Iterations};
+use crate::turn::Iterations;
 use mk_base::{Budget, FaultKind, PureStop};
 use mk_env::{Env, expand};
-use mk_text::{Span, words};
+use mk_text::words;
 use std::alloc::Global;
 
-impl Iterations<'_> {
+impl Iterations {
     /// How many iterations there are.
     pub fn count(&self) -> usize
         ensures { result ≡ length (turns_in self.now) }
     {
         self.words.len() / self.names.len()
-    }
-
-    /// The iteration with this index, counted from 0.
-    pub fn turn(&self, index: usize) -> Iteration<'_>
-        requires { index < length (turns_in self.now) }
-        ensures { slice_get (turns_in self.now) index ≡ Some (turn_words result) }
-    {
-        self.turn_from(index * self.names.len())
-    }
-
-    /// The iteration whose words begin at this index among all words.
-    fn turn_from(&self, first: usize) -> Iteration<'_>
-        requires { first + length self.now.names.items ≤ length self.now.words.items }
-        ensures { turn_words result
-            ≡ zip (map (λ name. name.now) self.now.names.items)
-            (map (span_text (string_bytes self.now.text)) (drop first self.now.words.items)) }
-    {
-        Iteration::new(
-            self.names.as_slice(),
-            self.text.as_str(),
-            &self.words.as_slice()[first..],
-        )
     }
 }
 
@@ -55,12 +32,12 @@ impl Iterations<'_> {
 /// The fault is `For` if there is no `in`, or no variable before it. Then come the faults of `expand`.
 /// Then it is `For` if the number of words isn't a multiple of the number of variables. The other error
 /// is that memory runs out.
-pub fn read_header<'a>(
+pub fn read_header(
     alloc: Global,
     variables: &Env,
-    header: &'a str,
+    header: &str,
     budget: &mut Budget,
-) -> Result<Iterations<'a>, PureStop<FaultKind>>
+) -> Result<Iterations, PureStop<FaultKind>>
     ensures later { IsLater budget.old budget.new }
     ensures gives { GivesPurely turns_in result budget.new
         (headers.header variables.now header.now budget.old) }
@@ -79,10 +56,10 @@ pub fn read_header<'a>(
 fn read_form<'a>(
     alloc: Global,
     header: &'a str,
-) -> Result<(Vec<&'a str>, &'a str), PureStop<FaultKind>>
+) -> Result<(Vec<String>, &'a str), PureStop<FaultKind>>
     ensures named { IfOk result (λ form. 0 < length form.0.items) }
     ensures gives { (m : Meter)
-        → GivesPurely (λ form. (map (λ name. name.now) form.0.items, form.1.now)) result m
+        → GivesPurely (λ form. (map string_bytes form.0.items, form.1.now)) result m
         (headers.formed (headers.header_parts header.now (word_spans header.now)) m) }
 {
     let mut names = Vec::new(alloc);
@@ -94,7 +71,7 @@ fn read_form<'a>(
             }
             return Ok((names, &header[span.end..]));
         }
-        names.push(word)?;
+        names.push(String::from_str(alloc, word)?)?;
     }
     Err(PureStop::Fault(FaultKind::For))
 }

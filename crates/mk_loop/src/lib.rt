@@ -12,5 +12,5 @@ mod turn;
 
 pub use header::read_header;
 pub use putting::put_words;
-pub use scopes::LoopScope;
+pub use scopes::inside;
 pub use turn::{Iteration, Iterations};

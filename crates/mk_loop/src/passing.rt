@@ -15,7 +15,8 @@ ghost use Rattle.mk_loop.specs.Places.{HasAsciiMark, IsPlaced, PaysFor, HasLeft,
 
 use crate::joining::Joined;
 use crate::names::name_end;
-use crate::scopes::LoopScope;
+use crate::scopes::word_in;
+use crate::turn::Iteration;
 use mk_base::{Budget, FaultKind, PureStop};
 use mk_env::{Env, modify};
 use mk_ref::{Opening, opening_at};
@@ -26,8 +27,8 @@ use std::alloc::{AllocError, Global};
 pub(crate) struct Body<'a> {
     /// Its text.
     pub(crate) line: &'a str,
-    /// The loops around it.
-    pub(crate) words: LoopScope<'a>,
+    /// The loops around it, the innermost last.
+    pub(crate) loops: &'a [Iteration],
     /// The variables, with what other references mean.
     pub(crate) variables: &'a Env,
 }
@@ -111,7 +112,7 @@ impl Pass {
         ensures onward { IfOk result (λ next. self.at < next.at) }
         ensures paid { IfOk result (λ next. PaysFor self budget.old next budget.new) }
         ensures goes { (left : Left) → HasLeft body.entry.line.now self left
-            → GoesOn (words_in body.entry.words) body.entry.variables.now body.entry.line.now self left budget.old result budget.new }
+            → GoesOn (words_in body.entry.loops.now) body.entry.variables.now body.entry.line.now self left budget.old result budget.new }
     {
         let bytes = body.line.as_bytes();
         if self.closes(bytes[self.at]) {
@@ -162,14 +163,14 @@ impl Pass {
         ensures onward { IfOk result (λ next. self.at < next.at) }
         ensures paid { IfOk result (λ next. PaysFor self budget.old next budget.new) }
         ensures goes { (left : Left) → HasLeft body.entry.line.now self left
-            → GoesOn (words_in body.entry.words) body.entry.variables.now body.entry.line.now self left budget.old result budget.new }
+            → GoesOn (words_in body.entry.loops.now) body.entry.variables.now body.entry.line.now self left budget.old result budget.new }
     {
-        let behind = self.at + 2;
-        match body.words.word(&body.line[self.at + 1..behind]) {
+        let end = self.at + 2;
+        match word_in(body.loops, &body.line[self.at + 1..end]) {
             None => Ok(self.on(2)),
             Some(word) => {
                 budget.pay()?;
-                self.put(alloc, body, behind, word)
+                self.put(alloc, body, end, word)
             }
         }
     }
@@ -191,14 +192,14 @@ impl Pass {
         ensures onward { IfOk result (λ next. self.at < next.at) }
         ensures paid { IfOk result (λ next. PaysFor self budget.old next budget.new) }
         ensures goes { (left : Left) → HasLeft body.entry.line.now self left
-            → GoesOn (words_in body.entry.words) body.entry.variables.now body.entry.line.now self left budget.old result budget.new }
+            → GoesOn (words_in body.entry.loops.now) body.entry.variables.now body.entry.line.now self left budget.old result budget.new }
     {
         let bytes = body.line.as_bytes();
         let start = self.at + 2;
         let Some(end) = name_end(bytes, start, mark) else {
             return Ok(self.keep(mark)?);
         };
-        let Some(word) = body.words.word(&body.line[start..end]) else {
+        let Some(word) = word_in(body.loops, &body.line[start..end]) else {
             return Ok(self.keep(mark)?);
         };
         budget.pay()?;
@@ -266,7 +267,7 @@ impl Pass {
         self,
         alloc: Global,
         body: Body<'_>,
-        behind: usize,
+        end: usize,
         word: &str,
     ) -> Result<Pass, PureStop<FaultKind>>
         requires placed { IsPlaced body.line.now self }
@@ -276,15 +277,15 @@ impl Pass {
             → GivesPurely (λ next. so_far next.joined) result m
             (putting.with_word (here body.entry.line.now self) word.now m) }
         ensures around { IfOk result (λ next. next.around.items ≡ self.around.items) }
-        ensures copied { IfOk result (λ next. next.copied ≡ behind) }
-        ensures at { IfOk result (λ next. next.at ≡ behind) }
+        ensures copied { IfOk result (λ next. next.copied ≡ end) }
+        ensures at { IfOk result (λ next. next.at ≡ end) }
     {
         let front = self.joined.as_written(&body.line[self.copied..self.at])?;
         Ok(Pass {
             joined: front.with_word(alloc, word)?,
             around: self.around,
-            copied: behind,
-            at: behind,
+            copied: end,
+            at: end,
         })
     }
 
@@ -303,7 +304,7 @@ impl Pass {
         ensures onward { IfOk result (λ next. self.at < next.at) }
         ensures paid { IfOk result (λ next. PaysFor self budget.old next budget.new) }
         ensures goes { (left : Left) → HasLeft body.entry.line.now self left
-            → GoesOn (words_in body.entry.words) body.entry.variables.now body.entry.line.now self left budget.old result budget.new }
+            → GoesOn (words_in body.entry.loops.now) body.entry.variables.now body.entry.line.now self left budget.old result budget.new }
     {
         let Pass {
             joined,

@@ -9,7 +9,7 @@ ghost use Rattle.mk_loop.specs.Scopes.{words_in};
 ghost use Rattle.mk_loop.specs.Places.{text_of};
 
 use crate::passing::{Body, Pass};
-use crate::scopes::LoopScope;
+use crate::turn::Iteration;
 use mk_base::{Budget, FaultKind, PureStop};
 use mk_env::Env;
 use mk_ref::{PiecesFault, pieces};
@@ -17,8 +17,8 @@ use std::alloc::Global;
 
 /// The line of a loop's body with the words of its iteration put in, all at once, in one pass over the
 /// line as it is written (make(1), "FOR LOOPS"). If no word is put in, it is `None`, and the line stays
-/// as it is. Each word that is put in costs a unit, so it is `None` exactly if nothing is spent. `words`
-/// are the loops around the line.
+/// as it is. Each word that is put in costs a unit, so it is `None` exactly if nothing is spent. `loops`
+/// are the loops around the line, the innermost last.
 ///
 /// If the name of a reference, as it is written, is a loop's variable, the reference is replaced by the
 /// word of that variable. That holds too for a reference in the name or the modifiers of another. A
@@ -47,19 +47,19 @@ use std::alloc::Global;
 pub fn put_words(
     alloc: Global,
     variables: &Env,
-    words: LoopScope<'_>,
+    loops: &[Iteration],
     line: &str,
     budget: &mut Budget,
 ) -> Result<Option<String>, PureStop<FaultKind>>
     ensures later { IsLater budget.old budget.new }
     ensures none { IfOk result (λ made. made ≡ None ↔ (budget.new.spent ≡ budget.old.spent)) }
     ensures gives { GivesPurely (text_of line.now) result budget.new
-        (putting.put_words (words_in words.entry) variables.now line.now budget.old) }
+        (putting.put_words (words_in loops.now) variables.now line.now budget.old) }
 {
     check_closed(alloc, line)?;
     let body = Body {
         line,
-        words,
+        loops,
         variables,
     };
     let mut pass = Pass::new(alloc);

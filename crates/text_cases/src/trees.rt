@@ -55,7 +55,7 @@ fn show_node(out: &mut String, node: &Node) -> Result<(), AllocError> {
         } => {
             show_frame(out, "if", head)?;
             show_block(out, body)?;
-            for branch in branches {
+            for branch in branches.as_slice() {
                 out.push_str("} el")?;
                 show_frame(out, "if", &branch.head)?;
                 show_block(out, &branch.body)?;

@@ -39,8 +39,8 @@ invariant-execute_block-loop-node g l =
     let view = g.F.Names.view in
     let works = works_of l.here (view l.fn.files).files in
     record {
-      goes : execute works (block_of l.nodes) (loops_of l.scope) l.initial.state (account l.initial.budget (view l.initial.files))
-          ≡ execute works (block_of (drop l.node-index l.nodes)) (loops_of l.scope) l.state (account l.budget (view l.files));
+      goes : execute works (block_of l.nodes) (loops_of l.loops) l.initial.state (account l.initial.budget (view l.initial.files))
+          ≡ execute works (block_of (drop l.node-index l.nodes)) (loops_of l.loops) l.state (account l.budget (view l.files));
       asked : AfterQuestions (view l.fn.files) (view l.files);
       later : IsLater l.fn.budget l.budget;
       parses : g.P.Parses.becomes l.fn.parses l.parses;
@@ -53,8 +53,8 @@ invariant-execute_branches-loop-branch g l =
     let works = works_of l.here (view l.fn.files).files in
     let last = last_branch (option_map (λ block. block_of block.value.items) l.otherwise) in
     record {
-      goes : execute_branches works (branches_from (map branch_of l.branches) last) (loops_of l.scope) l.initial.state (account l.initial.budget (view l.initial.files))
-          ≡ execute_branches works (branches_from (map branch_of (drop l.branch-index l.branches)) last) (loops_of l.scope) l.state (account l.budget (view l.files));
+      goes : execute_branches works (branches_from (map branch_of l.branches) last) (loops_of l.loops) l.initial.state (account l.initial.budget (view l.initial.files))
+          ≡ execute_branches works (branches_from (map branch_of (drop l.branch-index l.branches)) last) (loops_of l.loops) l.state (account l.budget (view l.files));
       asked : AfterQuestions (view l.fn.files) (view l.files);
       later : IsLater l.fn.budget l.budget;
       parses : g.P.Parses.becomes l.fn.parses l.parses;
@@ -65,12 +65,12 @@ abbrev pub invariant-execute_loop-loop-index : goal.invariant-execute_loop-loop-
 invariant-execute_loop-loop-index g l =
     let view = g.F.Names.view in
     let works = works_of l.here (view l.fn.files).files in
-    let turn = turn_of (works.begins l.head) (execute works (block_of l.body)) (loops_of l.scope) in
+    let turn = turn_of (works.begins l.head) (execute works (block_of l.body)) (loops_of l.loops) in
     record {
-      goes : each turn l.initial.state (turns_in l.turns) (account l.initial.budget (view l.initial.files))
-          ≡ each turn l.state (drop l.index (turns_in l.turns)) (account l.budget (view l.files));
+      goes : each turn l.initial.state (turns_in l.turns.value) (account l.initial.budget (view l.initial.files))
+          ≡ each turn l.state (drop l.index (turns_in l.turns.value)) (account l.budget (view l.files));
       asked : AfterQuestions (view l.fn.files) (view l.files);
       later : IsLater l.fn.budget l.budget;
-      behind : IsLater l.initial.budget l.budget;
+      since_header : IsLater l.initial.budget l.budget;
       parses : g.P.Parses.becomes l.fn.parses l.parses;
     }

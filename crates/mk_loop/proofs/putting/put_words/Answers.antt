@@ -29,21 +29,21 @@ loop-alloc-init c =
       };
       paid = (λ _. refl, λ some. absurd (some new.copied));
       left = Outermost (units_of line);
-      stands = stands-first line pass c.in_ok-check_closed.ensures.whole new.around new.at;
-      goes = goes-first (words_in c.args.words) c.args.variables.now line pass c.args.budget.now c.in_ok-check_closed.ensures.whole new.joined new.copied new.at;
+      is_left = stands-first line pass c.in_ok-check_closed.ensures.whole new.around new.at;
+      goes = goes-first (words_in c.args.loops.now) c.args.variables.now line pass c.args.budget.now c.in_ok-check_closed.ensures.whole new.joined new.copied new.at;
     }
 
 pub loop-alloc-preserved : goal.loop-alloc-preserved
 loop-alloc-preserved c =
     let invariant = c.loop-alloc.invariant in
     let step = c.in_ok-pass.ensures in
-    let next = step.goes invariant.left invariant.stands in
+    let next = step.goes invariant.left invariant.is_left in
     record {
       later = IsLater-on invariant.later step.later;
       placed = step.placed;
       paid = step.paid c.args.budget.now invariant.paid;
       left = next.0;
-      stands = next.1.0;
+      is_left = next.1.0;
       goes = invariant.goes ∙ next.1.1;
     }
 
@@ -52,7 +52,7 @@ returns-clause-gives c =
     let line = c.args.line.now in
     let invariant = c.loop-alloc.invariant in
     subst (λ outcome. GivesPurely (text_of line) c.finished.result c.loop-alloc.budget outcome)
-    (sym (invariant.goes ∙ goes-last (words_in c.args.words) c.args.variables.now line c.loop-alloc.pass invariant.left c.loop-alloc.budget (omega arith) invariant.stands))
+    (sym (invariant.goes ∙ goes-last (words_in c.args.loops.now) c.args.variables.now line c.loop-alloc.pass invariant.left c.loop-alloc.budget (omega arith) invariant.is_left))
     (c.finished.ensures.gives c.loop-alloc.budget)
 
 pub returns-clause-none : goal.returns-clause-none

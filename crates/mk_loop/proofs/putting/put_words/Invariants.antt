@@ -11,8 +11,8 @@ invariant-loop-alloc l = record {
   placed : IsPlaced l.line l.pass;
   paid : IsPaid l.initial.budget l.pass.copied l.budget;
   left : Left;
-  stands : HasLeft l.line l.pass left;
-  goes : putting.put_words (words_in l.words) l.variables l.line l.initial.budget ≡ goes (words_in l.words) l.variables left (here l.line l.pass) l.budget;
+  is_left : HasLeft l.line l.pass left;
+  goes : putting.put_words (words_in l.loops) l.variables l.line l.initial.budget ≡ goes (words_in l.loops) l.variables left (here l.line l.pass) l.budget;
 }
 
 abbrev pub decreases-loop-alloc : goal.decreases-loop-alloc

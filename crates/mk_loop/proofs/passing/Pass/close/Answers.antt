@@ -30,8 +30,8 @@ returns-in_err-change-in-Some-Replaced-clause-goes c =
     let p = err_from_is_err_and c.from_residual-in_err-change-in-Some-Replaced.result c.from_residual-in_err-change-in-Some-Replaced.ensures.1 in
     rw (p.1, p.2)
     (λ left stands.
-    pass-stopped (words_in c.args.body.words) variables line pass left around c.pop.new.self.items m c.change.new.budget c.in_err-change-in-Some-Replaced.field-0.0
-    (closes-at (words_in c.args.body.words) variables line pass left around c.pop.new.self.items c.requires.near c.requires.closes stands c.in-Some-Replaced.ensures.items)
+    pass-stopped (words_in c.args.body.loops.now) variables line pass left around c.pop.new.self.items m c.change.new.budget c.in_err-change-in-Some-Replaced.field-0.0
+    (closes-at (words_in c.args.body.loops.now) variables line pass left around c.pop.new.self.items c.requires.near c.requires.closes stands c.in-Some-Replaced.ensures.items)
     (subst (λ outcome. StopsPurelyAt c.in_err-change-in-Some-Replaced.field-0.0 c.change.new.budget outcome)
     (sym (ap (λ a. close_reference variables (surround_of a) (here line pass) m) c.in-Some-Replaced.field-0-is
     ∙ ap (λ w. close_reference variables (Changing mark w (so_far front)) (here line pass) m) (sym c.as_str-word.ensures.value)
@@ -40,7 +40,7 @@ returns-in_err-change-in-Some-Replaced-clause-goes c =
 
 pub returns-in-Some-Kept-clause-goes : goal.returns-in-Some-Kept-clause-goes
 returns-in-Some-Kept-clause-goes c = λ left stands.
-    let words = words_in c.args.body.words in
+    let words = words_in c.args.body.loops.now in
     let variables = c.args.body.variables.now in
     let line = c.args.body.line.now in
     let pass = c.args.self in
@@ -72,7 +72,7 @@ returns-in_ok-change-in-Some-Replaced-clause-paid c =
 
 pub returns-in_ok-change-in-Some-Replaced-clause-goes : goal.returns-in_ok-change-in-Some-Replaced-clause-goes
 returns-in_ok-change-in-Some-Replaced-clause-goes c = λ left stands.
-    let words = words_in c.args.body.words in
+    let words = words_in c.args.body.loops.now in
     let variables = c.args.body.variables.now in
     let line = c.args.body.line.now in
     let pass = c.args.self in

@@ -19,7 +19,7 @@ range-requires-clause-end_boundary c =
 pub returns-in_err-pay-in-Some-clause-goes : goal.returns-in_err-pay-in-Some-clause-goes
 returns-in_err-pay-in-Some-clause-goes c =
     let line = c.args.body.line.now in
-    let words = words_in c.args.body.words in
+    let words = words_in c.args.body.loops.now in
     let variables = c.args.body.variables.now in
     let pass = c.args.self in
     let at = pass.at in
@@ -37,7 +37,7 @@ returns-in_err-pay-in-Some-clause-goes c =
 pub returns-in-None-clause-goes : goal.returns-in-None-clause-goes
 returns-in-None-clause-goes c = λ left stands.
     let line = c.args.body.line.now in
-    let words = words_in c.args.body.words in
+    let words = words_in c.args.body.loops.now in
     let variables = c.args.body.variables.now in
     let pass = c.args.self in
     let at = pass.at in
@@ -65,7 +65,7 @@ returns-in_ok-pay-in-Some-clause-placed c =
 pub returns-in_ok-pay-in-Some-clause-goes : goal.returns-in_ok-pay-in-Some-clause-goes
 returns-in_ok-pay-in-Some-clause-goes c = λ left stands.
     let line = c.args.body.line.now in
-    let words = words_in c.args.body.words in
+    let words = words_in c.args.body.loops.now in
     let variables = c.args.body.variables.now in
     let pass = c.args.self in
     let at = pass.at in

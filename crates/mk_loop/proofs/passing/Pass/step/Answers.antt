@@ -10,7 +10,7 @@ use Rattle.mk_loop.proofs.passing.Pass.step.Goals as goal
 pub returns-in-None-clause-goes : goal.returns-in-None-clause-goes
 returns-in-None-clause-goes c = λ left stands.
     let line = c.args.body.line.now in
-    let words = words_in c.args.body.words in
+    let words = words_in c.args.body.loops.now in
     let variables = c.args.body.variables.now in
     let pass = c.args.self in
     let m = c.args.budget.now in
@@ -24,7 +24,7 @@ returns-in-None-clause-goes c = λ left stands.
 pub returns-in-Some-Doubled-clause-goes : goal.returns-in-Some-Doubled-clause-goes
 returns-in-Some-Doubled-clause-goes c = λ left stands.
     let line = c.args.body.line.now in
-    let words = words_in c.args.body.words in
+    let words = words_in c.args.body.loops.now in
     let variables = c.args.body.variables.now in
     let pass = c.args.self in
     let m = c.args.budget.now in

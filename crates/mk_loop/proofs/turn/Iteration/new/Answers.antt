@@ -1,0 +1,30 @@
+use Rattle.std.proofs.Common.{◌<◌, ◌*◌, ◌/◌, ◌+◌, ◌≤◌, ℕ, List, drop, Some, ap, subst, ◌∙◌, map, length, string_bytes}
+use Rattle.std.specs.List.{zip}
+use Rattle.std.proofs.lemmas.List.{length-map, drop-map}
+use Rattle.mk_text.specs.Words.{span_text}
+use Rattle.mk_loop.specs.Header.{turns_of}
+use Rattle.mk_loop.specs.Scopes.{names_in}
+use Rattle.mk_loop.proofs.TurnSteps.{length-turns, turn-at, turn-within}
+use Rattle.mk_loop.proofs.turn.Iteration.new.Goals as goal
+
+-- the words of the turn of an index below their number are there
+fits : {X Y : Type 0} (f : X → List ℕ) (g : Y → List ℕ) (xs : List X) (ys : List Y) (index : ℕ) → index < length (turns_of (map f xs) (map g ys)) → index * length xs + length xs ≤ length ys
+fits f g xs ys index below =
+    turn-within index (length xs) (length ys)
+    (subst (λ n. index < length ys / n) (length-map xs f) (subst (λ n. index < n / length (map f xs)) (length-map ys g)
+    (subst (λ n. index < n) (length-turns (length (map g ys) / length (map f xs)) (map f xs) (map g ys)) below)))
+
+pub invariant_of-result : goal.invariant_of-result
+invariant_of-result c =
+    let turns = c.args.turns.value in
+    record { inside = fits string_bytes (span_text (string_bytes turns.text)) turns.names.items turns.words.items c.args.index c.requires }
+
+pub returns : goal.returns
+returns c =
+    let turns = c.args.turns.value in
+    let names = names_in turns in
+    let words = map (span_text (string_bytes turns.text)) turns.words.items in
+    let below = subst (λ n. c.args.index < n) (length-turns (length words / length names) names words) c.requires in
+    turn-at (length words / length names) c.args.index names words below
+    ∙ ap (λ n. Some (zip names (drop (c.args.index * n) words))) (length-map turns.names.items string_bytes)
+    ∙ ap (λ l. Some (zip names l)) (drop-map (span_text (string_bytes turns.text)) (c.args.index * length turns.names.items) turns.words.items)
