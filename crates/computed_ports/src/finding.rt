@@ -13,9 +13,10 @@ ghost use Rattle.ports_plain.specs.Plain as plain;
 ghost use Rattle.ports_plain.specs.Resting as resting;
 
 use mk_base::{Fault, PureStop, Stop};
-use mk_eval::{Evaluated, Failed, Kind, Valued, evaluate, value};
+use mk_eval::{Evaluated, Failed, Kind, Valued, value};
 use mk_files::Files;
 use mk_paths::{FilesFault, Name, Settings, find};
+use mk_step::evaluate;
 use pkg_path::PkgPath;
 use port_rules::{Recorded, record};
 use ports_plain::{RecordFound, ValueFound, VariableQuestion};

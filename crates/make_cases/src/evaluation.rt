@@ -3,16 +3,100 @@ use crate::files::given_name;
 use crate::variables::{fault_answer, text_of_variable};
 use crate::world::World;
 use case_lines::{Answer, Trouble, as_text, one_text};
-use mk_base::{PureStop, Stop};
-use mk_eval::{Evaluated, Failed, Kind, evaluate, value};
-use mk_paths::Name;
+use mk_base::{PureStop, Stop, UNITS};
+use mk_eval::{Anew, Evaluated, Failed, Kind, value};
+use mk_files::MemoryFiles;
+use mk_paths::{Name, Settings};
+use mk_step::{Machine, Turned, evaluate};
+use read_trace::{Question, Recorder, Reply, Trace};
 use std::alloc::Global;
+use std::mem;
 
 /// The file that `makefile`, `cost`, `value`, `stored` and `flavored` are about.
 const MAKEFILE: &str = "/a/b";
 
+/// How a makefile is evaluated.
+#[derive(Clone, Copy, Debug)]
+pub enum Way {
+    /// At once.
+    Whole,
+    /// By turns of so many units.
+    Turns(u64),
+}
+
+/// The turns by which each makefile of a case is evaluated too.
+const TURNS: [u64; 4] = [1, 2, 7, 1000];
+
+/// What a call about an evaluation gives. If an evaluation by turns gives something else, or asks other
+/// questions, that is said after it.
+pub fn answer_each_way(
+    alloc: Global,
+    world: &mut World,
+    call: &str,
+    given: &[Vec<u8>],
+) -> Result<Answer, Trouble> {
+    let mut answer = answer_by(alloc, world, Way::Whole, call, given)?;
+    let asked = mem::replace(&mut world.asked, Trace::new(alloc));
+    for units in TURNS {
+        let by_turns = answer_by(alloc, world, Way::Turns(units), call, given)?;
+        if !answer.is_same(&by_turns)? || !asks_same(&asked, &world.asked) {
+            answer.word("by turns of");
+            answer.number(units);
+            answer.word(by_turns.whole()?);
+        }
+    }
+    Ok(answer)
+}
+
+fn answer_by(
+    alloc: Global,
+    world: &mut World,
+    way: Way,
+    call: &str,
+    given: &[Vec<u8>],
+) -> Result<Answer, Trouble> {
+    world.way = way;
+    match call {
+        "cost" => cost(alloc, world),
+        "evaluate" => evaluated_whole(alloc, world, given),
+        "stored" => stored(alloc, world, given),
+        "flavored" => flavored(alloc, world, given),
+        "value" => value_of(alloc, world, given),
+        _ => Err(Trouble::NoCase),
+    }
+}
+
+/// Whether two evaluations asked the same questions and got the same answers.
+fn asks_same(one: &Trace, other: &Trace) -> bool {
+    let (one, other) = (one.questions(), other.questions());
+    if one.len() != other.len() {
+        return false;
+    }
+    for at in 0..one.len() {
+        if !is_same_question(&one[at], &other[at]) {
+            return false;
+        }
+    }
+    true
+}
+
+fn is_same_question(one: &Question, other: &Question) -> bool {
+    one.name().as_str() == other.name().as_str() && is_same_reply(one.reply(), other.reply())
+}
+
+fn is_same_reply(one: &Reply, other: &Reply) -> bool {
+    match (one, other) {
+        (Reply::Presence(one), Reply::Presence(other)) => *one == *other,
+        (Reply::Contents(None), Reply::Contents(None)) => true,
+        (Reply::Contents(Some(one)), Reply::Contents(Some(other))) => {
+            one.as_slice() == other.as_slice()
+        }
+        _ => false,
+    }
+}
+
 /// `cost`: what the makefile costs, or its fault with what it cost up to there.
-pub fn cost(alloc: Global, world: &mut World) -> Result<Answer, Trouble> {
+fn cost(alloc: Global, world: &mut World) -> Result<Answer, Trouble> {
     match evaluated(alloc, world)? {
         Ok(evaluated) => {
             let mut answer = Answer::new(alloc);
@@ -25,11 +109,7 @@ pub fn cost(alloc: Global, world: &mut World) -> Result<Answer, Trouble> {
 
 /// `evaluate FILE NAME`: what this makefile describes, what it costs, and the value of a variable after it
 /// with its cost; or the fault of the makefile or of the value.
-pub fn evaluated_whole(
-    alloc: Global,
-    world: &mut World,
-    given: &[Vec<u8>],
-) -> Result<Answer, Trouble> {
+fn evaluated_whole(alloc: Global, world: &mut World, given: &[Vec<u8>]) -> Result<Answer, Trouble> {
     let [file, variable] = given else {
         return Err(Trouble::NoCase);
     };
@@ -83,7 +163,7 @@ fn kind_word(kind: Kind) -> &'static str {
 }
 
 /// `flavored NAME FLAVOR..`: the text of a variable that the makefile leaves with these flavors given.
-pub fn flavored(alloc: Global, world: &mut World, given: &[Vec<u8>]) -> Result<Answer, Trouble> {
+fn flavored(alloc: Global, world: &mut World, given: &[Vec<u8>]) -> Result<Answer, Trouble> {
     let [_, flavors @ ..] = given else {
         return Err(Trouble::NoCase);
     };
@@ -104,7 +184,7 @@ fn texts(alloc: Global, given: &[Vec<u8>]) -> Result<Vec<String>, Trouble> {
 }
 
 /// `stored NAME`: the text of a variable that the makefile leaves, unexpanded.
-pub fn stored(alloc: Global, world: &mut World, given: &[Vec<u8>]) -> Result<Answer, Trouble> {
+fn stored(alloc: Global, world: &mut World, given: &[Vec<u8>]) -> Result<Answer, Trouble> {
     match evaluated(alloc, world)? {
         Ok(evaluated) => text_of_variable(alloc, &evaluated.env, given),
         Err(failed) => failure(alloc, &failed),
@@ -113,7 +193,7 @@ pub fn stored(alloc: Global, world: &mut World, given: &[Vec<u8>]) -> Result<Ans
 
 /// `value NAME`: the value of a variable after the makefile, with its cost; `undefined`; or its
 /// fault, or the makefile's.
-pub fn value_of(alloc: Global, world: &mut World, given: &[Vec<u8>]) -> Result<Answer, Trouble> {
+fn value_of(alloc: Global, world: &mut World, given: &[Vec<u8>]) -> Result<Answer, Trouble> {
     let variable = one_text(given)?;
     let makefile = makefile(alloc)?;
     match evaluated_file(alloc, world, &makefile, None)? {
@@ -138,11 +218,48 @@ fn evaluated_file(
     name: &Name,
     flavors: Option<&[String]>,
 ) -> Result<Result<Evaluated, Failed>, Trouble> {
-    match evaluate(alloc, &mut world.files, &world.settings, name, flavors) {
+    let settings = &world.settings;
+    let mut files = Recorder::new(alloc, &mut world.files, Trace::new(alloc));
+    let outcome = match world.way {
+        Way::Whole => at_once(alloc, &mut files, settings, name, flavors),
+        Way::Turns(units) => by_turns(alloc, &mut files, settings, name, flavors, units),
+    };
+    world.asked = files.into_trace();
+    outcome
+}
+
+fn at_once(
+    alloc: Global,
+    files: &mut Recorder<&mut MemoryFiles>,
+    settings: &Settings,
+    name: &Name,
+    flavors: Option<&[String]>,
+) -> Result<Result<Evaluated, Failed>, Trouble> {
+    match evaluate(alloc, files, settings, name, flavors) {
         Ok(evaluated) => Ok(Ok(evaluated)),
         Err(Stop::Fault(failed)) => Ok(Err(failed)),
         Err(_) => Err(Trouble::Memory),
     }
+}
+
+/// An evaluation by turns of so many units. Each turn spends a unit, and the last one ends it.
+fn by_turns(
+    alloc: Global,
+    files: &mut Recorder<&mut MemoryFiles>,
+    settings: &Settings,
+    name: &Name,
+    flavors: Option<&[String]>,
+    units: u64,
+) -> Result<Result<Evaluated, Failed>, Trouble> {
+    let mut parses = Anew::new(alloc);
+    let mut turned = Machine::start(alloc, settings, name, flavors, &mut parses, files)?;
+    for _ in 0..UNITS + 2 {
+        match turned {
+            Turned::Done(outcome) => return Ok(outcome),
+            Turned::More(machine) => turned = machine.turn(alloc, &mut parses, files, units)?,
+        }
+    }
+    Err(Trouble::NoCase)
 }
 
 /// A fault, with what was spent up to there.

@@ -124,11 +124,9 @@ impl Setup {
         let alloc = self.alloc;
         let world = &mut self.world;
         match call {
-            "cost" => evaluation::cost(alloc, world),
-            "evaluate" => evaluation::evaluated_whole(alloc, world, given),
-            "stored" => evaluation::stored(alloc, world, given),
-            "flavored" => evaluation::flavored(alloc, world, given),
-            "value" => evaluation::value_of(alloc, world, given),
+            "cost" | "evaluate" | "stored" | "flavored" | "value" => {
+                evaluation::answer_each_way(alloc, world, call, given)
+            }
             _ => text_cases::answer(alloc, call, given),
         }
     }

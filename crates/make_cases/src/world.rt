@@ -1,13 +1,18 @@
 //! The world of one tenant, in memory.
+use crate::evaluation::Way;
 use mk_files::MemoryFiles;
 use mk_paths::{SearchPath, Settings};
+use read_trace::Trace;
 use std::alloc::{AllocError, Global};
 
-/// A tenant's files and settings.
+/// A tenant's files and settings, and how makefiles are evaluated among them.
 #[derive(Drop)]
 pub struct World {
     pub files: MemoryFiles,
     pub settings: Settings,
+    pub(crate) way: Way,
+    /// What the last evaluation asked.
+    pub(crate) asked: Trace,
 }
 
 impl World {
@@ -18,6 +23,8 @@ impl World {
             settings: Settings {
                 path: SearchPath::standard(alloc)?,
             },
+            way: Way::Whole,
+            asked: Trace::new(alloc),
         })
     }
 }

@@ -1,10 +1,10 @@
 mod Blaming
 mod Joining
-mod Logged
-mod Shared
-mod SharedConditions
-mod SharedEvaluation
+pub mod Logged
+pub mod Shared
+pub mod SharedConditions
+pub mod SharedEvaluation
 pub mod Steady
-mod SteadyLoops
+pub mod SteadyLoops
 mod SteadyTexts
-mod Stepping
+pub mod Stepping

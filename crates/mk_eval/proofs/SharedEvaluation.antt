@@ -38,7 +38,7 @@ module _ (other : FileMap) where
   shared-found state optional name None = either optional (shared-give other _) (shared-fail other kinds.Include)
 
 -- the same place among other files
-abbrev among : FileMap → Place → Place
+abbrev pub among : FileMap → Place → Place
 among other place = record place { files = other }
 
 module _ (files other : FileMap) where
@@ -65,7 +65,7 @@ module _ (other : FileMap) (place : Place) (state : EvalState) where
   shared-open_form optional SystemFile = shared-give other _
   shared-open_form optional NoForm = shared-fail other kinds.Include
 
-  shared-open_request : (request : Option Request) → Shared other (open_request place state request) (open_request (among other place) state request)
+  pub shared-open_request : (request : Option Request) → Shared other (open_request place state request) (open_request (among other place) state request)
   shared-open_request None = shared-give other _
   shared-open_request (Some request) = shared-open_form request.optional (form_of request.text)
 
@@ -92,7 +92,7 @@ module _ {S : Type 0} (other : FileMap) (works again : LineWorks Account FaultAt
     shared-block EmptyBlock loops s = shared-give other s
     shared-block (MoreBlock tree block) loops s = bind (shared-tree tree loops s) (λ next. shared-block block loops next)
 
-    shared-branches : (branches : Branches) (loops : Loops) (s : S) → Shared other (execute_branches works branches loops s) (execute_branches again branches loops s)
+    pub shared-branches : (branches : Branches) (loops : Loops) (s : S) → Shared other (execute_branches works branches loops s) (execute_branches again branches loops s)
     shared-branches NoBranches loops s = shared-give other s
     shared-branches (ElifBranch line block more) loops s = bind (are.holds loops line s) (λ held. either held (shared-block block loops s) (shared-branches more loops s))
     shared-branches (ElseBranch block) loops s = shared-block block loops s
@@ -106,11 +106,11 @@ module _ (other : FileMap) (entering again : Entering) (enters : EntersShared ot
   shared-enter (state, None) = shared-give other state
   shared-enter (state, Some file) = enters.all file.0 file.1 state
 
-  shared-open_line : (place : Place) (loops : Loops) (line : LogicalLine) (state : EvalState) → Shared other (open_line place loops line state) (open_line (among other place) loops line state)
+  pub shared-open_line : (place : Place) (loops : Loops) (line : LogicalLine) (state : EvalState) → Shared other (open_line place loops line state) (open_line (among other place) loops line state)
   shared-open_line place loops line state =
       bind (shared-quietly other (steady-perform state.variables loops line.text)) (λ done. shared-open_request other place (record state { variables = done.0 }) done.1)
 
-  works-shared : (place : Place) → AreShared other (works_at entering place) (works_at again (among other place))
+  pub works-shared : (place : Place) → AreShared other (works_at entering place) (works_at again (among other place))
   works-shared place = record {
     performs = λ loops line state. bind (shared-tell (at place.file line.line) (shared-open_line place loops line state)) shared-enter;
     holds = λ loops line state. shared-tell (at place.file line.line) (shared-judge place.files other place.makefile state.variables loops line.text);
@@ -122,10 +122,10 @@ module _ (other : FileMap) (entering again : Entering) (enters : EntersShared ot
   shared-read place (Ok block) state = shared-block other (works_at entering place) (works_at again (among other place)) (works-shared place) block None state
   shared-read place (Err fault) state = shared-fail other _
 
-nothing-shared : (other : FileMap) → EntersShared other nothing_entered nothing_entered
+pub nothing-shared : (other : FileMap) → EntersShared other nothing_entered nothing_entered
 nothing-shared other = record { all = λ name bytes state. shared-give other state }
 
-file-shared : (files other : FileMap) (makefile : List ℕ) (levels : ℕ) → EntersShared other (file_meaning files makefile levels) (file_meaning other makefile levels)
+pub file-shared : (files other : FileMap) (makefile : List ℕ) (levels : ℕ) → EntersShared other (file_meaning files makefile levels) (file_meaning other makefile levels)
 unfolding file_meaning
 file-shared files other makefile zero = record {
   all = λ name bytes state. shared-read other nothing_entered nothing_entered (nothing-shared other) (record { files = files; makefile = makefile; file = name; levels = zero }) (parsed bytes) state;

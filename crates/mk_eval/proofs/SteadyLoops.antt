@@ -65,7 +65,7 @@ steady-formed None = steady-fail kinds.For
 steady-formed (Some ([], rest)) = steady-fail kinds.For
 steady-formed (Some (name ∷ names, rest)) = steady-give (name ∷ names, rest)
 
-steady-header : (variables : Variables) (text : List ℕ) → Steady (header variables text)
+pub steady-header : (variables : Variables) (text : List ℕ) → Steady (header variables text)
 steady-header variables text =
     bind (steady-formed (header_parts text (word_spans text))) (λ parts. bind (steady-expand variables parts.1)
     (λ found. either (length (words_of found) % length parts.0 == 0) (steady-give _) (steady-fail kinds.For)))
@@ -111,7 +111,7 @@ steady-execute_kind variables (AssignmentLine operator name text) =
 steady-execute_kind variables DependencyLine = steady-give _
 steady-execute_kind variables BadLine = steady-fail kinds.Line
 
-steady-put_in : (variables : Variables) (loops : Loops) (text : List ℕ) → Steady (put_in variables loops text)
+pub steady-put_in : (variables : Variables) (loops : Loops) (text : List ℕ) → Steady (put_in variables loops text)
 steady-put_in variables None text = steady-give text
 steady-put_in variables (Some words) text = steady-put_words words variables text
 
@@ -123,7 +123,7 @@ steady-read_again variables words text (AssignmentLine operator name rest) = bin
 steady-read_again variables words text DependencyLine = bind (steady-put_words words variables text) (λ put. steady-give _)
 steady-read_again variables words text BadLine = bind (steady-put_words words variables text) (λ put. steady-give _)
 
-steady-execute_in : (variables : Variables) (loops : Loops) (text : List ℕ) (kind : TextLineKind) → Steady (execute_in variables loops text kind)
+pub steady-execute_in : (variables : Variables) (loops : Loops) (text : List ℕ) (kind : TextLineKind) → Steady (execute_in variables loops text kind)
 steady-execute_in variables None text kind = steady-execute_kind variables kind
 steady-execute_in variables (Some words) text kind = bind (steady-read_again variables words text kind) (steady-execute_kind variables)
 

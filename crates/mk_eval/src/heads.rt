@@ -4,6 +4,7 @@ ghost use Rattle.mk_base.specs.Meter.{IsLater};
 ghost use Rattle.mk_base.specs.Stopping.{Gives, GivesPurely};
 ghost use Rattle.mk_ast.specs.Kinds.{shown_kind, line_kind};
 ghost use Rattle.mk_loop.specs.Places.{text_of};
+ghost use Rattle.mk_loop.specs.Scopes.{turns_in};
 ghost use Rattle.mk_files.specs.Asking.{account};
 ghost use Rattle.mk_files.specs.Working.{Asks};
 ghost use Rattle.mk_eval.specs.Heads as heads;
@@ -16,9 +17,10 @@ use mk_ast::{Directive, LineKind, line_kind};
 use mk_base::{Budget, FaultKind, PureStop, Stop};
 use mk_cond::{Form, Setting, directive_truth};
 use mk_env::Env;
-use mk_loop::{Iteration, put_words};
+use mk_loop::{Iteration, Iterations, put_words, read_header};
 use mk_paths::{Name, Names};
 use std::alloc::{AllocError, Global};
+use std::rc::Rc;
 
 /// What the directive makes of its condition; `None` if it has none.
 fn form_of(word: Directive) -> Option<Form>
@@ -141,4 +143,21 @@ pub(crate) fn header_text(
 {
     let kind = line_kind(alloc, line)?;
     head_text(alloc, variables, loops, kind, budget)
+}
+
+/// The iterations of the loop that this line begins.
+pub(crate) fn loop_turns(
+    alloc: Global,
+    variables: &Env,
+    loops: &[Iteration],
+    line: &str,
+    budget: &mut Budget,
+) -> Result<Rc<Iterations>, PureStop<FaultKind>>
+    ensures gives { GivesPurely (λ turns. turns_in turns.value) result budget.new
+        (heads.turns variables.now (loops_of loops.now) line.now budget.old) }
+    ensures later { IsLater budget.old budget.new }
+{
+    let header = header_text(alloc, variables, loops, line, budget)?;
+    let turns = read_header(alloc, variables, header.as_str(), budget)?;
+    Ok(Rc::new(alloc, turns)?)
 }

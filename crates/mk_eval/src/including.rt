@@ -21,22 +21,22 @@ use std::alloc::Global;
 
 /// A file whose lines are executed.
 #[derive(Clone, Copy)]
-pub(crate) struct ExecutedFile<'a> {
+pub struct ExecutedFile<'a> {
     /// The makefile that is evaluated.
-    pub(crate) makefile: &'a Name,
+    pub makefile: &'a Name,
     /// The file that the lines are in.
-    pub(crate) file: &'a Name,
+    pub file: &'a Name,
     /// How many levels deep files may still include one another.
-    pub(crate) levels: u32,
+    pub levels: u32,
 }
 
 /// A file that is to be executed.
 #[derive(Drop)]
-pub(crate) struct Included {
+pub struct Included {
     /// Its name.
-    pub(crate) name: Name,
+    pub name: Name,
     /// Its content.
-    pub(crate) content: Content,
+    pub content: Content,
 }
 
 /// The file that a request opens, if any. Of the system files only the first `<bsd.port.mk>` opens one:

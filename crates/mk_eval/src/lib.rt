@@ -1,5 +1,5 @@
-//! The meaning of makefiles: what one describes, what variables it leaves, what it costs, or its first
-//! fault.
+//! What the lines of makefiles do among files, what evaluations begin with and leave, and the values of
+//! variables. The definitions say what a whole makefile means.
 #![tactic(auto)]
 
 mod evaluation;
@@ -16,9 +16,14 @@ mod starting;
 mod state;
 mod turns;
 
-pub use evaluation::{evaluate, evaluate_with, value};
+pub use evaluation::value;
 pub use executing::perform;
+pub use including::{ExecutedFile, Included};
 pub use laws::same_where_answered;
 pub use outcome::{Evaluated, Failed, Kind, Valued, with_units};
-pub use parses::Parses;
+pub use parses::{Anew, Parses};
 pub use requests::Request;
+pub use running::{holds, open_line};
+pub use starting::start;
+pub use state::EvalState;
+pub use turns::{begin_turn, loops_at, turns_at};

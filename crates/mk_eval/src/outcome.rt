@@ -1,7 +1,7 @@
 ghost use Rattle.std.specs.Prelude.{◌≡◌, string_bytes};
 ghost use Rattle.mk_eval.specs.Telling as telling;
 
-use mk_base::{Fault, PureStop, Stop};
+use mk_base::{Fault, PureStop};
 use mk_env::Env;
 use std::marker::Model;
 use thiserror::Error;
@@ -74,17 +74,6 @@ impl Valued {
         ensures { result ≡ self.now.cost }
     {
         self.cost
-    }
-}
-
-/// The stop; a fault gets the units that were spent.
-pub(crate) fn with_cost(stop: Stop<Fault>, cost: u64) -> Stop<Failed>
-    ensures { result ≡ telling.with_cost cost stop }
-{
-    match stop {
-        Stop::Fault(fault) => Stop::Fault(Failed { fault, cost }),
-        Stop::Store => Stop::Store,
-        Stop::Memory => Stop::Memory,
     }
 }
 

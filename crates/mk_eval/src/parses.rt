@@ -29,12 +29,13 @@ pub trait Parses {
 
 /// Reads each file anew.
 #[derive(Drop)]
-pub(crate) struct Anew {
+pub struct Anew {
     alloc: Global,
 }
 
 impl Anew {
-    pub(crate) fn new(alloc: Global) -> Anew {
+    /// What reads each file anew, in memory of this allocator.
+    pub fn new(alloc: Global) -> Anew {
         Anew { alloc }
     }
 }

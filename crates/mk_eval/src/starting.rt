@@ -10,7 +10,7 @@ use std::alloc::{AllocError, Global};
 use text_parts::put_in_order;
 
 /// The variables with which the evaluation of the named makefile begins.
-pub(crate) fn start(
+pub fn start(
     alloc: Global,
     settings: &Settings,
     makefile: &Name,

@@ -5,11 +5,11 @@ use mk_env::Env;
 
 /// The state of an evaluation between two lines.
 #[derive(Drop)]
-pub(crate) struct EvalState {
+pub struct EvalState {
     /// The variables.
-    pub(crate) variables: Env,
+    pub variables: Env,
     /// What the makefile describes, as far as was said yet.
-    pub(crate) kind: Kind,
+    pub kind: Kind,
     /// Whether `<bsd.port.mk>` was included.
-    pub(crate) shared_asked: bool,
+    pub shared_asked: bool,
 }

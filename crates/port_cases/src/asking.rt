@@ -91,7 +91,11 @@ fn ask_for(
     answer: &mut Answer,
 ) -> Result<(), Trouble> {
     let name = given_name(alloc, name.as_bytes())?;
-    let World { files, settings } = world;
+    let World {
+        files,
+        settings,
+        ..
+    } = world;
     let mut recorder = Recorder::new(alloc, files, Trace::new(alloc));
     let asked = ask(alloc, cache, &mut recorder, settings, &name, flavors)?;
     tell(&asked, answer);

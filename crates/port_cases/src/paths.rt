@@ -21,7 +21,11 @@ pub fn path_answer(alloc: Global, world: &mut World, given: &[Vec<u8>]) -> Resul
 
 /// What a path leads to, with the trace of what was asked.
 fn recorded(alloc: Global, world: &mut World, path: &str) -> Result<(Finding, Trace), Trouble> {
-    let World { files, settings } = world;
+    let World {
+        files,
+        settings,
+        ..
+    } = world;
     let mut recorder = Recorder::new(alloc, files, Trace::new(alloc));
     let found = evaluate_path(alloc, &mut recorder, settings, path)?;
     Ok((found, recorder.into_trace()))

@@ -13,9 +13,10 @@ ghost use Rattle.ports_index.specs.PathQuestions as asked;
 ghost use Rattle.ports_index.specs.Seen.{finding_seen};
 
 use mk_base::{Fault, PureStop, Stop};
-use mk_eval::{Evaluated, Failed, Kind, evaluate, value};
+use mk_eval::{Evaluated, Failed, Kind, value};
 use mk_files::Files;
 use mk_paths::{FilesFault, Name, Settings, find};
+use mk_step::evaluate;
 use pkg_path::PkgPath;
 use port_rules::{PortRecord, record, words_in};
 use std::alloc::{AllocError, Global};

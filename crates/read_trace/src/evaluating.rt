@@ -10,9 +10,10 @@ ghost use Rattle.read_trace.specs.Recording.{MayFail, LeavesMap, view_of};
 use crate::recorder::Recorder;
 use crate::trace::Trace;
 use mk_base::Stop;
-use mk_eval::{Evaluated, Failed, Parses, evaluate_with};
+use mk_eval::{Evaluated, Failed, Parses};
 use mk_files::Files;
 use mk_paths::{FilesFault, Name, Settings};
+use mk_step::evaluate_with;
 use std::alloc::Global;
 
 /// The end of an evaluation, and what it asked.
@@ -37,7 +38,7 @@ impl Evaluation {
 }
 
 /// What the makefile of this name means in the world of these files and settings, as
-/// `mk_eval::evaluate_with` gives it, with the trace of what its evaluation asked. The first question is the
+/// `mk_step::evaluate_with` gives it, with the trace of what its evaluation asked. The first question is the
 /// one for the makefile itself, and each has the answer that the files give. What the recorder had written
 /// down before is dropped, and the trace is taken out.
 ///

@@ -1,0 +1,122 @@
+-- One thing done, and then the rest, is all that was still to be done.
+use Rattle.std.proofs.Common.{◌≡◌, ◌∙◌, ℕ, suc, zero, Bool, true, false, List, [], ◌∷◌, Option, Some, None, Result, Ok, Err, if◌then◌else◌, refl, sym, ap}
+use Rattle.mk_base.specs.FaultAt.{FaultAt, fault_at}
+use Rattle.mk_base.specs.Outcome.{Work, give, after, each, ◌>>=◌}
+use Rattle.mk_text.specs.Lines.{LogicalLine}
+use Rattle.mk_ast.specs.declared.parsing.ParseFault.{ParseFault}
+use Rattle.mk_ast.specs.Trees.{Tree, LineTree, ChoiceTree, LoopTree, Block, EmptyBlock, MoreBlock, Branches, NoBranches, ElifBranch, ElseBranch}
+use Rattle.mk_ast.specs.Parsing.{parsed}
+use Rattle.mk_paths.specs.World.{FileMap}
+use Rattle.mk_files.specs.Asking.{Account}
+use Rattle.mk_loop.specs.LoopWords.{LoopWords}
+use Rattle.mk_eval.specs.declared.state.EvalState.{EvalState}
+use Rattle.mk_eval.specs.Lines.{inside_turn}
+use Rattle.mk_eval.specs.Includes.{File, Opened}
+use Rattle.mk_eval.specs.Execution.{LineWorks, execute, execute_tree, execute_branches, chosen, turn_of}
+use Rattle.mk_eval.specs.Meaning.{enter, execute_read, blamed_at, open_line}
+use Rattle.mk_eval.specs.Running.{entering_at}
+use Rattle.mk_eval.proofs.Stepping.{file_meaning-is}
+use Rattle.mk_step.specs.Machine.{Site, Frame, Lines, Later, Turns, Left, place_at, works_in, numbered, to_do, rest, read_lines, file_lines, opened_lines, do_tree, before, advance}
+
+pub after-after : {A B C F M : Type 0} (r : Result (A × M) (F × M)) (f : A → Work M F B) (g : B → Work M F C) → after (after r f) g ≡ after r (λ x. f x >>= g)
+after-after (Ok x) f g = refl
+after-after (Err stop) f g = refl
+
+pub each-nil : {M F S X : Type 0} (turn : S → X → Work M F S) (s : S) (m : M) → each turn s [] m ≡ Ok (s, m)
+unfolding each
+each-nil turn s m = refl
+
+each-cons : {M F S X : Type 0} (turn : S → X → Work M F S) (s : S) (x : X) (xs : List X) (m : M) → each turn s (x ∷ xs) m ≡ after (turn s x m) (λ next. each turn next xs)
+unfolding each
+each-cons turn s x xs m = refl
+
+-- what is still to be done once one thing is done
+abbrev pub onward : FileMap → List ℕ → Left → Work Account FaultAt EvalState
+onward files makefile left = rest files makefile left.1 left.0
+
+module _ (files : FileMap) (makefile : List ℕ) (site : Site) (block : Block) (frames : List Frame) where
+  abbrev works : LineWorks Account FaultAt EvalState
+  works = works_in files makefile site
+
+  -- what is left once a line or a block's head is done
+  abbrev left_by : EvalState × Option Frame → Work Account FaultAt Left
+  left_by done = give (done.0, before done.1 (Lines site block ∷ frames))
+
+  -- the lines after it, and then the rest
+  abbrev follow : EvalState → Work Account FaultAt EvalState
+  follow s = execute works block site.loops s >>= rest files makefile frames
+
+  read : (file : List ℕ) (levels : ℕ) (found : Result Block ParseFault) (s : EvalState) (a : Account)
+      → after (after (read_lines file levels found s a) left_by) (onward files makefile)
+      ≡ after (after (execute_read (entering_at files makefile levels) (record { files = files; makefile = makefile; file = file; levels = levels }) found s a) (execute works block site.loops)) (rest files makefile frames)
+  read file levels (Ok lines) s a =
+      sym (after-after (execute (works_in files makefile (record { file = file; levels = levels; loops = None })) lines None s a) (execute works block site.loops) (rest files makefile frames))
+  read file levels (Err fault) s a = refl
+
+  opened : (levels : ℕ) (file : File) (s : EvalState) (a : Account)
+      → after (after (file_lines levels file s a) left_by) (onward files makefile)
+      ≡ after (after (entering_at files makefile levels file.0 file.1 s a) (execute works block site.loops)) (rest files makefile frames)
+  opened zero file s a = refl
+  opened (suc levels) file s a =
+      read file.0 levels (parsed file.1) s a
+      ∙ ap (λ r. after (after r (execute works block site.loops)) (rest files makefile frames)) (sym (file_meaning-is files makefile levels file.0 file.1 s a))
+
+  line-by : (r : Result (Opened × Account) (FaultAt × Account))
+      → after (after (after r (opened_lines site.levels)) left_by) (onward files makefile)
+      ≡ after (after (after r (enter (entering_at files makefile site.levels))) (execute works block site.loops)) (rest files makefile frames)
+  line-by (Ok ((s, None), a)) = refl
+  line-by (Ok ((s, Some file), a)) = opened site.levels file s a
+  line-by (Err end) = refl
+
+  choice-by : (first : Block) (later : Branches) (s : EvalState) (r : Result (Bool × Account) (FaultAt × Account))
+      → after (after (after r (λ held. give (s, Some (if held then Lines site first else Later site later)))) left_by) (onward files makefile)
+      ≡ after (after (after r (λ held. if held then execute works first site.loops s else execute_branches works later site.loops s)) (execute works block site.loops)) (rest files makefile frames)
+  choice-by first later s (Ok (true, a)) = sym (after-after (execute works first site.loops s a) (execute works block site.loops) (rest files makefile frames))
+  choice-by first later s (Ok (false, a)) = sym (after-after (execute_branches works later site.loops s a) (execute works block site.loops) (rest files makefile frames))
+  choice-by first later s (Err end) = refl
+
+  loop-by : (line : LogicalLine) (body : Block) (s : EvalState) (r : Result (List LoopWords × Account) (FaultAt × Account))
+      → after (after (after r (λ turns. give (s, Some (Turns site line.line body turns)))) left_by) (onward files makefile)
+      ≡ after (after (after r (λ turns. each (turn_of (works.begins line) (execute works body) site.loops) s turns)) (execute works block site.loops)) (rest files makefile frames)
+  loop-by line body s (Ok (turns, a)) =
+      sym (after-after (each (turn_of (works.begins line) (execute works body) site.loops) s turns a) (execute works block site.loops) (rest files makefile frames))
+  loop-by line body s (Err end) = refl
+
+  tree : (tree : Tree) (s : EvalState) (a : Account)
+      → after (after (do_tree files makefile site tree s a) left_by) (onward files makefile)
+      ≡ after (after (execute_tree works tree site.loops s a) (execute works block site.loops)) (rest files makefile frames)
+  tree (LineTree line) s a = line-by (blamed_at (place_at files makefile site) line (open_line (place_at files makefile site) site.loops line s) a)
+  tree (ChoiceTree line first later) s a = choice-by first later s (works.holds site.loops line s a)
+  tree (LoopTree line body) s a = loop-by line body s (works.turns site.loops line s a)
+
+module _ (files : FileMap) (makefile : List ℕ) (site : Site) (frames : List Frame) where
+  abbrev works' : LineWorks Account FaultAt EvalState
+  works' = works_in files makefile site
+
+  branch-by : (block : Block) (more : Branches) (s : EvalState) (r : Result (Bool × Account) (FaultAt × Account))
+      → after (after r (λ held. give (s, (if held then Lines site block else Later site more) ∷ frames))) (onward files makefile)
+      ≡ after (after r (λ held. if held then execute works' block site.loops s else execute_branches works' more site.loops s)) (rest files makefile frames)
+  branch-by block more s (Ok (true, a)) = refl
+  branch-by block more s (Ok (false, a)) = refl
+  branch-by block more s (Err end) = refl
+
+  turn-by : (line : ℕ) (body : Block) (turn : LoopWords) (turns : List LoopWords) (s : EvalState) (r : Result (Unit {0} × Account) (FaultAt × Account))
+      → after (after r (λ _. give (s, Lines (record site { loops = inside_turn site.loops turn }) body ∷ Turns site line body turns ∷ frames))) (onward files makefile)
+      ≡ after (after (after r (λ _. execute works' body (inside_turn site.loops turn) s)) (λ next. each (turn_of (works'.begins (numbered line)) (execute works' body) site.loops) next turns)) (rest files makefile frames)
+  turn-by line body turn turns s (Ok (done, a)) =
+      sym (after-after (execute works' body (inside_turn site.loops turn) s a) (λ next. each (turn_of (works'.begins (numbered line)) (execute works' body) site.loops) next turns) (rest files makefile frames))
+  turn-by line body turn turns s (Err end) = refl
+
+module _ (files : FileMap) (makefile : List ℕ) (frames : List Frame) where
+  -- one thing that a frame does, and then the rest
+  pub advances : (frame : Frame) (s : EvalState) (a : Account) → after (advance files makefile frame frames s a) (onward files makefile) ≡ rest files makefile (frame ∷ frames) s a
+  advances (Lines site EmptyBlock) s a = refl
+  advances (Lines site (MoreBlock one block)) s a = tree files makefile site block frames one s a
+  advances (Later site NoBranches) s a = refl
+  advances (Later site (ElifBranch line block more)) s a = branch-by files makefile site frames block more s ((works_in files makefile site).holds site.loops line s a)
+  advances (Later site (ElseBranch block)) s a = refl
+  advances (Turns site line body []) s a =
+      ap (λ r. after r (rest files makefile frames)) (sym (each-nil (turn_of ((works_in files makefile site).begins (numbered line)) (execute (works_in files makefile site) body) site.loops) s a))
+  advances (Turns site line body (turn ∷ turns)) s a =
+      turn-by files makefile site frames line body turn turns s ((works_in files makefile site).begins (numbered line) a)
+      ∙ ap (λ r. after r (rest files makefile frames)) (sym (each-cons (turn_of ((works_in files makefile site).begins (numbered line)) (execute (works_in files makefile site) body) site.loops) s turn turns a))

@@ -1,0 +1,153 @@
+-- How an evaluation begins.
+use Rattle.std.proofs.Common.{◌≡◌, ◌∙◌, ◌++◌, ℕ, false, List, [], ◌∷◌, Option, Some, None, option_map, Result, Ok, Err, refl, sym, ap, subst, arith, inl, inr}
+use Rattle.std.specs.FinMap.{get}
+use Rattle.mk_base.specs.declared.metering.TheConstants.{UNITS}
+use Rattle.mk_base.specs.declared.faults.FaultKind.TheVariants as kinds
+use Rattle.mk_base.specs.declared.stopping.Stop.{Stop}
+use Rattle.mk_base.specs.declared.stopping.Stop.TheVariants as stops
+use Rattle.mk_base.specs.declared.stopping.PureStop.{PureStop}
+use Rattle.mk_base.specs.declared.stopping.PureStop.TheVariants as pure
+use Rattle.mk_base.specs.Blame.{IsBlamed}
+use Rattle.mk_base.specs.FaultAt.{FaultAt, fault_at}
+use Rattle.mk_base.specs.Meter.{Meter, full}
+use Rattle.mk_base.specs.Outcome.{Work, give, after, left}
+use Rattle.mk_base.specs.Stopping.{StopsPurelyAt, stop_of_pure}
+use Rattle.mk_ast.specs.declared.parsing.ParseFault.{ParseFault}
+use Rattle.mk_ast.specs.Trees.{Block}
+use Rattle.mk_ast.specs.Parsing.{parsed}
+use Rattle.mk_env.specs.Texts.{Variables}
+use Rattle.mk_paths.specs.World.{FileMap, World}
+use Rattle.mk_paths.specs.FilesView.{FilesView, Question, Contents, noted, Fails}
+use Rattle.mk_paths.specs.declared.search_path.Settings.{Settings}
+use Rattle.mk_paths.specs.declared.asking.FilesFault.{FilesFault}
+use Rattle.mk_files.specs.Asking.{Account, beside}
+use Rattle.mk_files.specs.Looking.{looked, Refuses, LeavesAtStop, LeavesAtStop-one, AfterQuestions, AfterQuestions-one}
+use Rattle.mk_eval.specs.declared.state.EvalState.{EvalState}
+use Rattle.mk_eval.specs.declared.outcome.Kind.TheVariants as roles
+use Rattle.mk_eval.specs.Execution.{execute}
+use Rattle.mk_eval.specs.Meaning.{evaluation, fresh, makefile_meaning, execute_read, opening}
+use Rattle.mk_eval.specs.Running.{entering_at}
+use Rattle.mk_eval.specs.Start.{start}
+use Rattle.mk_eval.proofs.Stepping.{file_meaning-is}
+use Rattle.mk_step.specs.Machine.{Site, Frame, Lines, works_in, rest, read_lines}
+use Rattle.mk_step.specs.Points.{Point, limited, with_asked, limited_end, HasCome, EndsSo}
+use Rattle.mk_step.specs.Turning.{AsksMore, Begins, IsUnderWay}
+use Rattle.mk_step.specs.Views.{point_of}
+use Rattle.mk_step.specs.declared.machine.Machine.{Machine}
+
+after-give : {M F A : Type 0} (r : Result (A × M) (F × M)) → after r give ≡ r
+after-give (Ok end) = refl
+after-give (Err end) = refl
+
+abbrev frame_in : Result ((EvalState × Option Frame) × Account) (FaultAt × Account) → Option Frame → Option Frame
+frame_in (Ok end) default = end.0.1
+frame_in (Err end) default = default
+
+abbrev fault_in : Result ((EvalState × Option Frame) × Account) (FaultAt × Account) → FaultAt → FaultAt
+fault_in (Ok end) default = default
+fault_in (Err end) default = end.0
+
+abbrev stop_at : Stop FaultAt → Stop FaultAt
+stop_at stop = stop
+
+module _ (files : FileMap) (settings : Settings) (name : List ℕ) (flavors : Option (List (List ℕ))) where
+  abbrev pub first_asked : Option (List ℕ) → List Question
+  first_asked content = (name, Contents content) ∷ []
+
+  evaluates : (content : Option (List ℕ)) → get files name ≡ content → (limit : ℕ) (log : Option (List Question))
+      → evaluation (files, settings) name flavors (fresh limit log) ≡ makefile_meaning (files, settings) name flavors content (record { meter = full limit; log = with_asked log (first_asked content) })
+  unfolding evaluation
+  evaluates content is limit log = ap (λ content. makefile_meaning (files, settings) name flavors content (record { meter = full limit; log = with_asked log (first_asked content) })) is
+
+  missing : get files name ≡ None → EndsSo (files, settings) name flavors (first_asked None) (Err (fault_at kinds.Include name 0, full UNITS))
+  missing is = record { ends = λ limit log low inside. evaluates None is limit log; within = omega arith }
+
+  module _ (bytes : List ℕ) (is : get files name ≡ Some bytes) where
+    reads : (limit : ℕ) (log : Option (List Question)) → evaluation (files, settings) name flavors (fresh limit log)
+        ≡ execute_read (entering_at files name 16) (record { files = files; makefile = name; file = name; levels = 16 }) (parsed bytes) (opening (files, settings) name flavors) (record { meter = full limit; log = with_asked log (first_asked (Some bytes)) })
+    reads limit log =
+        evaluates (Some bytes) is limit log
+        ∙ file_meaning-is files name 16 name bytes (opening (files, settings) name flavors) (record { meter = full limit; log = with_asked log (first_asked (Some bytes)) })
+
+    stops_read : (fault : FaultAt) (found : Result Block ParseFault) (s : EvalState) (a : Account) → read_lines name 16 found s a ≡ Err (fault, a)
+        → execute_read (entering_at files name 16) (record { files = files; makefile = name; file = name; levels = 16 }) found s a ≡ Err (fault, a)
+    stops_read fault (Ok block) s a is = cc
+    stops_read fault (Err error) s a is =
+        ap (λ (r : Result ((EvalState × Option Frame) × Account) (FaultAt × Account)). let end : Result (EvalState × Account) (FaultAt × Account) = Err (fault_in r fault, a) in end) is
+
+    unreadable : (fault : FaultAt) → ((s : EvalState) (a : Account) → read_lines name 16 (parsed bytes) s a ≡ Err (fault, a)) → EndsSo (files, settings) name flavors (first_asked (Some bytes)) (Err (fault, full UNITS))
+    unreadable fault fails = record {
+      ends = λ limit log low inside.
+          let a : Account = record { meter = full limit; log = with_asked log (first_asked (Some bytes)) } in
+          reads limit log ∙ stops_read fault (parsed bytes) (opening (files, settings) name flavors) a (fails (opening (files, settings) name flavors) a);
+      within = omega arith;
+    }
+
+    goes : (frame : Frame) (found : Result Block ParseFault) (s : EvalState) (a : Account) → read_lines name 16 found s a ≡ Ok ((s, Some frame), a)
+        → execute_read (entering_at files name 16) (record { files = files; makefile = name; file = name; levels = 16 }) found s a ≡ rest files name (frame ∷ []) s a
+    goes frame (Ok block) s a is =
+        let site : Site = record { file = name; levels = 16; loops = None } in
+        let same : Lines site block ≡ frame = let e : Some (Lines site block) ≡ Some frame = ap (λ r. frame_in r None) is in cc in
+        sym (after-give (execute (works_in files name site) block None s a)) ∙ ap (λ frame. rest files name (frame ∷ []) s a) same
+    goes frame (Err error) s a is = cc
+
+    begun : (frame : Frame) → ((s : EvalState) (a : Account) → read_lines name 16 (parsed bytes) s a ≡ Ok ((s, Some frame), a))
+        → HasCome (files, settings) name flavors (first_asked (Some bytes)) (record { makefile = name; frames = frame ∷ []; state = opening (files, settings) name flavors; meter = full UNITS })
+    begun frame gives = record {
+      ends = λ limit log low inside.
+          let a : Account = record { meter = full limit; log = with_asked log (first_asked (Some bytes)) } in
+          reads limit log ∙ goes frame (parsed bytes) (opening (files, settings) name flavors) a (gives (opening (files, settings) name flavors) a);
+      limit = refl;
+      within = omega arith;
+    }
+
+-- what the code's beginning leaves
+module _ (may : FilesFault → Type 0) (old new : FilesView) (settings : Settings) (name : List ℕ) (flavors : Option (List (List ℕ))) where
+  pub look-stops : (stop : Stop FaultAt) → Refuses may stop → Fails old new → Begins may old new (old.files, settings) name flavors (Err stop)
+  look-stops (stops.Fault fault) refuses fails = absurd refuses
+  look-stops stops.Store refuses fails = LeavesAtStop-one may old new (stop_at stops.Store) (refuses, fails)
+  look-stops stops.Memory refuses fails = LeavesAtStop-one may old new (stop_at stops.Memory) (refuses, fails)
+
+  module _ (is : new ≡ looked old name) where
+    pub memory-stops : Begins may old new (old.files, settings) name flavors (Err stops.Memory)
+    memory-stops = inl (AfterQuestions-one old new _ is)
+
+    pub missing-stops : (stop : Stop FaultAt) → get old.files name ≡ None → IsBlamed name 0 (stops.Fault kinds.Include) stop → Begins may old new (old.files, settings) name flavors (Err stop)
+    missing-stops stop none blamed =
+        elim blamed [
+          | inl told ↦ rw told (record {
+            more = first_asked old.files settings name flavors None;
+            so = missing old.files settings name flavors none;
+            noted = is ∙ ap (λ content. noted old ((name, Contents content) ∷ [])) none;
+          })
+          | inr told ↦ rw told memory-stops
+        ]
+
+    pub reading-stops : (stop : PureStop FaultAt) (bytes : List ℕ) → get old.files name ≡ Some bytes → ((s : EvalState) (a : Account) → StopsPurelyAt stop a (read_lines name 16 (parsed bytes) s a))
+        → Begins may old new (old.files, settings) name flavors (Err (stop_of_pure stop))
+    reading-stops (pure.Fault fault) bytes there fails = record {
+      more = first_asked old.files settings name flavors (Some bytes);
+      so = unreadable old.files settings name flavors bytes there fault fails;
+      noted = is ∙ ap (λ content. noted old ((name, Contents content) ∷ [])) there;
+    }
+    reading-stops pure.Memory bytes there fails = memory-stops
+
+    pub begins : (machine : Machine) (frame : Frame) (bytes : List ℕ) → get old.files name ≡ Some bytes → ((s : EvalState) (a : Account) → read_lines name 16 (parsed bytes) s a ≡ Ok ((s, Some frame), a))
+        → point_of machine ≡ record { makefile = name; frames = frame ∷ []; state = opening (old.files, settings) name flavors; meter = full UNITS }
+        → Begins may old new (old.files, settings) name flavors (Ok machine)
+    begins machine frame bytes there gives same = (
+      record {
+        more = first_asked old.files settings name flavors (Some bytes);
+        so = subst (HasCome (old.files, settings) name flavors (first_asked old.files settings name flavors (Some bytes))) (sym same) (begun old.files settings name flavors bytes there frame gives);
+        noted = is ∙ ap (λ content. noted old ((name, Contents content) ∷ [])) there;
+      },
+      ap (λ (point : Point). point.meter) same,
+    )
+
+pub point-is : (makefile makefile' : List ℕ) (frames frames' : List Frame) (state state' : EvalState) (meter meter' : Meter) → makefile ≡ makefile' → frames ≡ frames' → state ≡ state' → meter ≡ meter'
+    → (let point : Point = record { makefile = makefile; frames = frames; state = state; meter = meter } in point) ≡ record { makefile = makefile'; frames = frames'; state = state'; meter = meter' }
+point-is makefile makefile' frames frames' state state' meter meter' one two three four =
+    ap (λ makefile. let point : Point = record { makefile = makefile; frames = frames; state = state; meter = meter } in point) one
+    ∙ ap (λ frames. let point : Point = record { makefile = makefile'; frames = frames; state = state; meter = meter } in point) two
+    ∙ ap (λ state. let point : Point = record { makefile = makefile'; frames = frames'; state = state; meter = meter } in point) three
+    ∙ ap (λ meter. let point : Point = record { makefile = makefile'; frames = frames'; state = state'; meter = meter } in point) four

@@ -1,0 +1,69 @@
+-- What is known of a whole evaluation after a turn.
+use Rattle.std.proofs.Common.{◌≡◌, ◌≤◌, ◌∙◌, ◌++◌, ℕ, List, [], ◌∷◌, Option, Result, Ok, Err, refl, sym, ap, subst, arith}
+use Rattle.mk_base.specs.declared.metering.TheConstants.{UNITS}
+use Rattle.mk_base.specs.declared.stopping.Stop.{Stop}
+use Rattle.mk_base.specs.declared.stopping.Stop.TheVariants as stops
+use Rattle.mk_base.specs.FaultAt.{FaultAt}
+use Rattle.mk_base.specs.Meter.{Meter, IsLater, full}
+use Rattle.mk_paths.specs.FilesView.{FilesView, Question}
+use Rattle.mk_paths.specs.declared.search_path.Settings.{Settings}
+use Rattle.mk_paths.specs.declared.asking.FilesFault.{FilesFault}
+use Rattle.mk_eval.specs.Meaning.{means}
+use Rattle.mk_eval.specs.Sharing.{questions_of}
+use Rattle.mk_eval.specs.declared.outcome.Evaluated.{Evaluated}
+use Rattle.mk_step.specs.Points.{Point, HasCome, GoesOn, StopsWith, EndsSo}
+use Rattle.mk_step.specs.Turning.{AsksMore, Begins, RunsOn, TellsIfDone, Leaves, IsNew, Spends, stopped}
+use Rattle.mk_step.specs.declared.machine.Machine.{Machine}
+use Rattle.mk_paths.specs.World.{FileMap}
+use Rattle.mk_step.proofs.Coming.{come-on, ends-so, fails-so, means-end, asks-end}
+
+module _ (may : FilesFault → Type 0) (old new : FilesView) (settings : Settings) (name : List ℕ) (flavors : Option (List (List ℕ))) where
+  -- the beginning stopped
+  pub begin-tells : (stop : Stop FaultAt) → Begins may old new (old.files, settings) name flavors (Err stop) → TellsIfDone (stopped stop 0) (means (old.files, settings) name flavors)
+  begin-tells (stops.Fault fault) begins = means-end old.files settings name flavors begins.more (Err (fault, full UNITS)) begins.so
+  begin-tells stops.Store begins = tt
+  begin-tells stops.Memory begins = tt
+
+  pub begin-leaves : (stop : Stop FaultAt) → Begins may old new (old.files, settings) name flavors (Err stop) → Leaves may old new (old.files, settings) name flavors [] (stopped stop 0)
+  begin-leaves (stops.Fault fault) begins = record { more = begins.more; so = asks-end old.files settings name flavors begins.more (Err (fault, full UNITS)) begins.so; noted = begins.noted }
+  begin-leaves stops.Store begins = begins
+  begin-leaves stops.Memory begins = begins
+
+  pub begin-new : (stop : Stop FaultAt) → IsNew (stopped stop 0)
+  begin-new (stops.Fault fault) = refl
+  begin-new stops.Store = tt
+  begin-new stops.Memory = tt
+
+  module _ (asked : List Question) (start end : Point) (has : HasCome (old.files, settings) name flavors asked start) (fits : end.meter.spent ≤ end.meter.limit) (later : IsLater start.meter end.meter) where
+    -- there is more to do
+    pub turn-more : AsksMore old new (GoesOn old.files start end) → AsksMore old new (λ more. HasCome (old.files, settings) name flavors (asked ++ more) end)
+    turn-more goes = record { more = goes.more; so = come-on (old.files, settings) name flavors asked goes.more start end fits has goes.so; noted = goes.noted }
+
+    module _ (goes : AsksMore old new (GoesOn old.files start end)) (none : end.frames ≡ []) where
+      so : EndsSo (old.files, settings) name flavors (asked ++ goes.more) (Ok (end.state, end.meter))
+      so = ends-so old.files settings name flavors (asked ++ goes.more) end none (come-on (old.files, settings) name flavors asked goes.more start end fits has goes.so)
+
+      pub turn-tells : means (old.files, settings) name flavors ≡ Ok (record { kind = end.state.kind; env = end.state.variables; cost = end.meter.spent })
+      turn-tells = means-end old.files settings name flavors (asked ++ goes.more) (Ok (end.state, end.meter)) so
+
+      pub turn-leaves : AsksMore old new (λ more. questions_of old.files settings name flavors ≡ asked ++ more)
+      turn-leaves = record { more = goes.more; so = asks-end old.files settings name flavors (asked ++ goes.more) (Ok (end.state, end.meter)) so; noted = goes.noted }
+
+    fails : (fault : FaultAt) (more : List Question) → StopsWith old.files start fault end.meter more → EndsSo (old.files, settings) name flavors (asked ++ more) (Err (fault, end.meter))
+    fails fault more stops = fails-so old.files settings name flavors asked start fault end.meter more later.spent (omega (arith, fits, later.limit, has.limit)) has stops
+
+    -- it stopped
+    pub stop-tells : (units : ℕ) (stop : Stop FaultAt) → RunsOn may old new start end units (Err stop) → TellsIfDone (stopped stop end.meter.spent) (means (old.files, settings) name flavors)
+    stop-tells units (stops.Fault fault) runs = means-end old.files settings name flavors (asked ++ runs.more) (Err (fault, end.meter)) (fails fault runs.more runs.so)
+    stop-tells units stops.Store runs = tt
+    stop-tells units stops.Memory runs = tt
+
+    pub stop-leaves : (units : ℕ) (stop : Stop FaultAt) → RunsOn may old new start end units (Err stop) → Leaves may old new (old.files, settings) name flavors asked (stopped stop end.meter.spent)
+    stop-leaves units (stops.Fault fault) runs = record { more = runs.more; so = asks-end old.files settings name flavors (asked ++ runs.more) (Err (fault, end.meter)) (fails fault runs.more runs.so); noted = runs.noted }
+    stop-leaves units stops.Store runs = runs
+    stop-leaves units stops.Memory runs = runs
+
+pub stop-spends : (files : FileMap) (units : ℕ) (old : Machine) (stop : Stop FaultAt) (cost : ℕ) → Spends files units old (stopped stop cost)
+stop-spends files units old (stops.Fault fault) cost = tt
+stop-spends files units old stops.Store cost = tt
+stop-spends files units old stops.Memory cost = tt

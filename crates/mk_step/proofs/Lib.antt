@@ -1,0 +1,13 @@
+pub mod Advancing
+pub mod SharedSteps
+pub mod Coming
+pub mod Spending
+pub mod Blanks
+pub mod Skipping
+pub mod Settling
+pub mod Stacks
+pub mod Stepping
+pub mod Beginning
+pub mod Running
+pub mod Ending
+pub mod Evaluating

@@ -1,0 +1,48 @@
+-- What is left of a frame without what costs nothing.
+use Rattle.std.proofs.Common.{◌≡◌, ◌<◌, ◌≤◌, ◌∙◌, ℕ, List, [], ◌∷◌, drop, length, map, refl, sym, ap, subst, arith}
+use Rattle.std.proofs.lemmas.List.{drop_all, length-drop}
+use Rattle.mk_base.specs.Outcome.{Work, after, each}
+use Rattle.mk_ast.specs.declared.nodes.Node.{Node}
+use Rattle.mk_ast.specs.declared.nodes.Branch.{Branch}
+use Rattle.mk_ast.specs.Trees.{Block, Branches}
+use Rattle.mk_ast.specs.Blocks.{branches_from}
+use Rattle.mk_ast.specs.Views.{block_of, branch_of}
+use Rattle.mk_loop.specs.LoopWords.{LoopWords}
+use Rattle.mk_eval.specs.Execution.{execute, turn_of}
+use Rattle.mk_step.specs.Machine.{Site, Frame, Lines, Later, Turns, works_in, numbered, rest}
+use Rattle.mk_step.specs.Paying.{Costs}
+use Rattle.mk_step.specs.Points.{AreAlike}
+use Rattle.mk_step.proofs.Advancing.{each-nil}
+
+pub costs-lines : (site : Site) (items items' : List Node) (next : ℕ) → items ≡ items' → ((site : Site) → next < length items → Costs (Lines site (block_of (drop next items)))) → next < length items'
+    → Costs (Lines site (block_of (drop next items')))
+costs-lines site items items' next same costs within = subst (λ (items : List Node). next < length items → Costs (Lines site (block_of (drop next items)))) same (costs site) within
+
+pub alike-lines : (site : Site) (others : List Frame) (items items' : List Node) (from next : ℕ) → items ≡ items' → AreAlike (Lines site (block_of (drop from items)) ∷ others) (Lines site (block_of (drop next items)) ∷ others)
+    → AreAlike (Lines site (block_of (drop from items')) ∷ others) (Lines site (block_of (drop next items')) ∷ others)
+alike-lines site others items items' from next same alike = subst (λ (items : List Node). AreAlike (Lines site (block_of (drop from items)) ∷ others) (Lines site (block_of (drop next items)) ∷ others)) same alike
+
+pub over-lines : (site : Site) (others : List Frame) (items items' : List Node) (from next : ℕ) → items ≡ items' → length items' ≤ next → AreAlike (Lines site (block_of (drop from items)) ∷ others) (Lines site (block_of (drop next items)) ∷ others)
+    → AreAlike (Lines site (block_of (drop from items')) ∷ others) others
+over-lines site others items items' from next same past alike files makefile s a =
+    alike-lines site others items items' from next same alike files makefile s a
+    ∙ ap (λ left. rest files makefile (Lines site (block_of left) ∷ others) s a) (drop_all next items' past)
+
+costs-branches : (site : Site) (left : List Branch) (last : Branches) → 0 < length left → Costs (Later site (branches_from (map branch_of left) last))
+costs-branches site [] last some = absurd (omega (arith, some))
+costs-branches site (branch ∷ left) last some = tt
+
+pub costs-later : (site : Site) (items : List Branch) (last : Branches) (next : ℕ) → next < length items → Costs (Later site (branches_from (map branch_of (drop next items)) last))
+costs-later site items last next within = costs-branches site (drop next items) last (omega (arith, length-drop next items, within))
+
+costs-left : (site : Site) (line : ℕ) (body : Block) (left : List LoopWords) → 0 < length left → Costs (Turns site line body left)
+costs-left site line body [] some = absurd (omega (arith, some))
+costs-left site line body (turn ∷ left) some = tt
+
+pub costs-turns : (site : Site) (line : ℕ) (body : Block) (turns : List LoopWords) (next : ℕ) → next < length turns → Costs (Turns site line body (drop next turns))
+costs-turns site line body turns next within = costs-left site line body (drop next turns) (omega (arith, length-drop next turns, within))
+
+pub over-turns : (site : Site) (line : ℕ) (body : Block) (turns : List LoopWords) (next : ℕ) (others : List Frame) → length turns ≤ next → AreAlike (Turns site line body (drop next turns) ∷ others) others
+over-turns site line body turns next others past files makefile s a =
+    ap (λ left. rest files makefile (Turns site line body left ∷ others) s a) (drop_all next turns past)
+    ∙ ap (λ r. after r (rest files makefile others)) (each-nil (turn_of ((works_in files makefile site).begins (numbered line)) (execute (works_in files makefile site) body) site.loops) s a)

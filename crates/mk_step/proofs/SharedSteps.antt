@@ -1,0 +1,60 @@
+-- What the machine does doesn't depend on a log, nor on a limit that it doesn't reach.
+use Rattle.std.proofs.Common.{ℕ, suc, zero, Bool, List, [], ◌∷◌, Option, Some, None, Result, Ok, Err}
+use Rattle.mk_base.specs.FaultAt.{FaultAt}
+use Rattle.mk_ast.specs.declared.parsing.ParseFault.{ParseFault}
+use Rattle.mk_ast.specs.Trees.{Tree, LineTree, ChoiceTree, LoopTree, Block, EmptyBlock, MoreBlock, NoBranches, ElifBranch, ElseBranch}
+use Rattle.mk_ast.specs.Parsing.{parsed}
+use Rattle.mk_paths.specs.World.{FileMap}
+use Rattle.mk_eval.specs.declared.state.EvalState.{EvalState}
+use Rattle.mk_eval.specs.Lines.{inside_turn}
+use Rattle.mk_eval.specs.Includes.{File, Opened}
+use Rattle.mk_eval.specs.Meaning.{at}
+use Rattle.mk_eval.specs.Running.{entering_at}
+use Rattle.mk_eval.proofs.Shared.{Shared, shared-give, shared-fail, shared-tell, bind, over}
+use Rattle.mk_eval.proofs.SharedEvaluation.{EntersShared, AreShared, shared-block, shared-branches, shared-open_line, works-shared, nothing-shared, file-shared}
+use Rattle.mk_step.specs.Machine.{Site, Frame, Lines, Later, Turns, place_at, works_in, numbered, to_do, rest, read_lines, file_lines, opened_lines, do_tree, advance}
+
+module _ (files : FileMap) (makefile : List ℕ) where
+  enters : (levels : ℕ) → EntersShared files (entering_at files makefile levels) (entering_at files makefile levels)
+  enters zero = nothing-shared files
+  enters (suc levels) = file-shared files files makefile levels
+
+  are : (site : Site) → AreShared files (works_in files makefile site) (works_in files makefile site)
+  are site = works-shared files (entering_at files makefile site.levels) (entering_at files makefile site.levels) (enters site.levels) (place_at files makefile site)
+
+  shared-to_do : (frame : Frame) (s : EvalState) → Shared files (to_do files makefile frame s) (to_do files makefile frame s)
+  shared-to_do (Lines site block) s = shared-block files (works_in files makefile site) (works_in files makefile site) (are site) block site.loops s
+  shared-to_do (Later site branches) s = shared-branches files (works_in files makefile site) (works_in files makefile site) (are site) branches site.loops s
+  shared-to_do (Turns site line body turns) s =
+      over (λ s turn. bind ((are site).begins (numbered line)) (λ _. shared-block files (works_in files makefile site) (works_in files makefile site) (are site) body (inside_turn site.loops turn) s)) s turns
+
+  pub shared-rest : (frames : List Frame) (s : EvalState) → Shared files (rest files makefile frames s) (rest files makefile frames s)
+  shared-rest [] s = shared-give files s
+  shared-rest (frame ∷ frames) s = bind (shared-to_do frame s) (shared-rest frames)
+
+  shared-read_lines : (file : List ℕ) (levels : ℕ) (found : Result Block ParseFault) (s : EvalState) → Shared files (read_lines file levels found s) (read_lines file levels found s)
+  shared-read_lines file levels (Ok block) s = shared-give files _
+  shared-read_lines file levels (Err fault) s = shared-fail files _
+
+  shared-file_lines : (levels : ℕ) (file : File) (s : EvalState) → Shared files (file_lines levels file s) (file_lines levels file s)
+  shared-file_lines zero file s = shared-give files _
+  shared-file_lines (suc levels) file s = shared-read_lines file.0 levels (parsed file.1) s
+
+  pub shared-opened_lines : (levels : ℕ) (opened : Opened) → Shared files (opened_lines levels opened) (opened_lines levels opened)
+  shared-opened_lines levels (s, None) = shared-give files _
+  shared-opened_lines levels (s, Some file) = shared-file_lines levels file s
+
+  shared-do_tree : (site : Site) (tree : Tree) (s : EvalState) → Shared files (do_tree files makefile site tree s) (do_tree files makefile site tree s)
+  shared-do_tree site (LineTree line) s =
+      bind (shared-tell (at site.file line.line) (shared-open_line files (entering_at files makefile site.levels) (entering_at files makefile site.levels) (enters site.levels) (place_at files makefile site) site.loops line s)) (shared-opened_lines site.levels)
+  shared-do_tree site (ChoiceTree line first later) s = bind ((are site).holds site.loops line s) (λ held. shared-give files _)
+  shared-do_tree site (LoopTree line body) s = bind ((are site).turns site.loops line s) (λ turns. shared-give files _)
+
+  pub shared-advance : (frame : Frame) (frames : List Frame) (s : EvalState) → Shared files (advance files makefile frame frames s) (advance files makefile frame frames s)
+  shared-advance (Lines site EmptyBlock) frames s = shared-give files _
+  shared-advance (Lines site (MoreBlock tree block)) frames s = bind (shared-do_tree site tree s) (λ done. shared-give files _)
+  shared-advance (Later site NoBranches) frames s = shared-give files _
+  shared-advance (Later site (ElifBranch line block more)) frames s = bind ((are site).holds site.loops line s) (λ held. shared-give files _)
+  shared-advance (Later site (ElseBranch block)) frames s = shared-give files _
+  shared-advance (Turns site line body []) frames s = shared-give files _
+  shared-advance (Turns site line body (turn ∷ turns)) frames s = bind ((are site).begins (numbered line)) (λ _. shared-give files _)

@@ -1,0 +1,218 @@
+-- What the code's steps do.
+use Rattle.std.proofs.Common.{◌≡◌, ◌<◌, ◌≤◌, ◌+◌, ◌-◌, ◌∙◌, ℕ, suc, zero, Bool, List, [], ◌∷◌, drop, length, get_or, map, option_map, Option, Some, None, Result, Ok, Err, if◌then◌else◌, refl, sym, ap, subst, arith}
+use Rattle.std.proofs.lemmas.List.{drop_more}
+use Rattle.mk_base.specs.FaultAt.{FaultAt}
+use Rattle.mk_base.specs.Meter.{Meter, pay}
+use Rattle.mk_base.specs.Outcome.{Work, give, after, tell}
+use Rattle.mk_base.specs.Stopping.{StopsAt, StopsAt-whole, StopsPurelyAt, stop_of_pure}
+use Rattle.mk_base.specs.declared.stopping.PureStop.{PureStop}
+use Rattle.mk_base.specs.declared.stopping.PureStop.TheVariants as pure
+use Rattle.mk_base.specs.declared.stopping.Stop.{Stop}
+use Rattle.mk_text.specs.Lines.{LogicalLine}
+use Rattle.std.proofs.Common.{Vec, Global}
+use Rattle.std.specs.declared.rc.Rc.{Rc}
+use Rattle.mk_ast.specs.declared.nodes.Node.{Node, Node-F, fold-roll-Node}
+use Rattle.mk_ast.specs.declared.nodes.Node.TheVariants.{Choice, Loop, rolls-Choice, rolls-Loop}
+use Rattle.mk_ast.specs.declared.nodes.Branch.{Branch, out-Branch}
+use Rattle.mk_ast.specs.Trees.{Tree, LineTree, ChoiceTree, LoopTree, Block}
+use Rattle.mk_ast.specs.Parsing.{parsed}
+use Rattle.mk_ast.specs.Blocks.{branches_from, last_branch}
+use Rattle.mk_ast.specs.Views.{tree_of, block_of, branch_of, node_step, branch_step}
+use Rattle.mk_paths.specs.World.{FileMap}
+use Rattle.mk_files.specs.Asking.{Account, beside}
+use Rattle.mk_paths.specs.FilesView.{Question}
+use Rattle.mk_loop.specs.declared.turn.Iteration.{Iteration}
+use Rattle.mk_loop.specs.LoopWords.{LoopWords}
+use Rattle.mk_eval.specs.declared.including.ExecutedFile.{ExecutedFile}
+use Rattle.mk_eval.specs.declared.state.EvalState.{EvalState}
+use Rattle.mk_eval.specs.Lines.{Loops, inside_turn}
+use Rattle.mk_eval.specs.Heads.{judge, turns}
+use Rattle.mk_eval.specs.Includes.{Place, File, Opened}
+use Rattle.mk_eval.specs.Meaning.{at, blamed_at, open_line}
+use Rattle.mk_eval.specs.Running.{works_of, Opens}
+use Rattle.mk_eval.specs.declared.including.Included.{Included}
+use Rattle.mk_eval.specs.Views.{loops_of, place_of, file_of}
+use Rattle.mk_eval.proofs.Stepping.{tree-branch}
+use Rattle.mk_step.specs.Machine.{Site, Frame, Lines, Later, Turns, Left, place_at, works_in, numbered, read_lines, file_lines, opened_lines, do_tree, before, advance}
+use Rattle.mk_step.specs.Views.{later_from}
+use Rattle.mk_step.proofs.Skipping.{block-more}
+
+-- what the code calls at a site is what the machine does there
+module _ (here : ExecutedFile) (files : FileMap) (makefile : List ℕ) (site : Site) (loops : List Iteration) (placed : place_of here files ≡ place_at files makefile site) (looped : loops_of loops ≡ site.loops) where
+  pub holds-there : (line : LogicalLine) (s : EvalState) (a : Account) → (works_of here files).holds (loops_of loops) line s a ≡ (works_in files makefile site).holds site.loops line s a
+  holds-there line s a =
+      ap (λ (place : Place). blamed_at place line (judge place.files place.makefile s.variables (loops_of loops) line.text) a) placed
+      ∙ ap (λ loops. (works_in files makefile site).holds loops line s a) looped
+
+  pub opens-there : (line : LogicalLine) (s : EvalState) (a : Account)
+      → blamed_at (place_of here files) line (open_line (place_of here files) (loops_of loops) line s) a ≡ blamed_at (place_at files makefile site) line (open_line (place_at files makefile site) site.loops line s) a
+  opens-there line s a =
+      ap (λ (place : Place). blamed_at place line (open_line place (loops_of loops) line s) a) placed
+      ∙ ap (λ loops. blamed_at (place_at files makefile site) line (open_line (place_at files makefile site) loops line s) a) looped
+
+module _ (files : FileMap) (makefile : List ℕ) (site : Site) (frames : List Frame) (s : EvalState) (a : Account) where
+  -- the branches from a place on
+  pub later-first : (items : List Branch) (next : ℕ) (item : Branch) (otherwise : Option (List Node)) → next < length items → item ≡ get_or items next item
+      → advance files makefile (Later site (later_from items next otherwise)) frames s a
+      ≡ after ((works_in files makefile site).holds site.loops (out-Branch item).head s a)
+      (λ held. give (s, (if held then Lines site (block_of (out-Branch item).body.value.items) else Later site (later_from items (next + 1) otherwise)) ∷ frames))
+  later-first items next item otherwise within is =
+      ap (λ left. advance files makefile (Later site (branches_from (map branch_of left) (last_branch (option_map block_of otherwise)))) frames s a) (drop_more items next item within ∙ ap (λ x. x ∷ drop (next + 1) items) (sym is))
+      ∙ ap (λ branch. advance files makefile (Later site (branches_from (branch ∷ map branch_of (drop (next + 1) items)) (last_branch (option_map block_of otherwise)))) frames s a) (tree-branch item)
+
+  -- the lines from a place on
+  pub lines-first : (items : List Node) (next : ℕ) (item : Node) → next < length items → item ≡ get_or items next item
+      → advance files makefile (Lines site (block_of (drop next items))) frames s a
+      ≡ after (do_tree files makefile site (tree_of item) s a) (λ done. give (done.0, before done.1 (Lines site (block_of (drop (next + 1) items)) ∷ frames)))
+  lines-first items next item within is = ap (λ block. advance files makefile (Lines site block) frames s a) (block-more items next item within is)
+
+  -- the iterations from a place on
+  pub turns-first : (line : ℕ) (body : Block) (turns : List LoopWords) (next : ℕ) → next < length turns
+      → advance files makefile (Turns site line body (drop next turns)) frames s a
+      ≡ after ((works_in files makefile site).begins (numbered line) a)
+      (λ _. give (s, Lines (record site { loops = inside_turn site.loops (get_or turns next []) }) body ∷ Turns site line body (drop (next + 1) turns) ∷ frames))
+  turns-first line body turns next within =
+      ap (λ left. advance files makefile (Turns site line body left) frames s a) (drop_more turns next [] within)
+
+-- a condition judged, among the branches from a place on
+module _ (here : ExecutedFile) (files : FileMap) (makefile : List ℕ) (site : Site) (loops : List Iteration) (placed : place_of here files ≡ place_at files makefile site) (looped : loops_of loops ≡ site.loops)
+    (frames : List Frame) (s : EvalState) (a : Account) (slice items : List Branch) (next : ℕ) (item : Branch) (otherwise : Option (List Node)) (same : slice ≡ items) (within : next < length items) (is : item ≡ get_or slice next item) where
+  abbrev left_by : Bool → Work Account FaultAt Left
+  left_by held = give (s, (if held then Lines site (block_of (out-Branch item).body.value.items) else Later site (later_from items (next + 1) otherwise)) ∷ frames)
+
+  judged : advance files makefile (Later site (later_from items next otherwise)) frames s a ≡ after ((works_of here files).holds (loops_of loops) (out-Branch item).head s a) left_by
+  judged =
+      later-first files makefile site frames s a items next item otherwise within (is ∙ ap (λ items. get_or items next item) same)
+      ∙ ap (λ r. after r left_by) (sym (holds-there here files makefile site loops placed looped (out-Branch item).head s a))
+
+  pub later-stops : (stop : Stop FaultAt) (end : Account) → StopsAt stop end ((works_of here files).holds (loops_of loops) (out-Branch item).head s a) → StopsAt stop end (advance files makefile (Later site (later_from items next otherwise)) frames s a)
+  later-stops stop end stops = StopsAt-whole stop end _ _ (λ fault at. judged ∙ ap (λ r. after r left_by) at) stops
+
+  pub later-goes : (held : Bool) (end : Account) (frames' : List Frame) → (works_of here files).holds (loops_of loops) (out-Branch item).head s a ≡ Ok (held, end)
+      → (if held then Lines site (block_of (out-Branch item).body.value.items) else Later site (later_from items (next + 1) otherwise)) ∷ frames ≡ frames'
+      → advance files makefile (Later site (later_from items next otherwise)) frames s a ≡ Ok ((s, frames'), end)
+  later-goes held end frames' holds left =
+      judged ∙ ap (λ r. after r left_by) holds ∙ ap (λ frames. let outcome : Result (Left × Account) (FaultAt × Account) = Ok ((s, frames), end) in outcome) left
+
+told-begins : {A F G : Type 0} (f : F → G) (log : Option (List Question)) (r : Result (A × Meter) (F × Meter)) (x : A) (m : Meter) → tell f r ≡ Ok (x, m) → tell f (beside log r) ≡ Ok (x, record { meter = m; log = log })
+told-begins f log (Ok end) x m is = ap (beside log) is
+told-begins f log (Err end) x m is = cc
+
+told-stops : {A F G : Type 0} (f : F → G) (log : Option (List Question)) (r : Result (A × Meter) (F × Meter)) (fault : G) (m : Meter) → tell f r ≡ Err (fault, m) → tell f (beside log r) ≡ Err (fault, record { meter = m; log = log })
+told-stops f log (Ok end) fault m is = cc
+told-stops f log (Err end) fault m is = ap (beside log) is
+
+-- an iteration begun, among those from a place on
+module _ (here : ExecutedFile) (files : FileMap) (makefile : List ℕ) (site : Site) (placed : place_of here files ≡ place_at files makefile site)
+    (frames : List Frame) (s : EvalState) (m : Meter) (log : Option (List Question)) (line : ℕ) (body : Block) (turns : List LoopWords) (next : ℕ) (within : next < length turns) where
+  abbrev left_begun : Unit {0} → Work Account FaultAt Left
+  left_begun done = give (s, Lines (record site { loops = inside_turn site.loops (get_or turns next []) }) body ∷ Turns site line body (drop (next + 1) turns) ∷ frames)
+
+  begun : advance files makefile (Turns site line body (drop next turns)) frames s (record { meter = m; log = log }) ≡ after (tell (at here.file.now line) (beside log (pay m))) left_begun
+  begun =
+      turns-first files makefile site frames s (record { meter = m; log = log }) line body turns next within
+      ∙ ap (λ (place : Place). after (tell (at place.file line) (beside log (pay m))) left_begun) (sym placed)
+
+  pub turns-stop : (stop : PureStop FaultAt) (end : Meter) → StopsPurelyAt stop end (tell (at here.file.now line) (pay m))
+      → StopsPurelyAt stop (record { meter = end; log = log }) (advance files makefile (Turns site line body (drop next turns)) frames s (record { meter = m; log = log }))
+  turns-stop (pure.Fault fault) end stops = begun ∙ ap (λ r. after r left_begun) (told-stops (at here.file.now line) log (pay m) fault end stops)
+  turns-stop pure.Memory end stops = tt
+
+  pub turns-go : (end : Meter) (frames' : List Frame) → tell (at here.file.now line) (pay m) ≡ Ok (tt, end)
+      → Lines (record site { loops = inside_turn site.loops (get_or turns next []) }) body ∷ Turns site line body (drop (next + 1) turns) ∷ frames ≡ frames'
+      → advance files makefile (Turns site line body (drop next turns)) frames s (record { meter = m; log = log }) ≡ Ok ((s, frames'), record { meter = end; log = log })
+  turns-go end frames' gives left =
+      begun ∙ ap (λ r. after r left_begun) (told-begins (at here.file.now line) log (pay m) tt end gives)
+      ∙ ap (λ frames. let outcome : Result (Left × Account) (FaultAt × Account) = Ok ((s, frames), record { meter = end; log = log }) in outcome) left
+
+-- a stop of work that looks at no file, as a stop of any work
+pub stops-purely : {A M : Type 0} (stop : PureStop FaultAt) (end : M) (outcome : Result (A × M) (FaultAt × M)) → StopsPurelyAt stop end outcome → StopsAt (stop_of_pure stop) end outcome
+stops-purely (pure.Fault fault) end outcome stops = stops
+stops-purely pure.Memory end outcome stops = tt
+
+enters-file : (levels : ℕ) (file : File) (s : EvalState) (a : Account) → (levels ≡ 0 → ⊥) → file_lines levels file s a ≡ read_lines file.0 (levels - 1) (parsed file.1) s a
+enters-file zero file s a some = absurd (some refl)
+enters-file (suc levels) file s a some = let same : levels ≡ suc levels - 1 = omega arith in ap (λ n. read_lines file.0 n (parsed file.1) s a) same
+
+-- a line that frames no block
+module _ (here : ExecutedFile) (files : FileMap) (makefile : List ℕ) (site : Site) (loops : List Iteration) (placed : place_of here files ≡ place_at files makefile site) (looped : loops_of loops ≡ site.loops)
+    (line : LogicalLine) (s : EvalState) (a : Account) where
+  abbrev opening : Result (Opened × Account) (FaultAt × Account)
+  opening = blamed_at (place_of here files) line (open_line (place_of here files) (loops_of loops) line s) a
+
+  opened : do_tree files makefile site (LineTree line) s a ≡ after opening (opened_lines site.levels)
+  opened = ap (λ r. after r (opened_lines site.levels)) (sym (opens-there here files makefile site loops placed looped line s a))
+
+  pub line-stops : (stop : Stop FaultAt) (end : Account) → StopsAt stop end opening → StopsAt stop end (do_tree files makefile site (LineTree line) s a)
+  line-stops stop end stops = StopsAt-whole stop end _ _ (λ fault at. opened ∙ ap (λ r. after r (opened_lines site.levels)) at) stops
+
+  pub line-alone : (s' : EvalState) (end : Account) → opening ≡ Ok ((s', None), end) → do_tree files makefile site (LineTree line) s a ≡ Ok ((s', None), end)
+  line-alone s' end gives = opened ∙ ap (λ r. after r (opened_lines site.levels)) gives
+
+  pub line-enters : (s' : EvalState) (file : File) (end : Account) → opening ≡ Ok ((s', Some file), end) → (site.levels ≡ 0 → ⊥)
+      → do_tree files makefile site (LineTree line) s a ≡ read_lines file.0 (site.levels - 1) (parsed file.1) s' end
+  line-enters s' file end gives some = opened ∙ ap (λ r. after r (opened_lines site.levels)) gives ∙ enters-file site.levels file s' end some
+
+pub may-open : (levels levels' : ℕ) (old new : Meter) (found : Option Included) (included : Included) → levels ≡ levels' → found ≡ Some included → Opens levels old new found → levels' ≡ 0 → ⊥
+may-open levels levels' old new found included same is opens none = let may = subst (Opens levels old new) is opens in may.0 (same ∙ none)
+
+pub found-some : (r : Result (Opened × Account) (FaultAt × Account)) (s : EvalState) (found : Option Included) (end : Account) (one : Option Included) → found ≡ one → r ≡ Ok ((s, option_map file_of found), end) → r ≡ Ok ((s, option_map file_of one), end)
+found-some r s found end one is gives = gives ∙ ap (λ found. let outcome : Result (Opened × Account) (FaultAt × Account) = Ok ((s, option_map file_of found), end) in outcome) is
+
+pub StopsPurelyAt-same : {A M : Type 0} (stop : PureStop FaultAt) (end : M) (whole part : Result (A × M) (FaultAt × M)) → whole ≡ part → StopsPurelyAt stop end part → StopsPurelyAt stop end whole
+StopsPurelyAt-same stop end whole part same stops = subst (StopsPurelyAt stop end) (sym same) stops
+
+-- the tree of a choice
+choice-tree : (head : LogicalLine) (body : Rc (Vec Node Global) Global) (branches : Rc (Vec Branch Global) Global) (otherwise : Option (Rc (Vec Node Global) Global)) → tree_of (Choice head body branches otherwise) ≡ ChoiceTree head (block_of body.value.items) (later_from branches.value.items 0 (option_map (λ block. block.value.items) otherwise))
+choice-tree head body branches None = ap tree_of (sym (rolls-Choice head body branches None)) ∙ fold-roll-Node Tree (LogicalLine × Block) node_step branch_step (Node-F.Choice head body branches None)
+choice-tree head body branches (Some block) = ap tree_of (sym (rolls-Choice head body branches (Some block))) ∙ fold-roll-Node Tree (LogicalLine × Block) node_step branch_step (Node-F.Choice head body branches (Some block))
+
+loop-tree : (head : LogicalLine) (body : Rc (Vec Node Global) Global) → tree_of (Loop head body) ≡ LoopTree head (block_of body.value.items)
+loop-tree head body = ap tree_of (sym (rolls-Loop head body)) ∙ fold-roll-Node Tree (LogicalLine × Block) node_step branch_step (Node-F.Loop head body)
+
+-- a choice
+module _ (here : ExecutedFile) (files : FileMap) (makefile : List ℕ) (site : Site) (loops : List Iteration) (placed : place_of here files ≡ place_at files makefile site) (looped : loops_of loops ≡ site.loops)
+    (node : Node) (head : LogicalLine) (body : Rc (Vec Node Global) Global) (branches : Rc (Vec Branch Global) Global) (otherwise : Option (Rc (Vec Node Global) Global)) (is : node ≡ Choice head body branches otherwise) (s : EvalState) (a : Account) where
+  abbrev first : Bool → Frame
+  first held = if held then Lines site (block_of body.value.items) else Later site (later_from branches.value.items 0 (option_map (λ block. block.value.items) otherwise))
+
+  abbrev left_chosen : Bool → Work Account FaultAt (EvalState × Option Frame)
+  left_chosen held = give (s, Some (first held))
+
+  chooses : do_tree files makefile site (tree_of node) s a ≡ after ((works_of here files).holds (loops_of loops) head s a) left_chosen
+  chooses =
+      ap (λ tree. do_tree files makefile site tree s a) (ap tree_of is ∙ choice-tree head body branches otherwise)
+      ∙ ap (λ r. after r left_chosen) (sym (holds-there here files makefile site loops placed looped head s a))
+
+  pub choice-stops : (stop : Stop FaultAt) (end : Account) → StopsAt stop end ((works_of here files).holds (loops_of loops) head s a) → StopsAt stop end (do_tree files makefile site (tree_of node) s a)
+  choice-stops stop end stops = StopsAt-whole stop end _ _ (λ fault at. chooses ∙ ap (λ r. after r left_chosen) at) stops
+
+  pub choice-goes : (held : Bool) (end : Account) (frame : Frame) → (works_of here files).holds (loops_of loops) head s a ≡ Ok (held, end) → first held ≡ frame
+      → do_tree files makefile site (tree_of node) s a ≡ Ok ((s, Some frame), end)
+  choice-goes held end frame holds left =
+      chooses ∙ ap (λ r. after r left_chosen) holds ∙ ap (λ frame. let outcome : Result ((EvalState × Option Frame) × Account) (FaultAt × Account) = Ok ((s, Some frame), end) in outcome) left
+
+-- a loop
+module _ (here : ExecutedFile) (files : FileMap) (makefile : List ℕ) (site : Site) (loops : List Iteration) (placed : place_of here files ≡ place_at files makefile site) (looped : loops_of loops ≡ site.loops)
+    (node : Node) (head : LogicalLine) (body : Rc (Vec Node Global) Global) (is : node ≡ Loop head body) (s : EvalState) (m : Meter) (log : Option (List Question)) where
+  abbrev reading : Result (List LoopWords × Meter) (FaultAt × Meter)
+  reading = tell (at here.file.now head.line) (turns s.variables (loops_of loops) head.text m)
+
+  abbrev left_read : List LoopWords → Work Account FaultAt (EvalState × Option Frame)
+  left_read turns = give (s, Some (Turns site head.line (block_of body.value.items) turns))
+
+  reads : do_tree files makefile site (tree_of node) s (record { meter = m; log = log }) ≡ after (tell (at here.file.now head.line) (beside log (turns s.variables (loops_of loops) head.text m))) left_read
+  reads =
+      ap (λ tree. do_tree files makefile site tree s (record { meter = m; log = log })) (ap tree_of is ∙ loop-tree head body)
+      ∙ ap (λ (place : Place). after (tell (at place.file head.line) (beside log (turns s.variables site.loops head.text m))) left_read) (sym placed)
+      ∙ ap (λ loops. after (tell (at here.file.now head.line) (beside log (turns s.variables loops head.text m))) left_read) (sym looped)
+
+  pub loop-stops : (stop : PureStop FaultAt) (end : Meter) → StopsPurelyAt stop end reading → StopsAt (stop_of_pure stop) (record { meter = end; log = log }) (do_tree files makefile site (tree_of node) s (record { meter = m; log = log }))
+  loop-stops (pure.Fault fault) end stops = reads ∙ ap (λ r. after r left_read) (told-stops (at here.file.now head.line) log (turns s.variables (loops_of loops) head.text m) fault end stops)
+  loop-stops pure.Memory end stops = tt
+
+  pub loop-goes : (found : List LoopWords) (end : Meter) (frame : Frame) → reading ≡ Ok (found, end) → Turns site head.line (block_of body.value.items) found ≡ frame
+      → do_tree files makefile site (tree_of node) s (record { meter = m; log = log }) ≡ Ok ((s, Some frame), record { meter = end; log = log })
+  loop-goes found end frame gives left =
+      reads ∙ ap (λ r. after r left_read) (told-begins (at here.file.now head.line) log (turns s.variables (loops_of loops) head.text m) found end gives)
+      ∙ ap (λ frame. let outcome : Result ((EvalState × Option Frame) × Account) (FaultAt × Account) = Ok ((s, Some frame), record { meter = end; log = log }) in outcome) left

@@ -1,0 +1,5 @@
+pub mod Machine
+pub mod Points
+pub mod Paying
+pub mod Views
+pub mod Turning

@@ -1,0 +1,135 @@
+-- What a turn of a machine says, leaves and spends.
+use Rattle.std.specs.Prelude.{◌≡◌, ◌≤◌, ◌<◌, ◌+◌, ◌⊎◌, ℕ, Bool, true, false, List, [], ◌∷◌, ◌++◌, Option, Result, Ok, Err}
+use Rattle.mk_base.specs.declared.stopping.Stop.{Stop}
+use Rattle.mk_base.specs.declared.stopping.Stop.TheVariants as stops
+use Rattle.mk_base.specs.declared.metering.TheConstants.{UNITS}
+use Rattle.mk_base.specs.FaultAt.{FaultAt}
+use Rattle.mk_base.specs.Meter.{Meter, full}
+use Rattle.mk_paths.specs.World.{FileMap, World}
+use Rattle.mk_paths.specs.FilesView.{FilesView, Question, noted}
+use Rattle.mk_paths.specs.declared.search_path.Settings.{Settings}
+use Rattle.mk_paths.specs.declared.asking.FilesFault.{FilesFault}
+use Rattle.mk_paths.specs.declared.asking.FilesFault.TheVariants as faults
+use Rattle.mk_files.specs.Asking.{Account, account}
+use Rattle.mk_files.specs.Looking.{LeavesAtStop, stop_of}
+use Rattle.mk_eval.specs.Meaning.{means}
+use Rattle.mk_eval.specs.Sharing.{questions_of, cost_of}
+use Rattle.mk_eval.specs.declared.outcome.Evaluated.{Evaluated}
+use Rattle.mk_eval.specs.declared.outcome.Failed.{Failed}
+use Rattle.mk_eval.specs.declared.state.EvalState.{EvalState}
+use Rattle.mk_step.specs.Machine.{Frame, Left, advance}
+use Rattle.mk_step.specs.Points.{Point, HasCome, GoesOn, StopsWith, EndsSo}
+use Rattle.mk_step.specs.Views.{point_of}
+use Rattle.mk_step.specs.declared.machine.Machine.{Machine}
+use Rattle.mk_step.specs.declared.machine.Turned.{Turned}
+use Rattle.mk_step.specs.declared.machine.Turned.TheVariants.{More, Done}
+
+-- A machine is under way in the evaluation of the makefile of this name: what it has still to do ends as the
+-- whole evaluation does, and so far it has asked these questions.
+abbrev pub IsUnderWay : World → List ℕ → Option (List (List ℕ)) → List Question → Machine → Type 0
+IsUnderWay world name flavors asked machine = HasCome world name flavors asked (point_of machine)
+
+-- this holds of every evaluation among these files in which a machine is under way
+abbrev pub ForEach : FileMap → Machine → (World → List ℕ → Option (List (List ℕ)) → List Question → Type 0) → Type 0
+ForEach files machine fact =
+    (settings : Settings) (name : List ℕ) (flavors : Option (List (List ℕ))) (asked : List Question)
+    → IsUnderWay (files, settings) name flavors asked machine → fact (files, settings) name flavors asked
+
+-- if it is done, the answer is this meaning
+abbrev pub TellsIfDone : Result Turned FilesFault → Result Evaluated Failed → Type 0
+TellsIfDone (Ok (More machine)) meaning = Unit {0}
+TellsIfDone (Ok (Done answer)) meaning = meaning ≡ answer
+TellsIfDone (Err fault) meaning = Unit {0}
+
+-- more questions were asked and answered, and nothing else happened to the files
+pub record AsksMore (old new : FilesView) (IsTrueOf : List Question → Type 0) : Type 0 where
+  pub more : List Question
+  pub so : IsTrueOf more
+  pub noted : new ≡ noted old more
+
+-- what a failure left of the files
+abbrev pub LeavesAtFailure : (FilesFault → Type 0) → FilesView → FilesView → FilesFault → Type 0
+LeavesAtFailure may old new fault = let stop : Stop FaultAt = stop_of fault in LeavesAtStop may old new stop
+
+-- What is left of the files and of the evaluation. If it is done, all of its questions were asked. If it isn't,
+-- the machine is under way in the same evaluation. If the files failed or memory ran out, nothing but questions was
+-- asked.
+abbrev pub Leaves : (FilesFault → Type 0) → FilesView → FilesView → World → List ℕ → Option (List (List ℕ)) → List Question
+    → Result Turned FilesFault → Type 0
+Leaves may old new world name flavors asked (Ok (More machine)) =
+    AsksMore old new (λ more. IsUnderWay world name flavors (asked ++ more) machine)
+Leaves may old new world name flavors asked (Ok (Done answer)) =
+    AsksMore old new (λ more. questions_of world.0 world.1 name flavors ≡ asked ++ more)
+Leaves may old new world name flavors asked (Err fault) = LeavesAtFailure may old new fault
+
+-- an evaluation that has only begun has spent nothing, and isn't at its end, unless at a fault
+abbrev pub IsNew : Result Turned FilesFault → Type 0
+IsNew (Ok (More machine)) = machine.budget.spent ≡ 0
+IsNew (Ok (Done (Ok evaluated))) = ⊥
+IsNew (Ok (Done (Err failed))) = failed.cost ≡ 0
+IsNew (Err fault) = Unit {0}
+
+-- The last thing that was done, after a beginning and up to a point: the evaluation came from the beginning to where it
+-- was done, and had spent fewer units there than it was given since the beginning.
+pub record IsLast (files : FileMap) (units : ℕ) (begin point : Point) : Type 0 where
+  pub frame : Frame
+  pub others : List Frame
+  pub state : EvalState
+  pub meter : Meter
+  pub asked : List Question
+  pub old : Option (List Question)
+  pub new : Option (List Question)
+  pub comes : GoesOn files begin (record { makefile = point.makefile; frames = frame ∷ others; state = state; meter = meter }) asked
+  pub low : meter.spent < begin.meter.spent + units
+  pub leads : advance files point.makefile frame others state (record { meter = meter; log = old })
+      ≡ Ok ((point.state, point.frames), record { meter = point.meter; log = new })
+
+-- From one point to another these units were spent, or more. Before the last thing that was done, fewer were spent.
+abbrev pub IsSpent : FileMap → ℕ → Point → Point → Type 0
+IsSpent files units old new =
+    (old.meter.spent + units ≤ new.meter.spent) × ((new.meter.spent ≡ old.meter.spent) ⊎ IsLast files units old new)
+
+-- what a turn spends that is given some units: if it isn't done, it has spent them
+abbrev pub Spends : FileMap → ℕ → Machine → Result Turned FilesFault → Type 0
+Spends files units old (Ok (More machine)) = IsSpent files units (point_of old) (point_of machine)
+Spends files units old (Ok (Done answer)) = Unit {0}
+Spends files units old (Err fault) = Unit {0}
+
+-- a stop after this many units, as what a turn leaves
+abbrev pub stopped : Stop FaultAt → ℕ → Result Turned FilesFault
+stopped (stops.Fault fault) cost = Ok (Done (Err (record { fault = fault; cost = cost })))
+stopped stops.Store cost = Err faults.Store
+stopped stops.Memory cost = Err faults.Memory
+
+-- What a run of a machine did that was given some units, from one point to another. The answer is whether nothing is
+-- to be done any more.
+abbrev pub RunsOn : (FilesFault → Type 0) → FilesView → FilesView → Point → Point → ℕ → Result Bool (Stop FaultAt) → Type 0
+RunsOn may old new start end units (Ok true) = AsksMore old new (GoesOn old.files start end) × (end.frames ≡ [])
+RunsOn may old new start end units (Ok false) = AsksMore old new (GoesOn old.files start end) × IsSpent old.files units start end
+RunsOn may old new start end units (Err (stops.Fault fault)) = AsksMore old new (StopsWith old.files start fault end.meter)
+RunsOn may old new start end units (Err stops.Store) = LeavesAtStop {F = FaultAt} may old new stops.Store
+RunsOn may old new start end units (Err stops.Memory) = LeavesAtStop {F = FaultAt} may old new stops.Memory
+
+-- What the beginning of an evaluation did: the machine is at the first line, and nothing is spent; or the makefile isn't
+-- there or can't be read.
+abbrev pub Begins : (FilesFault → Type 0) → FilesView → FilesView → World → List ℕ → Option (List (List ℕ))
+    → Result Machine (Stop FaultAt) → Type 0
+Begins may old new world name flavors (Ok machine) =
+    AsksMore old new (λ asked. IsUnderWay world name flavors asked machine) × (machine.budget ≡ full UNITS)
+Begins may old new world name flavors (Err (stops.Fault fault)) =
+    AsksMore old new (λ asked. EndsSo world name flavors asked (Err (fault, full UNITS)))
+Begins may old new world name flavors (Err stops.Store) = LeavesAtStop {F = FaultAt} may old new stops.Store
+Begins may old new world name flavors (Err stops.Memory) = LeavesAtStop {F = FaultAt} may old new stops.Memory
+
+-- if it isn't done, it has spent this many units or more
+abbrev pub HasSpent : ℕ → Result Turned FilesFault → Type 0
+HasSpent units (Ok (More machine)) = units ≤ machine.budget.spent
+HasSpent units (Ok (Done answer)) = Unit {0}
+HasSpent units (Err fault) = Unit {0}
+
+-- what was asked so far comes first among all questions of the evaluation
+abbrev pub IsAskedFirst : Type 0
+IsAskedFirst =
+    (files : FileMap) (machine : Machine)
+    → ForEach files machine
+    (λ world name flavors asked. (more : List Question) × (questions_of world.0 world.1 name flavors ≡ asked ++ more))

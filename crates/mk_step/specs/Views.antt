@@ -1,0 +1,48 @@
+-- What the code has, as the definitions see it.
+use Rattle.std.specs.Prelude.{ℕ, List, map, drop, reverse, option_map, Option}
+use Rattle.mk_ast.specs.declared.nodes.Node.{Node}
+use Rattle.mk_ast.specs.declared.nodes.Branch.{Branch}
+use Rattle.mk_ast.specs.Trees.{Branches}
+use Rattle.mk_ast.specs.Blocks.{branches_from, last_branch}
+use Rattle.mk_ast.specs.Views.{block_of, branch_of}
+use Rattle.mk_loop.specs.Scopes.{turns_in}
+use Rattle.mk_eval.specs.Views.{loops_of}
+use Rattle.mk_step.specs.Machine as machine
+use Rattle.mk_step.specs.Points.{Point}
+use Rattle.mk_step.specs.declared.sites.Site.{Site}
+use Rattle.mk_step.specs.declared.frames.Frame.{Frame}
+use Rattle.mk_step.specs.declared.frames.ToDo.{ToDo}
+use Rattle.mk_step.specs.declared.frames.ToDo.TheVariants.{Lines, Later, Turns}
+use Rattle.mk_step.specs.declared.machine.Machine.{Machine}
+
+-- where lines are
+abbrev pub site_of : Site → machine.Site
+site_of site = record { file = site.file.value; levels = site.levels; loops = loops_of site.loops.items }
+
+-- the branches from an index on, with the last one, if there is one
+abbrev pub later_from : List Branch → ℕ → Option (List Node) → Branches
+later_from branches next otherwise = branches_from (map branch_of (drop next branches)) (last_branch (option_map block_of otherwise))
+
+-- what is to be done at a site
+abbrev pub frame_at : machine.Site → ToDo → machine.Frame
+frame_at site (Lines block next) = machine.Lines site (block_of (drop next block.value.items))
+frame_at site (Later branches next otherwise) =
+    machine.Later site (later_from branches.value.items next (option_map (λ block. block.value.items) otherwise))
+frame_at site (Turns line body turns next) = machine.Turns site line (block_of body.value.items) (drop next (turns_in turns.value))
+
+-- a frame
+abbrev pub frame_of : Frame → machine.Frame
+frame_of frame = frame_at (site_of frame.site.value) frame.to_do
+
+-- all frames, of which the innermost is the last
+abbrev pub frames_of : List Frame → List machine.Frame
+frames_of frames = reverse (map frame_of frames)
+
+-- the point that a machine has come to
+abbrev pub point_of : Machine → Point
+point_of machine = record {
+  makefile = machine.makefile;
+  frames = frames_of machine.frames.items;
+  state = machine.state;
+  meter = machine.budget;
+}

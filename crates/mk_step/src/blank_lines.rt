@@ -1,0 +1,46 @@
+//! Blank lines, which cost nothing.
+ghost use Rattle.std.specs.Prelude.{◌≡◌, ◌<◌, ◌∷◌, ℕ, List, true, false, length, drop};
+ghost use Rattle.mk_ast.specs.Kinds.{BlankLine, line_kind};
+ghost use Rattle.mk_ast.specs.Views.{tree_of, block_of};
+ghost use Rattle.mk_step.specs.Machine.{Site, Frame, Lines};
+ghost use Rattle.mk_step.specs.Paying.{Costs, TreeCosts, IsBlank};
+ghost use Rattle.mk_step.specs.Points.{AreAlike};
+
+use mk_ast::Node;
+use mk_text::trim_blanks;
+
+/// Whether a line with this text is blank: it has nothing but blanks, and is no command.
+fn is_blank_line(text: &str) -> bool
+    ensures blank { result ≡ true → line_kind text.now ≡ BlankLine }
+    ensures other { result ≡ false → line_kind text.now ≡ BlankLine → ⊥ }
+{
+    !text.starts_with('\t') && trim_blanks(text).is_empty()
+}
+
+/// Whether a node is a blank line.
+fn is_blank(node: &Node) -> bool
+    ensures blank { result ≡ true → IsBlank (tree_of node.now) }
+    ensures other { result ≡ false → TreeCosts (tree_of node.now) }
+{
+    match node {
+        Node::Line(line) => is_blank_line(line.text()),
+        _ => false,
+    }
+}
+
+/// The index of the first node, from this index on, that isn't a blank line. If there is none, it is how
+/// many nodes there are.
+pub(crate) fn skip_blank_lines(nodes: &[Node], from: usize) -> usize
+    ensures alike { (site : Site) (others : List Frame)
+        → AreAlike (Lines site (block_of (drop from nodes.now)) ∷ others)
+        (Lines site (block_of (drop result nodes.now)) ∷ others) }
+    ensures costs { (site : Site) → result < length nodes.now
+        → Costs (Lines site (block_of (drop result nodes.now))) }
+{
+    for at in from..nodes.len() {
+        if !is_blank(&nodes[at]) {
+            return at;
+        }
+    }
+    nodes.len()
+}

@@ -1,0 +1,201 @@
+//! A machine that evaluates a makefile, turn by turn.
+ghost use Rattle.std.specs.Prelude.{◌≡◌, ◌≤◌, ◌+◌, [], true, false, OnOk};
+ghost use Rattle.mk_base.specs.Meter.{IsLater};
+ghost use Rattle.mk_paths.specs.FilesView.{world_of};
+ghost use Rattle.mk_paths.specs.World.{FileMap};
+ghost use Rattle.mk_eval.specs.Meaning.{means};
+ghost use Rattle.mk_eval.specs.Sharing.{cost_of};
+ghost use Rattle.mk_eval.specs.Views.{flavors_in};
+ghost use Rattle.mk_step.specs.Turning.{ForEach, TellsIfDone, Leaves, Spends, RunsOn, Begins, IsNew, stopped};
+ghost use Rattle.mk_step.specs.Views.{point_of};
+
+use crate::frames::{Frame, next_frame};
+use crate::steps::lines_in;
+use mk_base::{Budget, Fault, FaultKind, Stop, UNITS};
+use mk_eval::{EvalState, Evaluated, Failed, Included, Kind, Parses, start};
+use mk_files::{Files, look_read};
+use mk_paths::{FilesFault, Name, Settings};
+use std::alloc::Global;
+
+/// How many levels deep files may include one another.
+const INCLUDES: u32 = 16;
+
+/// An evaluation between two of its lines.
+#[derive(Drop)]
+pub struct Machine {
+    /// The makefile that is evaluated.
+    pub(crate) makefile: Name,
+    /// What its lines have made so far.
+    pub(crate) state: EvalState,
+    /// What may be spent and was spent.
+    pub(crate) budget: Budget,
+    /// What is still to be done, of which the innermost is the last.
+    pub(crate) frames: Vec<Frame>,
+}
+
+/// What a turn leaves.
+#[derive(Drop)]
+pub enum Turned {
+    /// The evaluation isn't at its end.
+    More(Machine),
+    /// The evaluation is at its end, or at its first fault.
+    Done(Result<Evaluated, Failed>),
+}
+
+impl Machine {
+    /// Begins to evaluate the makefile of this name with these flavors, or with none given. The makefile
+    /// is looked at, which isn't counted among the questions, and none of its lines is done. If it isn't
+    /// there or can't be read, the evaluation is done, with that fault.
+    ///
+    /// # Errors
+    ///
+    /// If the files fail, their fault is returned as it is, as `Store` or `Memory`. It is also `Memory`
+    /// if memory runs out.
+    pub fn start<F: Files, P: Parses>(
+        alloc: Global,
+        settings: &Settings,
+        name: &Name,
+        flavors: Option<&[String]>,
+        parses: &mut P,
+        files: &mut F,
+    ) -> Result<Turned, FilesFault>
+        ensures means { TellsIfDone result
+            (means (world_of (F.view files.old) settings.now) name.now (flavors_in flavors.entry)) }
+        ensures leaves { Leaves F.fails_with (F.view files.old) (F.view files.new)
+            (world_of (F.view files.old) settings.now) name.now (flavors_in flavors.entry) []
+            result }
+        ensures free { IsNew result }
+        ensures parses { P.becomes parses.old parses.new }
+    {
+        match begin(alloc, settings, name, flavors, parses, files) {
+            Ok(machine) => Ok(Turned::More(machine)),
+            Err(stop) => ended(stop, 0),
+        }
+    }
+
+    /// Goes on until it has spent this many units or more, or the evaluation is at its end. So it spends
+    /// at most these units and those of the last thing that it does. With a fault the machine is gone.
+    ///
+    /// # Errors
+    ///
+    /// If the files fail, their fault is returned as it is, as `Store` or `Memory`. It is also `Memory`
+    /// if memory runs out.
+    pub fn turn<F: Files, P: Parses>(
+        mut self,
+        alloc: Global,
+        parses: &mut P,
+        files: &mut F,
+        units: u64,
+    ) -> Result<Turned, FilesFault>
+        ensures means { ForEach (F.view files.old).files self (λ world name flavors asked.
+            TellsIfDone result (means world name flavors)) }
+        ensures leaves { ForEach (F.view files.old).files self (λ world name flavors asked.
+            Leaves F.fails_with (F.view files.old) (F.view files.new) world name flavors asked
+            result) }
+        ensures spends { Spends (F.view files.old).files units self result }
+        ensures parses { P.becomes parses.old parses.new }
+    {
+        let ran = self.run(alloc, parses, files, units);
+        let spent = self.budget.spent();
+        match ran {
+            Ok(false) => Ok(Turned::More(self)),
+            Ok(true) => Ok(Turned::Done(Ok(self.finish()))),
+            Err(stop) => ended(stop, spent),
+        }
+    }
+
+    /// Does one thing after another until it has spent this many units or more. The answer is whether
+    /// nothing is to be done any more.
+    fn run<F: Files, P: Parses>(
+        &mut self,
+        alloc: Global,
+        parses: &mut P,
+        files: &mut F,
+        units: u64,
+    ) -> Result<bool, Stop<Fault>>
+        ensures runs { RunsOn F.fails_with (F.view files.old) (F.view files.new)
+            (point_of self.old) (point_of self.new) units result }
+        ensures later { IsLater self.old.budget self.new.budget }
+        ensures parses { P.becomes parses.old parses.new }
+    {
+        let before = self.budget.spent();
+        while self.budget.spent() - before < units {
+            let Some(frame) = next_frame(&mut self.frames) else {
+                return Ok(true);
+            };
+            self.step(alloc, frame, parses, files)?;
+        }
+        Ok(false)
+    }
+
+    /// What the evaluation gives at its end.
+    fn finish(self) -> Evaluated
+        ensures { result ≡ record {
+          kind = self.state.kind;
+          env = self.state.variables;
+          cost = self.budget.spent;
+        } }
+    {
+        Evaluated {
+            kind: self.state.kind,
+            env: self.state.variables,
+            cost: self.budget.spent(),
+        }
+    }
+
+    /// The units that were spent so far. They aren't more than the whole evaluation costs.
+    pub fn spent(&self) -> u64
+        ensures units { result ≡ self.now.budget.spent }
+        ensures within { (files : FileMap) → ForEach files self.now (λ world name flavors asked.
+            result ≤ cost_of (means world name flavors)) }
+    {
+        self.budget.spent()
+    }
+}
+
+/// The machine before the first line of the makefile of this name.
+fn begin<F: Files, P: Parses>(
+    alloc: Global,
+    settings: &Settings,
+    name: &Name,
+    flavors: Option<&[String]>,
+    parses: &mut P,
+    files: &mut F,
+) -> Result<Machine, Stop<Fault>>
+    ensures begins { Begins F.fails_with (F.view files.old) (F.view files.new)
+        (world_of (F.view files.old) settings.now) name.now (flavors_in flavors.entry) result }
+    ensures parses { P.becomes parses.old parses.new }
+{
+    let Some(content) = look_read(files, name)? else {
+        return Err(Stop::Fault(FaultKind::Include).blame(alloc, name.as_str(), 0));
+    };
+    let state = EvalState {
+        variables: start(alloc, settings, name, flavors)?,
+        kind: Kind::Other,
+        shared_asked: false,
+    };
+    let file = Included {
+        name: name.copy(alloc)?,
+        content,
+    };
+    let lines = lines_in(alloc, file, INCLUDES, parses)?;
+    let mut frames = Vec::new(alloc);
+    frames.push(lines)?;
+    Ok(Machine {
+        makefile: name.copy(alloc)?,
+        state,
+        budget: Budget::new(UNITS),
+        frames,
+    })
+}
+
+/// The end of an evaluation that stopped, after this many units.
+fn ended(stop: Stop<Fault>, cost: u64) -> Result<Turned, FilesFault>
+    ensures { result ≡ stopped stop cost }
+{
+    match stop {
+        Stop::Fault(fault) => Ok(Turned::Done(Err(Failed { fault, cost }))),
+        Stop::Store => Err(FilesFault::Store),
+        Stop::Memory => Err(FilesFault::Memory),
+    }
+}

@@ -1,0 +1,74 @@
+//! Where lines are.
+ghost use Rattle.std.specs.Prelude.{◌≡◌, ◌<◌, length, slice_get, Some, None, IfOk};
+ghost use Rattle.mk_loop.specs.LoopWords.{LoopWords};
+ghost use Rattle.mk_loop.specs.Scopes.{turns_in};
+ghost use Rattle.mk_paths.specs.World.{FileMap};
+ghost use Rattle.mk_eval.specs.Lines.{inside_turn};
+ghost use Rattle.mk_eval.specs.Views.{place_of};
+ghost use Rattle.mk_step.specs.Machine.{place_at};
+ghost use Rattle.mk_step.specs.Views.{site_of};
+
+use mk_eval::{ExecutedFile, loops_at};
+use mk_loop::{Iteration, Iterations};
+use mk_paths::Name;
+use std::alloc::{AllocError, Global};
+use std::rc::Rc;
+
+/// Where lines are.
+#[derive(Drop)]
+pub(crate) struct Site {
+    /// The file that they are in.
+    pub(crate) file: Rc<Name>,
+    /// How many levels deep files may still include one another.
+    pub(crate) levels: u32,
+    /// The loops around them, of which the innermost is the last.
+    pub(crate) loops: Vec<Iteration>,
+}
+
+impl Site {
+    /// In a file, outside any loop.
+    pub(crate) fn outside(alloc: Global, file: Name, levels: u32) -> Result<Rc<Site>, AllocError>
+        ensures { IfOk result (λ site. site_of site.value
+            ≡ record { file = file; levels = levels; loops = None }) }
+    {
+        let site = Site {
+            file: Rc::new(alloc, file)?,
+            levels,
+            loops: Vec::new(alloc),
+        };
+        Ok(Rc::new(alloc, site)?)
+    }
+
+    /// In the iteration of this index of one more loop.
+    pub(crate) fn inside(
+        &self,
+        alloc: Global,
+        turns: &Rc<Iterations>,
+        index: usize,
+    ) -> Result<Rc<Site>, AllocError>
+        requires { index < length (turns_in turns.now.value) }
+        ensures { (turn : LoopWords) → slice_get (turns_in turns.now.value) index ≡ Some turn
+            → IfOk result (λ site. site_of site.value ≡ record (site_of self.now) {
+              loops = inside_turn (site_of self.now).loops turn;
+            }) }
+    {
+        let site = Site {
+            file: self.file.clone()?,
+            levels: self.levels,
+            loops: loops_at(alloc, self.loops.as_slice(), turns, index)?,
+        };
+        Ok(Rc::new(alloc, site)?)
+    }
+
+    /// The same in the evaluation of this makefile.
+    pub(crate) fn here<'a>(&'a self, makefile: &'a Name) -> ExecutedFile<'a>
+        ensures { (files : FileMap) → place_of result files
+            ≡ place_at files makefile.now (site_of self.now) }
+    {
+        ExecutedFile {
+            makefile,
+            file: &*self.file,
+            levels: self.levels,
+        }
+    }
+}

@@ -1,0 +1,371 @@
+//! The things that a machine does, one after another.
+ghost use Rattle.std.specs.Prelude.{◌≡◌, ◌<◌, ◌+◌, List, Option, length, drop, option_map, IfOk, Some, if◌then◌else◌};
+ghost use Rattle.mk_base.specs.Meter.{IsLater};
+ghost use Rattle.mk_base.specs.Stopping.{Gives, GivesPurely};
+ghost use Rattle.mk_ast.specs.Parsing.{parsed};
+ghost use Rattle.mk_ast.specs.Trees.{LineTree};
+ghost use Rattle.mk_ast.specs.Views.{tree_of, block_of};
+ghost use Rattle.mk_files.specs.Asking.{Account, account};
+ghost use Rattle.mk_files.specs.Working.{Asks};
+ghost use Rattle.mk_paths.specs.World.{FileMap};
+ghost use Rattle.mk_paths.specs.FilesView.{Question};
+ghost use Rattle.mk_loop.specs.Scopes.{turns_in};
+ghost use Rattle.mk_eval.specs.declared.state.EvalState.{EvalState};
+ghost use Rattle.mk_step.specs.Machine as machine;
+ghost use Rattle.mk_step.specs.Machine.{read_lines, do_tree, advance};
+ghost use Rattle.mk_step.specs.Paying.{Costs};
+ghost use Rattle.mk_step.specs.Views.{site_of, frame_at, frame_of, frames_of, later_from};
+
+use crate::frames::{Frame, ToDo};
+use crate::machine::Machine;
+use crate::sites::Site;
+use mk_ast::{Block, Branches, Node};
+use mk_base::{Fault, PureStop, Stop};
+use mk_eval::{Included, Parses, begin_turn, holds, open_line, turns_at};
+use mk_files::Files;
+use mk_loop::Iterations;
+use mk_text::Logical;
+use std::alloc::{AllocError, Global};
+use std::rc::Rc;
+
+impl Machine {
+    /// Does the next thing that this frame has to do, which costs a unit or more.
+    pub(crate) fn step<F: Files, P: Parses>(
+        &mut self,
+        alloc: Global,
+        frame: Frame,
+        parses: &mut P,
+        files: &mut F,
+    ) -> Result<(), Stop<Fault>>
+        requires { Costs (frame_of frame) }
+        ensures gives { Gives (λ _. (self.new.state, frames_of self.new.frames.items)) result
+            (account self.new.budget (F.view files.new))
+            (advance (F.view files.old).files self.old.makefile (frame_of frame)
+            (frames_of self.old.frames.items) self.old.state
+            (account self.old.budget (F.view files.old))) }
+        ensures asks { Asks F.fails_with result (F.view files.old) (F.view files.new) }
+        ensures later { IsLater self.old.budget self.new.budget }
+        ensures makefile { self.new.makefile ≡ self.old.makefile }
+        ensures parses { P.becomes parses.old parses.new }
+    {
+        let Frame { site, to_do } = frame;
+        match to_do {
+            ToDo::Lines { block, next } => self.step_lines(alloc, site, block, next, parses, files),
+            ToDo::Later {
+                branches,
+                next,
+                otherwise,
+            } => self.step_later(alloc, site, branches, next, otherwise, files),
+            ToDo::Turns {
+                line,
+                body,
+                turns,
+                next,
+            } => Ok(self.step_turns(alloc, site, line, body, turns, next)?),
+        }
+    }
+
+    /// Does the line, or begins the block, with this index, and leaves what follows it.
+    fn step_lines<F: Files, P: Parses>(
+        &mut self,
+        alloc: Global,
+        site: Rc<Site>,
+        block: Block,
+        next: usize,
+        parses: &mut P,
+        files: &mut F,
+    ) -> Result<(), Stop<Fault>>
+        requires { next < length block.value.items }
+        ensures gives { Gives (λ _. (self.new.state, frames_of self.new.frames.items)) result
+            (account self.new.budget (F.view files.new))
+            (advance (F.view files.old).files self.old.makefile
+            (machine.Lines (site_of site.value) (block_of (drop next block.value.items)))
+            (frames_of self.old.frames.items) self.old.state
+            (account self.old.budget (F.view files.old))) }
+        ensures asks { Asks F.fails_with result (F.view files.old) (F.view files.new) }
+        ensures later { IsLater self.old.budget self.new.budget }
+        ensures makefile { self.new.makefile ≡ self.old.makefile }
+        ensures parses { P.becomes parses.old parses.new }
+    {
+        let nodes = block.as_slice();
+        let inner = self.do_node(alloc, &site, &nodes[next], parses, files)?;
+        let next = next + 1;
+        self.frames.push(Frame {
+            site,
+            to_do: ToDo::Lines { block, next },
+        })?;
+        if let Some(inner) = inner {
+            self.frames.push(inner)?;
+        }
+        Ok(())
+    }
+
+    /// Does a line, or begins a block. What it gives is to be done before what follows.
+    fn do_node<F: Files, P: Parses>(
+        &mut self,
+        alloc: Global,
+        site: &Rc<Site>,
+        node: &Node,
+        parses: &mut P,
+        files: &mut F,
+    ) -> Result<Option<Frame>, Stop<Fault>>
+        ensures gives { Gives (λ inner. (self.new.state, option_map frame_of inner)) result
+            (account self.new.budget (F.view files.new))
+            (do_tree (F.view files.old).files self.old.makefile (site_of site.now.value)
+            (tree_of node.now) self.old.state (account self.old.budget (F.view files.old))) }
+        ensures asks { Asks F.fails_with result (F.view files.old) (F.view files.new) }
+        ensures later { IsLater self.old.budget self.new.budget }
+        ensures frames { self.new.frames ≡ self.old.frames }
+        ensures makefile { self.new.makefile ≡ self.old.makefile }
+        ensures parses { P.becomes parses.old parses.new }
+    {
+        let here = site.here(&self.makefile);
+        let loops = site.loops.as_slice();
+        match node {
+            Node::Line(line) => self.do_line(alloc, site, line, parses, files),
+            Node::Choice {
+                head,
+                body,
+                branches,
+                otherwise,
+            } => {
+                let held = holds(
+                    alloc,
+                    here,
+                    loops,
+                    head,
+                    &self.state,
+                    files,
+                    &mut self.budget,
+                )?;
+                let to_do = chosen(held, body, branches, otherwise)?;
+                let site = site.clone()?;
+                Ok(Some(Frame { site, to_do }))
+            }
+            Node::Loop { head, body } => {
+                let turns = turns_at(alloc, here, loops, head, &self.state, &mut self.budget)?;
+                let to_do = begun(head, body, turns)?;
+                let site = site.clone()?;
+                Ok(Some(Frame { site, to_do }))
+            }
+        }
+    }
+
+    /// Does a line that frames no block. If it opens a file, the file's lines are to be done before what
+    /// follows.
+    fn do_line<F: Files, P: Parses>(
+        &mut self,
+        alloc: Global,
+        site: &Site,
+        line: &Logical,
+        parses: &mut P,
+        files: &mut F,
+    ) -> Result<Option<Frame>, Stop<Fault>>
+        ensures gives { Gives (λ inner. (self.new.state, option_map frame_of inner)) result
+            (account self.new.budget (F.view files.new))
+            (do_tree (F.view files.old).files self.old.makefile (site_of site.now)
+            (LineTree line.now) self.old.state (account self.old.budget (F.view files.old))) }
+        ensures asks { Asks F.fails_with result (F.view files.old) (F.view files.new) }
+        ensures later { IsLater self.old.budget self.new.budget }
+        ensures frames { self.new.frames ≡ self.old.frames }
+        ensures makefile { self.new.makefile ≡ self.old.makefile }
+        ensures parses { P.becomes parses.old parses.new }
+    {
+        let here = site.here(&self.makefile);
+        let loops = site.loops.as_slice();
+        let (state, budget) = (&mut self.state, &mut self.budget);
+        match open_line(alloc, here, loops, line, state, files, budget)? {
+            None => Ok(None),
+            Some(included) => Ok(Some(lines_in(alloc, included, site.levels - 1, parses)?)),
+        }
+    }
+
+    /// Judges the condition of the branch with this index.
+    fn step_later<F: Files>(
+        &mut self,
+        alloc: Global,
+        site: Rc<Site>,
+        branches: Branches,
+        next: usize,
+        otherwise: Option<Block>,
+        files: &mut F,
+    ) -> Result<(), Stop<Fault>>
+        requires { next < length branches.value.items }
+        ensures gives { Gives (λ _. (self.new.state, frames_of self.new.frames.items)) result
+            (account self.new.budget (F.view files.new))
+            (advance (F.view files.old).files self.old.makefile
+            (frame_at (site_of site.value) (ToDo.Later branches next otherwise))
+            (frames_of self.old.frames.items) self.old.state
+            (account self.old.budget (F.view files.old))) }
+        ensures asks { Asks F.fails_with result (F.view files.old) (F.view files.new) }
+        ensures later { IsLater self.old.budget self.new.budget }
+        ensures makefile { self.new.makefile ≡ self.old.makefile }
+    {
+        let here = site.here(&self.makefile);
+        let loops = site.loops.as_slice();
+        let branch = &branches.as_slice()[next];
+        let head = &branch.head;
+        let held = holds(
+            alloc,
+            here,
+            loops,
+            head,
+            &self.state,
+            files,
+            &mut self.budget,
+        )?;
+        let body = branch.body.clone()?;
+        let to_do = after_condition(held, body, branches, next, otherwise);
+        self.frames.push(Frame { site, to_do })?;
+        Ok(())
+    }
+
+    /// Begins the iteration with this index.
+    fn step_turns(
+        &mut self,
+        alloc: Global,
+        site: Rc<Site>,
+        line: u64,
+        body: Block,
+        turns: Rc<Iterations>,
+        next: usize,
+    ) -> Result<(), PureStop<Fault>>
+        requires { next < length (turns_in turns.value) }
+        ensures gives { (files : FileMap) (log : Option (List Question))
+            → GivesPurely (λ _. (self.new.state, frames_of self.new.frames.items)) result
+            (record { meter = self.new.budget; log = log })
+            (advance files self.old.makefile
+            (frame_at (site_of site.value) (ToDo.Turns line body turns next))
+            (frames_of self.old.frames.items) self.old.state
+            (record { meter = self.old.budget; log = log })) }
+        ensures later { IsLater self.old.budget self.new.budget }
+        ensures makefile { self.new.makefile ≡ self.old.makefile }
+    {
+        begin_turn(alloc, site.here(&self.makefile), line, &mut self.budget)?;
+        let is_one = next < turns.count();
+        prove!(is_one);
+        let inner = Frame {
+            site: site.inside(alloc, &turns, next)?,
+            to_do: ToDo::Lines {
+                block: body.clone()?,
+                next: 0,
+            },
+        };
+        let next = next + 1;
+        self.frames.push(Frame {
+            site,
+            to_do: ToDo::Turns {
+                line,
+                body,
+                turns,
+                next,
+            },
+        })?;
+        self.frames.push(inner)?;
+        Ok(())
+    }
+}
+
+/// The lines of a file that was read.
+pub(crate) fn lines_in<P: Parses>(
+    alloc: Global,
+    included: Included,
+    levels: u32,
+    parses: &mut P,
+) -> Result<Frame, PureStop<Fault>>
+    ensures gives { (s : EvalState) (a : Account)
+        → GivesPurely (λ frame. (s, Some (frame_of frame))) result a
+        (read_lines included.name levels (parsed included.content) s a) }
+    ensures parses { P.becomes parses.old parses.new }
+{
+    let Included { name, content } = included;
+    match parses.parsed(&content)? {
+        Ok(makefile) => Ok(Frame {
+            site: Site::outside(alloc, name, levels)?,
+            to_do: ToDo::Lines {
+                block: makefile.nodes.clone()?,
+                next: 0,
+            },
+        }),
+        Err(fault) => {
+            let fault = Fault::new(alloc, fault.kind, name.as_str(), fault.line)?;
+            Err(PureStop::Fault(fault))
+        }
+    }
+}
+
+/// What is to be done of a choice once its first condition is judged.
+fn chosen(
+    held: bool,
+    body: &Block,
+    branches: &Branches,
+    otherwise: &Option<Block>,
+) -> Result<ToDo, AllocError>
+    ensures { IfOk result (λ to_do. (site : machine.Site) → frame_at site to_do
+        ≡ (if held then machine.Lines site (block_of body.now.value.items)
+        else machine.Later site (later_from branches.now.value.items 0
+        (option_map (λ block. block.value.items) otherwise.now)))) }
+{
+    if held {
+        return Ok(ToDo::Lines {
+            block: body.clone()?,
+            next: 0,
+        });
+    }
+    Ok(ToDo::Later {
+        branches: branches.clone()?,
+        next: 0,
+        otherwise: shared(otherwise)?,
+    })
+}
+
+/// The same last branch once more.
+fn shared(otherwise: &Option<Block>) -> Result<Option<Block>, AllocError>
+    ensures { IfOk result (λ shared. option_map (λ block. block.value.items) shared
+        ≡ option_map (λ block. block.value.items) otherwise.now) }
+{
+    match otherwise {
+        Some(block) => Ok(Some(block.clone()?)),
+        None => Ok(None),
+    }
+}
+
+/// What is to be done of a loop once its header is read.
+fn begun(head: &Logical, body: &Block, turns: Rc<Iterations>) -> Result<ToDo, AllocError>
+    ensures { IfOk result (λ to_do. (site : machine.Site) → frame_at site to_do
+        ≡ machine.Turns site head.now.line (block_of body.now.value.items) (turns_in turns.value)) }
+{
+    Ok(ToDo::Turns {
+        line: head.line(),
+        body: body.clone()?,
+        turns,
+        next: 0,
+    })
+}
+
+/// What is to be done of a choice once the condition of the branch with this index and body is judged.
+fn after_condition(
+    held: bool,
+    body: Block,
+    branches: Branches,
+    next: usize,
+    otherwise: Option<Block>,
+) -> ToDo
+    requires { next < length branches.value.items }
+    ensures { (site : machine.Site) → frame_at site result
+        ≡ (if held then machine.Lines site (block_of body.value.items)
+        else machine.Later site (later_from branches.value.items (next + 1)
+        (option_map (λ block. block.value.items) otherwise))) }
+{
+    if held {
+        return ToDo::Lines {
+            block: body,
+            next: 0,
+        };
+    }
+    ToDo::Later {
+        branches,
+        next: next + 1,
+        otherwise,
+    }
+}
