@@ -1,5 +1,5 @@
 -- What a change of a file, and what is known of changes, makes of rows; and what is left of a refresh.
-use Rattle.std.proofs.Common.{◌≡◌, ◌∙◌, sym, ap, subst, refl, ℕ, ◌+◌, Bool, true, false, ◌||◌, if◌then◌else◌, List, [], ◌∷◌, ◌++◌, Result, Ok, Err, OnOk, OnErr, Option, Some, None, is_some, is_none, option_map, option_and_then, String, Global, string_bytes}
+use Rattle.std.proofs.Common.{◌≡◌, ◌≤◌, arith, ◌∙◌, sym, ap, subst, refl, ℕ, ◌+◌, Bool, true, false, ◌||◌, if◌then◌else◌, List, [], ◌∷◌, ◌++◌, Result, Ok, Err, OnOk, OnErr, Option, Some, None, is_some, is_none, option_map, option_and_then, String, Global, string_bytes}
 use Rattle.std.proofs.lemmas.Bool.{false≢true, or_right}
 use Rattle.std.proofs.lemmas.Slice.Eq.{bytes_eq-Decides}
 use Rattle.std.specs.BTreeSet.{BTreeSet, contains_text, keys}
@@ -26,10 +26,12 @@ use Rattle.ports_index.specs.Seen.{known_in}
 use Rattle.row_text.specs.Rows.{RowValue, row_of}
 use Rattle.index_store.specs.Entries.{StoredValue, Entries}
 use Rattle.index_keep.specs.declared.keeper.Progress.{Progress}
-use Rattle.index_keep.specs.declared.keeper.Progress.TheVariants.{Changed, Walking, Current}
+use Rattle.index_keep.specs.declared.keeper.Progress.TheVariants.{Changed, Walking, Asking, Current}
 use Rattle.index_keep.specs.Shown.{ShownRow, ShownRows, shown, show_row, show_stored, asked_one, no_name, fresh, fresh_outcome, stale_if_asked, made_stale, ShowsSame}
 use Rattle.index_keep.specs.Right.{names_in, row_with, IsRightRow, AreKept, AreCurrent, HaveFresh, DifferAt, RenewsOneOf, fresh_row}
-use Rattle.index_keep.specs.Keeping.{changed_in, IsProgress, HasForgotten, IsDropped}
+use Rattle.ports_index.specs.Spending.{no_spending}
+use Rattle.index_keep.specs.Turns.{DropsTurn, refresh_at}
+use Rattle.index_keep.specs.Keeping.{changed_in, begun_in, IsProgress, HasForgotten, IsDropped}
 use Rattle.index_keep.proofs.ShownLemmas.{shown-test}
 
 -- ---- another world, which differs at one name
@@ -122,16 +124,32 @@ none_among names none name = ap (list_any (λ (one : String Global). is_eq (slic
 pub forgotten : (progress : Progress) → HasForgotten progress → (name : List ℕ) → changed_in progress name ≡ no_name name
 forgotten (Changed names) none name = none_among names none name
 forgotten (Walking walk) none name = absurd none
+forgotten (Asking walk ask) none name = absurd none
 forgotten (Current listed) none name = absurd none
+
+begun-forgotten : (progress : Progress) → HasForgotten progress → begun_in progress ≡ no_spending
+begun-forgotten (Changed names) none = refl
+begun-forgotten (Walking walk) none = absurd none
+begun-forgotten (Asking walk ask) none = absurd none
+begun-forgotten (Current listed) none = absurd none
+
+-- little is spent on a path whose evaluation isn't at its end
+pub begun-few : (world : World) (rows : ShownRows) (progress : Progress) → IsProgress world rows progress → ((begun_in progress).units ≤ 50000) × ((begun_in progress).checks ≤ 1028)
+begun-few world rows (Changed names) is = (omega arith, omega arith)
+begun-few world rows (Walking walk) is = (omega arith, omega arith)
+begun-few world rows (Asking walk ask) is = (is.2.under.under.within, is.2.under.few)
+begun-few world rows (Current listed) is = (omega arith, omega arith)
 
 pub IsProgress-forgotten : (world : World) (rows : ShownRows) (progress : Progress) → HasForgotten progress → IsProgress world rows progress
 IsProgress-forgotten world rows (Changed names) none = tt
 IsProgress-forgotten world rows (Walking walk) none = absurd none
+IsProgress-forgotten world rows (Asking walk ask) none = absurd none
 IsProgress-forgotten world rows (Current listed) none = absurd none
 
 pub IsProgress-dropped : (world : World) (rows : ShownRows) (progress : Progress) → IsDropped progress → IsProgress world rows progress
 IsProgress-dropped world rows (Changed names) dropped = tt
 IsProgress-dropped world rows (Walking walk) dropped = absurd dropped
+IsProgress-dropped world rows (Asking walk ask) dropped = absurd dropped
 IsProgress-dropped world rows (Current listed) dropped = absurd dropped
 
 module _ (name : List ℕ) (one more : List ℕ → Bool) (is : (other : List ℕ) → more other ≡ (bytes_eq name other || one other)) where
@@ -232,6 +250,11 @@ module _ (old new : Entries) (before after nothing : Progress) (none : HasForgot
   pub shown-forgotten : ShowsSame (shown (changed_in before) old) (shown no_name new) → ShowsSame (shown (changed_in before) old) (shown (changed_in after) new)
   shown-forgotten same path =
       (λ i. shown (changed_in (is i)) new path) ∙ shown-test (changed_in nothing) no_name new (forgotten nothing none) path ∙ same path
+
+  -- a turn that failed, after which nothing is under way
+  pub drops-forgotten : ShowsSame (shown (changed_in before) old) (shown no_name new)
+      → DropsTurn (refresh_at (shown (changed_in before) old) (begun_in before)) (refresh_at (shown (changed_in after) new) (begun_in after))
+  drops-forgotten same = record { rows = shown-forgotten same; begun = ap begun_in is ∙ begun-forgotten nothing none }
 
   pub IsProgress-taken : (world : World) (rows : ShownRows) → IsProgress world rows after
   IsProgress-taken world rows = subst (λ (p : Progress). IsProgress world rows p) (sym is) (IsProgress-forgotten world rows nothing none)

@@ -4,7 +4,8 @@ pub mod ListLemmas
 pub mod WalkLemmas
 pub mod RowLemmas
 pub mod KeepLemmas
+pub mod Codes
 pub mod Props
-pub mod AskLemmas
 pub mod MadeLemmas
+pub mod AskLemmas
 pub mod SpendLemmas

@@ -1,40 +1,59 @@
 -- The row of a path, made of what was found and asked.
-use Rattle.std.proofs.Common.{◌≡◌, ◌≤◌, ◌⊎◌, ◌∙◌, sym, ap, ap₂, subst, refl, inl, inr, arith, ℕ, ◌-◌, Bool, true, false, if◌then◌else◌, List, [], ◌∷◌, ◌++◌, Option, Some, None, option_map, option_and_then}
+use Rattle.std.proofs.Common.{IfOk, Result, Ok, Err, codes, append-nil, ◌≡◌, ◌≤◌, ◌⊎◌, ◌∙◌, sym, ap, ap₂, subst, refl, inl, inr, arith, ℕ, ◌-◌, Bool, true, false, if◌then◌else◌, List, [], ◌∷◌, ◌++◌, Option, Some, None, option_map, option_and_then, string_bytes}
+use Rattle.std.proofs.lemmas.Slice.Eq.{bytes_eq-Decides}
 use Rattle.std.specs.Str.{bytes_eq}
 use Rattle.mk_paths.specs.World.{World, FileMap, files_in, search_path_of}
 use Rattle.mk_paths.specs.FilesView.{FilesView, Question, noted}
 use Rattle.mk_paths.specs.Place.{place, places_asked, AsksPlaces}
 use Rattle.mk_paths.specs.declared.search_path.Settings.{Settings}
-use Rattle.mk_eval.specs.Sharing.{Agrees, cost_of}
+use Rattle.mk_eval.specs.Expanded.{Expanded}
+use Rattle.mk_eval.specs.Meaning.{means, value_of}
+use Rattle.mk_eval.specs.declared.outcome.Evaluated.{Evaluated}
+use Rattle.mk_eval.specs.declared.outcome.Failed.{Failed}
+use Rattle.mk_eval.specs.declared.outcome.Kind.{Kind}
+use Rattle.mk_eval.specs.declared.outcome.Kind.TheVariants as kinds
+use Rattle.port_rules.specs.Records.{record_of}
+use Rattle.port_rules.specs.declared.recording.Recorded.{Recorded}
+use Rattle.mk_eval.specs.Sharing.{Agrees, cost_of, questions_of}
 use Rattle.eval_cache.specs.Cache.{CacheValue}
 use Rattle.eval_cache.specs.Keys.{Key, key_for}
 use Rattle.eval_cache.specs.Right.{evaluation_of}
 use Rattle.pkg_path.specs.Paths.{PathValue, path_if_one}
-use Rattle.read_trace.specs.Recording.{asked_nothing}
+use Rattle.read_trace.specs.Recording.{with_trace}
 use Rattle.read_trace.specs.declared.evaluating.Evaluation.{Evaluation}
 use Rattle.ports_index.specs.NamedPaths.{finding-own, finding-named, finding-none, questions-own, questions-named, questions-none}
 use Rattle.ports_index.specs.Pairs.{Pair, pair_in, pair_named, pair_at}
-use Rattle.ports_index.specs.PathOutcomes.{Finding, finding_in, finding_of, finding_of_evaluation, nothing_found, own_directory}
+use Rattle.ports_index.specs.PathOutcomes.{port_finding, list_finding, finding_by, Finding, finding_at, cost_at, finding_in, finding_of, finding_of_evaluation, nothing_found, own_directory}
 use Rattle.ports_index.specs.PathQuestions.{questions_in, questions_after, questions_at}
 use Rattle.ports_index.specs.Spending.{SpendsOnOne, SpendsOn, SpendsOnPath, no_spending}
 use Rattle.ports_index.specs.declared.spending.Spent.{Spent}
 use Rattle.row_text.specs.Rows.{RowValue}
-use Rattle.index_keep.specs.Asking.{is_held, IsAskedOf, spent_on}
-use Rattle.index_keep.specs.Right.{row_with, IsRowOf, IsRightRow}
+use Rattle.row_text.specs.Seen.{row_seen}
+use Rattle.index_keep.specs.Asking.{is_held, IsAskedOf, EndsAsk, key_in, spent_on, spent_so_far}
+use Rattle.index_keep.specs.Paths.{directory_of, flavors_of, absent_row, row_made, IsNamed, IsFoundAt, IsPathAsk, IsMade, IsUpFrom, TurnsPath}
+use Rattle.index_keep.specs.Right.{names_in, row_with, IsRightRow}
+use Rattle.index_keep.specs.declared.asking.Ask.{Ask}
 use Rattle.index_keep.specs.declared.asking.Asked.{Asked}
+use Rattle.index_keep.specs.declared.evaluating.FoundPath.{FoundPath}
+use Rattle.index_keep.specs.declared.evaluating.MadeRow.{MadeRow}
+use Rattle.index_keep.specs.declared.evaluating.PathAsk.{PathAsk}
+use Rattle.index_keep.specs.declared.evaluating.PathTurned.{PathTurned}
+use Rattle.index_keep.specs.declared.evaluating.PathTurned.TheVariants.{More, Made}
+use Rattle.index_keep.specs.declared.evaluating.NamedDirectory.{NamedDirectory}
+use Rattle.index_keep.specs.declared.evaluating.NamedDirectory.TheVariants.{Own, OfPath}
 
 pub Agrees-joined : (files : FileMap) (first rest : List Question) → Agrees files first → Agrees files rest → Agrees files (first ++ rest)
 Agrees-joined files [] rest agrees more = more
 Agrees-joined files (question ∷ first) rest agrees more = (agrees.0, Agrees-joined files first rest agrees.1 more)
 
-some_same : {A : Type 0} {x y : A} → ◌≡◌ {A = Option A} (Some x) (Some y) → x ≡ y
+pub some_same : {A : Type 0} {x y : A} → ◌≡◌ {A = Option A} (Some x) (Some y) → x ≡ y
 some_same e = cc
 
 -- ---- the place of a directory was asked for, after nothing was
 
-module _ (first : FilesView) (settings : Settings) (directory : List ℕ) (before found : FilesView) (nothing : before ≡ asked_nothing first)
+module _ (first : FilesView) (settings : Settings) (directory : List ℕ) (before found : FilesView) (nothing : before ≡ with_trace first [])
     (asks : AsksPlaces before found settings.path directory) where
-  asked_first : found ≡ noted (asked_nothing first) (places_asked first.files settings.path directory)
+  asked_first : found ≡ noted (with_trace first []) (places_asked first.files settings.path directory)
   asked_first = subst (λ (view : FilesView). found ≡ noted view (places_asked view.files settings.path directory)) nothing asks
 
   pub files-placed : found.files ≡ first.files
@@ -58,82 +77,176 @@ SpendsOnOne-asked files cache key asked cost is = record {
       (spent_by (is_held files cache key) cost (cost_of (evaluation_of files key).outcome) asked.units asked.checks is.units is.some);
 }
 
-module _ (files : FileMap) (settings : Settings) (directory : List ℕ) (flavors : Option (List (List ℕ))) where
-  abbrev world : World
-  world = (files, settings)
-
-  -- the row of a directory that has this makefile
-  pub IsRowOf-makefile : (cache : CacheValue) (makefile : List ℕ) (asked : Asked) (placed : List Question) (row : RowValue)
-      → Some makefile ≡ place world directory → placed ≡ places_asked files (search_path_of world) directory → Agrees files placed
-      → IsAskedOf files cache (key_for settings makefile flavors) asked
-      → row ≡ row_with (finding_of_evaluation makefile flavors asked.evaluation.value.outcome) (placed ++ asked.evaluation.value.trace)
-      → IsRowOf files (finding_in world directory flavors) (questions_in world directory flavors) row
-  IsRowOf-makefile cache makefile asked placed row there placed_is agrees is row_is = record {
-    same = row_is
-        ∙ ap₂ (λ (e : Evaluation) (first : List Question). row_with (finding_of_evaluation makefile flavors e.outcome) (first ++ e.trace)) is.evaluation placed_is
-        ∙ ap (λ (at : Option (List ℕ)). row_with (finding_of world flavors at) (places_asked files (search_path_of world) directory ++ questions_after world flavors at)) there;
-    answered = subst (Agrees files)
-        (ap₂ (λ (first : List Question) (e : Evaluation). first ++ e.trace) placed_is is.evaluation
-        ∙ ap (λ (at : Option (List ℕ)). places_asked files (search_path_of world) directory ++ questions_after world flavors at) there)
-        (Agrees-joined files placed asked.evaluation.value.trace agrees is.answered);
-  }
-
-  pub SpendsOn-makefile : (cache : CacheValue) (makefile : List ℕ) (asked : Asked) (cost : ℕ) (spent : Spent)
-      → Some makefile ≡ place world directory → IsAskedOf files cache (key_for settings makefile flavors) asked
-      → cost ≡ (finding_in world directory flavors).cost → spent ≡ spent_on asked cost
-      → SpendsOn world (finding_in world directory flavors).cost (pair_in world directory flavors) spent
-  SpendsOn-makefile cache makefile asked cost spent there is costs spends =
-      subst (λ (at : Option (List ℕ)). SpendsOn world (finding_in world directory flavors).cost (option_map (λ name. let one : Pair = record { makefile = name; flavors = flavors } in one) at) spent) there
-      (subst (λ (s : Spent). SpendsOnOne (finding_in world directory flavors).cost (cost_of (evaluation_of files (key_for settings makefile flavors)).outcome) 1 s) (sym (spends ∙ ap (spent_on asked) costs))
-      (SpendsOnOne-asked files cache (key_for settings makefile flavors) asked (finding_in world directory flavors).cost is))
+-- the same of an evaluation that came to its end in several turns
+pub SpendsOnOne-ended : (files : FileMap) (ask : Ask) (asked : Asked) (cost : ℕ) → EndsAsk files ask asked → ask.looked.checks ≤ 1028
+    → SpendsOnOne cost (cost_of (evaluation_of files (key_in ask)).outcome) 1 (spent_on asked cost)
+SpendsOnOne-ended files ask asked cost ends few = record {
+  few = omega (arith, few, ends.checks);
+  paid =
+      let all : cost_of asked.evaluation.value.outcome ≡ asked.units = ap (λ (e : Evaluation). cost_of e.outcome) ends.evaluation ∙ sym ends.units in
+      inl (omega (arith, all));
+}
 
 -- ---- the directory that a path names
 
-module _ (world : World) (path : List ℕ) (row : RowValue) (spent : Spent) where
-  -- the trees' own directory
-  pub IsRightRow-own : bytes_eq path own_directory ≡ true → IsRowOf (files_in world) (finding_in world path None) (questions_in world path None) row → IsRightRow world path row
-  IsRightRow-own own is = subst (λ found. IsRowOf (files_in world) found (questions_at world path) row) (sym (finding-own world path own))
-      (subst (λ questions. IsRowOf (files_in world) (finding_in world path None) questions row) (sym (questions-own world path own)) is)
-
-  pub SpendsOnPath-own : bytes_eq path own_directory ≡ true → SpendsOn world (finding_in world path None).cost (pair_in world path None) spent → SpendsOnPath world path spent
-  SpendsOnPath-own own is = subst (λ (found : Finding). SpendsOn world found.cost (pair_at world path) spent) (sym (finding-own world path own))
-      (subst (λ (pair : Option Pair). SpendsOn world (finding_in world path None).cost pair spent) (sym (pair_own own)) is)
-    where
-      pair_own : bytes_eq path own_directory ≡ true → pair_at world path ≡ pair_in world path None
-      pair_own own = ap (λ (b : Bool). if b then pair_in world path None else option_and_then (pair_named world) (path_if_one path)) own
-
-  -- the directory and the flavors of a package path
-  pub IsRightRow-named : (found : PathValue) (directory : List ℕ) (flavors : Option (List (List ℕ))) → bytes_eq path own_directory ≡ false → path_if_one path ≡ Some found
-      → directory ≡ found.directory → flavors ≡ found.flavors
-      → IsRowOf (files_in world) (finding_in world directory flavors) (questions_in world directory flavors) row → IsRightRow world path row
-  IsRightRow-named found directory flavors other names in_directory with_flavors row_is =
-      let is = subst (λ flavors. IsRowOf (files_in world) (finding_in world found.directory flavors) (questions_in world found.directory flavors) row) with_flavors
-      (subst (λ directory. IsRowOf (files_in world) (finding_in world directory flavors) (questions_in world directory flavors) row) in_directory row_is) in
-      subst (λ finding. IsRowOf (files_in world) finding (questions_at world path) row) (sym (finding-named world path found other names))
-      (subst (λ questions. IsRowOf (files_in world) (finding_in world found.directory found.flavors) questions row) (sym (questions-named world path found other names)) is)
-
+module _ (world : World) (path : List ℕ) where
   pair_by : bytes_eq path own_directory ≡ false → (named : Option PathValue) → path_if_one path ≡ named → pair_at world path ≡ option_and_then (pair_named world) named
   pair_by other named is =
       ap (λ (b : Bool). if b then pair_in world path None else option_and_then (pair_named world) (path_if_one path)) other ∙ ap (option_and_then (pair_named world)) is
 
-  pub SpendsOnPath-named : (found : PathValue) (directory : List ℕ) (flavors : Option (List (List ℕ))) → bytes_eq path own_directory ≡ false → path_if_one path ≡ Some found
-      → directory ≡ found.directory → flavors ≡ found.flavors
-      → SpendsOn world (finding_in world directory flavors).cost (pair_in world directory flavors) spent → SpendsOnPath world path spent
-  SpendsOnPath-named found directory flavors other names in_directory with_flavors spends =
-      let is = subst (λ flavors. SpendsOn world (finding_in world found.directory flavors).cost (pair_in world found.directory flavors) spent) with_flavors
-      (subst (λ directory. SpendsOn world (finding_in world directory flavors).cost (pair_in world directory flavors) spent) in_directory spends) in
-      subst (λ (finding : Finding). SpendsOn world finding.cost (pair_at world path) spent) (sym (finding-named world path found other names))
-      (subst (λ (pair : Option Pair). SpendsOn world (finding_in world found.directory found.flavors).cost pair spent) (sym (pair_by other (Some found) names)) is)
+  finding_in_named : (named : NamedDirectory) → IsNamed path (Some named) → finding_at world path ≡ finding_in world (directory_of named) (flavors_of named)
+  finding_in_named Own is = finding-own world path is ∙ ap (λ directory. finding_in world directory None) ((bytes_eq-Decides path own_directory).0 is)
+  finding_in_named (OfPath found) is = finding-named world path found is.0 is.1
 
-  -- a text that is no path
-  pub IsRightRow-none : bytes_eq path own_directory ≡ false → path_if_one path ≡ None → row ≡ row_with nothing_found [] → IsRightRow world path row
-  IsRightRow-none other none is = record {
-    same = is ∙ ap₂ row_with (sym (finding-none world path other none)) (sym (questions-none world path other none));
-    answered = subst (Agrees (files_in world)) (sym (questions-none world path other none)) tt;
+  questions_in_named : (named : NamedDirectory) → IsNamed path (Some named) → questions_at world path ≡ questions_in world (directory_of named) (flavors_of named)
+  questions_in_named Own is = questions-own world path is ∙ ap (λ directory. questions_in world directory None) ((bytes_eq-Decides path own_directory).0 is)
+  questions_in_named (OfPath found) is = questions-named world path found is.0 is.1
+
+  pair_in_named : (named : NamedDirectory) → IsNamed path (Some named) → pair_at world path ≡ pair_in world (directory_of named) (flavors_of named)
+  pair_in_named Own is =
+      ap (λ (b : Bool). if b then pair_in world path None else option_and_then (pair_named world) (path_if_one path)) is
+      ∙ ap (λ directory. pair_in world directory None) ((bytes_eq-Decides path own_directory).0 is)
+  pair_in_named (OfPath found) is = pair_by is.0 (Some found) is.1
+
+  -- a row that nothing leads to
+  right_absent : (questions : List Question) (row : RowValue) → row ≡ absent_row (names_in questions) → finding_at world path ≡ nothing_found → questions_at world path ≡ questions → Agrees (files_in world) questions
+      → IsRightRow world path row
+  right_absent questions row is none asked answered = record {
+    same = is ∙ ap₂ row_with (sym none) (sym asked);
+    answered = subst (Agrees (files_in world)) (sym asked) answered;
   }
 
-  pub SpendsOnPath-none : bytes_eq path own_directory ≡ false → path_if_one path ≡ None → spent ≡ no_spending → SpendsOnPath world path spent
-  SpendsOnPath-none other none is =
-      subst (λ (finding : Finding). SpendsOn world finding.cost (pair_at world path) spent) (sym (finding-none world path other none))
-      (subst (λ (pair : Option Pair). SpendsOn world 0 pair spent) (sym (pair_by other None none))
+  spends_absent : finding_at world path ≡ nothing_found → pair_at world path ≡ None → (spent : Spent) → spent ≡ no_spending → SpendsOnPath world path spent
+  spends_absent none no_pair spent is =
+      subst (λ (finding : Finding). SpendsOn world finding.cost (pair_at world path) spent) (sym none)
+      (subst (λ (pair : Option Pair). SpendsOn world 0 pair spent) (sym no_pair)
       (subst (SpendsOn world 0 None) (sym is) (record { few = omega arith; paid = inl refl })))
+
+  -- a text that is no path
+  pub IsMade-none : (made : MadeRow) → IsNamed path None → string_bytes made.path ≡ path → row_seen made.row ≡ absent_row [] → made.spent ≡ no_spending → IsMade world path made
+  IsMade-none made none at is spent = record {
+    at = at;
+    row = right_absent [] (row_seen made.row) is (finding-none world path none.0 none.1) (questions-none world path none.0 none.1) tt;
+    spent = spends_absent (finding-none world path none.0 none.1) (pair_by none.0 None none.1) made.spent spent;
+  }
+
+  module _ (named : NamedDirectory) (is : IsNamed path (Some named)) (placed : List Question) (asked : placed ≡ places_asked (files_in world) (search_path_of world) (directory_of named)) (answered : Agrees (files_in world) placed) where
+    -- no makefile is there
+    pub IsMade-absent : (made : MadeRow) → place world (directory_of named) ≡ None → string_bytes made.path ≡ path → row_seen made.row ≡ absent_row (names_in placed) → made.spent ≡ no_spending → IsMade world path made
+    IsMade-absent made none at row spent = record {
+      at = at;
+      row = right_absent placed (row_seen made.row) row finding questions answered;
+      spent = spends_absent finding (pair_in_named named is ∙ ap (option_map (λ makefile. let one : Pair = record { makefile = makefile; flavors = flavors_of named } in one)) none) made.spent spent;
+    }
+      where
+        finding : finding_at world path ≡ nothing_found
+        finding = finding_in_named named is ∙ ap (finding_of world (flavors_of named)) none
+
+        questions : questions_at world path ≡ placed
+        questions = questions_in_named named is ∙ ap (λ at. places_asked (files_in world) (search_path_of world) (directory_of named) ++ questions_after world (flavors_of named) at) none
+            ∙ append-nil _ ∙ sym asked
+
+    -- a makefile is there
+    pub IsFoundAt-placed : (found : FoundPath) → found.named ≡ named → string_bytes found.path ≡ path → found.placed ≡ placed → place world (directory_of named) ≡ Some found.makefile → IsFoundAt world found
+    IsFoundAt-placed found same at places there = record {
+      finding =
+          ap (finding_at world) at ∙ finding_in_named named is ∙ ap (finding_of world (flavors_of named)) there
+          ∙ ap (λ (n : NamedDirectory). finding_of_evaluation found.makefile (flavors_of n) (means world found.makefile (flavors_of n))) (sym same);
+      questions =
+          ap (questions_at world) at ∙ questions_in_named named is
+          ∙ ap (λ makefile. places_asked (files_in world) (search_path_of world) (directory_of named) ++ questions_after world (flavors_of named) makefile) there
+          ∙ ap (λ first. first ++ questions_of world.0 world.1 found.makefile (flavors_of named)) (sym asked ∙ sym places)
+          ∙ ap (λ (n : NamedDirectory). found.placed ++ questions_of world.0 world.1 found.makefile (flavors_of n)) (sym same);
+      pair =
+          ap (pair_at world) at ∙ pair_in_named named is ∙ ap (option_map (λ makefile. let one : Pair = record { makefile = makefile; flavors = flavors_of named } in one)) there
+          ∙ ap (λ (n : NamedDirectory). Some (let one : Pair = record { makefile = found.makefile; flavors = flavors_of n } in one)) (sym same);
+      answered = subst (Agrees (files_in world)) (sym places) answered;
+    }
+
+-- ---- the row of a path whose makefile is there
+
+module _ (world : World) (found : FoundPath) (at : IsFoundAt world found) (asked : Asked) (made : MadeRow)
+    (path_is : string_bytes made.path ≡ string_bytes found.path) (row_is : row_seen made.row ≡ row_made found asked) (spent_is : made.spent ≡ spent_on asked (row_seen made.row).cost) where
+  abbrev pub key : Key
+  key = key_for world.1 found.makefile (flavors_of found.named)
+
+  right_made : asked.evaluation.value ≡ evaluation_of (files_in world) key → Agrees (files_in world) asked.evaluation.value.trace → IsRightRow world (string_bytes found.path) (row_seen made.row)
+  right_made is answered = record {
+    same = row_is
+        ∙ ap (λ (e : Evaluation). row_with (finding_of_evaluation found.makefile (flavors_of found.named) e.outcome) (found.placed ++ e.trace)) is
+        ∙ ap₂ row_with (sym at.finding) (sym at.questions);
+    answered = subst (Agrees (files_in world)) (ap (λ (e : Evaluation). found.placed ++ e.trace) is ∙ sym at.questions)
+        (Agrees-joined (files_in world) found.placed asked.evaluation.value.trace at.answered answered);
+  }
+
+  pub IsMade-found : asked.evaluation.value ≡ evaluation_of (files_in world) key → Agrees (files_in world) asked.evaluation.value.trace
+      → ((cost : ℕ) → SpendsOnOne cost (cost_of (evaluation_of (files_in world) key).outcome) 1 (spent_on asked cost)) → IsMade world (string_bytes found.path) made
+  IsMade-found is answered spends = record {
+    at = path_is;
+    row = right_made is answered;
+    spent = subst (λ (pair : Option Pair). SpendsOn world (cost_at world (string_bytes found.path)) pair made.spent) (sym at.pair)
+        (subst (λ (s : Spent). SpendsOnOne (cost_at world (string_bytes found.path)) (cost_of (evaluation_of (files_in world) key).outcome) 1 s)
+        (sym (spent_is ∙ ap (spent_on asked) (ap (λ (r : RowValue). r.cost) (right_made is answered).same)))
+        (spends (cost_at world (string_bytes found.path))));
+  }
+
+-- ---- a turn that ends the evaluation
+
+cost_port : (n spent : ℕ) (recorded : Result Recorded Failed) → n ≤ spent → n ≤ 50000 → n ≤ (port_finding spent recorded).cost
+cost_port n spent (Ok recorded) low few = omega (arith, low, few)
+cost_port n spent (Err failed) low few = omega (arith, low, few)
+
+cost_list : (n spent : ℕ) (value : Result (Option Expanded) Failed) → n ≤ spent → n ≤ 50000 → n ≤ (list_finding spent value).cost
+cost_list n spent (Ok value) low few = omega (arith, low, few)
+cost_list n spent (Err failed) low few = omega (arith, low, few)
+
+cost_after : (n : ℕ) (makefile : List ℕ) (flavors : Option (List (List ℕ))) (evaluated : Evaluated) (kind : Kind) → n ≤ evaluated.cost → n ≤ 50000 → n ≤ (finding_by makefile flavors evaluated kind).cost
+cost_after n makefile flavors evaluated kinds.Port low few = cost_port n evaluated.cost (record_of evaluated.env makefile) low few
+cost_after n makefile (Some flavors) evaluated kinds.List low few = low
+cost_after n makefile None evaluated kinds.List low few = cost_list n evaluated.cost (value_of evaluated.env makefile (codes "SUBDIR")) low few
+cost_after n makefile flavors evaluated kinds.Other low few = low
+
+-- a path costs no less than its makefile's evaluation
+cost_up : (n : ℕ) (makefile : List ℕ) (flavors : Option (List (List ℕ))) (outcome : Result Evaluated Failed) → n ≤ cost_of outcome → n ≤ 50000 → n ≤ (finding_of_evaluation makefile flavors outcome).cost
+cost_up n makefile flavors (Ok evaluated) low few = cost_after n makefile flavors evaluated evaluated.kind low few
+cost_up n makefile flavors (Err failed) low few = low
+
+module _ (files : FileMap) (self : PathAsk) (few : self.ask.looked.checks ≤ 1028) (asked : Asked)
+    (ends : EndsAsk files self.ask asked) (onward : self.ask.machine.budget.spent ≤ asked.units) (within : self.ask.machine.budget.spent ≤ 50000) (made : MadeRow)
+    (path_is : string_bytes made.path ≡ string_bytes self.found.path) (row_is : row_seen made.row ≡ row_made self.found asked) (spent_is : made.spent ≡ spent_on asked (row_seen made.row).cost) where
+  all_units : cost_of asked.evaluation.value.outcome ≡ asked.units
+  all_units = ap (λ (e : Evaluation). cost_of e.outcome) ends.evaluation ∙ sym ends.units
+
+  up_units : self.ask.machine.budget.spent ≤ made.spent.units
+  up_units =
+      let low : self.ask.machine.budget.spent ≤ cost_of asked.evaluation.value.outcome = omega (arith, onward, all_units) in
+      let cost = cost_up self.ask.machine.budget.spent self.found.makefile (flavors_of self.found.named) asked.evaluation.value.outcome low within in
+      let row : (row_seen made.row).cost ≡ (finding_of_evaluation self.found.makefile (flavors_of self.found.named) asked.evaluation.value.outcome).cost = ap (λ (r : RowValue). r.cost) row_is in
+      let spent : made.spent.units ≡ (row_seen made.row).cost - (cost_of asked.evaluation.value.outcome - asked.units) = ap (λ (s : Spent). s.units) spent_is in
+      omega (arith, cost, row, all_units, spent)
+
+  -- nothing is taken back
+  pub ended-up : IsUpFrom (spent_so_far self.ask) made.spent
+  ended-up = record { units = up_units; checks = omega (arith, ends.checks, ap (λ (s : Spent). s.checks) spent_is) }
+
+  module _ (settings : Settings) (path : List ℕ) (is : IsPathAsk (files, settings) path self) where
+    abbrev its_key : Key
+    its_key = key (files, settings) self.found is.found asked made path_is row_is spent_is
+
+    evaluation_is : asked.evaluation.value ≡ evaluation_of files its_key
+    evaluation_is = ends.evaluation ∙ ap (evaluation_of files) is.key
+
+    spends_ended : (cost : ℕ) → SpendsOnOne cost (cost_of (evaluation_of files its_key).outcome) 1 (spent_on asked cost)
+    spends_ended cost = subst (λ (k : Key). SpendsOnOne cost (cost_of (evaluation_of files k).outcome) 1 (spent_on asked cost)) is.key (SpendsOnOne-ended files self.ask asked cost ends few)
+
+    pub ended-made : IsMade (files, settings) path made
+    ended-made = subst (λ path. IsMade (files, settings) path made) is.at (IsMade-found (files, settings) self.found is.found asked made path_is row_is spent_is evaluation_is ends.answered spends_ended)
+
+-- a turn that came after answers were checked
+pub turn-after : (world : World) (path : List ℕ) (units : ℕ) (before : Spent) (turned : PathTurned) → before.units ≡ 0 → TurnsPath world path (units - before.checks) before turned → TurnsPath world path units no_spending turned
+turn-after world path units before (Made made) none turns = (turns.0, record { units = omega arith; checks = omega arith })
+turn-after world path units before (More ask) none turns = (turns.0, (record { units = omega arith; checks = omega arith }, omega (arith, none, turns.1.1)))
+
+pub IfOk-map : {A E : Type 0} (result : Result A E) {P Q : A → Type 0} → ((value : A) → P value → Q value) → IfOk result P → IfOk result Q
+IfOk-map (Ok value) f p = f value p
+IfOk-map (Err fault) f p = tt

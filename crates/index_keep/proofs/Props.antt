@@ -8,13 +8,16 @@ use Rattle.mk_eval.specs.Sharing.{Agrees}
 use Rattle.row_text.specs.Rows.{RowValue}
 use Rattle.index_store.specs.Entries.{Entries}
 use Rattle.index_keep.specs.declared.keeper.Progress.{Progress}
-use Rattle.index_keep.specs.declared.keeper.Progress.TheVariants.{Changed, Walking, Current}
+use Rattle.index_keep.specs.declared.keeper.Progress.TheVariants.{Changed, Walking, Asking, Current}
 use Rattle.index_keep.specs.declared.keeper.Keeper.{Keeper}
 use Rattle.index_keep.specs.declared.walking.Walk.{Walk}
 use Rattle.index_keep.specs.declared.walking.Walk.TheVariants.{Directories, Listed, Needed}
 use Rattle.index_keep.specs.Shown.{ShownRows}
 use Rattle.index_keep.specs.Right.{IsRightRow, AreKept, AreCurrent}
+use Rattle.index_keep.specs.Paths.{IsPathAsk}
 use Rattle.index_keep.specs.Walking.{IsWalk}
+use Rattle.index_keep.specs.declared.evaluating.PathAsk.{PathAsk}
+use Rattle.index_keep.proofs.Codes.{end_code}
 use Rattle.index_keep.specs.Keeping.{IsProgress, IsKept}
 
 IsReply-prop : (files : FileMap) (name : List ℕ) (reply : Reply) → IsProp (IsReply files name reply)
@@ -39,9 +42,13 @@ IsWalk-prop world rows (Directories stage) = hlevel props
 IsWalk-prop world rows (Listed stage) = hlevel props
 IsWalk-prop world rows (Needed last) = hlevel props
 
+IsPathAsk-prop : (world : World) (path : List ℕ) (ask : PathAsk) → IsProp (IsPathAsk world path ask)
+IsPathAsk-prop world path ask = hlevel (props, Agrees-prop, end_code)
+
 IsProgress-prop : (world : World) (rows : ShownRows) (progress : Progress) → IsProp (IsProgress world rows progress)
 IsProgress-prop world rows (Changed names) = Unit-prop
 IsProgress-prop world rows (Walking walk) = IsWalk-prop world rows walk
+IsProgress-prop world rows (Asking walk ask) = hlevel (props, IsWalk-prop, IsPathAsk-prop)
 IsProgress-prop world rows (Current listed) = hlevel (props, AreCurrent-prop)
 
 pub IsKept-prop : {R : Type 0} (entries : R → Entries) (world : World) (keeper : Keeper R) → IsProp (IsKept entries world keeper)

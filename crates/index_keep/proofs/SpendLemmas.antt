@@ -1,16 +1,16 @@
 -- What is spent on one path after another.
-use Rattle.std.proofs.Common.{◌≡◌, ◌≤◌, ◌∙◌, ◌⊎◌, ap, sym, refl, inl, inr, arith, ℕ, ◌+◌, ◌-◌, ◌*◌, ◌^◌, min, List, [], ◌∷◌, length, Option, Some, None, option_to_list}
+use Rattle.std.proofs.Common.{◌≡◌, ◌≤◌, ◌∙◌, ◌⊎◌, ap, ap₂, sym, refl, inl, inr, arith, ℕ, ◌+◌, ◌-◌, ◌*◌, ◌^◌, min, List, [], ◌∷◌, length, Option, Some, None, option_to_list}
 use Rattle.std.specs.List.{filter_map}
 use Rattle.mk_paths.specs.World.{World}
 use Rattle.ports_index.specs.Efforts.{evaluations_at, evaluations_over, cost_over}
 use Rattle.ports_index.specs.PathLaws.{MakefilesAreEvaluated}
 use Rattle.ports_index.specs.PathOutcomes.{counted}
 use Rattle.ports_index.specs.Pairs.{Pair, pair_at}
-use Rattle.ports_index.specs.Spending.{spent_together, evaluations_of}
+use Rattle.ports_index.specs.Spending.{no_spending, spent_together, evaluations_of}
 use Rattle.ports_index.specs.declared.spending.Spent.{Spent}
 use Rattle.index_keep.specs.Right.{HaveFresh}
 use Rattle.index_keep.specs.Shown.{ShownRows}
-use Rattle.index_keep.specs.Turns.{paths_left, SpendsOnRows}
+use Rattle.index_keep.specs.Turns.{RefreshView, spent_in_all, paths_left, SpendsOnRows}
 use Rattle.index_keep.proofs.KeepLemmas.{lacking-none}
 
 -- So much was spent so far: with what the paths cost that are left, no more than these costs were at first, and just that
@@ -70,16 +70,66 @@ SpendsSoFar-more cost evaluations spent one_cost one_evaluation one_count cost_l
         let paid_all : more.units ≡ one_cost = elim paid [ inl full ↦ full | inr saved ↦ absurd (omega (arith, saved.0, none.1)) ] in
         together (2 ^ 64 - 1) spent.units more.units cost_after cost_left (ap (λ n. n + cost_after) paid_all ∙ cost_sum) ∙ so_far.whole none.0
 
+-- So much was spent on all paths so far, with what is begun; that is what was begun at first and what was spent since.
+pub record SoFar (cost evaluations : ℕ) (first begun spent : Spent) (cost_left evaluations_left : ℕ) : Type 0 where
+  pub total : Spent
+  pub so_far : SpendsSoFar cost evaluations total cost_left evaluations_left
+  pub same : spent_together total begun ≡ spent_together first spent
+  pub units : spent.units ≤ 2 ^ 64 - 1
+  pub checks : spent.checks ≤ 2 ^ 64 - 1
+
+spent_same : (one other : Spent) → one.units ≡ other.units → one.checks ≡ other.checks → one ≡ other
+spent_same one other units checks = ap₂ (λ units checks. let spent : Spent = record { units = units; checks = checks } in spent) units checks
+
+pub SoFar-none : (cost evaluations : ℕ) (first : Spent) → SoFar cost evaluations first first no_spending cost evaluations
+SoFar-none cost evaluations first = record {
+  total = no_spending;
+  so_far = SpendsSoFar-none cost evaluations;
+  same = spent_same (spent_together no_spending first) (spent_together first no_spending) (omega arith) (omega arith);
+  units = omega arith;
+  checks = omega arith;
+}
+
+same_sum : (most total begun first spent more : ℕ) → min (total + begun) most ≡ min (first + spent) most
+    → min (min (total + (begun + more)) most + 0) most ≡ min (first + min (spent + more) most) most
+same_sum most total begun first spent more same = omega (arith, same)
+
+-- one path more
+pub SoFar-more : (cost evaluations : ℕ) (first begun spent : Spent) (one_cost one_evaluation one_count cost_left evaluations_left cost_after evaluations_after : ℕ) (more : Spent)
+    → SoFar cost evaluations first begun spent cost_left evaluations_left
+    → (spent_in_all begun more).checks ≤ 1028 * one_count
+    → ((spent_in_all begun more).units ≡ one_cost) ⊎ ((1 ≤ (spent_in_all begun more).checks) × ((spent_in_all begun more).units ≡ one_cost - one_evaluation))
+    → one_cost + cost_after ≡ cost_left → one_count + evaluations_after ≡ evaluations_left
+    → SoFar cost evaluations first no_spending (spent_together spent more) cost_after evaluations_after
+SoFar-more cost evaluations first begun spent one_cost one_evaluation one_count cost_left evaluations_left cost_after evaluations_after more far few paid cost_sum count_sum = record {
+  total = spent_together far.total (spent_in_all begun more);
+  so_far = SpendsSoFar-more cost evaluations far.total one_cost one_evaluation one_count cost_left evaluations_left cost_after evaluations_after (spent_in_all begun more) far.so_far few paid cost_sum count_sum;
+  same = spent_same (spent_together (spent_together far.total (spent_in_all begun more)) no_spending) (spent_together first (spent_together spent more))
+      (same_sum (2 ^ 64 - 1) far.total.units begun.units first.units spent.units more.units (ap (λ (s : Spent). s.units) far.same))
+      (same_sum (2 ^ 64 - 1) far.total.checks begun.checks first.checks spent.checks more.checks (ap (λ (s : Spent). s.checks) far.same));
+  units = omega arith;
+  checks = omega arith;
+}
+
+no_more : (most total first spent : ℕ) → min (total + 0) most ≡ min (first + spent) most → spent ≤ most → spent ≤ total
+no_more most total first spent same bound = omega (arith, same, bound)
+
 -- nothing is left
-pub SpendsOnRows-all : (world : World) (first rows : ShownRows) (spent : Spent) → HaveFresh world rows
-    → SpendsSoFar (cost_over world (paths_left world first)) (evaluations_over world (paths_left world first)) spent
+pub SpendsOnRows-all : (world : World) (first : RefreshView) (rows : ShownRows) (spent : Spent) → HaveFresh world rows
+    → SoFar (cost_over world (paths_left world first.rows)) (evaluations_over world (paths_left world first.rows)) first.begun no_spending spent
     (cost_over world (paths_left world rows)) (evaluations_over world (paths_left world rows))
     → SpendsOnRows world first spent
-SpendsOnRows-all world first rows spent have so_far =
+SpendsOnRows-all world first rows spent have far =
     let no_cost : cost_over world (paths_left world rows) ≡ 0 = ap (cost_over world) (lacking-none world rows have) in
     let no_evaluation : evaluations_over world (paths_left world rows) ≡ 0 = ap (evaluations_over world) (lacking-none world rows have) in
+    let so_far = far.so_far in
+    let units = ap (λ (s : Spent). s.units) far.same in
+    let checks = ap (λ (s : Spent). s.checks) far.same in
     record {
-      few = omega (arith, no_evaluation, so_far.few);
-      within = omega (arith, no_cost, so_far.within, so_far.bound);
-      whole = λ none. omega (arith, no_cost, so_far.bound, so_far.whole none);
+      few = omega (arith, no_evaluation, so_far.few, no_more (2 ^ 64 - 1) far.total.checks first.begun.checks spent.checks checks far.checks);
+      within = omega (arith, no_cost, so_far.within, so_far.bound, no_more (2 ^ 64 - 1) far.total.units first.begun.units spent.units units far.units);
+      whole = λ none.
+          let zero_checks : far.total.checks ≡ 0 = omega (arith, none, checks) in
+          let all = so_far.whole zero_checks in
+          omega (arith, no_cost, so_far.bound, all, units);
     }

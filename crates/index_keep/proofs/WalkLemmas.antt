@@ -1,5 +1,5 @@
 -- A refresh that goes through paths.
-use Rattle.std.proofs.Common.{map, string_bytes, ◌≡◌, ◌∙◌, sym, ap, subst, refl, ℕ, zero, suc, Bool, true, false, ◌||◌, ◌⊎◌, inl, inr, if◌then◌else◌, List, [], ◌∷◌, ◌++◌, take, Option, Some, None, is_some, option_and_then, slice_get}
+use Rattle.std.proofs.Common.{String, Global, Vec, map, string_bytes, ◌≡◌, ◌∙◌, sym, ap, subst, refl, ℕ, zero, suc, Bool, true, false, ◌||◌, ◌⊎◌, inl, inr, if◌then◌else◌, List, [], ◌∷◌, ◌++◌, take, Option, Some, None, is_some, option_and_then, slice_get}
 use Rattle.std.proofs.lemmas.Bool.{false≢true, or_right}
 use Rattle.std.proofs.lemmas.Slice.Eq.{bytes_eq-Decides}
 use Rattle.std.specs.List.{filter_map, flat_map}
@@ -14,19 +14,22 @@ use Rattle.ports_index.specs.Filling.{is_one_of}
 use Rattle.ports_index.specs.Index.{listed_paths, needed_among, needed_paths}
 use Rattle.ports_index.specs.Keeping.{Counts, Keeps}
 use Rattle.ports_index.specs.Naming.{directories, listed_from, named_at}
-use Rattle.ports_index.specs.PathOutcomes.{outcome_at}
+use Rattle.ports_index.specs.PathOutcomes.{PathOutcome, outcome_at}
 use Rattle.ports_index.specs.Spending.{SpendsOnPath}
 use Rattle.ports_index.specs.declared.spending.Spent.{Spent}
 use Rattle.row_text.specs.Rows.{RowValue}
 use Rattle.ports_index.specs.RowLaws.{HaveRows, KnownRowsAreEnough}
 use Rattle.ports_index.specs.Seen.{entries_in, known_in}
-use Rattle.index_store.specs.Entries.{Entries, SameRows}
 use Rattle.index_keep.specs.declared.walking.Stage.{Stage}
 use Rattle.index_keep.specs.declared.walking.LastStage.{LastStage}
-use Rattle.ports_index.specs.declared.keeping.MemoryRows.{MemoryRows}
-use Rattle.index_keep.specs.Shown.{ShownRow, ShownRows, fresh, fresh_outcome, shown, no_name}
-use Rattle.index_keep.specs.Right.{IsRightRow, AreKept, AreCurrent, right_row, fresh_row, LeavesFiles, RenewsOneOf, RenewsRow}
-use Rattle.index_keep.specs.Walking.{IsStage, paths_of, LacksNone, IsLackingAt, ListsPaths, NeedsPaths}
+use Rattle.index_keep.specs.Shown.{ShownRow, ShownRows, fresh, fresh_outcome}
+use Rattle.index_keep.specs.Right.{IsRightRow, AreKept, AreCurrent, right_row, fresh_row, LeavesFiles, RenewsRow}
+use Rattle.index_keep.specs.Keeping.{IsReadyFor}
+use Rattle.index_keep.specs.Paths.{IsMade}
+use Rattle.index_keep.specs.Walking.{IsStage, IsLacking, HasRowMore, KnowsRow, HasPassed, paths_of, LacksNone, IsLackingAt, ListsPaths, NeedsPaths}
+use Rattle.index_keep.specs.declared.evaluating.MadeRow.{MadeRow}
+use Rattle.index_keep.specs.declared.walking.Walk.{Walk}
+use Rattle.row_text.specs.Seen.{row_seen}
 use Rattle.index_keep.proofs.SortLemmas.{one_of-append}
 
 -- ---- which paths are among which
@@ -174,57 +177,67 @@ LeavesFiles-other fault old new keeps = (keeps.files, inl keeps.failures)
 pub Keeps-nothing : (view : FilesView) → Keeps None view view
 Keeps-nothing view = record { files = refl; failures = refl }
 
--- ---- one stage after another, over rows and files that are the same
+-- ---- the next path of a stage
 
-module _ (enough : KnownRowsAreEnough) (world : World) (old new : Entries) (same_rows : SameRows old new) (kept : AreKept world (shown no_name old)) where
-  entries_same : new ≡ old
-  entries_same i path = same_rows path i
+module _ (rows : ShownRows) (paths : List (List ℕ)) (stage : Stage) (is : IsStage (fresh rows) paths stage) where
+  pub has-passed : HasPassed stage
+  has-passed path one = ap is_some (is.knows path) ∙ is.passed path (ap (λ at. is_one_of path (take stage.place at)) (sym is.through) ∙ one)
 
-  pub AreKept-after : AreKept world (shown no_name new)
-  AreKept-after = subst (λ (entries : Entries). AreKept world (shown no_name entries)) (sym entries_same) kept
+  module _ (place : ℕ) (found : IsLackingAt stage place) where
+    -- a stage that has come to it
+    pub stage-at : (more : Stage) → more ≡ record stage { place = place } → IsStage (fresh rows) paths more
+    stage-at more same = subst (IsStage (fresh rows) paths) (sym same) (record {
+      through = is.through;
+      knows = is.knows;
+      passed = λ path one. ap is_some (sym (is.knows path)) ∙ found.passed path (ap (λ at. is_one_of path (take place at)) is.through ∙ one);
+    })
 
-  pub listed-after : (before same stage : Stage) → IsStage (fresh (shown no_name old)) (directories (files_in world)) before → same ≡ before → LacksNone before
-      → ListsPaths same stage → IsStage (fresh (shown no_name new)) (listed_paths world) stage
-  listed-after before same stage is e none lists =
-      subst (λ (entries : Entries). IsStage (fresh (shown no_name entries)) (listed_paths world) stage) (sym entries_same)
-      (IsStage-listed world (shown no_name old) kept enough before stage none is.knows is.through (subst (λ (s : Stage). ListsPaths s stage) e lists))
+    pub lacking-at : (world : World) → ((path : List ℕ) → is_one_of path paths ≡ true → is_one_of path (needed_paths world) ≡ true)
+        → (path : List ℕ) → slice_get (paths_of stage) place ≡ Some path → IsLacking world rows path
+    lacking-at world needed path at = record {
+      needed = needed path (ap (is_one_of path) (sym is.through) ∙ one_of-at (paths_of stage) place path at);
+      lacking = sym (is.knows path) ∙ found.lacking path at;
+    }
 
-  pub needed-after : (before same : Stage) (last : LastStage) → IsStage (fresh (shown no_name old)) (listed_paths world) before → same ≡ before → LacksNone before
-      → NeedsPaths same last → IsStage (fresh (shown no_name new)) (needed_paths world) last.stage × (map string_bytes last.listed.items ≡ listed_paths world)
-  needed-after before same last is e none needs =
-      let needs' : NeedsPaths before last = subst (λ (s : Stage). NeedsPaths s last) e needs in (
-        subst (λ (entries : Entries). IsStage (fresh (shown no_name entries)) (needed_paths world) last.stage) (sym entries_same)
-            (IsStage-needed world (shown no_name old) kept enough before last.stage none is.knows last is.through needs'),
-        needs'.kept ∙ is.through,
-      )
+  -- one more row is fresh
+  module _ (path : List ℕ) (outcome : PathOutcome) (new : ShownRows) (more : HasRowMore path outcome rows new) where
+    still_known : (known : Option PathOutcome) (same : Bool) → is_some known ≡ true → is_some (if same then Some outcome else known) ≡ true
+    still_known known true some = refl
+    still_known known false some = some
 
--- one row was renewed, of a stage whose paths are needed
-pub RenewsRow-among : (world : World) (paths : List (List ℕ)) (old new : ShownRows) (spent : Spent) → ((path : List ℕ) → is_one_of path paths ≡ true → is_one_of path (needed_paths world) ≡ true)
-    → RenewsOneOf world paths old new spent → RenewsRow world old new spent
-RenewsRow-among world paths old new spent needed renews = record {
-  path = renews.path;
-  needed = needed renews.path renews.needed;
-  lacking = renews.lacking;
-  spent = renews.spent;
-  rows = renews.rows;
-}
+    pub stage-row : (after : Stage) → KnowsRow path outcome stage after → IsStage (fresh new) paths after
+    stage-row after knows = record {
+      through = ap (λ (paths : Vec (String Global) Global). map string_bytes paths.items) knows.paths ∙ is.through;
+      knows = λ other. knows.known other ∙ ap (λ known. if bytes_eq path other then Some outcome else known) (is.knows other) ∙ sym (more other);
+      passed = λ other one. ap is_some (more other) ∙ still_known (fresh rows other) (bytes_eq path other) (is.passed other (ap (λ place. is_one_of other (take place paths)) (sym knows.place) ∙ one));
+    }
 
--- the next path of a stage that has no fresh row was given its row
-pub pass-one : (world : World) (old new : ShownRows) (kept : AreKept world old) (stage : Stage) (is : IsStage (fresh old) (paths_of stage) stage) (place : ℕ) (found : IsLackingAt stage place)
-    (path : List ℕ) → slice_get (paths_of stage) place ≡ Some path → (spent : Spent) → SpendsOnPath world path spent → (row : RowValue) (right : IsRightRow world path row)
-    → ((other : List ℕ) → new other ≡ (if bytes_eq path other then Some (record { row = row; stale = false }) else old other))
-    → (known : MemoryRows) → ((other : List ℕ) → entries_in known other ≡ (if bytes_eq path other then Some row.outcome else entries_in stage.known other))
-    → RenewsOneOf world (paths_of stage) old new spent × AreKept world new × IsStage (fresh new) (paths_of stage) (record { paths = stage.paths; place = place; known = known })
-pass-one world old new kept stage is place found path at spent spends row right puts known knows =
-    let put : (other : List ℕ) → new other ≡ (if bytes_eq path other then Some (fresh_row world path) else old other) =
-    λ other. puts other ∙ ap (λ (r : RowValue). if bytes_eq path other then Some (let one : ShownRow = record { row = r; stale = false } in one) else old other) right.same in
-    let itself : IsRightRow world path (right_row world path) = record { same = refl; answered = right.answered } in (
-      record { path = path; needed = one_of-at (paths_of stage) place path at; lacking = sym (is.knows path) ∙ found.lacking path at; spent = spends; rows = put },
-      AreKept-put world old kept path itself new put,
-      record {
-        through = refl;
-        knows = λ other. knows other ∙ ap (λ (r : RowValue). if bytes_eq path other then Some r.outcome else entries_in stage.known other) right.same
-            ∙ ap (λ known. if bytes_eq path other then Some (outcome_at world path) else known) (is.knows other) ∙ sym (fresh-put world old kept path itself new put other);
-        passed = λ other one. still-fresh world old kept path itself new put other (ap is_some (sym (is.knows other)) ∙ found.passed other one);
-      },
-    )
+-- ---- the row of a path is made, and written
+
+module _ (world : World) (old new : ShownRows) (walk : Walk) (path : List ℕ) (ready : IsReadyFor world old walk path) (made : MadeRow) (is : IsMade world path made)
+    (puts : (other : List ℕ) → new other ≡ (if bytes_eq (string_bytes made.path) other then Some (record { row = row_seen made.row; stale = false }) else old other)) where
+  put_fresh : (other : List ℕ) → new other ≡ (if bytes_eq path other then Some (fresh_row world path) else old other)
+  put_fresh other =
+      puts other ∙ ap (λ (r : RowValue). if bytes_eq (string_bytes made.path) other then Some (let one : ShownRow = record { row = r; stale = false } in one) else old other) is.row.same
+      ∙ ap (λ at. if bytes_eq at other then Some (fresh_row world path) else old other) is.at
+
+  itself : IsRightRow world path (right_row world path)
+  itself = record { same = refl; answered = is.row.answered }
+
+  pub kept-made : AreKept world new
+  kept-made = AreKept-put world old ready.kept path itself new put_fresh
+
+  pub more-made : HasRowMore (string_bytes made.path) (row_seen made.row).outcome old new
+  more-made other =
+      fresh-put world old ready.kept path itself new put_fresh other
+      ∙ ap (λ (r : RowValue). if bytes_eq path other then Some r.outcome else fresh old other) (sym is.row.same)
+      ∙ ap (λ at. if bytes_eq at other then Some (row_seen made.row).outcome else fresh old other) (sym is.at)
+
+  pub renews-made : (spent : Spent) → spent ≡ made.spent → RenewsRow world old new spent
+  renews-made spent same = record {
+    path = path;
+    needed = ready.lacking.needed;
+    lacking = ready.lacking.lacking;
+    spent = subst (SpendsOnPath world path) (sym same) is.spent;
+    rows = put_fresh;
+  }

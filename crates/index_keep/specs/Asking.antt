@@ -1,14 +1,23 @@
 -- One evaluation that is asked for, with a cache.
-use Rattle.std.specs.Prelude.{◌≡◌, ◌≤◌, ℕ, ◌-◌, Bool, true, if◌then◌else◌}
+use Rattle.std.specs.Prelude.{◌≡◌, ◌≤◌, ℕ, ◌+◌, ◌-◌, Bool, true, false, if◌then◌else◌, List}
 use Rattle.mk_paths.specs.World.{FileMap}
+use Rattle.mk_paths.specs.FilesView.{Question}
 use Rattle.mk_eval.specs.Sharing.{cost_of, Agrees}
+use Rattle.mk_step.specs.Turning.{IsUnderWay, StopsInTime}
+use Rattle.mk_step.specs.Views.{point_of}
+use Rattle.mk_step.specs.declared.machine.Turned.{Turned}
+use Rattle.mk_step.specs.declared.machine.Turned.TheVariants as turned
 use Rattle.eval_cache.specs.Cache.{CacheValue, traces_at, one_more}
-use Rattle.eval_cache.specs.Keys.{Key}
+use Rattle.eval_cache.specs.Keys.{Key, key_of}
 use Rattle.eval_cache.specs.Looking.{agreeing}
-use Rattle.eval_cache.specs.Right.{evaluation_of}
+use Rattle.eval_cache.specs.Right.{evaluation_of, IsRight}
 use Rattle.ports_index.specs.Spending.{SpendsOnOne}
 use Rattle.ports_index.specs.declared.spending.Spent.{Spent}
+use Rattle.index_keep.specs.declared.asking.Ask.{Ask}
+use Rattle.index_keep.specs.declared.asking.Looked.{Looked}
 use Rattle.index_keep.specs.declared.asking.Asked.{Asked}
+use Rattle.index_keep.specs.declared.asking.AskTurned.{AskTurned}
+use Rattle.index_keep.specs.declared.asking.AskTurned.TheVariants.{More, Done}
 
 -- the files answer as one of the traces says that a cache holds under this key
 abbrev pub is_held : FileMap → CacheValue → Key → Bool
@@ -24,6 +33,60 @@ pub record IsAskedOf (files : FileMap) (cache : CacheValue) (key : Key) (asked :
   pub checks : asked.checks ≡ (agreeing files (traces_at cache key)).1
   pub few : asked.checks ≤ 1028
   pub some : is_held files cache key ≡ true → 1 ≤ asked.checks
+
+-- the key of an evaluation that is asked for
+abbrev pub key_in : Ask → Key
+key_in ask = key_of ask.looked.key
+
+-- what was spent on it so far
+abbrev pub spent_so_far : Ask → Spent
+spent_so_far ask = record { units = ask.machine.budget.spent; checks = ask.looked.checks }
+
+-- An evaluation that is asked for is under way among these files, has asked what its trace says, and was answered so.
+-- At most 1,028 answers were checked before it began.
+pub record IsAskIn (files : FileMap) (ask : Ask) : Type 0 where
+  pub under : IsUnderWay (files, (key_in ask).settings) (key_in ask).name (key_in ask).flavors ask.trace ask.machine
+  pub answered : Agrees files ask.trace
+  pub few : ask.looked.checks ≤ 1028
+
+-- It begins: it is asked for, since nothing that is held agrees with the files, and no unit is spent; or it is there.
+abbrev pub BeginsAsk : FileMap → CacheValue → Key → AskTurned → Type 0
+BeginsAsk files cache key (More ask) =
+    (key_in ask ≡ key) × IsAskIn files ask × (is_held files cache key ≡ false)
+    × (spent_so_far ask ≡ record { units = 0; checks = (agreeing files (traces_at cache key)).1 })
+BeginsAsk files cache key (Done asked) = IsAskedOf files cache key asked
+
+-- What was asked for is the evaluation of the key, at all of its cost, and each of its questions has the answer that the
+-- files give.
+pub record EndsAsk (files : FileMap) (ask : Ask) (asked : Asked) : Type 0 where
+  pub evaluation : asked.evaluation.value ≡ evaluation_of files (key_in ask)
+  pub answered : Agrees files asked.evaluation.value.trace
+  pub units : asked.units ≡ cost_of (evaluation_of files (key_in ask)).outcome
+  pub checks : asked.checks ≡ ask.looked.checks
+
+-- A turn that is given some units goes on with the same evaluation and has spent them, or is at its end. Before the
+-- last thing that was done, fewer were spent.
+abbrev pub TurnsAsk : FileMap → ℕ → Ask → AskTurned → Type 0
+TurnsAsk files units old (More new) =
+    (new.looked ≡ old.looked) × IsAskIn files new
+    × (old.machine.budget.spent + units ≤ new.machine.budget.spent)
+    × StopsInTime files units (point_of old.machine) new.machine.budget.spent
+TurnsAsk files units old (Done asked) =
+    EndsAsk files old asked × StopsInTime files units (point_of old.machine) asked.units
+
+-- if a machine is done, its answer is right for the key, with what was asked
+abbrev pub EndsRight : Key → List Question → Turned → Type 0
+EndsRight key trace (turned.More machine) = Unit {0}
+EndsRight key trace (turned.Done outcome) = IsRight key (record { outcome = outcome; trace = trace })
+
+-- what is made of a turn of a machine, after a look and all that was asked
+abbrev pub ComesTo : Looked → List Question → Turned → AskTurned → Type 0
+ComesTo looked trace (turned.More machine) came =
+    came ≡ More (record { looked = looked; trace = trace; machine = machine })
+ComesTo looked trace (turned.Done outcome) (More ask) = ⊥
+ComesTo looked trace (turned.Done outcome) (Done asked) =
+    (asked.evaluation.value ≡ record { outcome = outcome; trace = trace }) × (asked.units ≡ cost_of outcome)
+    × (asked.checks ≡ looked.checks)
 
 -- how often kept evaluations were used, after that: once more, if one is held
 abbrev pub evals_after : FileMap → CacheValue → Key → ℕ

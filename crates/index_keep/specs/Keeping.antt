@@ -5,29 +5,73 @@ use Rattle.mk_paths.specs.World.{World}
 use Rattle.ports_index.specs.Index.{listed_paths}
 use Rattle.index_store.specs.Entries.{Entries}
 use Rattle.index_keep.specs.declared.keeper.Progress.{Progress}
-use Rattle.index_keep.specs.declared.keeper.Progress.TheVariants.{Changed, Walking, Current}
+use Rattle.index_keep.specs.declared.keeper.Progress.TheVariants.{Changed, Walking, Asking, Current}
 use Rattle.index_keep.specs.declared.keeper.Keeper.{Keeper}
 use Rattle.index_keep.specs.declared.keeper.Turned.{Turned}
 use Rattle.index_keep.specs.declared.keeper.Turned.TheVariants as turned
 use Rattle.index_keep.specs.Shown.{ShownRows, shown, no_name}
-use Rattle.index_keep.specs.Right.{AreKept, AreCurrent}
-use Rattle.index_keep.specs.Walking.{IsWalk}
+use Rattle.ports_index.specs.Spending.{no_spending}
+use Rattle.ports_index.specs.declared.spending.Spent.{Spent}
+use Rattle.index_keep.specs.declared.evaluating.PathAsk.{PathAsk}
+use Rattle.index_keep.specs.declared.walking.LastStage.{LastStage}
+use Rattle.index_keep.specs.declared.walking.Walk.{Walk}
+use Rattle.index_keep.specs.declared.walking.Walk.TheVariants.{Needed}
+use Rattle.index_keep.specs.Asking.{spent_so_far}
+use Rattle.index_keep.specs.Paths.{IsPathAsk}
+use Rattle.index_keep.specs.Right.{AreKept, AreCurrent, HaveFresh}
+use Rattle.index_keep.specs.Turns.{RefreshView, refresh_at}
+use Rattle.index_keep.specs.Walking.{IsWalk, IsLacking}
+
+-- the path whose evaluation is under way
+abbrev pub path_in : PathAsk → List ℕ
+path_in ask = string_bytes ask.found.path
 
 -- a refresh goes on where it stopped, or the rows are current and the listed paths are known
 abbrev pub IsProgress : World → ShownRows → Progress → Type 0
 IsProgress world rows (Changed names) = Unit {0}
 IsProgress world rows (Walking walk) = IsWalk world rows walk
+IsProgress world rows (Asking walk ask) =
+    IsWalk world rows walk × IsLacking world rows (path_in ask) × IsPathAsk world (path_in ask) ask
 IsProgress world rows (Current listed) = AreCurrent world rows × (map string_bytes listed.items ≡ listed_paths world)
 
 -- the names that have changed since a refresh began last
 abbrev pub changed_in : Progress → List ℕ → Bool
 changed_in (Changed names) = contains_text names
 changed_in (Walking walk) = no_name
+changed_in (Asking walk ask) = no_name
 changed_in (Current listed) = no_name
 
 -- the rows of a keeper, as they are shown, by what is stored
 abbrev pub rows_of : {R : Type 0} → (R → Entries) → Keeper R → ShownRows
 rows_of entries keeper = shown (changed_in keeper.progress) (entries keeper.rows)
+
+-- what was spent so far on a path whose evaluation is under way
+abbrev pub begun_in : Progress → Spent
+begun_in (Changed names) = no_spending
+begun_in (Walking walk) = no_spending
+begun_in (Asking walk ask) = spent_so_far ask.ask
+begun_in (Current listed) = no_spending
+
+-- how far the refresh of a keeper is
+abbrev pub refresh_of : {R : Type 0} → (R → Entries) → Keeper R → RefreshView
+refresh_of entries keeper = refresh_at (rows_of entries keeper) (begun_in keeper.progress)
+
+-- The rows are right. A walk has come to a path that has no fresh row.
+pub record IsReadyFor (world : World) (rows : ShownRows) (walk : Walk) (path : List ℕ) : Type 0 where
+  pub kept : AreKept world rows
+  pub far : IsWalk world rows walk
+  pub lacking : IsLacking world rows path
+
+-- the same, and the path's evaluation is under way
+pub record IsAskOnTheWay (world : World) (rows : ShownRows) (walk : Walk) (ask : PathAsk) : Type 0 where
+  pub ready : IsReadyFor world rows walk (path_in ask)
+  pub under : IsPathAsk world (path_in ask) ask
+
+-- The rows are right. A walk is at its end, and each path on which the index depends has a fresh row.
+pub record IsAtEnd (world : World) (rows : ShownRows) (last : LastStage) : Type 0 where
+  pub kept : AreKept world rows
+  pub far : IsWalk world rows (Needed last)
+  pub fresh : HaveFresh world rows
 
 -- a keeper is right about a world: each row that isn't stale is right, and a refresh goes on where it stopped
 pub record IsKept {R : Type 0} (entries : R → Entries) (world : World) (keeper : Keeper R) : Type 0 where
@@ -38,6 +82,7 @@ pub record IsKept {R : Type 0} (entries : R → Entries) (world : World) (keeper
 abbrev pub IsEnded : Progress → Type 0
 IsEnded (Changed names) = ⊥
 IsEnded (Walking walk) = ⊥
+IsEnded (Asking walk ask) = ⊥
 IsEnded (Current listed) = Unit {0}
 
 abbrev pub IsDone : {R : Type 0} → Keeper R → Type 0
@@ -46,18 +91,21 @@ IsDone keeper = IsEnded keeper.progress
 -- a turn that ended the refresh leaves it done
 abbrev pub IsDoneAfter : {R : Type 0} → Keeper R → Turned → Type 0
 IsDoneAfter keeper (turned.Evaluated spent) = Unit {0}
+IsDoneAfter keeper (turned.More spent) = Unit {0}
 IsDoneAfter keeper (turned.Done known) = IsDone keeper
 
 -- no refresh is under way or done
 abbrev pub IsDropped : Progress → Type 0
 IsDropped (Changed names) = Unit {0}
 IsDropped (Walking walk) = ⊥
+IsDropped (Asking walk ask) = ⊥
 IsDropped (Current listed) = ⊥
 
 -- no name is known to have changed since, and no refresh is under way or done
 abbrev pub HasForgotten : Progress → Type 0
 HasForgotten (Changed names) = keys names ≡ []
 HasForgotten (Walking walk) = ⊥
+HasForgotten (Asking walk ask) = ⊥
 HasForgotten (Current listed) = ⊥
 
 -- a refresh goes on as before, or not at all

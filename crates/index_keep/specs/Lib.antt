@@ -1,7 +1,8 @@
 pub mod Shown
 pub mod Right
 pub mod Judging
-pub mod Turns
-pub mod Walking
-pub mod Keeping
 pub mod Asking
+pub mod Paths
+pub mod Walking
+pub mod Turns
+pub mod Keeping

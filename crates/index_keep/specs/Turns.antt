@@ -1,33 +1,70 @@
--- What one call of a refresh does.
-use Rattle.std.specs.Prelude.{ℕ, List, Option, Some, None}
+-- What one turn of a refresh does.
+use Rattle.std.specs.Prelude.{◌≡◌, ◌≤◌, ℕ, ◌+◌, List, Option, Some, None}
 use Rattle.mk_paths.specs.World.{World}
-use Rattle.index_keep.specs.declared.walking.Refreshed.{Refreshed}
-use Rattle.index_keep.specs.declared.walking.Refreshed.TheVariants.{Evaluated, Done}
 use Rattle.ports_index.specs.Efforts.{cost_over, evaluations_over, lacking}
 use Rattle.ports_index.specs.Index.{needed_paths}
 use Rattle.ports_index.specs.PathOutcomes.{counted}
-use Rattle.ports_index.specs.Spending.{SpendsOnAll}
+use Rattle.ports_index.specs.Spending.{ChecksFew, no_spending, spent_together}
 use Rattle.ports_index.specs.declared.spending.Spent.{Spent}
 use Rattle.ports_index.specs.declared.keeping.MemoryRows.{MemoryRows}
+use Rattle.index_keep.specs.declared.keeper.Refreshed.{Refreshed}
+use Rattle.index_keep.specs.declared.keeper.Refreshed.TheVariants.{Evaluated, More, Done}
 use Rattle.index_keep.specs.declared.keeper.Turned.{Turned}
 use Rattle.index_keep.specs.declared.keeper.Turned.TheVariants as turned
-use Rattle.index_keep.specs.Shown.{ShownRows, fresh}
+use Rattle.index_keep.specs.Shown.{ShownRows, ShowsSame, fresh}
 use Rattle.index_keep.specs.Right.{HaveFresh, AreCurrent, RenewsRow}
 pub use Rattle.index_keep.specs.Walking.{KnowsNeeded}
 
--- either one row was renewed, or none was left to be renewed, and the rows are those of the index
-abbrev pub TakesTurn : World → ShownRows → ShownRows → Refreshed → Type 0
-TakesTurn world old new (Evaluated spent) = RenewsRow world old new spent
-TakesTurn world old new Done = HaveFresh world old × AreCurrent world new
+-- How far a refresh is: the rows as they are shown, and what was spent so far on a path whose evaluation is under way.
+pub record RefreshView : Type 0 where
+  pub rows : ShownRows
+  pub begun : Spent
+
+abbrev pub refresh_at : ShownRows → Spent → RefreshView
+refresh_at rows begun = record { rows = rows; begun = begun }
+
+-- so much was spent before, and this in a turn
+abbrev pub spent_in_all : Spent → Spent → Spent
+spent_in_all before more = record { units = before.units + more.units; checks = before.checks + more.checks }
+
+-- A path was evaluated: one row was renewed, on which this was spent with what was spent before.
+abbrev pub RenewsOne : World → RefreshView → RefreshView → Spent → Type 0
+RenewsOne world old new spent =
+    RenewsRow world old.rows new.rows (spent_in_all old.begun spent) × (new.begun ≡ no_spending)
+
+-- The evaluation of a path isn't at its end. It has spent the units of this turn, of which each checked answer was one.
+pub record GoesOn (units : ℕ) (old new : RefreshView) (spent : Spent) : Type 0 where
+  pub rows : ShowsSame old.rows new.rows
+  pub begun : new.begun ≡ spent_in_all old.begun spent
+  pub enough : units ≤ spent.units + spent.checks
+
+-- No row was left to be renewed, and the rows are those of the index.
+pub record EndsRefresh (world : World) (old new : RefreshView) : Type 0 where
+  pub nothing_begun : old.begun ≡ no_spending
+  pub fresh : HaveFresh world old.rows
+  pub current : AreCurrent world new.rows
+  pub nothing_left : new.begun ≡ no_spending
+
+-- what a turn does that is given some units
+abbrev pub TakesTurn : World → ℕ → RefreshView → RefreshView → Refreshed → Type 0
+TakesTurn world units old new (Evaluated spent) = RenewsOne world old new spent
+TakesTurn world units old new (More spent) = GoesOn units old new spent
+TakesTurn world units old new Done = EndsRefresh world old new
+
+-- a turn that failed: all rows are as they were, and nothing is under way
+pub record DropsTurn (old new : RefreshView) : Type 0 where
+  pub rows : ShowsSame old.rows new.rows
+  pub begun : new.begun ≡ no_spending
 
 -- the same of a turn that may still know what the rows say, once they are those of the index
 abbrev pub KnowsAtEnd : World → Option MemoryRows → Type 0
 KnowsAtEnd world None = Unit {0}
 KnowsAtEnd world (Some known) = KnowsNeeded world known
 
-abbrev pub EndsTurn : World → ShownRows → ShownRows → Turned → Type 0
-EndsTurn world old new (turned.Evaluated spent) = TakesTurn world old new (Evaluated spent)
-EndsTurn world old new (turned.Done known) = TakesTurn world old new Done × KnowsAtEnd world known
+abbrev pub EndsTurn : World → ℕ → RefreshView → RefreshView → Turned → Type 0
+EndsTurn world units old new (turned.Evaluated spent) = TakesTurn world units old new (Evaluated spent)
+EndsTurn world units old new (turned.More spent) = TakesTurn world units old new (More spent)
+EndsTurn world units old new (turned.Done known) = TakesTurn world units old new Done × KnowsAtEnd world known
 
 -- the paths that are left to be evaluated: those on which the index depends, and which have no fresh row
 abbrev pub paths_left : World → ShownRows → List (List ℕ)
@@ -38,6 +75,10 @@ abbrev pub units_left : World → ShownRows → ℕ
 units_left world rows = counted (cost_over world (paths_left world rows))
 
 -- What is spent to make all rows fresh. For each makefile that is left to be evaluated few answers are checked. No more
--- units are spent than the paths cost that are left, and all of these if no answer was checked.
-abbrev pub SpendsOnRows : World → ShownRows → Spent → Type 0
-SpendsOnRows world rows spent = SpendsOnAll (units_left world rows) (evaluations_over world (paths_left world rows)) spent
+-- units are spent than the paths cost that are left. With what was spent before on a path whose evaluation was under
+-- way, all of these are spent, if no answer was checked.
+pub record SpendsOnRows (world : World) (old : RefreshView) (spent : Spent) : Type 0 where
+  pub few : ChecksFew (evaluations_over world (paths_left world old.rows)) spent.checks
+  pub within : spent.units ≤ units_left world old.rows
+  pub whole : (spent_together old.begun spent).checks ≡ 0
+      → (spent_together old.begun spent).units ≡ units_left world old.rows

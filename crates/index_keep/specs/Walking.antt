@@ -1,6 +1,7 @@
 -- A refresh that goes through paths.
-use Rattle.std.specs.Prelude.{◌≡◌, ℕ, ◌<◌, true, List, map, take, length, string_bytes, slice_get}
+use Rattle.std.specs.Prelude.{◌≡◌, ℕ, ◌<◌, true, if◌then◌else◌, List, map, take, length, string_bytes, slice_get}
 use Rattle.std.specs.Prelude.{Option, Some, None, is_some}
+use Rattle.std.specs.Str.{bytes_eq}
 use Rattle.mk_paths.specs.World.{World, files_in}
 use Rattle.ports_index.specs.Filling.{is_one_of}
 use Rattle.ports_index.specs.Index.{listed_paths, needed_among, needed_paths}
@@ -9,17 +10,16 @@ use Rattle.ports_index.specs.PathOutcomes.{PathOutcome}
 use Rattle.ports_index.specs.RowLaws.{HaveRows}
 use Rattle.ports_index.specs.Seen.{entries_in, known_in}
 use Rattle.ports_index.specs.declared.keeping.MemoryRows.{MemoryRows}
-use Rattle.index_store.specs.Entries.{Entries, SameRows}
 use Rattle.index_keep.specs.declared.walking.Stage.{Stage}
 use Rattle.index_keep.specs.declared.walking.LastStage.{LastStage}
 use Rattle.index_keep.specs.declared.walking.Passed.{Passed}
 use Rattle.index_keep.specs.declared.walking.Passed.TheVariants as passed
-use Rattle.index_keep.specs.declared.walking.Onward.{Onward}
-use Rattle.index_keep.specs.declared.walking.Onward.TheVariants as onward
+use Rattle.index_keep.specs.declared.walking.Next.{Next}
+use Rattle.index_keep.specs.declared.walking.Next.TheVariants as next
 use Rattle.index_keep.specs.declared.walking.Walk.{Walk}
 use Rattle.index_keep.specs.declared.walking.Walk.TheVariants.{Directories, Listed, Needed}
-use Rattle.index_keep.specs.Shown.{ShownRows, shown, no_name, fresh}
-use Rattle.index_keep.specs.Right.{AreKept, AreCurrent, HaveFresh, RenewsOneOf, RenewsRow}
+use Rattle.index_keep.specs.Shown.{ShownRows, fresh}
+use Rattle.index_keep.specs.Right.{AreKept, HaveFresh}
 
 -- A stage of a refresh goes through these paths. Those that it has passed have fresh rows, and it knows what
 -- all fresh rows say.
@@ -41,16 +41,31 @@ pub record IsOnTheWay (world : World) (rows : ShownRows) (walk : Walk) : Type 0 
   pub kept : AreKept world rows
   pub far : IsWalk world rows walk
 
+-- the index depends on the path, which has no fresh row
+pub record IsLacking (world : World) (rows : ShownRows) (path : List ℕ) : Type 0 where
+  pub needed : is_one_of path (needed_paths world) ≡ true
+  pub lacking : fresh rows path ≡ None
+
+-- What a walk comes to next: a path that has no fresh row; or its end, once each path on which the index depends has
+-- one.
+abbrev pub IsNext : World → ShownRows → Next → Type 0
+IsNext world rows (next.Lacks walk path) = IsWalk world rows walk × IsLacking world rows (string_bytes path)
+IsNext world rows (next.All last) = IsWalk world rows (Needed last) × HaveFresh world rows
+
+-- one more row is fresh, and says this of its path
+abbrev pub HasRowMore : List ℕ → PathOutcome → ShownRows → ShownRows → Type 0
+HasRowMore path outcome old new =
+    (other : List ℕ) → fresh new other ≡ (if bytes_eq path other then Some outcome else fresh old other)
+
 -- what the rows in memory say of each needed path is right
 abbrev pub KnowsNeeded : World → MemoryRows → Type 0
 KnowsNeeded world known = HaveRows world (entries_in known) (needed_paths world)
 
--- what a refresh that went on made of the rows, and what is left of it
-abbrev pub GoesOn : World → ShownRows → ShownRows → Onward → Type 0
-GoesOn world old new (onward.More spent walk) = RenewsRow world old new spent × IsOnTheWay world new walk
-GoesOn world old new (onward.Current listed known) =
-    HaveFresh world old × AreCurrent world new × AreKept world new × (map string_bytes listed.items ≡ listed_paths world)
-    × KnowsNeeded world known
+-- the stage of a walk
+abbrev pub stage_of : Walk → Stage
+stage_of (Directories stage) = stage
+stage_of (Listed stage) = stage
+stage_of (Needed last) = last.stage
 
 -- the paths of a stage
 abbrev pub paths_of : Stage → List (List ℕ)
@@ -70,12 +85,18 @@ pub record IsLackingAt (stage : Stage) (place : ℕ) : Type 0 where
 abbrev pub LacksNone : Stage → Type 0
 LacksNone stage = (path : List ℕ) → is_one_of path (paths_of stage) ≡ true → is_some (entries_in stage.known path) ≡ true
 
--- what became of a stage and of the rows: one row was renewed, or each path has a fresh row already
-abbrev pub PassesStage : World → Stage → Entries → Entries → Passed → Type 0
-PassesStage world stage old new (passed.One spent more) =
-    RenewsOneOf world (paths_of stage) (shown no_name old) (shown no_name new) spent
-    × AreKept world (shown no_name new) × IsStage (fresh (shown no_name new)) (paths_of stage) more
-PassesStage world stage old new (passed.All same) = (same ≡ stage) × LacksNone stage × SameRows old new
+-- what a stage comes to: the next path that has no fresh row, or its end
+abbrev pub PassesStage : Stage → Passed → Type 0
+PassesStage stage (passed.Lacks more path) =
+    (more ≡ record stage { place = more.place }) × IsLackingAt stage more.place
+    × (slice_get (paths_of stage) more.place ≡ Some (string_bytes path))
+PassesStage stage (passed.All same) = (same ≡ stage) × LacksNone stage
+
+-- the same stage knows what one more row says of its path
+pub record KnowsRow (path : List ℕ) (outcome : PathOutcome) (old new : Stage) : Type 0 where
+  pub paths : new.paths ≡ old.paths
+  pub place : new.place ≡ old.place
+  pub known : (other : List ℕ) → entries_in new.known other ≡ (if bytes_eq path other then Some outcome else entries_in old.known other)
 
 -- a stage of listed paths comes after that of directories: it has the paths that the rows of these say, and
 -- knows the same

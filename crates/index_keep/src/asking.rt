@@ -5,15 +5,15 @@ ghost use Rattle.mk_eval.specs.Views.{flavors_in};
 ghost use Rattle.eval_cache.specs.Keys.{key_for, key_of};
 ghost use Rattle.eval_cache.specs.Right.{IsRight};
 ghost use Rattle.read_trace.specs.Recording.{view_of, LeavesMap, MayFail};
-ghost use Rattle.index_keep.specs.Asking.{IsAskedOf, evals_after, spent_on};
+ghost use Rattle.index_keep.specs.Asking.{IsAskedOf, IsAskIn, BeginsAsk, TurnsAsk, EndsAsk, EndsRight, ComesTo};
+ghost use Rattle.index_keep.specs.Asking.{evals_after, spent_on, spent_so_far};
 
 use eval_cache::{EvalCache, EvalKey, Look};
 use mk_files::Files;
 use mk_paths::{FilesFault, Name, Settings};
+use mk_step::{Machine, Turned};
 use ports_index::Spent;
-use read_trace::{
-    Evaluation, Recorder, agrees_where_answered, evaluate_recorded, same_where_agreed,
-};
+use read_trace::{Evaluation, Recorder, Trace, agrees_where_answered, same_where_agreed};
 use std::alloc::{AllocError, Global};
 use std::rc::Rc;
 
@@ -22,7 +22,8 @@ use std::rc::Rc;
 pub struct Asked {
     /// What the makefile means, or its first fault, with what its evaluation asks.
     pub evaluation: Rc<Evaluation>,
-    /// The units that were spent on lines: none if the evaluation was kept, and what it cost if it is new.
+    /// The units that were spent on lines in all turns: none if the evaluation was kept, and what it cost if it
+    /// is new.
     pub units: u64,
     /// The answers that were checked, of evaluations that were kept.
     pub checks: u64,
@@ -42,14 +43,181 @@ impl Asked {
     }
 }
 
+/// An evaluation that is asked for, and isn't at its end.
+#[derive(Drop)]
+pub struct Ask {
+    looked: Looked,
+    /// What was asked for it so far.
+    trace: Trace,
+    machine: Machine,
+}
+
+/// A look at what is kept under a key, which found nothing.
+#[derive(Drop)]
+struct Looked {
+    key: EvalKey,
+    /// The answers that were checked.
+    checks: u64,
+}
+
+/// What an evaluation that is asked for has come to.
+#[derive(Drop)]
+pub enum AskTurned {
+    /// It isn't at its end.
+    More(Ask),
+    /// It is at its end, or one that is kept is used.
+    Done(Asked),
+}
+
+impl Ask {
+    /// Begins to ask for the evaluation of the makefile of this name in the world of these files and settings,
+    /// with these flavors or with none given. It is one that the cache keeps, if the files answer as its trace
+    /// says. Otherwise it is a new one, of which no line is done yet.
+    ///
+    /// What was asked for it is its trace. What the recorder wrote down before is dropped, or mixed with the
+    /// questions that were checked.
+    ///
+    /// # Errors
+    ///
+    /// It is the fault of the files if they fail, and `Memory` if memory runs out. Then no evaluation counts as
+    /// used again.
+    pub fn begin<F: Files + Drop>(
+        alloc: Global,
+        cache: &mut EvalCache,
+        files: &mut Recorder<F>,
+        settings: &Settings,
+        name: &Name,
+        flavors: Option<&[String]>,
+    ) -> Result<AskTurned, FilesFault>
+        ensures begins { IfOk result (BeginsAsk (view_of F.view files.old).files cache.old
+            (key_for settings.now name.now (flavors_in flavors.entry))) }
+        ensures counted { IfOk result (λ turned. cache.new.counts.evals
+            ≡ evals_after (view_of F.view files.old).files cache.old
+            (key_for settings.now name.now (flavors_in flavors.entry))) }
+        ensures err { OnErr result (cache.new.counts.evals ≡ cache.old.counts.evals) }
+        ensures kind { IfErr result (MayFail F.fails_with) }
+        ensures leaves { LeavesMap (result_err result) (view_of F.view files.old) (view_of F.view files.new) }
+    {
+        same_where_agreed();
+        agrees_where_answered();
+        let key = EvalKey::new(alloc, settings, name, flavors)?;
+        let (found, checks) = cache.look(&key, files)?;
+        match found {
+            Look::Hit(evaluation, _cost) => Ok(AskTurned::Done(Asked {
+                evaluation,
+                units: 0,
+                checks,
+            })),
+            Look::Miss => {
+                let _before = files.take_trace();
+                let turned = Machine::start(alloc, settings, name, flavors, cache, files)?;
+                let looked = Looked { key, checks };
+                Ok(looked.come_to(alloc, cache, files.take_trace(), turned)?)
+            }
+        }
+    }
+
+    /// Goes on until so many units more are spent, or the evaluation is at its end. It is kept then, if there is
+    /// memory for that. Nothing that was asked before is asked again.
+    ///
+    /// # Errors
+    ///
+    /// It is the fault of the files if they fail, and `Memory` if memory runs out.
+    pub fn turn<F: Files + Drop>(
+        self,
+        alloc: Global,
+        cache: &mut EvalCache,
+        files: &mut Recorder<F>,
+        units: u64,
+    ) -> Result<AskTurned, FilesFault>
+        requires { IsAskIn (view_of F.view files.old).files self }
+        ensures turns { IfOk result (TurnsAsk (view_of F.view files.old).files units self) }
+        ensures counted { cache.new.counts.evals ≡ cache.old.counts.evals }
+        ensures kind { IfErr result (MayFail F.fails_with) }
+        ensures leaves { LeavesMap (result_err result) (view_of F.view files.old) (view_of F.view files.new) }
+    {
+        same_where_agreed();
+        let Ask {
+            looked,
+            trace,
+            machine,
+        } = self;
+        files.go_on(trace);
+        let turned = machine.turn(alloc, cache, files, units)?;
+        Ok(looked.come_to(alloc, cache, files.take_trace(), turned)?)
+    }
+
+    // Goes on to the end of the evaluation.
+    fn to_its_end<F: Files + Drop>(
+        self,
+        alloc: Global,
+        cache: &mut EvalCache,
+        files: &mut Recorder<F>,
+    ) -> Result<Asked, FilesFault>
+        requires { IsAskIn (view_of F.view files.old).files self }
+        ensures ends { IfOk result (EndsAsk (view_of F.view files.old).files self) }
+        ensures counted { cache.new.counts.evals ≡ cache.old.counts.evals }
+        ensures kind { IfErr result (MayFail F.fails_with) }
+        ensures leaves { LeavesMap (result_err result) (view_of F.view files.old) (view_of F.view files.new) }
+    {
+        match self.turn(alloc, cache, files, u64::MAX)? {
+            AskTurned::Done(asked) => Ok(asked),
+            AskTurned::More(_) => unreachable!(), // no evaluation spends that much
+        }
+    }
+
+    /// What was spent on it so far: units on lines, and answers checked before it began.
+    pub fn spent(&self) -> Spent
+        ensures { result ≡ spent_so_far self.now }
+    {
+        Spent {
+            units: self.machine.spent(),
+            checks: self.looked.checks,
+        }
+    }
+}
+
+impl Looked {
+    // What the evaluation has come to, after all that it has asked so far. If it is at its end, it is kept.
+    fn come_to(
+        self,
+        alloc: Global,
+        cache: &mut EvalCache,
+        trace: Trace,
+        turned: Turned,
+    ) -> Result<AskTurned, AllocError>
+        requires { EndsRight (key_of self.key) trace turned }
+        ensures comes { IfOk result (ComesTo self trace turned) }
+        ensures counts { cache.new.counts ≡ cache.old.counts }
+    {
+        let Looked { key, checks } = self;
+        match turned {
+            Turned::More(machine) => Ok(AskTurned::More(Ask {
+                looked: Looked { key, checks },
+                trace,
+                machine,
+            })),
+            Turned::Done(outcome) => {
+                let evaluation = Rc::new(alloc, Evaluation { outcome, trace })?;
+                let units = evaluation.cost();
+                keep(cache, key, &evaluation);
+                Ok(AskTurned::Done(Asked {
+                    evaluation,
+                    units,
+                    checks,
+                }))
+            }
+        }
+    }
+}
+
 /// The evaluation of the makefile of this name in the world of these files and settings, with these flavors
-/// or with none given. It is one that the cache keeps, if the files answer as its trace says. Otherwise it is a
-/// new one, which is kept if there is memory for that.
+/// or with none given, as `Ask` gives it in one turn.
 ///
-/// What was asked for it is the trace of the evaluation. What the recorder wrote down is dropped or mixed with
-/// the questions that were checked. It fails if the files fail, or if memory runs out; then no evaluation counts
-/// as used again.
-pub fn ask<F: Files + Drop>(
+/// # Errors
+///
+/// They are those of `Ask`. If it fails, no evaluation counts as used again.
+pub fn ask_at_once<F: Files + Drop>(
     alloc: Global,
     cache: &mut EvalCache,
     files: &mut Recorder<F>,
@@ -66,35 +234,10 @@ pub fn ask<F: Files + Drop>(
     ensures kind { IfErr result (MayFail F.fails_with) }
     ensures leaves { LeavesMap (result_err result) (view_of F.view files.old) (view_of F.view files.new) }
 {
-    same_where_agreed();
-    agrees_where_answered();
-    let key = EvalKey::new(alloc, settings, name, flavors)?;
-    let (found, checks) = cache.look(&key, files)?;
-    match found {
-        Look::Hit(evaluation, _cost) => Ok(Asked {
-            evaluation,
-            units: 0,
-            checks,
-        }),
-        Look::Miss => {
-            let evaluation = evaluate_recorded(alloc, cache, files, settings, name, flavors)?;
-            let units = evaluation.cost();
-            let evaluation = shared(alloc, evaluation)?;
-            keep(cache, key, &evaluation);
-            Ok(Asked {
-                evaluation,
-                units,
-                checks,
-            })
-        }
+    match Ask::begin(alloc, cache, files, settings, name, flavors)? {
+        AskTurned::Done(asked) => Ok(asked),
+        AskTurned::More(ask) => ask.to_its_end(alloc, cache, files),
     }
-}
-
-// The same evaluation, where it can be shared.
-fn shared(alloc: Global, evaluation: Evaluation) -> Result<Rc<Evaluation>, AllocError>
-    ensures { IfOk result (λ shared. shared.value ≡ evaluation) }
-{
-    Ok(Rc::new(alloc, evaluation)?)
 }
 
 // Keeps an evaluation, if it can be shared once more.

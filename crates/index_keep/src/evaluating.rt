@@ -1,19 +1,19 @@
-//! A path evaluated, with what was asked for it.
-ghost use Rattle.std.specs.Prelude.{◌≡◌, ◌++◌, map, string_bytes, IfOk, OnOk};
+//! The row of a path, made by evaluating its makefile turn by turn, with what was asked for it.
+ghost use Rattle.std.specs.Prelude.{◌≡◌, ◌++◌, map, option_map, string_bytes, IfOk, OnOk};
 ghost use Rattle.std.specs.Result.{result_err};
 ghost use Rattle.mk_paths.specs.FilesView.{world_of};
-ghost use Rattle.mk_eval.specs.Views.{flavors_in};
-ghost use Rattle.ports_index.specs.Pairs.{pair_in};
-ghost use Rattle.ports_index.specs.PathOutcomes.{finding_in, finding_of_evaluation, nothing_found};
-ghost use Rattle.ports_index.specs.PathQuestions.{questions_in};
-ghost use Rattle.ports_index.specs.Spending.{no_spending, SpendsOn, SpendsOnPath};
+ghost use Rattle.mk_paths.specs.Place.{place, places_asked};
+ghost use Rattle.mk_paths.specs.declared.search_path.Settings.{Settings};
+ghost use Rattle.mk_eval.specs.Sharing.{Agrees};
+ghost use Rattle.ports_index.specs.Spending.{no_spending};
 ghost use Rattle.read_trace.specs.Recording.{view_of};
-ghost use Rattle.row_text.specs.Rows.{make_row};
 ghost use Rattle.row_text.specs.Seen.{row_seen};
-ghost use Rattle.index_keep.specs.Asking.{spent_on};
-ghost use Rattle.index_keep.specs.Right.{IsRightRow, IsRowOf, LeavesFiles, names_in, row_with};
+ghost use Rattle.index_keep.specs.Asking.{IsAskIn, spent_on, spent_so_far};
+ghost use Rattle.index_keep.specs.Paths as paths;
+ghost use Rattle.index_keep.specs.Paths.{IsNamed, IsPathAsk, IsUpTo, TurnsPath};
+ghost use Rattle.index_keep.specs.Right.{LeavesFiles, names_in};
 
-use crate::asking::{Asked, ask};
+use crate::asking::{Ask, AskTurned, Asked};
 use eval_cache::EvalCache;
 use mk_files::Files;
 use mk_paths::{FilesFault, Name, Settings, find};
@@ -23,52 +23,190 @@ use read_trace::{Question, Recorder, Trace};
 use row_text::KeptRow;
 use std::alloc::{AllocError, Global};
 
-/// A row, and what was spent to make it.
+/// The row of a path, and what was spent to make it.
 #[derive(Drop)]
 pub(crate) struct MadeRow {
+    pub(crate) path: String,
     pub(crate) row: KeptRow,
     pub(crate) spent: Spent,
 }
 
-/// The row of a path: what it leads to in these files under these settings, with the names that were asked
-/// for. It fails if the files fail, or if memory runs out.
-pub(crate) fn row_of_path<F: Files + Drop>(
-    alloc: Global,
-    cache: &mut EvalCache,
-    files: &mut Recorder<F>,
-    settings: &Settings,
-    path: &str,
-) -> Result<MadeRow, FilesFault>
-    ensures row { IfOk result (λ made.
-        IsRightRow (world_of (view_of F.view files.old) settings.now) path.now (row_seen made.row)) }
-    ensures spent { IfOk result (λ made.
-        SpendsOnPath (world_of (view_of F.view files.old) settings.now) path.now made.spent) }
-    ensures leaves { LeavesFiles (result_err result) (view_of F.view files.old) (view_of F.view files.new) }
-{
-    if path == "." {
-        return row_in(alloc, cache, files, settings, path, None);
+/// A directory that a path names.
+#[derive(Drop)]
+enum NamedDirectory {
+    /// The trees' own one.
+    Own,
+    /// That of a package path, with the path's flavors.
+    OfPath(PkgPath),
+}
+
+/// A path whose makefile is there, and what was asked to find it.
+#[derive(Drop)]
+pub(crate) struct FoundPath {
+    path: String,
+    named: NamedDirectory,
+    makefile: Name,
+    placed: Trace,
+}
+
+/// A path whose makefile is evaluated, which isn't at its end.
+#[derive(Drop)]
+pub(crate) struct PathAsk {
+    found: FoundPath,
+    ask: Ask,
+}
+
+/// What the row of a path has come to.
+#[derive(Drop)]
+pub(crate) enum PathTurned {
+    /// The makefile's evaluation isn't at its end.
+    More(PathAsk),
+    /// The row is made.
+    Made(MadeRow),
+}
+
+impl PathAsk {
+    /// Begins to make the row of a path: what it leads to in these files under these settings, with the names
+    /// that are asked for. The makefile is evaluated until so many units are spent. Each answer that is checked
+    /// before counts as one of them. It fails if the files fail, or if memory runs out.
+    pub(crate) fn begin<F: Files + Drop>(
+        alloc: Global,
+        cache: &mut EvalCache,
+        files: &mut Recorder<F>,
+        settings: &Settings,
+        path: String,
+        units: u64,
+    ) -> Result<PathTurned, FilesFault>
+        ensures turns { IfOk result (TurnsPath (world_of (view_of F.view files.old) settings.now)
+            (string_bytes path) units no_spending) }
+        ensures up { IfOk result (IsUpTo no_spending) }
+        ensures leaves { LeavesFiles (result_err result) (view_of F.view files.old) (view_of F.view files.new) }
+    {
+        let Some(named) = NamedDirectory::read(alloc, path.as_str())? else {
+            return Ok(PathTurned::Made(MadeRow::absent(path, Vec::new(alloc))));
+        };
+        let (makefile, placed) = place_of(alloc, files, settings, named.directory())?;
+        let Some(makefile) = makefile else {
+            let names = names_of(alloc, placed.questions())?;
+            return Ok(PathTurned::Made(MadeRow::absent(path, names)));
+        };
+        let turned = Ask::begin(alloc, cache, files, settings, &makefile, named.flavors())?;
+        let found = FoundPath {
+            path,
+            named,
+            makefile,
+            placed,
+        };
+        match turned {
+            AskTurned::Done(asked) => Ok(PathTurned::Made(found.made(alloc, &asked)?)),
+            AskTurned::More(ask) => {
+                let units = units.saturating_sub(ask.spent().checks);
+                PathAsk { found, ask }.turn(alloc, cache, files, units)
+            }
+        }
     }
-    match PkgPath::read_if_one(alloc, path)? {
-        Some(path) => row_in(
-            alloc,
-            cache,
-            files,
-            settings,
-            path.directory(),
-            path.flavors(),
-        ),
-        None => Ok(MadeRow::absent(Vec::new(alloc))),
+
+    /// Goes on with the makefile's evaluation until so many units more are spent, or the row is made. It fails
+    /// if the files fail, or if memory runs out.
+    pub(crate) fn turn<F: Files + Drop>(
+        self,
+        alloc: Global,
+        cache: &mut EvalCache,
+        files: &mut Recorder<F>,
+        units: u64,
+    ) -> Result<PathTurned, FilesFault>
+        requires { IsAskIn (view_of F.view files.old).files self.ask }
+        ensures turns { (settings : Settings)
+            → IsPathAsk ((view_of F.view files.old).files, settings) (string_bytes self.found.path) self
+            → IfOk result (TurnsPath ((view_of F.view files.old).files, settings)
+            (string_bytes self.found.path) units (spent_so_far self.ask)) }
+        ensures up { IfOk result (IsUpTo (spent_so_far self.ask)) }
+        ensures leaves { LeavesFiles (result_err result) (view_of F.view files.old) (view_of F.view files.new) }
+    {
+        let PathAsk { found, ask } = self;
+        match ask.turn(alloc, cache, files, units)? {
+            AskTurned::Done(asked) => Ok(PathTurned::Made(found.made(alloc, &asked)?)),
+            AskTurned::More(ask) => Ok(PathTurned::More(PathAsk { found, ask })),
+        }
+    }
+
+    /// What was spent on it so far.
+    pub(crate) fn spent(&self) -> Spent
+        ensures { result ≡ spent_so_far self.now.ask }
+    {
+        self.ask.spent()
+    }
+}
+
+impl NamedDirectory {
+    /// The directory that a path names, if it names one. It fails only if memory runs out.
+    fn read(alloc: Global, path: &str) -> Result<Option<NamedDirectory>, AllocError>
+        ensures { IfOk result (IsNamed path.now) }
+    {
+        if path == "." {
+            return Ok(Some(NamedDirectory::Own));
+        }
+        match PkgPath::read_if_one(alloc, path)? {
+            Some(path) => Ok(Some(NamedDirectory::OfPath(path))),
+            None => Ok(None),
+        }
+    }
+
+    /// The directory.
+    fn directory(&self) -> &str
+        ensures { result.now ≡ paths.directory_of self.now }
+    {
+        match self {
+            NamedDirectory::Own => ".",
+            NamedDirectory::OfPath(path) => path.directory(),
+        }
+    }
+
+    /// The flavors with which its makefile is evaluated, if any are given.
+    fn flavors(&self) -> Option<&[String]>
+        ensures { option_map (λ flavors. map string_bytes flavors.now) result ≡ paths.flavors_of self.now }
+    {
+        match self {
+            NamedDirectory::Own => None,
+            NamedDirectory::OfPath(path) => path.flavors(),
+        }
+    }
+}
+
+impl FoundPath {
+    /// The row of the path, once its makefile is evaluated.
+    fn made(self, alloc: Global, asked: &Asked) -> Result<MadeRow, AllocError>
+        ensures path { IfOk result (λ made. string_bytes made.path ≡ string_bytes self.path) }
+        ensures row { IfOk result (λ made. row_seen made.row ≡ paths.row_made self asked.now) }
+        ensures spent { IfOk result (λ made. made.spent ≡ spent_on asked.now (row_seen made.row).cost) }
+    {
+        let FoundPath {
+            path,
+            named,
+            makefile,
+            placed,
+        } = self;
+        let row = finding_of(alloc, &asked.evaluation.outcome, &makefile, named.flavors())?;
+        let spent = asked.spent_on(row.cost);
+        let mut names = names_of(alloc, placed.questions())?;
+        add_names(alloc, &mut names, asked.evaluation.trace.questions())?;
+        Ok(MadeRow {
+            path,
+            row: KeptRow { found: row, names },
+            spent,
+        })
     }
 }
 
 impl MadeRow {
     // The row of a path without a makefile, for which these names were asked for.
-    fn absent(names: Vec<String>) -> MadeRow
-        ensures row { row_seen result.row
-            ≡ make_row nothing_found.outcome 0 (map string_bytes names.items) }
+    fn absent(path: String, names: Vec<String>) -> MadeRow
+        ensures path { string_bytes result.path ≡ string_bytes path }
+        ensures row { row_seen result.row ≡ paths.absent_row (map string_bytes names.items) }
         ensures spent { result.spent ≡ no_spending }
     {
         MadeRow {
+            path,
             row: KeptRow {
                 found: Finding::nothing(),
                 names,
@@ -78,57 +216,24 @@ impl MadeRow {
     }
 }
 
-// The row of a directory whose makefile is evaluated with these flavors or with none given.
-fn row_in<F: Files + Drop>(
+// The makefile of a directory, if it is there, and what was asked to find it. It fails if the files fail, or if
+// memory runs out.
+fn place_of<F: Files + Drop>(
     alloc: Global,
-    cache: &mut EvalCache,
     files: &mut Recorder<F>,
     settings: &Settings,
     directory: &str,
-    flavors: Option<&[String]>,
-) -> Result<MadeRow, FilesFault>
-    ensures row { IfOk result (λ made. IsRowOf (view_of F.view files.old).files
-        (finding_in (world_of (view_of F.view files.old) settings.now) directory.now (flavors_in flavors.entry))
-        (questions_in (world_of (view_of F.view files.old) settings.now) directory.now (flavors_in flavors.entry))
-        (row_seen made.row)) }
-    ensures spent { IfOk result (λ made. SpendsOn (world_of (view_of F.view files.old) settings.now)
-        (finding_in (world_of (view_of F.view files.old) settings.now) directory.now (flavors_in flavors.entry)).cost
-        (pair_in (world_of (view_of F.view files.old) settings.now) directory.now (flavors_in flavors.entry))
-        made.spent) }
+) -> Result<(Option<Name>, Trace), FilesFault>
+    ensures place { IfOk result (λ found. found.0
+        ≡ place (world_of (view_of F.view files.old) settings.now) directory.now) }
+    ensures asked { IfOk result (λ found. found.1
+        ≡ places_asked (view_of F.view files.old).files settings.now.path directory.now) }
+    ensures answered { IfOk result (λ found. Agrees (view_of F.view files.old).files found.1) }
     ensures leaves { LeavesFiles (result_err result) (view_of F.view files.old) (view_of F.view files.new) }
 {
     let _before = files.take_trace();
     let found = find(alloc, files, &settings.path, directory)?;
-    let place = files.take_trace();
-    let Some(makefile) = found else {
-        let names = names_of(alloc, place.questions())?;
-        return Ok(MadeRow::absent(names));
-    };
-    let asked = ask(alloc, cache, files, settings, &makefile, flavors)?;
-    Ok(row_after(alloc, &makefile, flavors, &place, &asked)?)
-}
-
-// The row of a makefile whose place was asked for so, and whose evaluation was asked for.
-fn row_after(
-    alloc: Global,
-    makefile: &Name,
-    flavors: Option<&[String]>,
-    place: &Trace,
-    asked: &Asked,
-) -> Result<MadeRow, AllocError>
-    ensures row { IfOk result (λ made. row_seen made.row ≡ row_with
-        (finding_of_evaluation makefile.now (flavors_in flavors.entry) asked.now.evaluation.value.outcome)
-        (place.now ++ asked.now.evaluation.value.trace)) }
-    ensures spent { IfOk result (λ made. made.spent ≡ spent_on asked.now (row_seen made.row).cost) }
-{
-    let found = finding_of(alloc, &asked.evaluation.outcome, makefile, flavors)?;
-    let spent = asked.spent_on(found.cost);
-    let mut names = names_of(alloc, place.questions())?;
-    add_names(alloc, &mut names, asked.evaluation.trace.questions())?;
-    Ok(MadeRow {
-        row: KeptRow { found, names },
-        spent,
-    })
+    Ok((found, files.take_trace()))
 }
 
 // The names of the files that questions are about, in order.

@@ -1,6 +1,6 @@
 //! The keeper of one tenant's index.
-ghost use Rattle.std.specs.Prelude.{◌≡◌, ◌||◌, ℕ, List, None, Ok, option_map, string_bytes, IfOk, OnOk, OnErr};
-ghost use Rattle.std.specs.BTreeSet.{contains_text};
+ghost use Rattle.std.specs.Prelude.{◌≡◌, ◌||◌, ℕ, List, Ok, option_map, string_bytes};
+ghost use Rattle.std.specs.Prelude.{IfOk, OnOk, OnErr};
 ghost use Rattle.std.specs.Result.{result_err};
 ghost use Rattle.std.specs.Str.{bytes_eq};
 ghost use Rattle.mk_paths.specs.FilesView.{world_of};
@@ -8,16 +8,18 @@ ghost use Rattle.mk_paths.specs.World.{World};
 ghost use Rattle.ports_index.specs.Index as indexed;
 ghost use Rattle.read_trace.specs.Recording.{view_of};
 ghost use Rattle.mk_paths.specs.declared.search_path.Settings.{Settings};
-ghost use Rattle.index_store.specs.Entries.{SameRows};
-ghost use Rattle.index_keep.specs.Shown.{shown, no_name, ShowsSame, made_stale, stale_if_asked};
+ghost use Rattle.ports_index.specs.Spending.{no_spending};
+ghost use Rattle.index_keep.specs.Shown.{ShowsSame, made_stale, stale_if_asked};
 ghost use Rattle.index_keep.specs.Right.{DifferAt, LeavesFiles};
-ghost use Rattle.index_keep.specs.Turns.{TakesTurn, EndsTurn, KnowsNeeded, SpendsOnRows};
-ghost use Rattle.index_keep.specs.Walking.{IsWalk, IsOnTheWay};
-ghost use Rattle.index_keep.specs.Keeping.{rows_of, changed_in, IsKept, IsDone, IsDoneAfter, IsDropped, HasForgotten, Stops};
+ghost use Rattle.index_keep.specs.Turns.{TakesTurn, DropsTurn, SpendsOnRows};
+ghost use Rattle.index_keep.specs.Walking.{KnowsNeeded};
+ghost use Rattle.index_keep.specs.Keeping.{rows_of, refresh_of, begun_in, changed_in, IsKept, IsDone};
+ghost use Rattle.index_keep.specs.Keeping.{IsDropped, HasForgotten, Stops};
 
 use crate::beginning::{begin, fresh_rows};
+use crate::evaluating::PathAsk;
 use crate::names::insert_name;
-use crate::walking::{Onward, Refreshed, Walk, begin_walk, go_on};
+use crate::walking::Walk;
 use eval_cache::EvalCache;
 use index_store::PathRows;
 use mk_files::Listing;
@@ -30,28 +32,42 @@ use ports_index::{
 use read_trace::Recorder;
 use std::alloc::{AllocError, Global};
 use std::collections::BTreeSet;
-use std::mem;
 
 /// The most names that are known to have changed. Once there are more, the rows that asked for them are
 /// marked, and the names are forgotten.
 const MOST_CHANGED: usize = 1024;
 
+/// What one turn of a refresh did.
+#[derive(Clone, Copy, Debug, PartialEq, Eq)]
+pub enum Refreshed {
+    /// One path was evaluated, and has its row now. So much was spent on it in this turn.
+    Evaluated(Spent),
+    /// The evaluation of a path isn't at its end. So much was spent on it in this turn.
+    More(Spent),
+    /// Each path has its row: the index is current.
+    Done,
+}
+
 /// How far the index is refreshed.
-#[derive(Debug, Drop)]
+#[derive(Drop)]
 pub(crate) enum Progress {
     /// Files of these names have changed since a refresh began.
     Changed(BTreeSet<String>),
-    /// A refresh is under way.
+    /// A refresh is under way, and is between two paths.
     Walking(Walk),
+    /// A refresh is under way, and so is the evaluation of a path.
+    Asking(Walk, PathAsk),
     /// All rows are right, and these are the listed paths.
     Current(Vec<String>),
 }
 
 /// What a turn of a refresh came to.
 #[derive(Drop)]
-enum Turned {
-    /// One path was evaluated, and so much was spent.
+pub(crate) enum Turned {
+    /// One path was evaluated, and so much was spent on it in this turn.
     Evaluated(Spent),
+    /// The evaluation of a path isn't at its end, and so much was spent on it in this turn.
+    More(Spent),
     /// Each path has its row. If this turn ended the refresh, it still knows what the rows say.
     Done(Option<MemoryRows>),
 }
@@ -59,8 +75,8 @@ enum Turned {
 /// The index of one tenant: a row for each path on which it depends, and what has changed since.
 #[derive(Drop)]
 pub struct Keeper<R: PathRows + Drop> {
-    rows: R,
-    progress: Progress,
+    pub(crate) rows: R,
+    pub(crate) progress: Progress,
 }
 
 impl<R: PathRows + Drop> Keeper<R> {
@@ -83,6 +99,7 @@ impl<R: PathRows + Drop> Keeper<R> {
     pub fn note_change(&mut self, alloc: Global, name: &Name) -> Result<(), FilesFault>
         ensures rows { OnOk result ((path : List ℕ) → rows_of R.entries self.new path
             ≡ option_map (stale_if_asked name.now) (rows_of R.entries self.old path)) }
+        ensures begun { OnOk result (begun_in self.new.progress ≡ no_spending) }
         ensures err { OnErr result (ShowsSame (rows_of R.entries self.old) (rows_of R.entries self.new)) }
         ensures kept { (world : World) → IsKept R.entries world self.old → IsKept R.entries world self.new }
         ensures other { OnOk result ((world other : World) → DifferAt name.now world other
@@ -103,6 +120,7 @@ impl<R: PathRows + Drop> Keeper<R> {
     pub fn note_path(&mut self, alloc: Global) -> Result<(), FilesFault>
         ensures rows { OnOk result ((path : List ℕ) → rows_of R.entries self.new path
             ≡ option_map made_stale (rows_of R.entries self.old path)) }
+        ensures begun { OnOk result (begun_in self.new.progress ≡ no_spending) }
         ensures err { OnErr result (ShowsSame (rows_of R.entries self.old) (rows_of R.entries self.new)) }
         ensures kept { (world : World) → IsKept R.entries world self.old → IsKept R.entries world self.new }
         ensures other { OnOk result ((world : World) → IsKept R.entries world self.new) }
@@ -112,115 +130,36 @@ impl<R: PathRows + Drop> Keeper<R> {
         Ok(())
     }
 
-    /// Goes on with a refresh, or begins one, up to the next path that has no fresh row: that path is
-    /// evaluated in these files under these settings, and its row is written. The evaluation is one that the
-    /// cache keeps, if the files agree with it. Once each path has its row, the rows that nothing needs are
-    /// taken out, and the refresh is done.
+    /// Goes on with a refresh, or begins one, up to the next path that has no fresh row. That path is evaluated in
+    /// these files under these settings, until so many units are spent. Each answer that is checked counts as one
+    /// of them. The evaluation is one that the cache keeps, if the files agree with it. Once it is at its end, the
+    /// path's row is written. Once each path has its row, the rows that nothing needs are taken out, and the refresh
+    /// is done.
     ///
-    /// It fails if the files or the rows fail, or if memory runs out. Then no row changes.
+    /// # Errors
+    ///
+    /// It fails if the files or the rows fail, or if memory runs out. Then no row changes, and an evaluation that
+    /// was under way is dropped.
     pub fn refresh_turn<F: Listing + Drop>(
         &mut self,
         alloc: Global,
         cache: &mut EvalCache,
         files: &mut Recorder<F>,
         settings: &Settings,
+        units: u64,
     ) -> Result<Refreshed, FilesFault>
         requires { IsKept R.entries (world_of (view_of F.view files.old) settings.now) self.old }
-        ensures turn { IfOk result (TakesTurn (world_of (view_of F.view files.old) settings.now)
-            (rows_of R.entries self.old) (rows_of R.entries self.new)) }
+        ensures turn { IfOk result (TakesTurn (world_of (view_of F.view files.old) settings.now) units
+            (refresh_of R.entries self.old) (refresh_of R.entries self.new)) }
         ensures done { result ≡ Ok Refreshed.Done → IsDone self.new }
-        ensures err { OnErr result (ShowsSame (rows_of R.entries self.old) (rows_of R.entries self.new)) }
+        ensures err { OnErr result (DropsTurn (refresh_of R.entries self.old) (refresh_of R.entries self.new)) }
         ensures kept { IsKept R.entries (world_of (view_of F.view files.old) settings.now) self.new }
         ensures leaves { LeavesFiles (result_err result) (view_of F.view files.old) (view_of F.view files.new) }
     {
-        match self.turn(alloc, cache, files, settings)? {
+        match self.turn(alloc, cache, files, settings, units)? {
             Turned::Evaluated(spent) => Ok(Refreshed::Evaluated(spent)),
+            Turned::More(spent) => Ok(Refreshed::More(spent)),
             Turned::Done(_known) => Ok(Refreshed::Done),
-        }
-    }
-
-    // Takes a turn of a refresh.
-    fn turn<F: Listing + Drop>(
-        &mut self,
-        alloc: Global,
-        cache: &mut EvalCache,
-        files: &mut Recorder<F>,
-        settings: &Settings,
-    ) -> Result<Turned, FilesFault>
-        requires { IsKept R.entries (world_of (view_of F.view files.old) settings.now) self.old }
-        ensures turn { IfOk result (EndsTurn (world_of (view_of F.view files.old) settings.now)
-            (rows_of R.entries self.old) (rows_of R.entries self.new)) }
-        ensures done { IfOk result (IsDoneAfter self.new) }
-        ensures err { OnErr result (ShowsSame (rows_of R.entries self.old) (rows_of R.entries self.new)) }
-        ensures kept { IsKept R.entries (world_of (view_of F.view files.old) settings.now) self.new }
-        ensures leaves { LeavesFiles (result_err result) (view_of F.view files.old) (view_of F.view files.new) }
-    {
-        match mem::replace(&mut self.progress, Progress::nothing(alloc)) {
-            Progress::Changed(names) => {
-                let walk = self.begun(alloc, files, names)?;
-                self.walk_on(alloc, cache, files, settings, walk)
-            }
-            Progress::Walking(walk) => self.walk_on(alloc, cache, files, settings, walk),
-            Progress::Current(listed) => {
-                self.progress = Progress::Current(listed);
-                Ok(Turned::Done(None))
-            }
-        }
-    }
-
-    // Goes on with a walk that was taken out of the keeper, and puts back what is left of it.
-    fn walk_on<F: Listing + Drop>(
-        &mut self,
-        alloc: Global,
-        cache: &mut EvalCache,
-        files: &mut Recorder<F>,
-        settings: &Settings,
-        walk: Walk,
-    ) -> Result<Turned, FilesFault>
-        requires { IsOnTheWay (world_of (view_of F.view files.old) settings.now)
-            (shown no_name (R.entries self.old.rows)) walk }
-        ensures turn { IfOk result (EndsTurn (world_of (view_of F.view files.old) settings.now)
-            (shown no_name (R.entries self.old.rows)) (rows_of R.entries self.new)) }
-        ensures done { IfOk result (IsDoneAfter self.new) }
-        ensures kept { OnOk result (IsKept R.entries (world_of (view_of F.view files.old) settings.now) self.new) }
-        ensures err { OnErr result (SameRows (R.entries self.old.rows) (R.entries self.new.rows)
-            × (self.new.progress ≡ self.old.progress)) }
-        ensures leaves { LeavesFiles (result_err result) (view_of F.view files.old) (view_of F.view files.new) }
-    {
-        match go_on(alloc, cache, files, settings, &mut self.rows, walk)? {
-            Onward::More(spent, walk) => {
-                self.progress = Progress::Walking(walk);
-                Ok(Turned::Evaluated(spent))
-            }
-            Onward::Current(listed, known) => {
-                self.progress = Progress::Current(listed);
-                Ok(Turned::Done(Some(known)))
-            }
-        }
-    }
-
-    // The walk with which a refresh begins after files of these names have changed. If that fails, the names
-    // are kept.
-    fn begun<F: Listing + Drop>(
-        &mut self,
-        alloc: Global,
-        files: &mut Recorder<F>,
-        names: BTreeSet<String>,
-    ) -> Result<Walk, FilesFault>
-        ensures walk { IfOk result (λ walk. (settings : Settings) → IsWalk
-            (world_of (view_of F.view files.old) settings) (shown no_name (R.entries self.new.rows)) walk) }
-        ensures ok { OnOk result (ShowsSame (shown (contains_text names) (R.entries self.old.rows))
-            (shown no_name (R.entries self.new.rows)) × (self.new.progress ≡ self.old.progress)) }
-        ensures err { OnErr result (SameRows (R.entries self.old.rows) (R.entries self.new.rows)
-            × (self.new.progress ≡ Progress.Changed names)) }
-        ensures leaves { LeavesFiles (result_err result) (view_of F.view files.old) (view_of F.view files.new) }
-    {
-        match begin_walk(alloc, files, &mut self.rows, &names) {
-            Ok(walk) => Ok(walk),
-            Err(fault) => {
-                self.progress = Progress::Changed(names);
-                Err(fault)
-            }
         }
     }
 
@@ -237,7 +176,7 @@ impl<R: PathRows + Drop> Keeper<R> {
         ensures known { IfOk result (λ found.
             KnowsNeeded (world_of (view_of F.view files.old) settings.now) found.0) }
         ensures spent { IfOk result (λ found. SpendsOnRows
-            (world_of (view_of F.view files.old) settings.now) (rows_of R.entries self.old) found.1) }
+            (world_of (view_of F.view files.old) settings.now) (refresh_of R.entries self.old) found.1) }
         ensures kept { IsKept R.entries (world_of (view_of F.view files.old) settings.now) self.new }
         ensures leaves { LeavesFiles (result_err result) (view_of F.view files.old) (view_of F.view files.new) }
     {
@@ -245,8 +184,9 @@ impl<R: PathRows + Drop> Keeper<R> {
         makefiles_are_evaluated();
         let mut spent = Spent::nothing();
         loop {
-            match self.turn(alloc, cache, files, settings)? {
+            match self.turn(alloc, cache, files, settings, u64::MAX)? {
                 Turned::Evaluated(more) => spent = spent.and(more),
+                Turned::More(_) => unreachable!(), // no evaluation spends that much
                 Turned::Done(Some(known)) => return Ok((known, spent)),
                 Turned::Done(None) => return Ok((fresh_rows(alloc, &mut self.rows)?, spent)),
             }
@@ -268,7 +208,7 @@ impl<R: PathRows + Drop> Keeper<R> {
         ensures roots { IfOk result (λ found. found.0.items
             ≡ indexed.roots (world_of (view_of F.view files.old) settings.now)) }
         ensures spent { IfOk result (λ found. SpendsOnRows
-            (world_of (view_of F.view files.old) settings.now) (rows_of R.entries self.old) found.1) }
+            (world_of (view_of F.view files.old) settings.now) (refresh_of R.entries self.old) found.1) }
         ensures kept { IsKept R.entries (world_of (view_of F.view files.old) settings.now) self.new }
         ensures leaves { LeavesFiles (result_err result) (view_of F.view files.old) (view_of F.view files.new) }
     {
@@ -294,7 +234,7 @@ impl<R: PathRows + Drop> Keeper<R> {
         ensures edges { IfOk result (λ found. found.1.items
             ≡ indexed.edges (world_of (view_of F.view files.old) settings.now)) }
         ensures spent { IfOk result (λ found. SpendsOnRows
-            (world_of (view_of F.view files.old) settings.now) (rows_of R.entries self.old) found.2) }
+            (world_of (view_of F.view files.old) settings.now) (refresh_of R.entries self.old) found.2) }
         ensures kept { IsKept R.entries (world_of (view_of F.view files.old) settings.now) self.new }
         ensures leaves { LeavesFiles (result_err result) (view_of F.view files.old) (view_of F.view files.new) }
     {
@@ -320,7 +260,7 @@ impl<R: PathRows + Drop> Keeper<R> {
     fn is_full(&self) -> bool {
         match &self.progress {
             Progress::Changed(names) => names.len() >= MOST_CHANGED,
-            Progress::Walking(_) | Progress::Current(_) => false,
+            Progress::Walking(_) | Progress::Asking(_, _) | Progress::Current(_) => false,
         }
     }
 
@@ -339,7 +279,7 @@ impl<R: PathRows + Drop> Keeper<R> {
 
 impl Progress {
     // No name has changed.
-    fn nothing(alloc: Global) -> Progress
+    pub(crate) fn nothing(alloc: Global) -> Progress
         ensures { HasForgotten result }
     {
         Progress::Changed(BTreeSet::new(alloc))
@@ -355,7 +295,7 @@ impl Progress {
     {
         match self {
             Progress::Changed(names) => insert_name(names, name),
-            Progress::Walking(_) | Progress::Current(_) => {
+            Progress::Walking(_) | Progress::Asking(_, _) | Progress::Current(_) => {
                 let mut names = BTreeSet::new(alloc);
                 insert_name(&mut names, name)?;
                 *self = Progress::Changed(names);

@@ -9,9 +9,9 @@ mod evaluating;
 mod keeper;
 mod laws;
 mod names;
+mod turning;
 mod walking;
 
-pub use asking::{Asked, ask};
-pub use keeper::Keeper;
+pub use asking::{Ask, AskTurned, Asked, ask_at_once};
+pub use keeper::{Keeper, Refreshed};
 pub use laws::asking_spends;
-pub use walking::Refreshed;

@@ -1,45 +1,31 @@
 //! A refresh: the paths on which the index depends, one after another, until each has its row.
-ghost use Rattle.std.specs.Prelude.{◌≡◌, ◌<◌, ◌≤◌, ℕ, List, if◌then◌else◌, Some, None, map, take, length, string_bytes};
-ghost use Rattle.std.specs.Prelude.{is_some, false, true};
+ghost use Rattle.std.specs.Prelude.{◌≡◌, ◌<◌, ℕ, List, if◌then◌else◌, Some, string_bytes, slice_get};
 ghost use Rattle.std.specs.Prelude.{IfOk, IfSome, IfNone, OnOk, OnErr};
 ghost use Rattle.std.specs.Result.{result_err};
 ghost use Rattle.std.specs.Str.{bytes_eq};
 ghost use Rattle.mk_paths.specs.FilesView.{world_of};
-ghost use Rattle.ports_index.specs.Filling.{is_one_of};
-ghost use Rattle.ports_index.specs.Seen.{entries_in};
-ghost use Rattle.read_trace.specs.Recording.{view_of};
-ghost use Rattle.index_store.specs.Entries.{SameRows};
-ghost use Rattle.index_keep.specs.Shown.{shown, no_name, fresh, ShowsSame};
+ghost use Rattle.mk_paths.specs.World.{World};
 ghost use Rattle.mk_paths.specs.declared.search_path.Settings.{Settings};
+ghost use Rattle.ports_index.specs.Seen.{entries_in};
+ghost use Rattle.ports_index.specs.Seen as seen;
+ghost use Rattle.read_trace.specs.Recording.{view_of};
 ghost use Rattle.std.specs.BTreeSet.{contains_text};
-ghost use Rattle.index_keep.specs.Right.{AreKept, LeavesFiles};
-ghost use Rattle.row_text.specs.Seen.{row_seen};
+ghost use Rattle.index_store.specs.Entries.{SameRows};
+ghost use Rattle.index_keep.specs.Shown.{ShownRows, shown, no_name, ShowsSame};
+ghost use Rattle.index_keep.specs.Right.{LeavesFiles};
 ghost use Rattle.index_keep.specs.Walking as walking;
 ghost use Rattle.index_keep.specs.declared.walking.Walk.TheVariants.{Directories, Listed, Needed};
 
 use crate::beginning::begin;
-use crate::ending::take_out_others;
-use crate::evaluating::{MadeRow, row_of_path};
-use eval_cache::EvalCache;
 use index_store::PathRows;
-use mk_files::{Files, Listing};
-use mk_paths::{FilesFault, Settings};
+use mk_files::Listing;
+use mk_paths::FilesFault;
 use ports_index::{
-    MemoryRows, Rows, Spent, directories, known_rows_are_enough, listed, needed_among,
+    MemoryRows, Row, Rows, directories, known_rows_are_enough, listed, needed_among,
 };
 use read_trace::Recorder;
-use row_text::{KeptRow, write_row};
 use std::alloc::{AllocError, Global};
 use std::collections::BTreeSet;
-
-/// What one call of a refresh did.
-#[derive(Clone, Copy, Debug, PartialEq, Eq)]
-pub enum Refreshed {
-    /// One path was evaluated, and has its row now. So much was spent.
-    Evaluated(Spent),
-    /// Each path has its row: the index is current.
-    Done,
-}
 
 /// The paths of a stage, how many of them have been passed, and what the fresh rows say.
 #[derive(Debug, Drop)]
@@ -61,6 +47,24 @@ impl Stage {
         }
     }
 
+    /// Goes on to the next path that has no fresh row, if there is one. It fails only if memory runs out.
+    fn pass(self, alloc: Global) -> Result<Passed, AllocError>
+        requires { walking.HasPassed self }
+        ensures { IfOk result (walking.PassesStage self) }
+    {
+        let Some(place) = self.lacking() else {
+            return Ok(Passed::All(self));
+        };
+        let path = String::from_str(alloc, self.paths[place].as_str())?;
+        let Stage { paths, known, .. } = self;
+        let stage = Stage {
+            paths,
+            place,
+            known,
+        };
+        Ok(Passed::Lacks(stage, path))
+    }
+
     /// The place of the next path that has no fresh row, if there is one.
     fn lacking(&self) -> Option<usize>
         requires { walking.HasPassed self.now }
@@ -73,6 +77,23 @@ impl Stage {
             }
         }
         None
+    }
+
+    /// The same stage, which knows of one more fresh row.
+    fn with_row(self, path: String, row: Row) -> Result<Stage, AllocError>
+        ensures { IfOk result (walking.KnowsRow (string_bytes path) (seen.row_seen row) self) }
+    {
+        let Stage {
+            paths,
+            place,
+            mut known,
+        } = self;
+        known.put(path, row)?;
+        Ok(Stage {
+            paths,
+            place,
+            known,
+        })
     }
 }
 
@@ -95,21 +116,21 @@ pub(crate) enum Walk {
     Needed(LastStage),
 }
 
-/// How a walk goes on.
-#[derive(Debug, Drop)]
-pub(crate) enum Onward {
-    /// One path was evaluated, so much was spent, and this is left.
-    More(Spent, Walk),
-    /// Each path has its row. These are the listed paths, and what the rows say.
-    Current(Vec<String>, MemoryRows),
-}
-
 /// What a stage came to.
 enum Passed {
-    /// One path was evaluated, and so much was spent.
-    One(Spent, Stage),
+    /// This path has no fresh row.
+    Lacks(Stage, String),
     /// Each path of the stage has a fresh row.
     All(Stage),
+}
+
+/// What a walk comes to next.
+#[derive(Drop)]
+pub(crate) enum Next {
+    /// This path has no fresh row.
+    Lacks(Walk, String),
+    /// Each path on which the index depends has a fresh row.
+    All(LastStage),
 }
 
 /// The walk with which a refresh begins after files of these names have changed. The rows that asked for them
@@ -132,53 +153,47 @@ pub(crate) fn begin_walk<F: Listing + Drop, R: PathRows>(
     Ok(Walk::Directories(Stage::new(paths, known)))
 }
 
-/// Goes on with a walk up to the next path that has no fresh row, evaluates it and writes its row. At the end
-/// it takes out the rows that nothing needs.
-///
-/// It fails if the files or the rows fail, or if memory runs out; then all rows are as they were.
-pub(crate) fn go_on<F: Files + Drop, R: PathRows>(
-    alloc: Global,
-    cache: &mut EvalCache,
-    files: &mut Recorder<F>,
-    settings: &Settings,
-    rows: &mut R,
-    walk: Walk,
-) -> Result<Onward, FilesFault>
-    requires { walking.IsOnTheWay (world_of (view_of F.view files.old) settings.now) (shown no_name (R.entries rows.old)) walk }
-    ensures goes { IfOk result (walking.GoesOn (world_of (view_of F.view files.old) settings.now)
-        (shown no_name (R.entries rows.old)) (shown no_name (R.entries rows.new))) }
-    ensures err { OnErr result (SameRows (R.entries rows.old) (R.entries rows.new)) }
-    ensures leaves { LeavesFiles (result_err result) (view_of F.view files.old) (view_of F.view files.new) }
-{
-    match walk {
-        Walk::Directories(stage) => pass_directories(alloc, cache, files, settings, rows, stage),
-        Walk::Listed(stage) => pass_listed(alloc, cache, files, settings, rows, stage),
-        Walk::Needed(last) => pass_needed(alloc, cache, files, settings, rows, last),
+impl Walk {
+    /// Goes on to the next path that has no fresh row. It fails only if memory runs out.
+    pub(crate) fn next(self, alloc: Global) -> Result<Next, AllocError>
+        requires { walking.HasPassed (walking.stage_of self) }
+        ensures { (world : World) (rows : ShownRows) → walking.IsOnTheWay world rows self
+            → IfOk result (walking.IsNext world rows) }
+    {
+        match self {
+            Walk::Directories(stage) => next_directory(alloc, stage),
+            Walk::Listed(stage) => next_listed(alloc, stage),
+            Walk::Needed(last) => next_needed(alloc, last),
+        }
+    }
+
+    /// The same walk, which knows of one more fresh row. It fails only if memory runs out.
+    pub(crate) fn with_row(self, path: String, row: Row) -> Result<Walk, AllocError>
+        ensures { (world : World) (old new : ShownRows) → walking.IsWalk world old self
+            → walking.HasRowMore (string_bytes path) (seen.row_seen row) old new
+            → IfOk result (walking.IsWalk world new) }
+    {
+        match self {
+            Walk::Directories(stage) => Ok(Walk::Directories(stage.with_row(path, row)?)),
+            Walk::Listed(stage) => Ok(Walk::Listed(stage.with_row(path, row)?)),
+            Walk::Needed(last) => {
+                let LastStage { stage, listed } = last;
+                let stage = stage.with_row(path, row)?;
+                Ok(Walk::Needed(LastStage { stage, listed }))
+            }
+        }
     }
 }
 
-fn pass_directories<F: Files + Drop, R: PathRows>(
-    alloc: Global,
-    cache: &mut EvalCache,
-    files: &mut Recorder<F>,
-    settings: &Settings,
-    rows: &mut R,
-    stage: Stage,
-) -> Result<Onward, FilesFault>
-    requires { walking.IsOnTheWay (world_of (view_of F.view files.old) settings.now)
-        (shown no_name (R.entries rows.old)) (Directories stage) }
-    ensures goes { IfOk result (walking.GoesOn (world_of (view_of F.view files.old) settings.now)
-        (shown no_name (R.entries rows.old)) (shown no_name (R.entries rows.new))) }
-    ensures err { OnErr result (SameRows (R.entries rows.old) (R.entries rows.new)) }
-    ensures leaves { LeavesFiles (result_err result) (view_of F.view files.old) (view_of F.view files.new) }
+fn next_directory(alloc: Global, stage: Stage) -> Result<Next, AllocError>
+    requires { walking.HasPassed stage }
+    ensures { (world : World) (rows : ShownRows) → walking.IsOnTheWay world rows (Directories stage)
+        → IfOk result (walking.IsNext world rows) }
 {
     known_rows_are_enough();
-    match pass(alloc, cache, files, settings, rows, stage)? {
-        Passed::One(spent, stage) => Ok(Onward::More(spent, Walk::Directories(stage))),
-        Passed::All(stage) => {
-            let stage = listed_stage(alloc, stage)?;
-            pass_listed(alloc, cache, files, settings, rows, stage)
-        }
+    match stage.pass(alloc)? {
+        Passed::Lacks(stage, path) => Ok(Next::Lacks(Walk::Directories(stage), path)),
+        Passed::All(stage) => next_listed(alloc, listed_stage(alloc, stage)?),
     }
 }
 
@@ -191,28 +206,15 @@ fn listed_stage(alloc: Global, stage: Stage) -> Result<Stage, AllocError>
     Ok(Stage::new(paths, known))
 }
 
-fn pass_listed<F: Files + Drop, R: PathRows>(
-    alloc: Global,
-    cache: &mut EvalCache,
-    files: &mut Recorder<F>,
-    settings: &Settings,
-    rows: &mut R,
-    stage: Stage,
-) -> Result<Onward, FilesFault>
-    requires { walking.IsOnTheWay (world_of (view_of F.view files.old) settings.now)
-        (shown no_name (R.entries rows.old)) (Listed stage) }
-    ensures goes { IfOk result (walking.GoesOn (world_of (view_of F.view files.old) settings.now)
-        (shown no_name (R.entries rows.old)) (shown no_name (R.entries rows.new))) }
-    ensures err { OnErr result (SameRows (R.entries rows.old) (R.entries rows.new)) }
-    ensures leaves { LeavesFiles (result_err result) (view_of F.view files.old) (view_of F.view files.new) }
+fn next_listed(alloc: Global, stage: Stage) -> Result<Next, AllocError>
+    requires { walking.HasPassed stage }
+    ensures { (world : World) (rows : ShownRows) → walking.IsOnTheWay world rows (Listed stage)
+        → IfOk result (walking.IsNext world rows) }
 {
     known_rows_are_enough();
-    match pass(alloc, cache, files, settings, rows, stage)? {
-        Passed::One(spent, stage) => Ok(Onward::More(spent, Walk::Listed(stage))),
-        Passed::All(stage) => {
-            let last = last_stage(alloc, stage)?;
-            pass_needed(alloc, cache, files, settings, rows, last)
-        }
+    match stage.pass(alloc)? {
+        Passed::Lacks(stage, path) => Ok(Next::Lacks(Walk::Listed(stage), path)),
+        Passed::All(stage) => next_needed(alloc, last_stage(alloc, stage)?),
     }
 }
 
@@ -228,92 +230,16 @@ fn last_stage(alloc: Global, stage: Stage) -> Result<LastStage, AllocError>
     })
 }
 
-fn pass_needed<F: Files + Drop, R: PathRows>(
-    alloc: Global,
-    cache: &mut EvalCache,
-    files: &mut Recorder<F>,
-    settings: &Settings,
-    rows: &mut R,
-    last: LastStage,
-) -> Result<Onward, FilesFault>
-    requires { walking.IsOnTheWay (world_of (view_of F.view files.old) settings.now)
-        (shown no_name (R.entries rows.old)) (Needed last) }
-    ensures goes { IfOk result (walking.GoesOn (world_of (view_of F.view files.old) settings.now)
-        (shown no_name (R.entries rows.old)) (shown no_name (R.entries rows.new))) }
-    ensures err { OnErr result (SameRows (R.entries rows.old) (R.entries rows.new)) }
-    ensures leaves { LeavesFiles (result_err result) (view_of F.view files.old) (view_of F.view files.new) }
+fn next_needed(alloc: Global, last: LastStage) -> Result<Next, AllocError>
+    requires { walking.HasPassed last.stage }
+    ensures { (world : World) (rows : ShownRows) → walking.IsOnTheWay world rows (Needed last)
+        → IfOk result (walking.IsNext world rows) }
 {
     let LastStage { stage, listed } = last;
-    match pass(alloc, cache, files, settings, rows, stage)? {
-        Passed::One(spent, stage) => {
-            Ok(Onward::More(spent, Walk::Needed(LastStage { stage, listed })))
+    match stage.pass(alloc)? {
+        Passed::Lacks(stage, path) => {
+            Ok(Next::Lacks(Walk::Needed(LastStage { stage, listed }), path))
         }
-        Passed::All(stage) => {
-            let Stage { paths, known, .. } = stage;
-            take_out_others(alloc, rows, &paths)?;
-            Ok(Onward::Current(listed, known))
-        }
+        Passed::All(stage) => Ok(Next::All(LastStage { stage, listed })),
     }
-}
-
-// Evaluates the next path of a stage that has no fresh row, and gives it its row.
-fn pass<F: Files + Drop, R: PathRows>(
-    alloc: Global,
-    cache: &mut EvalCache,
-    files: &mut Recorder<F>,
-    settings: &Settings,
-    rows: &mut R,
-    stage: Stage,
-) -> Result<Passed, FilesFault>
-    requires kept { AreKept (world_of (view_of F.view files.old) settings.now) (shown no_name (R.entries rows.old)) }
-    requires stage { walking.IsStage (fresh (shown no_name (R.entries rows.old))) (walking.paths_of stage) stage }
-    ensures passes { IfOk result (walking.PassesStage (world_of (view_of F.view files.old) settings.now)
-        stage (R.entries rows.old) (R.entries rows.new)) }
-    ensures err { OnErr result (SameRows (R.entries rows.old) (R.entries rows.new)) }
-    ensures leaves { LeavesFiles (result_err result) (view_of F.view files.old) (view_of F.view files.new) }
-{
-    let Some(place) = stage.lacking() else {
-        return Ok(Passed::All(stage));
-    };
-    let Stage {
-        paths,
-        mut known,
-        ..
-    } = stage;
-    let path = paths[place].as_str();
-    let MadeRow { row, spent } = row_of_path(alloc, cache, files, settings, path)?;
-    put_row(alloc, rows, &mut known, path, row)?;
-    Ok(Passed::One(
-        spent,
-        Stage {
-            paths,
-            place,
-            known,
-        },
-    ))
-}
-
-// Gives a path this row, which is fresh.
-fn put_row<R: PathRows>(
-    alloc: Global,
-    rows: &mut R,
-    known: &mut MemoryRows,
-    path: &str,
-    row: KeptRow,
-) -> Result<(), FilesFault>
-    ensures rows { OnOk result ((other : List ℕ) → shown no_name (R.entries rows.new) other
-        ≡ (if bytes_eq path.now other
-        then Some (record { row = row_seen row; stale = false })
-        else shown no_name (R.entries rows.old) other)) }
-    ensures known { OnOk result ((other : List ℕ) → entries_in known.new other
-        ≡ (if bytes_eq path.now other
-        then Some (row_seen row).outcome
-        else entries_in known.old other)) }
-    ensures err { OnErr result (SameRows (R.entries rows.old) (R.entries rows.new)) }
-{
-    let text = write_row(alloc, &row)?;
-    let key = String::from_str(alloc, path)?;
-    known.put(key, row.found.row)?;
-    rows.put(path, &text)?;
-    Ok(())
 }

@@ -19,7 +19,7 @@ use Rattle.ports_index.specs.Spending.{ChecksFew}
 use Rattle.ports_index.specs.declared.spending.Spent.{Spent}
 use Rattle.ports_plain.specs.Resting.{NoNeed, ValueNeed, RecordNeed, RootsNeed, IndexNeed}
 use Rattle.index_keep.specs.Shown.{ShownRows, fresh}
-use Rattle.index_keep.specs.Turns.{units_left, paths_left, SpendsOnRows}
+use Rattle.index_keep.specs.Turns.{RefreshView, units_left, paths_left, SpendsOnRows}
 use Rattle.kept_ports.specs.Spending.{KeepingSpendsNoMore}
 
 abbrev by_bytes : List ℕ → List ℕ → Ordering
@@ -70,19 +70,19 @@ left_takes_no_more world rows =
 few_checks : (checks left all pairs : ℕ) → checks ≤ 1028 * left → left ≤ all → all ≡ pairs → checks ≤ 1028 * pairs
 few_checks checks left all pairs few less same = omega arith
 
-index_spends_no_more : MakefilesAreEvaluated → (world : World) (rows : ShownRows) (spent : Spent) → SpendsOnRows world rows spent
+index_spends_no_more : MakefilesAreEvaluated → (world : World) (refresh : RefreshView) (spent : Spent) → SpendsOnRows world refresh spent
     → (spent.units ≤ cost_over world (needed_paths world)) × ChecksFew (length (pairs_at world (needed_paths world))) spent.checks
-index_spends_no_more law world rows spent spends = (
-  omega (arith, spends.within, left_spends_no_more world rows),
-  few_checks spent.checks (evaluations_over world (paths_left world rows)) (evaluations_over world (needed_paths world)) (length (pairs_at world (needed_paths world)))
-      spends.few (left_takes_no_more world rows) (law world (needed_paths world)),
+index_spends_no_more law world refresh spent spends = (
+  omega (arith, spends.within, left_spends_no_more world refresh.rows),
+  few_checks spent.checks (evaluations_over world (paths_left world refresh.rows)) (evaluations_over world (needed_paths world)) (length (pairs_at world (needed_paths world)))
+      spends.few (left_takes_no_more world refresh.rows) (law world (needed_paths world)),
 )
 
 pub spends_no_more : MakefilesAreEvaluated → KeepingSpendsNoMore
-spends_no_more law world rows NoNeed spent spends = spends
-spends_no_more law world rows (ValueNeed asked) spent spends = spends
-spends_no_more law world rows (RecordNeed path) spent spends = spends
-spends_no_more law world rows RootsNeed spent spends =
-    let no_more = index_spends_no_more law world rows spent spends in record { few = no_more.1; within = no_more.0 }
-spends_no_more law world rows IndexNeed spent spends =
-    let no_more = index_spends_no_more law world rows spent spends in record { few = no_more.1; within = no_more.0 }
+spends_no_more law world refresh NoNeed spent spends = spends
+spends_no_more law world refresh (ValueNeed asked) spent spends = spends
+spends_no_more law world refresh (RecordNeed path) spent spends = spends
+spends_no_more law world refresh RootsNeed spent spends =
+    let no_more = index_spends_no_more law world refresh spent spends in record { few = no_more.1; within = no_more.0 }
+spends_no_more law world refresh IndexNeed spent spends =
+    let no_more = index_spends_no_more law world refresh spent spends in record { few = no_more.1; within = no_more.0 }

@@ -1,23 +1,22 @@
--- What is spent to find what is needed, by the rows that are kept.
+-- What is spent to find what is needed, by how far the refresh of the index is.
 use Rattle.std.specs.Prelude.{◌≡◌}
 use Rattle.mk_paths.specs.World.{World}
 use Rattle.ports_index.specs.Spending.{no_spending}
 use Rattle.ports_index.specs.declared.spending.Spent.{Spent}
 use Rattle.ports_plain.specs.Resting.{Need, NoNeed, ValueNeed, RecordNeed, RootsNeed, IndexNeed}
 use Rattle.ports_plain.specs.Spending.{SpendsFor}
-use Rattle.index_keep.specs.Shown.{ShownRows}
-use Rattle.index_keep.specs.Turns.{SpendsOnRows}
+use Rattle.index_keep.specs.Turns.{RefreshView, SpendsOnRows}
 
 -- for the index, what the paths take that have no fresh row; for the rest, what it takes without rows
-abbrev pub SpendsOnKept : World → ShownRows → Need → Spent → Type 0
-SpendsOnKept world rows NoNeed spent = spent ≡ no_spending
-SpendsOnKept world rows (ValueNeed asked) spent = SpendsFor world (ValueNeed asked) spent
-SpendsOnKept world rows (RecordNeed path) spent = SpendsFor world (RecordNeed path) spent
-SpendsOnKept world rows RootsNeed spent = SpendsOnRows world rows spent
-SpendsOnKept world rows IndexNeed spent = SpendsOnRows world rows spent
+abbrev pub SpendsOnKept : World → RefreshView → Need → Spent → Type 0
+SpendsOnKept world refresh NoNeed spent = spent ≡ no_spending
+SpendsOnKept world refresh (ValueNeed asked) spent = SpendsFor world (ValueNeed asked) spent
+SpendsOnKept world refresh (RecordNeed path) spent = SpendsFor world (RecordNeed path) spent
+SpendsOnKept world refresh RootsNeed spent = SpendsOnRows world refresh spent
+SpendsOnKept world refresh IndexNeed spent = SpendsOnRows world refresh spent
 
--- whatever rows are kept, no more is spent than what is needed may take
+-- however far the refresh is, no more is spent than what is needed may take
 abbrev pub KeepingSpendsNoMore : Type 0
 KeepingSpendsNoMore =
-    (world : World) (rows : ShownRows) (need : Need) (spent : Spent) → SpendsOnKept world rows need spent
+    (world : World) (refresh : RefreshView) (need : Need) (spent : Spent) → SpendsOnKept world refresh need spent
     → SpendsFor world need spent

@@ -1,7 +1,7 @@
 //! Requests over a world whose index is kept.
 ghost use Rattle.std.specs.Prelude.{IfOk};
 ghost use Rattle.mk_paths.specs.FilesView.{world_of};
-ghost use Rattle.index_keep.specs.Keeping.{IsKept, rows_of};
+ghost use Rattle.index_keep.specs.Keeping.{IsKept, refresh_of};
 
 use crate::keeping::KeptPorts;
 use eval_cache::EvalCache;
@@ -47,7 +47,7 @@ impl PlainCall<'_> {
     ) -> Result<(Prepared, Spent), FilesFault>
         requires { IsKept R.entries (world_of (F.view files) self.now.settings.now) keeper.old }
         ensures prepared { IfOk result (IsPrepared (world_of (F.view files) self.now.settings.now)
-            (rows_of R.entries keeper.old) (request_of self.now)) }
+            (refresh_of R.entries keeper.old) (request_of self.now)) }
         ensures kept { IsKept R.entries (world_of (F.view files) self.now.settings.now) keeper.new }
     {
         let mut files = Recorder::new(alloc, files, Trace::new(alloc));

@@ -9,7 +9,7 @@ ghost use Rattle.read_trace.specs.Recording.{view_of, LeavesMap};
 
 use computed_ports::{record_of_evaluation, value_of_evaluation};
 use eval_cache::EvalCache;
-use index_keep::{ask, asking_spends};
+use index_keep::{ask_at_once, asking_spends};
 use mk_files::Files;
 use mk_paths::{FilesFault, Settings, find};
 use pkg_path::PkgPath;
@@ -39,7 +39,7 @@ pub(crate) fn find_value<F: Files + Drop>(
     let Some(makefile) = find(alloc, files, &settings.path, path.directory())? else {
         return Ok((None, Spent::nothing()));
     };
-    let asked = ask(alloc, cache, files, settings, &makefile, path.flavors())?;
+    let asked = ask_at_once(alloc, cache, files, settings, &makefile, path.flavors())?;
     let outcome = &asked.evaluation.outcome;
     let (found, units) = value_of_evaluation(alloc, outcome, &makefile, question.name())?;
     Ok((Some(found), asked.spent_on(units)))
@@ -65,7 +65,7 @@ pub(crate) fn find_record<F: Files + Drop>(
     let Some(makefile) = find(alloc, files, &settings.path, path.directory())? else {
         return Ok((None, Spent::nothing()));
     };
-    let asked = ask(alloc, cache, files, settings, &makefile, path.flavors())?;
+    let asked = ask_at_once(alloc, cache, files, settings, &makefile, path.flavors())?;
     let (found, units) = record_of_evaluation(alloc, &asked.evaluation.outcome, &makefile)?;
     Ok((Some(found), asked.spent_on(units)))
 }

@@ -57,7 +57,7 @@ impl<'a, F: Listing + Drop, R: PathRows + Drop> KeptPorts<'a, F, R> {
 }
 
 impl<F: Listing + Drop, R: PathRows + Drop> Ports for KeptPorts<'_, F, R> {
-    ghost use Rattle.index_keep.specs.Keeping.{rows_of};
+    ghost use Rattle.index_keep.specs.Keeping.{refresh_of};
     ghost use Rattle.kept_ports.specs.Spending.{SpendsOnKept};
     ghost use Rattle.kept_ports.specs.Leaving.{world_at, LeavesPorts, LeavesPorts-all};
     ghost use Rattle.std.proofs.Common.{refl};
@@ -69,7 +69,7 @@ impl<F: Listing + Drop, R: PathRows + Drop> Ports for KeptPorts<'_, F, R> {
     ghost world = { world_at F.view };
 
     ghost charges = { λ ports need.
-        SpendsOnKept (world_at F.view ports) (rows_of R.entries ports.keeper.now) need };
+        SpendsOnKept (world_at F.view ports) (refresh_of R.entries ports.keeper.now) need };
 
     ghost leaves = { λ fault. LeavesPorts F.view };
 

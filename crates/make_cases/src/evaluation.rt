@@ -2,7 +2,7 @@
 use crate::files::given_name;
 use crate::variables::{fault_answer, text_of_variable};
 use crate::world::World;
-use case_lines::{Answer, Trouble, as_text, one_text};
+use case_lines::{Answer, Trouble, as_number, as_text, one_text};
 use mk_base::{PureStop, Stop, UNITS};
 use mk_eval::{Anew, Evaluated, Failed, Kind, value};
 use mk_files::MemoryFiles;
@@ -222,10 +222,28 @@ fn evaluated_file(
     let mut files = Recorder::new(alloc, &mut world.files, Trace::new(alloc));
     let outcome = match world.way {
         Way::Whole => at_once(alloc, &mut files, settings, name, flavors),
-        Way::Turns(units) => by_turns(alloc, &mut files, settings, name, flavors, units),
+        Way::Turns(units) => {
+            let (outcome, _turns) = by_turns(alloc, &mut files, settings, name, flavors, units)?;
+            Ok(outcome)
+        }
     };
     world.asked = files.into_trace();
     outcome
+}
+
+/// `turns UNITS`: how many turns of so many units it takes to evaluate the makefile.
+pub fn turns(alloc: Global, world: &mut World, given: &[Vec<u8>]) -> Result<Answer, Trouble> {
+    let [units] = given else {
+        return Err(Trouble::NoCase);
+    };
+    let name = makefile(alloc)?;
+    let settings = &world.settings;
+    let mut files = Recorder::new(alloc, &mut world.files, Trace::new(alloc));
+    let units = as_number(units)?;
+    let (_outcome, turns) = by_turns(alloc, &mut files, settings, &name, None, units)?;
+    let mut answer = Answer::new(alloc);
+    answer.number(turns);
+    Ok(answer)
 }
 
 fn at_once(
@@ -242,7 +260,8 @@ fn at_once(
     }
 }
 
-/// An evaluation by turns of so many units. Each turn spends a unit, and the last one ends it.
+/// An evaluation by turns of so many units, and how many there are. Each turn spends a unit, and the last one
+/// ends it.
 fn by_turns(
     alloc: Global,
     files: &mut Recorder<&mut MemoryFiles>,
@@ -250,12 +269,12 @@ fn by_turns(
     name: &Name,
     flavors: Option<&[String]>,
     units: u64,
-) -> Result<Result<Evaluated, Failed>, Trouble> {
+) -> Result<(Result<Evaluated, Failed>, u64), Trouble> {
     let mut parses = Anew::new(alloc);
     let mut turned = Machine::start(alloc, settings, name, flavors, &mut parses, files)?;
-    for _ in 0..UNITS + 2 {
+    for turns in 0..UNITS + 2 {
         match turned {
-            Turned::Done(outcome) => return Ok(outcome),
+            Turned::Done(outcome) => return Ok((outcome, turns)),
             Turned::More(machine) => turned = machine.turn(alloc, &mut parses, files, units)?,
         }
     }

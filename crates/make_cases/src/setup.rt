@@ -127,6 +127,7 @@ impl Setup {
             "cost" | "evaluate" | "stored" | "flavored" | "value" => {
                 evaluation::answer_each_way(alloc, world, call, given)
             }
+            "turns" => evaluation::turns(alloc, world, given),
             _ => text_cases::answer(alloc, call, given),
         }
     }

@@ -1,6 +1,6 @@
 -- One thing done, and then the rest, is all that was still to be done.
 use Rattle.std.proofs.Common.{◌≡◌, ◌∙◌, ℕ, suc, zero, Bool, true, false, List, [], ◌∷◌, Option, Some, None, Result, Ok, Err, if◌then◌else◌, refl, sym, ap}
-use Rattle.mk_base.specs.FaultAt.{FaultAt, fault_at}
+use Rattle.mk_base.specs.FaultAt.{FaultAt}
 use Rattle.mk_base.specs.Outcome.{Work, give, after, each, ◌>>=◌}
 use Rattle.mk_text.specs.Lines.{LogicalLine}
 use Rattle.mk_ast.specs.declared.parsing.ParseFault.{ParseFault}
@@ -12,11 +12,11 @@ use Rattle.mk_loop.specs.LoopWords.{LoopWords}
 use Rattle.mk_eval.specs.declared.state.EvalState.{EvalState}
 use Rattle.mk_eval.specs.Lines.{inside_turn}
 use Rattle.mk_eval.specs.Includes.{File, Opened}
-use Rattle.mk_eval.specs.Execution.{LineWorks, execute, execute_tree, execute_branches, chosen, turn_of}
+use Rattle.mk_eval.specs.Execution.{LineWorks, execute, execute_tree, execute_branches, turn_of}
 use Rattle.mk_eval.specs.Meaning.{enter, execute_read, blamed_at, open_line}
 use Rattle.mk_eval.specs.Running.{entering_at}
 use Rattle.mk_eval.proofs.Stepping.{file_meaning-is}
-use Rattle.mk_step.specs.Machine.{Site, Frame, Lines, Later, Turns, Left, place_at, works_in, numbered, to_do, rest, read_lines, file_lines, opened_lines, do_tree, before, advance}
+use Rattle.mk_step.specs.Machine.{Site, Frame, Lines, Later, Turns, Left, place_at, works_in, numbered, rest, read_lines, file_lines, opened_lines, do_tree, before, advance}
 
 pub after-after : {A B C F M : Type 0} (r : Result (A × M) (F × M)) (f : A → Work M F B) (g : B → Work M F C) → after (after r f) g ≡ after r (λ x. f x >>= g)
 after-after (Ok x) f g = refl

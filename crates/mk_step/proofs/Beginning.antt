@@ -1,5 +1,5 @@
 -- How an evaluation begins.
-use Rattle.std.proofs.Common.{◌≡◌, ◌∙◌, ◌++◌, ℕ, false, List, [], ◌∷◌, Option, Some, None, option_map, Result, Ok, Err, refl, sym, ap, subst, arith, inl, inr}
+use Rattle.std.proofs.Common.{◌≡◌, ◌∙◌, ℕ, List, [], ◌∷◌, Option, Some, None, Result, Ok, Err, refl, sym, ap, subst, arith, inl, inr}
 use Rattle.std.specs.FinMap.{get}
 use Rattle.mk_base.specs.declared.metering.TheConstants.{UNITS}
 use Rattle.mk_base.specs.declared.faults.FaultKind.TheVariants as kinds
@@ -10,28 +10,25 @@ use Rattle.mk_base.specs.declared.stopping.PureStop.TheVariants as pure
 use Rattle.mk_base.specs.Blame.{IsBlamed}
 use Rattle.mk_base.specs.FaultAt.{FaultAt, fault_at}
 use Rattle.mk_base.specs.Meter.{Meter, full}
-use Rattle.mk_base.specs.Outcome.{Work, give, after, left}
+use Rattle.mk_base.specs.Outcome.{give, after}
 use Rattle.mk_base.specs.Stopping.{StopsPurelyAt, stop_of_pure}
 use Rattle.mk_ast.specs.declared.parsing.ParseFault.{ParseFault}
 use Rattle.mk_ast.specs.Trees.{Block}
 use Rattle.mk_ast.specs.Parsing.{parsed}
-use Rattle.mk_env.specs.Texts.{Variables}
-use Rattle.mk_paths.specs.World.{FileMap, World}
+use Rattle.mk_paths.specs.World.{FileMap}
 use Rattle.mk_paths.specs.FilesView.{FilesView, Question, Contents, noted, Fails}
 use Rattle.mk_paths.specs.declared.search_path.Settings.{Settings}
 use Rattle.mk_paths.specs.declared.asking.FilesFault.{FilesFault}
-use Rattle.mk_files.specs.Asking.{Account, beside}
-use Rattle.mk_files.specs.Looking.{looked, Refuses, LeavesAtStop, LeavesAtStop-one, AfterQuestions, AfterQuestions-one}
+use Rattle.mk_files.specs.Asking.{Account}
+use Rattle.mk_files.specs.Looking.{looked, Refuses, LeavesAtStop-one, AfterQuestions-one}
 use Rattle.mk_eval.specs.declared.state.EvalState.{EvalState}
-use Rattle.mk_eval.specs.declared.outcome.Kind.TheVariants as roles
 use Rattle.mk_eval.specs.Execution.{execute}
 use Rattle.mk_eval.specs.Meaning.{evaluation, fresh, makefile_meaning, execute_read, opening}
 use Rattle.mk_eval.specs.Running.{entering_at}
-use Rattle.mk_eval.specs.Start.{start}
 use Rattle.mk_eval.proofs.Stepping.{file_meaning-is}
 use Rattle.mk_step.specs.Machine.{Site, Frame, Lines, works_in, rest, read_lines}
-use Rattle.mk_step.specs.Points.{Point, limited, with_asked, limited_end, HasCome, EndsSo}
-use Rattle.mk_step.specs.Turning.{AsksMore, Begins, IsUnderWay}
+use Rattle.mk_step.specs.Points.{Point, with_asked, HasCome, EndsSo}
+use Rattle.mk_step.specs.Turning.{Begins}
 use Rattle.mk_step.specs.Views.{point_of}
 use Rattle.mk_step.specs.declared.machine.Machine.{Machine}
 

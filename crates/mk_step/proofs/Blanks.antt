@@ -1,5 +1,5 @@
 -- Which lines are blank.
-use Rattle.std.proofs.Common.{◌≡◌, ◌∙◌, ◌==◌, ℕ, Bool, true, false, List, [], ◌∷◌, ◌++◌, length, reverse, Option, Some, None, option_map, unwrap_or, cond, refl, sym, ap, subst, not, ◌&&◌, arith}
+use Rattle.std.proofs.Common.{◌≡◌, ◌∙◌, ◌==◌, ℕ, Bool, true, false, List, [], ◌∷◌, ◌++◌, length, reverse, Option, Some, None, option_map, unwrap_or, cond, refl, sym, ap, subst, arith}
 use Rattle.std.proofs.lemmas.Bool.Decides.{nat_tests}
 use Rattle.std.proofs.lemmas.List.{reverse-append, length-reverse}
 use Rattle.std.specs.List.{list_any, position}
@@ -8,7 +8,7 @@ use Rattle.mk_ref.specs.Outside.{outside}
 use Rattle.mk_text.specs.Blanks.{is_blank, skip_blanks, trim_blanks}
 use Rattle.mk_ast.specs.declared.kinds.Directive.{Directive}
 use Rattle.mk_ast.specs.declared.kinds.Operator.{Operator}
-use Rattle.mk_ast.specs.Kinds.{TextLineKind, CommandLine, BlankLine, DirectiveLine, AssignmentLine, DependencyLine, BadLine, is_command, is_blank_line, directive_named, directive_after_dot, directive_in, assignment_at, assignment_in, is_mark, kind_among, plain_kind, line_kind}
+use Rattle.mk_ast.specs.Kinds.{TextLineKind, CommandLine, BlankLine, DirectiveLine, AssignmentLine, DependencyLine, BadLine, is_command, is_blank_line, directive_after_dot, directive_in, assignment_at, assignment_in, is_mark, kind_among, plain_kind, line_kind}
 
 abbrev NotBlank : TextLineKind → Type 0
 NotBlank BlankLine = ⊥

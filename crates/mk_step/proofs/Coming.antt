@@ -9,11 +9,11 @@ use Rattle.mk_paths.specs.FilesView.{FilesView, Question, noted}
 use Rattle.mk_files.specs.Asking.{Account, account, beside}
 use Rattle.mk_files.specs.Looking.{AfterQuestions}
 use Rattle.mk_paths.specs.declared.search_path.Settings.{Settings}
-use Rattle.mk_eval.specs.Meaning.{evaluation, evaluated, fresh, means, questions_asked}
+use Rattle.mk_eval.specs.Meaning.{evaluated, means, questions_asked}
 use Rattle.mk_eval.specs.Sharing.{cost_of, questions_of}
 use Rattle.mk_eval.specs.declared.state.EvalState.{EvalState}
 use Rattle.mk_eval.proofs.Shared.{Shared, with-nothing, with-both}
-use Rattle.mk_eval.proofs.Steady.{Steady, lowered}
+use Rattle.mk_eval.proofs.Steady.{lowered}
 use Rattle.mk_eval.proofs.Logged.{noted-by}
 use Rattle.mk_step.specs.Machine.{Frame, Left, rest, advance}
 use Rattle.mk_step.specs.Points.{Point, limited, with_asked, ending, limited_end, HasCome, GoesOn, StopsWith, EndsSo}

@@ -1,20 +1,19 @@
 -- What is known of a whole evaluation after a turn.
-use Rattle.std.proofs.Common.{◌≡◌, ◌≤◌, ◌∙◌, ◌++◌, ℕ, List, [], ◌∷◌, Option, Result, Ok, Err, refl, sym, ap, subst, arith}
+use Rattle.std.proofs.Common.{◌≡◌, ◌≤◌, ◌++◌, ℕ, List, [], Option, Ok, Err, refl, arith}
 use Rattle.mk_base.specs.declared.metering.TheConstants.{UNITS}
 use Rattle.mk_base.specs.declared.stopping.Stop.{Stop}
 use Rattle.mk_base.specs.declared.stopping.Stop.TheVariants as stops
 use Rattle.mk_base.specs.FaultAt.{FaultAt}
-use Rattle.mk_base.specs.Meter.{Meter, IsLater, full}
+use Rattle.mk_base.specs.Meter.{IsLater, full}
 use Rattle.mk_paths.specs.FilesView.{FilesView, Question}
 use Rattle.mk_paths.specs.declared.search_path.Settings.{Settings}
 use Rattle.mk_paths.specs.declared.asking.FilesFault.{FilesFault}
 use Rattle.mk_eval.specs.Meaning.{means}
 use Rattle.mk_eval.specs.Sharing.{questions_of}
-use Rattle.mk_eval.specs.declared.outcome.Evaluated.{Evaluated}
 use Rattle.mk_step.specs.Points.{Point, HasCome, GoesOn, StopsWith, EndsSo}
 use Rattle.mk_step.specs.Turning.{AsksMore, Begins, RunsOn, TellsIfDone, Leaves, IsNew, Spends, stopped}
+use Rattle.mk_step.specs.Views.{point_of}
 use Rattle.mk_step.specs.declared.machine.Machine.{Machine}
-use Rattle.mk_paths.specs.World.{FileMap}
 use Rattle.mk_step.proofs.Coming.{come-on, ends-so, fails-so, means-end, asks-end}
 
 module _ (may : FilesFault → Type 0) (old new : FilesView) (settings : Settings) (name : List ℕ) (flavors : Option (List (List ℕ))) where
@@ -54,16 +53,18 @@ module _ (may : FilesFault → Type 0) (old new : FilesView) (settings : Setting
 
     -- it stopped
     pub stop-tells : (units : ℕ) (stop : Stop FaultAt) → RunsOn may old new start end units (Err stop) → TellsIfDone (stopped stop end.meter.spent) (means (old.files, settings) name flavors)
-    stop-tells units (stops.Fault fault) runs = means-end old.files settings name flavors (asked ++ runs.more) (Err (fault, end.meter)) (fails fault runs.more runs.so)
+    stop-tells units (stops.Fault fault) runs = means-end old.files settings name flavors (asked ++ runs.0.more) (Err (fault, end.meter)) (fails fault runs.0.more runs.0.so)
     stop-tells units stops.Store runs = tt
     stop-tells units stops.Memory runs = tt
 
     pub stop-leaves : (units : ℕ) (stop : Stop FaultAt) → RunsOn may old new start end units (Err stop) → Leaves may old new (old.files, settings) name flavors asked (stopped stop end.meter.spent)
-    stop-leaves units (stops.Fault fault) runs = record { more = runs.more; so = asks-end old.files settings name flavors (asked ++ runs.more) (Err (fault, end.meter)) (fails fault runs.more runs.so); noted = runs.noted }
+    stop-leaves units (stops.Fault fault) runs = record { more = runs.0.more; so = asks-end old.files settings name flavors (asked ++ runs.0.more) (Err (fault, end.meter)) (fails fault runs.0.more runs.0.so); noted = runs.0.noted }
     stop-leaves units stops.Store runs = runs
     stop-leaves units stops.Memory runs = runs
 
-pub stop-spends : (files : FileMap) (units : ℕ) (old : Machine) (stop : Stop FaultAt) (cost : ℕ) → Spends files units old (stopped stop cost)
-stop-spends files units old (stops.Fault fault) cost = tt
-stop-spends files units old stops.Store cost = tt
-stop-spends files units old stops.Memory cost = tt
+-- a stop comes in time
+pub stop-spends : (may : FilesFault → Type 0) (old new : FilesView) (machine : Machine) (end : Point) (units : ℕ) (stop : Stop FaultAt) → RunsOn may old new (point_of machine) end units (Err stop)
+    → Spends old.files units machine (stopped stop end.meter.spent)
+stop-spends may old new machine end units (stops.Fault fault) runs = runs.1
+stop-spends may old new machine end units stops.Store runs = tt
+stop-spends may old new machine end units stops.Memory runs = tt

@@ -1,7 +1,6 @@
 -- An evaluation that is begun and turned once.
-use Rattle.std.proofs.Common.{◌≡◌, ◌≤◌, ◌<◌, ◌+◌, ◌∙◌, ◌++◌, ℕ, List, [], ◌∷◌, Option, Some, None, Result, Ok, Err, refl, sym, ap, subst, arith}
+use Rattle.std.proofs.Common.{◌≡◌, ◌≤◌, ◌+◌, ◌∙◌, ◌++◌, ℕ, List, [], Option, None, Result, Ok, Err, refl, sym, ap, subst, arith}
 use Rattle.mk_base.specs.declared.metering.TheConstants.{UNITS}
-use Rattle.mk_base.specs.declared.stopping.Stop.TheVariants as stops
 use Rattle.mk_base.specs.FaultAt.{FaultAt}
 use Rattle.mk_base.specs.Meter.{Meter, full}
 use Rattle.mk_base.specs.Outcome.{left}
@@ -9,19 +8,16 @@ use Rattle.mk_paths.specs.FilesView.{FilesView, Question, noted, noted-twice}
 use Rattle.mk_paths.specs.World.{FileMap}
 use Rattle.mk_paths.specs.declared.search_path.Settings.{Settings}
 use Rattle.mk_paths.specs.declared.asking.FilesFault.{FilesFault}
-use Rattle.mk_paths.specs.declared.asking.FilesFault.TheVariants as faults
-use Rattle.mk_files.specs.Asking.{Account, beside}
+use Rattle.mk_files.specs.Asking.{beside}
 use Rattle.mk_files.specs.Looking.{LeavesAtStop-on, stop_of}
 use Rattle.mk_base.specs.declared.stopping.Stop.{Stop}
-use Rattle.mk_eval.specs.Meaning.{evaluation, evaluated, fresh, means, questions_asked}
+use Rattle.mk_eval.specs.Meaning.{evaluation, evaluated, means, questions_asked}
 use Rattle.mk_eval.specs.Sharing.{cost_of, questions_of}
-use Rattle.mk_eval.specs.Telling.{LeavesAsked, CostsAtMost}
 use Rattle.mk_eval.specs.declared.state.EvalState.{EvalState}
 use Rattle.mk_eval.specs.declared.outcome.Evaluated.{Evaluated}
 use Rattle.mk_eval.specs.declared.outcome.Failed.{Failed}
 use Rattle.mk_eval.proofs.Shared.{Shared, with_questions}
 use Rattle.mk_eval.proofs.SharedEvaluation.{shared-evaluation}
-use Rattle.mk_step.specs.Points.{HasCome}
 use Rattle.mk_step.specs.Turning.{AsksMore, IsUnderWay, TellsIfDone, Leaves, Spends, HasSpent}
 use Rattle.mk_step.specs.declared.machine.Machine.{Machine}
 use Rattle.mk_step.specs.declared.machine.Turned.{Turned}

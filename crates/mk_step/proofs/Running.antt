@@ -1,21 +1,19 @@
 -- How a run of a machine comes from one point to another.
-use Rattle.std.proofs.Common.{◌≡◌, ◌≤◌, ◌<◌, ◌+◌, ◌∙◌, ◌++◌, ◌⊎◌, ℕ, Bool, true, false, List, [], ◌∷◌, Option, Some, None, Result, Ok, Err, refl, sym, ap, subst, arith, inl, inr}
+use Rattle.std.proofs.Common.{◌≡◌, ◌≤◌, ◌<◌, ◌+◌, ◌∙◌, ◌++◌, ◌⊎◌, ℕ, true, false, List, [], ◌∷◌, Result, Ok, Err, refl, sym, ap, subst, arith, inl, inr}
 use Rattle.mk_base.specs.declared.stopping.Stop.{Stop}
 use Rattle.mk_base.specs.declared.stopping.Stop.TheVariants as stops
 use Rattle.mk_base.specs.FaultAt.{FaultAt}
-use Rattle.mk_base.specs.Meter.{Meter, IsLater, IsLater-on}
+use Rattle.mk_base.specs.Meter.{Meter, IsLater}
 use Rattle.mk_base.specs.Outcome.{left}
 use Rattle.mk_base.specs.Stopping.{StopsAt}
-use Rattle.mk_paths.specs.World.{FileMap}
 use Rattle.mk_paths.specs.FilesView.{FilesView, Question, noted, noted-twice, noted-nothing}
 use Rattle.mk_paths.specs.declared.asking.FilesFault.{FilesFault}
 use Rattle.mk_files.specs.Asking.{Account, account}
 use Rattle.mk_files.specs.Looking.{AfterQuestions, LeavesAtStop, LeavesAtStop-on}
-use Rattle.mk_eval.specs.declared.state.EvalState.{EvalState}
-use Rattle.mk_step.specs.Machine.{Frame, Left, before, advance}
+use Rattle.mk_step.specs.Machine.{Frame, Left, advance}
 use Rattle.mk_step.specs.Paying.{Costs}
 use Rattle.mk_step.specs.Points.{Point, GoesOn, StopsWith, AreAlike}
-use Rattle.mk_step.specs.Turning.{AsksMore, IsLast, IsSpent, RunsOn}
+use Rattle.mk_step.specs.Turning.{AsksMore, IsLast, StopsInTime, RunsOn}
 use Rattle.mk_step.proofs.Coming.{goes-nowhere, goes-free, goes-on, goes-step, stops-step, stops-on, notes, asked, spends}
 use Rattle.mk_step.proofs.SharedSteps.{shared-advance}
 use Rattle.mk_step.proofs.Spending.{grows-advance}
@@ -26,7 +24,7 @@ stop_at stop = stop
 -- where a run has come to that was given some units, from a start
 pub record Way (first : FilesView) (start : Point) (units : ℕ) (old : FilesView) (point : Point) : Type 0 where
   pub goes : AsksMore first old (GoesOn first.files start point)
-  pub last : (point.meter.spent ≡ start.meter.spent) ⊎ IsLast first.files units start point
+  pub last : (point.meter.spent ≡ start.meter.spent) ⊎ IsLast first.files units start point.meter.spent
 
 pub way-begins : (first : FilesView) (start : Point) (units : ℕ) → Way first start units first start
 way-begins first start units = record {
@@ -38,23 +36,29 @@ module _ (may : FilesFault → Type 0) (first : FilesView) (start : Point) (unit
   same_files : old.files ≡ first.files
   same_files = ap (λ (view : FilesView). view.files) way.goes.noted
 
+  in_time : StopsInTime first.files units start point.meter.spent
+  in_time = record { onward = way.goes.so.later.spent; last = way.last }
+
   asked_so_far : AfterQuestions first old
   asked_so_far = record { questions = way.goes.more; in_log = way.goes.noted }
 
   -- nothing is to be done any more
   pub way-ends : (others : List Frame) → AreAlike point.frames others → others ≡ [] → RunsOn may first old start (record point { frames = others }) units (Ok true)
   way-ends others alike none = (
-    record {
-      more = way.goes.more ++ [];
-      so = goes-on first.files start point (record point { frames = others }) way.goes.more [] way.goes.so (goes-free first.files point.makefile point.frames others point.state point.meter (alike first.files point.makefile point.state));
-      noted = noted-nothing old ∙ ap (λ view. noted view []) way.goes.noted ∙ noted-twice first way.goes.more [];
-    },
-    none,
+    (
+      record {
+        more = way.goes.more ++ [];
+        so = goes-on first.files start point (record point { frames = others }) way.goes.more [] way.goes.so (goes-free first.files point.makefile point.frames others point.state point.meter (alike first.files point.makefile point.state));
+        noted = noted-nothing old ∙ ap (λ view. noted view []) way.goes.noted ∙ noted-twice first way.goes.more [];
+      },
+      none,
+    ),
+    in_time,
   )
 
   -- the units are spent
   pub way-stays : start.meter.spent + units ≤ point.meter.spent → RunsOn may first old start point units (Ok false)
-  way-stays spent = (way.goes, (spent, way.last))
+  way-stays spent = ((way.goes, spent), in_time)
 
   module _ (frame : Frame) (others : List Frame) (m' : Meter) (alike : AreAlike point.frames (frame ∷ others)) (later : IsLater point.meter m') where
     abbrev taken : Point
@@ -68,6 +72,21 @@ module _ (may : FilesFault → Type 0) (first : FilesView) (start : Point) (unit
 
     noted_all : new ≡ noted old asks_next → new ≡ noted first (way.goes.more ++ ([] ++ asks_next))
     noted_all is = is ∙ ap (λ view. noted view asks_next) way.goes.noted ∙ noted-twice first way.goes.more asks_next
+
+    -- what was done last, if fewer than the units were spent before
+    last_at : (end : Result (Left × Account) (FaultAt × Account)) → point.meter.spent < start.meter.spent + units → advance old.files point.makefile frame others point.state (account point.meter old) ≡ end
+        → IsLast first.files units start (left end).meter.spent
+    last_at end low is = record {
+      makefile = point.makefile;
+      frame = frame;
+      others = others;
+      state = point.state;
+      account = account point.meter old;
+      asked = way.goes.more ++ [];
+      comes = goes-on first.files start point taken way.goes.more [] way.goes.so to_taken;
+      low = low;
+      leaves = ap (λ (end : Result (Left × Account) (FaultAt × Account)). (left end).meter.spent) (subst (λ files. advance files point.makefile frame others point.state (account point.meter old) ≡ end) same_files is);
+    }
 
     module _ (next : Left) (asks : AfterQuestions old new) (is : advance old.files point.makefile frame others point.state (account point.meter old) ≡ Ok (next, account m' new)) where
       abbrev come : Point
@@ -83,18 +102,7 @@ module _ (may : FilesFault → Type 0) (first : FilesView) (start : Point) (unit
           so = goes-on first.files start point come way.goes.more ([] ++ asks_next) way.goes.so (goes-on first.files point taken come [] asks_next to_taken to_come);
           noted = noted_all (notes old new point.makefile frame others point.state point.meter m' (Ok (next, account m' new)) asks is refl);
         };
-        last = inr (record {
-          frame = frame;
-          others = others;
-          state = point.state;
-          meter = point.meter;
-          asked = way.goes.more ++ [];
-          old = old.log;
-          new = new.log;
-          comes = goes-on first.files start point taken way.goes.more [] way.goes.so to_taken;
-          low = low;
-          leads = subst (λ files. advance files point.makefile frame others point.state (account point.meter old) ≡ Ok (next, account m' new)) same_files is;
-        });
+        last = inr (last_at (Ok (next, account m' new)) low is);
       }
 
       pub way-grows : Costs frame → point.meter.spent < m'.spent
@@ -107,13 +115,17 @@ module _ (may : FilesFault → Type 0) (first : FilesView) (start : Point) (unit
 
     -- it stops
     pub way-stops : (stop : Stop FaultAt) (end : Point) → end.meter ≡ m' → StopsAt stop (account m' new) (advance old.files point.makefile frame others point.state (account point.meter old)) → LeavesAtStop may old new stop
-        → RunsOn may first new start end units (Err stop)
-    way-stops (stops.Fault fault) end same at leaves = record {
-      more = way.goes.more ++ ([] ++ asks_next);
-      so = subst (λ m. StopsWith first.files start fault m (way.goes.more ++ ([] ++ asks_next))) (sym same)
-          (stops-on first.files start point fault m' way.goes.more ([] ++ asks_next) later.spent way.goes.so (stops-on first.files point taken fault m' [] asks_next later.spent to_taken
-          (subst (λ files. StopsWith files taken fault m' asks_next) same_files (stops-step old new point.makefile frame others point.state point.meter m' fault at))));
-      noted = noted_all (notes old new point.makefile frame others point.state point.meter m' (Err (fault, account m' new)) leaves at refl);
-    }
-    way-stops stops.Store end same at leaves = LeavesAtStop-on may first old new (stop_at stops.Store) asked_so_far leaves
-    way-stops stops.Memory end same at leaves = LeavesAtStop-on may first old new (stop_at stops.Memory) asked_so_far leaves
+        → point.meter.spent < start.meter.spent + units → RunsOn may first new start end units (Err stop)
+    way-stops (stops.Fault fault) end same at leaves low = (
+      record {
+        more = way.goes.more ++ ([] ++ asks_next);
+        so = subst (λ m. StopsWith first.files start fault m (way.goes.more ++ ([] ++ asks_next))) (sym same)
+            (stops-on first.files start point fault m' way.goes.more ([] ++ asks_next) later.spent way.goes.so (stops-on first.files point taken fault m' [] asks_next later.spent to_taken
+            (subst (λ files. StopsWith files taken fault m' asks_next) same_files (stops-step old new point.makefile frame others point.state point.meter m' fault at))));
+        noted = noted_all (notes old new point.makefile frame others point.state point.meter m' (Err (fault, account m' new)) leaves at refl);
+      },
+      subst (λ (m : Meter). StopsInTime first.files units start m.spent) (sym same)
+          (record { onward = omega (arith, way.goes.so.later.spent, later.spent); last = inr (last_at (Err (fault, account m' new)) low at) }),
+    )
+    way-stops stops.Store end same at leaves low = LeavesAtStop-on may first old new (stop_at stops.Store) asked_so_far leaves
+    way-stops stops.Memory end same at leaves low = LeavesAtStop-on may first old new (stop_at stops.Memory) asked_so_far leaves

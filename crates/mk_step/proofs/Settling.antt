@@ -1,7 +1,7 @@
 -- What is left of a frame without what costs nothing.
-use Rattle.std.proofs.Common.{◌≡◌, ◌<◌, ◌≤◌, ◌∙◌, ℕ, List, [], ◌∷◌, drop, length, map, refl, sym, ap, subst, arith}
+use Rattle.std.proofs.Common.{◌≡◌, ◌<◌, ◌≤◌, ◌∙◌, ℕ, List, [], ◌∷◌, drop, length, map, ap, subst, arith}
 use Rattle.std.proofs.lemmas.List.{drop_all, length-drop}
-use Rattle.mk_base.specs.Outcome.{Work, after, each}
+use Rattle.mk_base.specs.Outcome.{after}
 use Rattle.mk_ast.specs.declared.nodes.Node.{Node}
 use Rattle.mk_ast.specs.declared.nodes.Branch.{Branch}
 use Rattle.mk_ast.specs.Trees.{Block, Branches}

@@ -1,6 +1,5 @@
 -- What the machine does doesn't depend on a log, nor on a limit that it doesn't reach.
-use Rattle.std.proofs.Common.{ℕ, suc, zero, Bool, List, [], ◌∷◌, Option, Some, None, Result, Ok, Err}
-use Rattle.mk_base.specs.FaultAt.{FaultAt}
+use Rattle.std.proofs.Common.{ℕ, suc, zero, List, [], ◌∷◌, Some, None, Result, Ok, Err}
 use Rattle.mk_ast.specs.declared.parsing.ParseFault.{ParseFault}
 use Rattle.mk_ast.specs.Trees.{Tree, LineTree, ChoiceTree, LoopTree, Block, EmptyBlock, MoreBlock, NoBranches, ElifBranch, ElseBranch}
 use Rattle.mk_ast.specs.Parsing.{parsed}

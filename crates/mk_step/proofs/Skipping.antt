@@ -1,15 +1,12 @@
 -- A blank line has nothing to do.
-use Rattle.std.proofs.Common.{◌≡◌, ◌<◌, ◌≤◌, ◌+◌, ◌∙◌, ℕ, List, [], ◌∷◌, drop, length, get_or, refl, sym, ap, arith}
+use Rattle.std.proofs.Common.{◌≡◌, ◌<◌, ◌≤◌, ◌+◌, ◌∙◌, ℕ, List, ◌∷◌, drop, length, get_or, sym, ap, arith}
 use Rattle.std.proofs.lemmas.List.{drop_more, drop_all}
-use Rattle.mk_base.specs.FaultAt.{FaultAt}
 use Rattle.mk_base.specs.Outcome.{after, tell}
 use Rattle.mk_ast.specs.declared.nodes.Node.{Node}
-use Rattle.mk_ast.specs.Kinds.{TextLineKind, BlankLine, line_kind}
+use Rattle.mk_ast.specs.Kinds.{TextLineKind}
 use Rattle.mk_ast.specs.Trees.{Tree, LineTree, ChoiceTree, LoopTree, Block, MoreBlock}
 use Rattle.mk_ast.specs.Views.{tree_of, block_of}
-use Rattle.mk_paths.specs.World.{FileMap}
-use Rattle.mk_files.specs.Asking.{Account, beside}
-use Rattle.mk_eval.specs.declared.state.EvalState.{EvalState}
+use Rattle.mk_files.specs.Asking.{beside}
 use Rattle.mk_eval.specs.Lines.{perform_kind}
 use Rattle.mk_eval.specs.Includes.{open_request}
 use Rattle.mk_eval.specs.Execution.{execute}

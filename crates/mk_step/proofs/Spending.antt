@@ -1,27 +1,25 @@
 -- What costs at least a unit spends at least one.
-use Rattle.std.proofs.Common.{◌≡◌, ◌≤◌, ◌<◌, ◌+◌, ℕ, nat_lt, Bool, true, false, List, [], ◌∷◌, Option, option_map, Result, Ok, Err, if◌then◌else◌, refl, ap, arith}
+use Rattle.std.proofs.Common.{◌≡◌, ◌≤◌, ◌<◌, ◌+◌, ℕ, nat_lt, Bool, true, false, List, [], ◌∷◌, option_map, Result, Ok, Err, if◌then◌else◌, refl, ap, arith}
 use Rattle.mk_base.specs.declared.faults.FaultKind.{FaultKind}
 use Rattle.mk_base.specs.declared.faults.FaultKind.TheVariants as kinds
-use Rattle.mk_base.specs.FaultAt.{FaultAt}
 use Rattle.mk_base.specs.Meter.{Meter, pay}
 use Rattle.mk_base.specs.Outcome.{Work, after, left, tell, fail, ◌>>=◌}
 use Rattle.mk_ast.specs.Kinds.{TextLineKind, CommandLine, BlankLine, DirectiveLine, AssignmentLine, DependencyLine, BadLine, line_kind}
 use Rattle.mk_ast.specs.Trees.{Tree, LineTree, ChoiceTree, LoopTree, EmptyBlock, MoreBlock, NoBranches, ElifBranch, ElseBranch}
 use Rattle.mk_env.specs.Texts.{Variables}
 use Rattle.mk_paths.specs.World.{FileMap}
-use Rattle.mk_paths.specs.FilesView.{Question}
 use Rattle.mk_files.specs.Asking.{Account, beside, quietly}
 use Rattle.mk_eval.specs.declared.state.EvalState.{EvalState}
 use Rattle.mk_eval.specs.Lines.{Loops, perform_kind}
 use Rattle.mk_eval.specs.Heads.{head_text, judge, turns, form_in}
 use Rattle.mk_eval.specs.Includes.{Place}
 use Rattle.mk_eval.specs.Meaning.{at, open_line}
-use Rattle.mk_eval.proofs.Steady.{Steady, steady-pay}
+use Rattle.mk_eval.proofs.Steady.{Steady}
 use Rattle.mk_eval.proofs.SteadyLoops.{steady-execute_in, steady-put_in, steady-header}
 use Rattle.mk_eval.proofs.Shared.{Shared, shared-give}
 use Rattle.mk_eval.proofs.SharedConditions.{shared-parts}
 use Rattle.mk_eval.proofs.SharedEvaluation.{shared-open_request}
-use Rattle.mk_step.specs.Machine.{Site, Frame, Lines, Later, Turns, place_at, works_in, numbered, do_tree, advance}
+use Rattle.mk_step.specs.Machine.{Site, Frame, Lines, Later, Turns, place_at, do_tree, advance}
 use Rattle.mk_step.specs.Paying.{TreeCosts, Costs}
 use Rattle.mk_step.proofs.Coming.{spends}
 use Rattle.mk_step.proofs.SharedSteps.{shared-opened_lines}

@@ -1,5 +1,5 @@
 -- Frames on top of others.
-use Rattle.std.proofs.Common.{◌≡◌, ◌∙◌, List, [], ◌∷◌, ◌++◌, map, reverse, Option, option_map, refl, sym, ap}
+use Rattle.std.proofs.Common.{◌≡◌, ◌∙◌, List, [], ◌∷◌, ◌++◌, map, reverse, Option, option_map, sym, ap}
 use Rattle.std.proofs.lemmas.List.{reverse-append, map-append}
 use Rattle.mk_step.specs.Machine as machine
 use Rattle.mk_step.specs.Machine.{rest, before}

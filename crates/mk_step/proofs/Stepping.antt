@@ -1,5 +1,5 @@
 -- What the code's steps do.
-use Rattle.std.proofs.Common.{◌≡◌, ◌<◌, ◌≤◌, ◌+◌, ◌-◌, ◌∙◌, ℕ, suc, zero, Bool, List, [], ◌∷◌, drop, length, get_or, map, option_map, Option, Some, None, Result, Ok, Err, if◌then◌else◌, refl, sym, ap, subst, arith}
+use Rattle.std.proofs.Common.{◌≡◌, ◌<◌, ◌+◌, ◌-◌, ◌∙◌, ℕ, suc, zero, Bool, List, [], ◌∷◌, drop, length, get_or, map, option_map, Option, Some, None, Result, Ok, Err, if◌then◌else◌, refl, sym, ap, subst, arith}
 use Rattle.std.proofs.lemmas.List.{drop_more}
 use Rattle.mk_base.specs.FaultAt.{FaultAt}
 use Rattle.mk_base.specs.Meter.{Meter, pay}
@@ -25,7 +25,7 @@ use Rattle.mk_loop.specs.declared.turn.Iteration.{Iteration}
 use Rattle.mk_loop.specs.LoopWords.{LoopWords}
 use Rattle.mk_eval.specs.declared.including.ExecutedFile.{ExecutedFile}
 use Rattle.mk_eval.specs.declared.state.EvalState.{EvalState}
-use Rattle.mk_eval.specs.Lines.{Loops, inside_turn}
+use Rattle.mk_eval.specs.Lines.{inside_turn}
 use Rattle.mk_eval.specs.Heads.{judge, turns}
 use Rattle.mk_eval.specs.Includes.{Place, File, Opened}
 use Rattle.mk_eval.specs.Meaning.{at, blamed_at, open_line}

@@ -1,6 +1,6 @@
 -- A machine that executes makefiles. It has what is still to be done in frames, the innermost first, and does
 -- one thing after another.
-use Rattle.std.specs.Prelude.{ℕ, suc, zero, Bool, false, if◌then◌else◌, List, [], ◌∷◌, Option, Some, None, Result, Ok, Err}
+use Rattle.std.specs.Prelude.{ℕ, suc, zero, false, if◌then◌else◌, List, [], ◌∷◌, Option, Some, None, Result, Ok, Err}
 use Rattle.mk_base.specs.FaultAt.{FaultAt, fault_at}
 use Rattle.mk_base.specs.Outcome.{Work, give, fail, each, ◌>>=◌}
 use Rattle.mk_text.specs.Lines.{LogicalLine}

@@ -1,5 +1,5 @@
 -- How far an evaluation has come.
-use Rattle.std.specs.Prelude.{◌≡◌, ◌≤◌, ℕ, List, ◌++◌, Option, option_map, Result, Ok, Err}
+use Rattle.std.specs.Prelude.{◌≡◌, ◌≤◌, ℕ, List, ◌∷◌, ◌++◌, Option, option_map, Result, Ok, Err}
 use Rattle.mk_base.specs.declared.metering.TheConstants.{UNITS}
 use Rattle.mk_base.specs.FaultAt.{FaultAt}
 use Rattle.mk_base.specs.Meter.{Meter, IsLater}
@@ -18,6 +18,15 @@ pub record Point : Type 0 where
   pub frames : List Frame
   pub state : EvalState
   pub meter : Meter
+
+-- the point before the next thing that a frame does, with these other frames after it
+abbrev pub point_before : List ℕ → Frame → List Frame → EvalState → Account → Point
+point_before makefile frame others state account = record {
+  makefile = makefile;
+  frames = frame ∷ others;
+  state = state;
+  meter = account.meter;
+}
 
 -- the meter with another limit
 abbrev pub limited : ℕ → Meter → Meter

@@ -1,24 +1,25 @@
 -- What a turn of a machine says, leaves and spends.
-use Rattle.std.specs.Prelude.{◌≡◌, ◌≤◌, ◌<◌, ◌+◌, ◌⊎◌, ℕ, Bool, true, false, List, [], ◌∷◌, ◌++◌, Option, Result, Ok, Err}
+use Rattle.std.specs.Prelude.{◌≡◌, ◌≤◌, ◌<◌, ◌+◌, ◌⊎◌, ℕ, Bool, true, false}
+use Rattle.std.specs.Prelude.{List, [], ◌++◌, Option, Result, Ok, Err}
 use Rattle.mk_base.specs.declared.stopping.Stop.{Stop}
 use Rattle.mk_base.specs.declared.stopping.Stop.TheVariants as stops
 use Rattle.mk_base.specs.declared.metering.TheConstants.{UNITS}
 use Rattle.mk_base.specs.FaultAt.{FaultAt}
-use Rattle.mk_base.specs.Meter.{Meter, full}
+use Rattle.mk_base.specs.Meter.{full}
+use Rattle.mk_base.specs.Outcome.{left}
 use Rattle.mk_paths.specs.World.{FileMap, World}
 use Rattle.mk_paths.specs.FilesView.{FilesView, Question, noted}
 use Rattle.mk_paths.specs.declared.search_path.Settings.{Settings}
 use Rattle.mk_paths.specs.declared.asking.FilesFault.{FilesFault}
 use Rattle.mk_paths.specs.declared.asking.FilesFault.TheVariants as faults
-use Rattle.mk_files.specs.Asking.{Account, account}
+use Rattle.mk_files.specs.Asking.{Account}
 use Rattle.mk_files.specs.Looking.{LeavesAtStop, stop_of}
-use Rattle.mk_eval.specs.Meaning.{means}
 use Rattle.mk_eval.specs.Sharing.{questions_of, cost_of}
 use Rattle.mk_eval.specs.declared.outcome.Evaluated.{Evaluated}
 use Rattle.mk_eval.specs.declared.outcome.Failed.{Failed}
 use Rattle.mk_eval.specs.declared.state.EvalState.{EvalState}
-use Rattle.mk_step.specs.Machine.{Frame, Left, advance}
-use Rattle.mk_step.specs.Points.{Point, HasCome, GoesOn, StopsWith, EndsSo}
+use Rattle.mk_step.specs.Machine.{Frame, advance}
+use Rattle.mk_step.specs.Points.{Point, point_before, HasCome, GoesOn, StopsWith, EndsSo}
 use Rattle.mk_step.specs.Views.{point_of}
 use Rattle.mk_step.specs.declared.machine.Machine.{Machine}
 use Rattle.mk_step.specs.declared.machine.Turned.{Turned}
@@ -30,7 +31,8 @@ abbrev pub IsUnderWay : World → List ℕ → Option (List (List ℕ)) → List
 IsUnderWay world name flavors asked machine = HasCome world name flavors asked (point_of machine)
 
 -- this holds of every evaluation among these files in which a machine is under way
-abbrev pub ForEach : FileMap → Machine → (World → List ℕ → Option (List (List ℕ)) → List Question → Type 0) → Type 0
+abbrev pub ForEach : FileMap → Machine → (World → List ℕ → Option (List (List ℕ)) → List Question → Type 0)
+    → Type 0
 ForEach files machine fact =
     (settings : Settings) (name : List ℕ) (flavors : Option (List (List ℕ))) (asked : List Question)
     → IsUnderWay (files, settings) name flavors asked machine → fact (files, settings) name flavors asked
@@ -54,8 +56,8 @@ LeavesAtFailure may old new fault = let stop : Stop FaultAt = stop_of fault in L
 -- What is left of the files and of the evaluation. If it is done, all of its questions were asked. If it isn't,
 -- the machine is under way in the same evaluation. If the files failed or memory ran out, nothing but questions was
 -- asked.
-abbrev pub Leaves : (FilesFault → Type 0) → FilesView → FilesView → World → List ℕ → Option (List (List ℕ)) → List Question
-    → Result Turned FilesFault → Type 0
+abbrev pub Leaves : (FilesFault → Type 0) → FilesView → FilesView → World → List ℕ
+    → Option (List (List ℕ)) → List Question → Result Turned FilesFault → Type 0
 Leaves may old new world name flavors asked (Ok (More machine)) =
     AsksMore old new (λ more. IsUnderWay world name flavors (asked ++ more) machine)
 Leaves may old new world name flavors asked (Ok (Done answer)) =
@@ -69,30 +71,31 @@ IsNew (Ok (Done (Ok evaluated))) = ⊥
 IsNew (Ok (Done (Err failed))) = failed.cost ≡ 0
 IsNew (Err fault) = Unit {0}
 
--- The last thing that was done, after a beginning and up to a point: the evaluation came from the beginning to where it
--- was done, and had spent fewer units there than it was given since the beginning.
-pub record IsLast (files : FileMap) (units : ℕ) (begin point : Point) : Type 0 where
+-- The last thing that was done after a beginning, once this much is spent in all. The evaluation came from the
+-- beginning to where it was done, and had spent fewer units there than it was given since the beginning.
+pub record IsLast (files : FileMap) (units : ℕ) (begin : Point) (spent : ℕ) : Type 0 where
+  pub makefile : List ℕ
   pub frame : Frame
   pub others : List Frame
   pub state : EvalState
-  pub meter : Meter
+  pub account : Account
   pub asked : List Question
-  pub old : Option (List Question)
-  pub new : Option (List Question)
-  pub comes : GoesOn files begin (record { makefile = point.makefile; frames = frame ∷ others; state = state; meter = meter }) asked
-  pub low : meter.spent < begin.meter.spent + units
-  pub leads : advance files point.makefile frame others state (record { meter = meter; log = old })
-      ≡ Ok ((point.state, point.frames), record { meter = point.meter; log = new })
+  pub comes : GoesOn files begin (point_before makefile frame others state account) asked
+  pub low : account.meter.spent < begin.meter.spent + units
+  pub leaves : (left (advance files makefile frame others state account)).meter.spent ≡ spent
 
--- From one point to another these units were spent, or more. Before the last thing that was done, fewer were spent.
-abbrev pub IsSpent : FileMap → ℕ → Point → Point → Type 0
-IsSpent files units old new =
-    (old.meter.spent + units ≤ new.meter.spent) × ((new.meter.spent ≡ old.meter.spent) ⊎ IsLast files units old new)
+-- Work that was given some units at a beginning stops once this much is spent in all. Nothing was spent since the
+-- beginning, or fewer than the units were before the last thing that was done.
+pub record StopsInTime (files : FileMap) (units : ℕ) (begin : Point) (spent : ℕ) : Type 0 where
+  pub onward : begin.meter.spent ≤ spent
+  pub last : (spent ≡ begin.meter.spent) ⊎ IsLast files units begin spent
 
--- what a turn spends that is given some units: if it isn't done, it has spent them
+-- What a turn spends that is given some units: if it isn't done, it has spent them. Whether it is done or not, it
+-- stops in time.
 abbrev pub Spends : FileMap → ℕ → Machine → Result Turned FilesFault → Type 0
-Spends files units old (Ok (More machine)) = IsSpent files units (point_of old) (point_of machine)
-Spends files units old (Ok (Done answer)) = Unit {0}
+Spends files units old (Ok (More machine)) =
+    (old.budget.spent + units ≤ machine.budget.spent) × StopsInTime files units (point_of old) machine.budget.spent
+Spends files units old (Ok (Done answer)) = StopsInTime files units (point_of old) (cost_of answer)
 Spends files units old (Err fault) = Unit {0}
 
 -- a stop after this many units, as what a turn leaves
@@ -103,10 +106,16 @@ stopped stops.Memory cost = Err faults.Memory
 
 -- What a run of a machine did that was given some units, from one point to another. The answer is whether nothing is
 -- to be done any more.
-abbrev pub RunsOn : (FilesFault → Type 0) → FilesView → FilesView → Point → Point → ℕ → Result Bool (Stop FaultAt) → Type 0
-RunsOn may old new start end units (Ok true) = AsksMore old new (GoesOn old.files start end) × (end.frames ≡ [])
-RunsOn may old new start end units (Ok false) = AsksMore old new (GoesOn old.files start end) × IsSpent old.files units start end
-RunsOn may old new start end units (Err (stops.Fault fault)) = AsksMore old new (StopsWith old.files start fault end.meter)
+abbrev pub RunsOn : (FilesFault → Type 0) → FilesView → FilesView → Point → Point → ℕ
+    → Result Bool (Stop FaultAt) → Type 0
+RunsOn may old new start end units (Ok true) =
+    (AsksMore old new (GoesOn old.files start end) × (end.frames ≡ []))
+    × StopsInTime old.files units start end.meter.spent
+RunsOn may old new start end units (Ok false) =
+    (AsksMore old new (GoesOn old.files start end) × (start.meter.spent + units ≤ end.meter.spent))
+    × StopsInTime old.files units start end.meter.spent
+RunsOn may old new start end units (Err (stops.Fault fault)) =
+    AsksMore old new (StopsWith old.files start fault end.meter) × StopsInTime old.files units start end.meter.spent
 RunsOn may old new start end units (Err stops.Store) = LeavesAtStop {F = FaultAt} may old new stops.Store
 RunsOn may old new start end units (Err stops.Memory) = LeavesAtStop {F = FaultAt} may old new stops.Memory
 

@@ -1,9 +1,13 @@
 //! Evaluations that are asked for, with a cache of evaluations.
+ghost use Rattle.read_trace.specs.Recording.{view_of};
+ghost use Rattle.port_cases.specs.Asking.{IsAskedAmong};
+
 use case_lines::{Answer, Trouble, as_number, as_text};
 use eval_cache::EvalCache;
-use index_keep::{Asked, ask};
+use index_keep::{Ask, AskTurned, Asked, ask_at_once};
 use make_cases::{World, given_name};
-use mk_files::Content;
+use mk_base::UNITS;
+use mk_files::{Content, Files};
 use read_trace::{Recorder, Trace};
 use std::alloc::{AllocError, Global};
 
@@ -21,44 +25,133 @@ pub fn asked_answer(
     let [parses, evals, steps @ ..] = given else {
         return Err(Trouble::NoCase);
     };
-    let mut cache = EvalCache::new(alloc, size(parses)?, size(evals)?)?;
-    let mut answer = Answer::new(alloc);
-    for step in steps {
-        take_step(alloc, world, &mut cache, as_text(step)?, &mut answer)?;
+    let cache = EvalCache::new(alloc, size(parses)?, size(evals)?)?;
+    Asking {
+        cache,
+        units: None,
+        answer: Answer::new(alloc),
     }
-    let counts = cache.counts();
-    answer.number(counts.parses);
-    answer.number(counts.evals);
-    answer.number(cache.parses_kept() as u64);
-    answer.number(cache.keys_kept() as u64);
-    Ok(answer)
+    .after(alloc, world, steps)
+}
+
+/// `asked by UNITS PARSES EVALS STEP..`: the same, by turns of so many units. Each step tells how many there were.
+pub fn asked_by_turns(
+    alloc: Global,
+    world: &mut World,
+    given: &[Vec<u8>],
+) -> Result<Answer, Trouble> {
+    let [units, parses, evals, steps @ ..] = given else {
+        return Err(Trouble::NoCase);
+    };
+    let cache = EvalCache::new(alloc, size(parses)?, size(evals)?)?;
+    Asking {
+        cache,
+        units: Some(as_number(units)?),
+        answer: Answer::new(alloc),
+    }
+    .after(alloc, world, steps)
+}
+
+/// A cache, by turns of how many units it is asked if not at once, and what was told.
+#[derive(Drop)]
+struct Asking {
+    cache: EvalCache,
+    units: Option<u64>,
+    answer: Answer,
 }
 
 fn size(given: &[u8]) -> Result<usize, Trouble> {
     usize::try_from(as_number(given)?).map_err(|_| Trouble::NoCase)
 }
 
-fn take_step(
-    alloc: Global,
-    world: &mut World,
-    cache: &mut EvalCache,
-    step: &str,
-    answer: &mut Answer,
-) -> Result<(), Trouble> {
-    if let Some(file) = step.strip_prefix('+') {
-        return store(alloc, world, file);
-    }
-    if let Some(name) = step.strip_prefix('-') {
-        let _was_there = world.files.remove(&given_name(alloc, name.as_bytes())?);
-        return Ok(());
-    }
-    match step.split_once(' ') {
-        Some((name, flavors)) => {
-            let flavors = words(alloc, flavors)?;
-            ask_for(alloc, world, cache, name, Some(flavors.as_slice()), answer)
+impl Asking {
+    /// What is told after these steps.
+    fn after(
+        mut self,
+        alloc: Global,
+        world: &mut World,
+        steps: &[Vec<u8>],
+    ) -> Result<Answer, Trouble> {
+        for step in steps {
+            self.take_step(alloc, world, as_text(step)?)?;
         }
-        None => ask_for(alloc, world, cache, step, None, answer),
+        let Asking {
+            cache,
+            mut answer,
+            ..
+        } = self;
+        let counts = cache.counts();
+        answer.number(counts.parses);
+        answer.number(counts.evals);
+        answer.number(cache.parses_kept() as u64);
+        answer.number(cache.keys_kept() as u64);
+        Ok(answer)
     }
+
+    fn take_step(&mut self, alloc: Global, world: &mut World, step: &str) -> Result<(), Trouble> {
+        if let Some(file) = step.strip_prefix('+') {
+            return store(alloc, world, file);
+        }
+        if let Some(name) = step.strip_prefix('-') {
+            let _was_there = world.files.remove(&given_name(alloc, name.as_bytes())?);
+            return Ok(());
+        }
+        match step.split_once(' ') {
+            Some((name, flavors)) => {
+                let flavors = words(alloc, flavors)?;
+                self.ask_for(alloc, world, name, Some(flavors.as_slice()))
+            }
+            None => self.ask_for(alloc, world, step, None),
+        }
+    }
+
+    fn ask_for(
+        &mut self,
+        alloc: Global,
+        world: &mut World,
+        name: &str,
+        flavors: Option<&[String]>,
+    ) -> Result<(), Trouble> {
+        let name = given_name(alloc, name.as_bytes())?;
+        let World {
+            files,
+            settings,
+            ..
+        } = world;
+        let mut recorder = Recorder::new(alloc, files, Trace::new(alloc));
+        let cache = &mut self.cache;
+        let Some(units) = self.units else {
+            let asked = ask_at_once(alloc, cache, &mut recorder, settings, &name, flavors)?;
+            tell(&asked, &mut self.answer);
+            return Ok(());
+        };
+        let turned = Ask::begin(alloc, cache, &mut recorder, settings, &name, flavors)?;
+        let (asked, turns) = by_turns(alloc, cache, &mut recorder, turned, units)?;
+        tell(&asked, &mut self.answer);
+        self.answer.number(turns);
+        Ok(())
+    }
+}
+
+/// The end of an evaluation that is asked for, by turns of so many units, and how many there are. Each turn
+/// spends a unit, and the last one ends it.
+fn by_turns<F: Files + Drop>(
+    alloc: Global,
+    cache: &mut EvalCache,
+    files: &mut Recorder<F>,
+    turned: AskTurned,
+    units: u64,
+) -> Result<(Asked, u64), Trouble>
+    requires { IsAskedAmong (view_of F.view files.old).files turned }
+{
+    let mut turned = turned;
+    for turns in 0..UNITS + 2 {
+        match turned {
+            AskTurned::Done(asked) => return Ok((asked, turns)),
+            AskTurned::More(ask) => turned = ask.turn(alloc, cache, files, units)?,
+        }
+    }
+    Err(Trouble::NoCase)
 }
 
 fn store(alloc: Global, world: &mut World, file: &str) -> Result<(), Trouble> {
@@ -80,26 +173,6 @@ fn words(alloc: Global, text: &str) -> Result<Vec<String>, AllocError> {
         words.push(String::from_str(alloc, word)?)?;
     }
     Ok(words)
-}
-
-fn ask_for(
-    alloc: Global,
-    world: &mut World,
-    cache: &mut EvalCache,
-    name: &str,
-    flavors: Option<&[String]>,
-    answer: &mut Answer,
-) -> Result<(), Trouble> {
-    let name = given_name(alloc, name.as_bytes())?;
-    let World {
-        files,
-        settings,
-        ..
-    } = world;
-    let mut recorder = Recorder::new(alloc, files, Trace::new(alloc));
-    let asked = ask(alloc, cache, &mut recorder, settings, &name, flavors)?;
-    tell(&asked, answer);
-    Ok(())
 }
 
 fn tell(asked: &Asked, answer: &mut Answer) {

@@ -5,6 +5,7 @@ mod asking;
 mod dependencies;
 mod paths;
 mod records;
+mod refreshing;
 
 use case_lines::{Answer, Trouble};
 use make_cases::Setup;
@@ -25,6 +26,8 @@ pub fn answer(
         "finding" => paths::path_answer(alloc, world, given),
         "agrees" => paths::agrees_answer(alloc, world, given),
         "asked" => asking::asked_answer(alloc, world, given),
+        "asked by" => asking::asked_by_turns(alloc, world, given),
+        "refreshed by" => refreshing::refreshed_answer(alloc, world, given),
         "items" => dependencies::items_answer(alloc, world),
         "statuses" => dependencies::statuses(alloc, world, given),
         "first" | "to" | "reached" | "reaching" => {

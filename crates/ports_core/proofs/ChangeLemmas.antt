@@ -78,7 +78,8 @@ opens_and_stays told old new (inr h) = record { nothing = refl; silent = h.reply
 
 turns_change : (t : ℕ) (told : Told) (old new : State) → Turns t told old new → KeepsSlices told Nothing old new ⊎ FirstLeaves t told Nothing old new
 turns_change t told old new (inl h) = inl (record { nothing = refl; silent = h.reply; slices = λ u. same_slice u old new (h.same.worlds u) (h.same.queues u) })
-turns_change t told old new (inr h) = inr (record {
+turns_change t told old new (inr (inl h)) = inl (record { nothing = refl; silent = h.reply; slices = λ u. same_slice u old new (h.same.worlds u) (h.same.queues u) })
+turns_change t told old new (inr (inr h)) = inr (record {
   nothing = refl;
   slice = (h.answers.world, h.first ∷ h.rest);
   was = ap (λ w. sliced w (queue_at t old)) h.answers.was ∙ ap (sliced (Some h.answers.world)) h.waited;
@@ -126,7 +127,10 @@ turns_book : (t : ℕ) (told : Told) (old new : State) → Turns t told old new 
 turns_book t told old new (inl h) =
     let P : Option Tell → Type 0 = λ reply. MatchOption reply (KeepsConnections (book_of old) (book_of new)) (λ tell. TellsOn tell (book_of old) (book_of new)) in
     subst P (sym h.reply) h.same.connections
-turns_book t told old new (inr h) =
+turns_book t told old new (inr (inl h)) =
+    let P : Option Tell → Type 0 = λ reply. MatchOption reply (KeepsConnections (book_of old) (book_of new)) (λ tell. TellsOn tell (book_of old) (book_of new)) in
+    subst P (sym h.reply) h.same.connections
+turns_book t told old new (inr (inr h)) =
     let P : Option Tell → Type 0 = λ reply. MatchOption reply (KeepsConnections (book_of old) (book_of new)) (λ tell. TellsOn tell (book_of old) (book_of new)) in
     subst P (sym h.reply) h.tells
 
@@ -157,7 +161,8 @@ next_grows (End c) told old new h = omega (arith, h.keeps.next)
 next_grows (Fault c) told old new h = omega (arith, h.keeps.next)
 next_grows (Wrote c count) told old new h = omega (arith, h.keeps.next)
 next_grows (Turn t) told old new (inl h) = omega (arith, h.same.keeps.next)
-next_grows (Turn t) told old new (inr h) = omega (arith, h.keeps.next)
+next_grows (Turn t) told old new (inr (inl h)) = omega (arith, h.same.keeps.next)
+next_grows (Turn t) told old new (inr (inr h)) = omega (arith, h.keeps.next)
 
 -- a connection that opens has the next number, which no other has then
 abbrev pub IsNumbered : Event → Told → State → State → Type 0

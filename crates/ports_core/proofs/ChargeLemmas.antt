@@ -1,35 +1,41 @@
 -- What is told as spent in a turn.
-use Rattle.std.proofs.Common.{◌≡◌, ◌∙◌, ℕ, Bool, true, false, List, ◌∷◌, Option, Some, sym, ap, subst}
+use Rattle.std.proofs.Common.{◌≡◌, ◌<◌, ◌∙◌, ℕ, Bool, true, false, List, [], ◌∷◌, length, get_or, Option, Some, None, sym, ap, subst}
 use Rattle.std.specs.Prelude.{MatchBool, MatchOption, slice_get}
-use Rattle.mk_paths.specs.World.{World}
+use Rattle.std.proofs.lemmas.Option.{slice_get-get_or}
+use Rattle.mk_paths.specs.World.{World, opening_world}
 use Rattle.ports_index.specs.declared.spending.Spent.{Spent}
 use Rattle.ports_index.specs.Spending.{no_spending}
 use Rattle.ports_http.specs.Messages.{ReplyMessage}
 use Rattle.ports_core.specs.declared.event.Tell.{Tell}
 use Rattle.ports_core.specs.declared.event.Told.{Told}
 use Rattle.ports_core.specs.declared.queue.QueuedRequest.{QueuedRequest}
-use Rattle.ports_core.specs.Charging.{Spends, Charges, ChargesFor, TurnSpends}
+use Rattle.ports_core.specs.Charging.{Spends, SpendsWithin, Charges, ChargesFor, GoesOn, TurnSpends}
+use Rattle.ports_core.specs.Jobs.{Job, spent_then, spent_on}
 use Rattle.ports_core.specs.Slices.{Slice, Queue, sliced}
 use Rattle.ports_core.specs.Telling.{in_turn, is_failure, spent_in, CountsNone}
 
 counts_none : (told : Told) → spent_in told ≡ no_spending → CountsNone told
 counts_none told none = (ap (λ (s : Spent). s.units) none, ap (λ (s : Spent). s.checks) none)
 
-module _ (t : ℕ) (told : Told) (worlds : List World) (queues : List Queue) (queue rest : Queue) (first : QueuedRequest) (reply : ReplyMessage) (spent : Spent) (world : World)
+-- a tenant with a world has a slice whose first request is the one that waits first
+slice_there : (t : ℕ) (worlds : List World) (queues : List Queue) (queue rest : Queue) (first : QueuedRequest) (world : World) → slice_get worlds t ≡ Some world → slice_get queues t ≡ Some queue → queue ≡ first ∷ rest
+    → sliced (slice_get worlds t) (slice_get queues t) ≡ Some (world, first ∷ rest)
+slice_there t worlds queues queue rest first world there was waited = ap (λ w. sliced w (slice_get queues t)) there ∙ ap (sliced (Some world)) (was ∙ ap Some waited)
+
+module _ (t : ℕ) (told : Told) (worlds : List World) (queues : List Queue) (job : Option Job) (queue rest : Queue) (first : QueuedRequest) (reply : ReplyMessage) (spent : Spent) (world : World)
     (there : slice_get worlds t ≡ Some world) (was : slice_get queues t ≡ Some queue) (waited : queue ≡ first ∷ rest)
-    (charges : ChargesFor t first.request reply spent worlds)
+    (charges : ChargesFor t first.request reply (spent_on job) spent worlds)
     (tells : told.reply ≡ Some (in_turn t first.conn reply)) (tells_spent : spent_in told ≡ spent) where
-  charged : Charges world first.request reply (spent_in told)
-  charged = subst (λ (s : Spent). Charges world first.request reply s) (sym tells_spent) (charges world there)
+  charged : Charges world first.request reply (spent_on job) (spent_in told)
+  charged = subst (λ (s : Spent). Charges world first.request reply (spent_on job) s) (sym tells_spent) (charges world there)
 
   -- the first request is answered
-  pub turn_spends : TurnSpends (sliced (slice_get worlds t) (slice_get queues t)) told
+  pub turn_spends : TurnSpends (sliced (slice_get worlds t) (slice_get queues t)) job told
   turn_spends =
-      let slice : sliced (slice_get worlds t) (slice_get queues t) ≡ Some (world, first ∷ rest) = ap (λ w. sliced w (slice_get queues t)) there ∙ ap (sliced (Some world)) (was ∙ ap Some waited) in
-      subst (λ (s : Option Slice). TurnSpends s told) (sym slice)
-      (subst (λ (r : Option Tell). MatchOption r (CountsNone told) (λ (tell : Tell). Charges world first.request tell.reply (spent_in told))) (sym tells) charged)
+      subst (λ (s : Option Slice). TurnSpends s job told) (sym (slice_there t worlds queues queue rest first world there was waited))
+      (subst (λ (r : Option Tell). MatchOption r (SpendsWithin world first.request (spent_then (spent_on job) (spent_in told))) (λ (tell : Tell). Charges world first.request tell.reply (spent_on job) (spent_in told))) (sym tells) charged)
 
-  none_with_503 : (failed : Bool) → MatchBool failed (spent_in told ≡ no_spending) (Spends world first.request (spent_in told)) → failed ≡ true → CountsNone told
+  none_with_503 : (failed : Bool) → MatchBool failed (spent_in told ≡ no_spending) (Spends world first.request (spent_then (spent_on job) (spent_in told))) → failed ≡ true → CountsNone told
   none_with_503 true none is = counts_none told none
   none_with_503 false spends is = absurd cc
 
@@ -38,3 +44,25 @@ module _ (t : ℕ) (told : Told) (worlds : List World) (queues : List Queue) (qu
   turn_counts =
       subst (λ (r : Option Tell). MatchOption r (Unit {0}) (λ (tell : Tell). is_failure tell.reply.status ≡ true → CountsNone told)) (sym tells)
       (none_with_503 (is_failure reply.status) charged)
+
+-- nothing waits
+pub idle_spends : (t : ℕ) (told : Told) (worlds : List World) (queues : List Queue) (job : Option Job) (queue : Queue) → slice_get queues t ≡ Some queue → queue ≡ [] → CountsNone told
+    → TurnSpends (sliced (slice_get worlds t) (slice_get queues t)) job told
+idle_spends t told worlds queues job queue was empty none =
+    subst (λ (q : Option Queue). TurnSpends (sliced (slice_get worlds t) q) job told) (sym (was ∙ ap Some empty)) (in_world (slice_get worlds t))
+  where
+    in_world : (world : Option World) → TurnSpends (sliced world (Some [])) job told
+    in_world None = none
+    in_world (Some world) = none
+
+-- the first request isn't answered yet
+pub pending_spends : (t : ℕ) (told : Told) (worlds worlds_after : List World) (queues : List Queue) (job : Option Job) (queue rest : Queue) (first : QueuedRequest) (spent : Spent)
+    → t < length worlds → slice_get queues t ≡ Some queue → queue ≡ first ∷ rest → GoesOn t first.request (spent_on job) spent worlds worlds_after
+    → told.reply ≡ None → spent_in told ≡ spent → TurnSpends (sliced (slice_get worlds t) (slice_get queues t)) job told
+pending_spends t told worlds worlds_after queues job queue rest first spent within was waited goes_on silent tells_spent =
+    let world : World = get_or worlds t opening_world in
+    let there : slice_get worlds t ≡ Some world = slice_get-get_or worlds t opening_world within in
+    let spends : SpendsWithin world first.request (spent_then (spent_on job) (spent_in told)) =
+    subst (λ (s : Spent). SpendsWithin world first.request (spent_then (spent_on job) s)) (sym tells_spent) (goes_on.within world there) in
+    subst (λ (s : Option Slice). TurnSpends s job told) (sym (slice_there t worlds queues queue rest first world there was waited))
+    (subst (λ (r : Option Tell). MatchOption r (SpendsWithin world first.request (spent_then (spent_on job) (spent_in told))) (λ (tell : Tell). Charges world first.request tell.reply (spent_on job) (spent_in told))) (sym silent) spends)

@@ -4,6 +4,7 @@ mod KeyLemmas
 mod QueueLemmas
 mod TakingLemmas
 mod OpenedLemmas
+mod JobLemmas
 mod StepLemmas
 mod RunLemmas
 mod Serving

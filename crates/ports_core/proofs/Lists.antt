@@ -1,6 +1,6 @@
 -- Places, writes and look-ups in lists.
-use Rattle.std.proofs.Common.{◌≡◌, ◌≢◌, ◌<◌, ℕ, zero, suc, ◌+◌, Bool, List, [], ◌∷◌, length, drop, take, ◌-◌, Option, Some, None, refl, ap, cond, arith, length-drop}
-use Rattle.std.specs.Prelude.{map, option_map, replicate, slice_get, position, not}
+use Rattle.std.proofs.Common.{◌≡◌, ◌≢◌, ◌<◌, ℕ, zero, suc, ◌+◌, Bool, List, [], ◌∷◌, length, drop, take, ◌-◌, Option, Some, None, refl, sym, ap, subst, cond, arith, length-drop}
+use Rattle.std.specs.Prelude.{IfNone, IfSome, map, option_map, replicate, slice_get, position, not}
 use Rattle.std.specs.List.{prefix_len}
 use Rattle.std.proofs.Math.ListN.{set}
 use Rattle.std.proofs.Math.Seq.{take-length}
@@ -55,3 +55,12 @@ some_same e = cc
 pub option_from : {A B : Type 0} (f : A → B) (o : Option A) (y : B) → option_map f o ≡ Some y → (x : A) × (o ≡ Some x) × (f x ≡ y)
 option_from f None y e = absurd (none_some e)
 option_from f (Some x) y e = (x, refl, some_same e)
+
+-- a fact for the case of an option that is there
+pub on_none : {A : Type 0} {P : Type 0} (o : Option A) → o ≡ None → IfNone o P → P
+on_none None is h = h
+on_none (Some x) is h = absurd (none_some (sym is))
+
+pub on_some : {A : Type 0} (P : A → Type 0) (o : Option A) (x : A) → o ≡ Some x → IfSome o P → P x
+on_some P None x is h = absurd (none_some is)
+on_some P (Some y) x is h = subst P (some_same is) h

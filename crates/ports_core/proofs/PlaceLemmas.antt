@@ -329,6 +329,10 @@ module _ (t : ℕ) (queues : List Queue) (queue after : Queue) (first : QueuedRe
       (λ ne. ap is_some (others_are d ne) ∙ fresh d above)
       (cases_eq d first.conn)
 
+-- the same queues
+pub same_seats : (queues after : List Queue) (connections : List (ℕ × Connection)) → ((u : ℕ) → slice_get after u ≡ slice_get queues u) → AreSeated queues connections → AreSeated after connections
+same_seats queues after connections same seated = λ t c queue was. seated t c queue (sym (same t) ∙ was)
+
 -- an open connection that waits for nothing leaves a place in each queue
 pub open_places : (queues lent : List Queue) (es : List (ℕ × Connection)) (c : ℕ) (P : Connection → Type 0) → lent ≡ queues → length es ≤ 16 → AreSeated queues es → OpenAnd (connection_in c es) P
     → OpenAnd (connection_in c es) (λ connection. connection.waits ≡ None → All HasPlace lent)

@@ -1,11 +1,11 @@
--- What is told as spent on a request that is answered.
-use Rattle.std.specs.Prelude.{◌≡◌, ℕ, MatchBool, MatchOption, List, [], ◌∷◌, slice_get, Option, Some, None}
+-- What is told as spent on a request, in the turn that answers it and in the turns before.
+use Rattle.std.specs.Prelude.{◌≡◌, ℕ, ◌≤◌, MatchBool, MatchOption, List, [], ◌∷◌, slice_get, Option, Some, None}
 use Rattle.mk_paths.specs.World.{World}
 use Rattle.ports_index.specs.declared.spending.Spent.{Spent}
-use Rattle.ports_index.specs.Spending.{no_spending}
+use Rattle.ports_index.specs.Spending.{no_spending, ChecksFew}
 use Rattle.ports_http.specs.Messages.{RequestMessage, ReplyMessage}
 use Rattle.ports_plain.specs.Questions.{question_of}
-use Rattle.ports_plain.specs.Resting.{need_of}
+use Rattle.ports_plain.specs.Resting.{need_of, evaluations, cost}
 use Rattle.ports_plain.specs.Spending.{SpendsFor}
 use Rattle.ports_core.specs.declared.event.Event.{Event}
 use Rattle.ports_core.specs.declared.event.Event.TheVariants.{Open, Piece, End, Fault, Wrote, Turn}
@@ -13,31 +13,49 @@ use Rattle.ports_core.specs.declared.event.Told.{Told}
 use Rattle.ports_core.specs.declared.event.Tell.{Tell}
 use Rattle.ports_core.specs.Answering.{plain_request_of}
 use Rattle.ports_core.specs.Slices.{Slice}
-use Rattle.ports_core.specs.State.{State, slice_of}
+use Rattle.ports_core.specs.Jobs.{Job, spent_then, spent_on}
+use Rattle.ports_core.specs.State.{State, slice_of, job_at}
 use Rattle.ports_core.specs.Telling.{is_failure, spent_in, CountsNone}
 
 -- what is spent on a request over a world, however much is kept
 abbrev pub Spends : World → RequestMessage → Spent → Type 0
 Spends world request spent = SpendsFor world (need_of (question_of (plain_request_of request))) spent
 
--- what is told as spent with a reply: nothing with 503
-abbrev pub Charges : World → RequestMessage → ReplyMessage → Spent → Type 0
-Charges world request reply spent = MatchBool (is_failure reply.status) (spent ≡ no_spending) (Spends world request spent)
+-- What may be spent on a request over a world, in all turns together: no more units than it costs, and few checks for
+-- each makefile on which its answer rests.
+pub record SpendsWithin (world : World) (request : RequestMessage) (spent : Spent) : Type 0 where
+  pub units : spent.units ≤ cost world (plain_request_of request)
+  pub checks : ChecksFew (evaluations world (plain_request_of request)) spent.checks
+
+-- What is told as spent with a reply, if so much was spent before: nothing with 503. Else it is, with that together,
+-- what is spent on the request.
+abbrev pub Charges : World → RequestMessage → ReplyMessage → Spent → Spent → Type 0
+Charges world request reply before spent =
+    MatchBool (is_failure reply.status) (spent ≡ no_spending) (Spends world request (spent_then before spent))
 
 -- the same of a request of this tenant
-abbrev pub ChargesFor : ℕ → RequestMessage → ReplyMessage → Spent → List World → Type 0
-ChargesFor t request reply spent worlds = (world : World) → slice_get worlds t ≡ Some world → Charges world request reply spent
+abbrev pub ChargesFor : ℕ → RequestMessage → ReplyMessage → Spent → Spent → List World → Type 0
+ChargesFor t request reply before spent worlds =
+    (world : World) → slice_get worlds t ≡ Some world → Charges world request reply before spent
 
--- what is told as spent in a turn of a tenant with this slice, if there is such a tenant
-abbrev pub TurnSpends : Option Slice → Told → Type 0
-TurnSpends None told = CountsNone told
-TurnSpends (Some (world, [])) told = CountsNone told
-TurnSpends (Some (world, first ∷ rest)) told =
-    MatchOption told.reply (CountsNone told) (λ (tell : Tell). Charges world first.request tell.reply (spent_in told))
+-- A request of this tenant isn't answered yet: no world changes, and with what was spent before no more is spent than
+-- may be.
+pub record GoesOn (t : ℕ) (request : RequestMessage) (before spent : Spent) (old new : List World) : Type 0 where
+  pub worlds : new ≡ old
+  pub within : (world : World) → slice_get old t ≡ Some world → SpendsWithin world request (spent_then before spent)
+
+-- What is told as spent in a turn of a tenant with this slice and this job, if there is such a tenant. If no reply is
+-- told, it is with what the job had no more than may be spent.
+abbrev pub TurnSpends : Option Slice → Option Job → Told → Type 0
+TurnSpends None job told = CountsNone told
+TurnSpends (Some (world, [])) job told = CountsNone told
+TurnSpends (Some (world, first ∷ rest)) job told =
+    MatchOption told.reply (SpendsWithin world first.request (spent_then (spent_on job) (spent_in told)))
+    (λ (tell : Tell). Charges world first.request tell.reply (spent_on job) (spent_in told))
 
 -- what is told as spent in an event: only a turn spends
 abbrev pub EventSpends : Event → Told → State → Type 0
-EventSpends (Turn t) told old = TurnSpends (slice_of t old) told
+EventSpends (Turn t) told old = TurnSpends (slice_of t old) (job_at t old) told
 EventSpends (Open c) told old = CountsNone told
 EventSpends (Piece c bytes) told old = CountsNone told
 EventSpends (End c) told old = CountsNone told

@@ -2,6 +2,7 @@ pub mod Keys
 pub mod Slices
 pub mod Beginning
 pub mod Answering
+pub mod Jobs
 pub mod Connections
 pub mod Telling
 pub mod Taking
@@ -9,6 +10,7 @@ pub mod Opened
 pub mod Places
 pub mod State
 pub mod Charging
+pub mod JobChanges
 pub mod Books
 pub mod Steps
 pub mod Changes

@@ -8,6 +8,7 @@ use Rattle.ports_core.specs.Telling.{CountsTurns}
 use Rattle.ports_core.specs.Charging.{EventSpends}
 use Rattle.ports_core.specs.State.{State, IsAllowed, pending_at}
 use Rattle.ports_core.specs.Steps.{Does}
+use Rattle.ports_core.specs.JobChanges.{ChangesJobs}
 
 -- the bytes that an event takes off its connection
 abbrev pub sent_by : Event → State → List ℕ
@@ -21,6 +22,7 @@ pub record Happens (event : Event) (step : Effect) (old new : State) : Type 0 wh
   pub does : Does event step.told old new
   pub counts : CountsTurns event step.told
   pub spends : EventSpends event step.told old
+  pub jobs : ChangesJobs event step.told old new
 
 -- these events happen one after another, with these steps
 abbrev pub Run : State → List Event → List Effect → State → Type 0

@@ -1,17 +1,19 @@
 -- A service as its callers see it.
-use Rattle.std.specs.Prelude.{◌≡◌, ℕ, ◌<◌, ◌-◌, ◌^◌, Bool, ◌||◌, nat_le, List, [], length, map, slice_get, Option, option_map, unwrap_or}
+use Rattle.std.specs.Prelude.{◌≡◌, ℕ, ◌<◌, ◌-◌, ◌^◌, Bool, ◌||◌, nat_le, List, [], length, map, slice_get}
+use Rattle.std.specs.Prelude.{Option, None, option_map, unwrap_or}
 use Rattle.ports_core.specs.declared.connection.Connection.{Connection}
 use Rattle.ports_core.specs.declared.event.Event.{Event}
 use Rattle.ports_core.specs.declared.event.Event.TheVariants.{Open, Piece, End, Fault, Wrote, Turn}
 use Rattle.mk_paths.specs.World.{World, opening_world}
 use Rattle.ports_core.specs.Slices.{Slice, Queue, sliced}
+use Rattle.ports_core.specs.Jobs.{Job, job_in}
 use Rattle.ports_core.specs.Connections.{Fits, room_on}
 use Rattle.ports_core.specs.Opened.{Book, connection_in, OpenAnd}
 
 -- the tenants' keys, worlds and queues, in the order of the tenants' numbers; the open connections by their
--- numbers; and the number of the next one
+-- numbers; the number of the next one; and the tenants' jobs
 abbrev pub State : Type 0
-State = List (List ℕ) × List World × List Queue × List (ℕ × Connection) × ℕ
+State = List (List ℕ) × List World × List Queue × List (ℕ × Connection) × ℕ × List (Option Job)
 
 abbrev pub keys_of : State → List (List ℕ)
 keys_of state = state.0
@@ -29,9 +31,16 @@ world_at t state = slice_get (worlds_of state) t
 abbrev pub queue_at : ℕ → State → Option Queue
 queue_at t state = slice_get (queues_of state) t
 
--- the two together
+-- the world and the requests together
 abbrev pub slice_of : ℕ → State → Option Slice
 slice_of t state = sliced (world_at t state) (queue_at t state)
+
+abbrev pub jobs_of : State → List (Option Job)
+jobs_of state = state.5
+
+-- the job of a tenant, if there is one
+abbrev pub job_at : ℕ → State → Option Job
+job_at t state = job_in t (jobs_of state)
 
 -- the numbers of the open connections, in rising order
 abbrev pub connections_of : State → List ℕ
@@ -55,7 +64,7 @@ is_full state = nat_le 16 (length state.3) || nat_le (2 ^ 64 - 1) (next_of state
 
 -- a service with these keys that has just begun
 abbrev pub new_state : List (List ℕ) → State
-new_state keys = (keys, map (λ key. opening_world) keys, map (λ key. []) keys, [], 0)
+new_state keys = (keys, map (λ key. opening_world) keys, map (λ key. []) keys, [], 0, map (λ key. None) keys)
 
 -- An event may happen. A connection that opens has the next number; a tenant that has a turn exists; and
 -- any other event fits its connection, which is open.

@@ -1,5 +1,5 @@
 -- What each event does to a service, and what it tells: for every tenant its world and its queue, and for
--- every connection what it is after the event.
+-- every connection what it is after the event. What it does to the tenants' jobs stands in `JobChanges.antt`.
 use Rattle.std.specs.Prelude.{◌≡◌, ◌≢◌, ◌⊎◌, ℕ, ◌+◌, false, List, [], ◌∷◌, Some, None, option_map, option_and_then, if◌then◌else◌}
 use Rattle.std.proofs.Common.{inl, inr}
 use Rattle.ports_http.specs.Messages.{ReplyMessage}
@@ -16,7 +16,7 @@ use Rattle.ports_core.specs.Opened.{KeepsConnections, KeepsOthers}
 use Rattle.ports_core.specs.Books.{HearsOn, TellsOn}
 use Rattle.ports_core.specs.State.{State, keys_of, worlds_of, queues_of, world_at, queue_at, connection_of, book_of, next_of, is_full}
 
--- all but the connections, the queues and the worlds stays as it was
+-- the keys and the next number stay as they were
 pub record Keeps (old new : State) : Type 0 where
   pub keys : keys_of new ≡ keys_of old
   pub next : next_of new ≡ next_of old
@@ -33,7 +33,7 @@ KeepsQueues old new = (t : ℕ) → queue_at t new ≡ queue_at t old
 abbrev pub KeepsOtherQueues : ℕ → State → State → Type 0
 KeepsOtherQueues t old new = (u : ℕ) → u ≢ t → queue_at u new ≡ queue_at u old
 
--- nothing changes
+-- nothing changes, unless a job does
 pub record IsSame (old new : State) : Type 0 where
   pub keeps : Keeps old new
   pub connections : KeepsConnections (book_of old) (book_of new)
@@ -81,6 +81,17 @@ pub record IsIdle (t : ℕ) (told : Told) (old new : State) : Type 0 where
   pub closed : told.closed ≡ None
   pub same : IsSame old new
 
+-- A turn that leaves the request that waited longest in its queue: nothing is told, and nothing changes, unless a job
+-- does.
+pub record IsPending (t : ℕ) (told : Told) (old new : State) : Type 0 where
+  pub first : QueuedRequest
+  pub rest : List QueuedRequest
+  pub waits : queue_at t old ≡ Some (first ∷ rest)
+  pub reply : told.reply ≡ None
+  pub refused : told.refused ≡ None
+  pub closed : told.closed ≡ None
+  pub same : IsSame old new
+
 -- A turn that answers the request that waited longest. The reply is told to the connection that asked,
 -- which closes if it is done. The tenant's world changes as the reply says.
 pub record IsAnswered (t : ℕ) (told : Told) (old new : State) : Type 0 where
@@ -99,7 +110,7 @@ pub record IsAnswered (t : ℕ) (told : Told) (old new : State) : Type 0 where
 
 -- a turn of a tenant
 abbrev pub Turns : ℕ → Told → State → State → Type 0
-Turns t told old new = IsIdle t told old new ⊎ IsAnswered t told old new
+Turns t told old new = IsIdle t told old new ⊎ (IsPending t told old new ⊎ IsAnswered t told old new)
 
 -- what an event does, and what it tells
 abbrev pub Does : Event → Told → State → State → Type 0
@@ -119,4 +130,5 @@ keys_stay (End c) told old new h = h.keeps.keys
 keys_stay (Fault c) told old new h = h.keeps.keys
 keys_stay (Wrote c count) told old new h = h.keeps.keys
 keys_stay (Turn t) told old new (inl h) = h.same.keeps.keys
-keys_stay (Turn t) told old new (inr h) = h.keeps.keys
+keys_stay (Turn t) told old new (inr (inl h)) = h.same.keeps.keys
+keys_stay (Turn t) told old new (inr (inr h)) = h.keeps.keys

@@ -19,7 +19,7 @@ pub enum Event {
     Fault(u64),
     /// That many of a connection's pending bytes were written; all of them if no number is given.
     Wrote(u64, Option<usize>),
-    /// A tenant's turn: its first waiting request is answered.
+    /// A tenant's turn: its first waiting request is answered, or its work goes on.
     Turn(usize),
 }
 
@@ -81,6 +81,22 @@ impl Told {
         }
     }
 
+    /// A turn tells no reply yet, and that this was spent.
+    pub(crate) fn spending(spent: Spent) -> Told
+        ensures reply { result.reply ≡ None }
+        ensures refused { result.refused ≡ None }
+        ensures closed { result.closed ≡ None }
+        ensures spent { spent_in result ≡ spent }
+    {
+        Told {
+            reply: None,
+            refused: None,
+            closed: None,
+            units: spent.units,
+            checks: spent.checks,
+        }
+    }
+
     /// A turn tells this reply, for which this was spent, and a connection closes, or none.
     pub(crate) fn answer(tell: Tell, closed: Option<u64>, spent: Spent) -> Told
         ensures reply { result.reply ≡ Some tell }
@@ -90,10 +106,8 @@ impl Told {
     {
         Told {
             reply: Some(tell),
-            refused: None,
             closed,
-            units: spent.units,
-            checks: spent.checks,
+            ..Told::spending(spent)
         }
     }
 

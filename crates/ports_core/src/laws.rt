@@ -14,8 +14,8 @@ ghost use Rattle.ports_core.specs.Isolation.{EachRunServesPlainly, EqualSlicesAr
 /// What an event does to the tenants' worlds and waiting requests. The opening or the loss of a connection
 /// changes nothing. Bytes that come or are written, or an end, add at most one request at the end of one
 /// queue: the one that comes first on the event's connection, if nothing of that waits or is pending. A turn
-/// of a tenant takes that tenant's first request off its queue, if there is one. It tells the reply to the
-/// connection that asked, and changes that tenant's world alone.
+/// of a tenant tells nothing, and changes no world and no queue. Or it takes that tenant's first request off its
+/// queue, tells the reply to the connection that asked, and changes that tenant's world alone.
 pub fn each_event_changes_so_much()
     ensures { EachEventChangesSoMuch }
 {}

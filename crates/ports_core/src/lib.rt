@@ -2,8 +2,8 @@
 //!
 //! A `Service` holds up to 16 connections, and the worlds of up to 64 tenants, wherever these are kept
 //! (`Tenants`). It changes by one event at a time: the opening, the end or the loss of a connection, bytes
-//! that came or were written, or a turn of a tenant. A turn answers the request that comes first in that
-//! tenant's queue. `replay` runs a whole list of events.
+//! that came or were written, or a turn of a tenant. A turn works for the request that comes first in that
+//! tenant's queue, which leaves the queue once its reply is told. `replay` runs a whole list of events.
 #![tactic(auto)]
 
 mod connection;
@@ -27,4 +27,4 @@ pub use laws::{
     one_list_is_taken,
 };
 pub use service::{NewFault, Service};
-pub use tenants::{Tenants, Worked};
+pub use tenants::{Answer, Tenants, Worked};

@@ -1,5 +1,5 @@
 //! The requests that wait for a tenant's turns.
-ghost use Rattle.std.specs.Prelude.{◌≡◌, ◌∷◌, ◌++◌, [], length, IfOk, IfSome, IfNone};
+ghost use Rattle.std.specs.Prelude.{◌≡◌, ◌∷◌, ◌++◌, [], length, IfOk, IfSome, IfNone, option_copied};
 
 use crate::connections::MOST_CONNECTIONS;
 use ports_http::Request;
@@ -35,6 +35,7 @@ impl Model for Queue {
 
 impl Queue {
     ghost use Rattle.ports_core.specs.Places.{HasPlace};
+    ghost use Rattle.ports_core.specs.Jobs.{first_of};
 
     /// No request waits. It fails only if there is no memory for the places.
     pub(crate) fn new(alloc: Global) -> Result<Queue, AllocError>
@@ -59,6 +60,13 @@ impl Queue {
     {
         self.waiting
             .push_back_reserved(QueuedRequest { conn, request });
+    }
+
+    /// The request that waited longest. `None` if no request waits.
+    pub(crate) fn first(&self) -> Option<&QueuedRequest>
+        ensures { option_copied result ≡ first_of self.now }
+    {
+        self.waiting.front()
     }
 
     /// Takes the request that waited longest off the queue. `None` if no request waits.

@@ -9,8 +9,8 @@ use crate::connections::{
 };
 use crate::event::{Event, Refused, Tell, Told};
 use crate::keys::Config;
-use crate::queue::{Queue, QueuedRequest};
-use crate::tenants::{Tenants, Worked};
+use crate::queue::Queue;
+use crate::tenants::{Answer, Tenants, Worked};
 use arrayvec::ArrayVec;
 use mk_paths::FilesFault;
 use std::alloc::{AllocError, Global};
@@ -52,7 +52,8 @@ impl From<FilesFault> for NewFault {
 }
 
 /// The service, over the tenants' worlds, wherever they are kept. A contract sees the tenants' keys, their
-/// worlds, the requests that wait, the open connections by their numbers, and the next number.
+/// worlds, the requests that wait, the open connections by their numbers, the next number, and what is under
+/// way for each tenant.
 #[derive(Drop)]
 pub struct Service<K: Tenants> {
     alloc: Global,
@@ -76,21 +77,23 @@ impl<K: Tenants> Model for Service<K> {
     ghost use Rattle.std.specs.Prelude.{length};
     ghost use Rattle.ports_core.specs.Keys.{key_texts};
 
-    ghost view = { λ s. (key_texts s.keys.items, K.worlds s.worlds, s.queues.items, s.connections.entries, s.next) };
+    ghost view = { λ s. (key_texts s.keys.items, K.worlds s.worlds, s.queues.items, s.connections.entries, s.next, K.jobs s.worlds) };
 
     ghost use Rattle.ports_core.specs.Consistent.{IsConsistent};
 
-    ghost invariant = { λ s. IsConsistent (length s.keys.items) (K.worlds s.worlds) s.queues.items s.connections.entries s.next };
+    ghost invariant = { λ s. IsConsistent (length s.keys.items) (K.worlds s.worlds) s.queues.items
+        s.connections.entries s.next (K.jobs s.worlds) };
 }
 
 impl<K: Tenants> Service<K> {
     ghost use Rattle.ports_core.specs.Keys.{is_fit, key_texts};
     ghost use Rattle.ports_core.specs.Opened.{OpenAnd};
-    ghost use Rattle.ports_core.specs.State.{new_state, keys_of, slice_of, next_of, connections_of, connection_of, room_at};
+    ghost use Rattle.ports_core.specs.State.{new_state, keys_of, slice_of, job_at, next_of, connections_of, connection_of, room_at};
     ghost use Rattle.ports_core.specs.State.{pending_at, waiting_at, IsAllowed};
     ghost use Rattle.ports_core.specs.Connections.{Fits};
     ghost use Rattle.ports_core.specs.Telling.{CountsNone, CountsTurns};
     ghost use Rattle.ports_core.specs.Charging.{EventSpends, TurnSpends};
+    ghost use Rattle.ports_core.specs.JobChanges.{ChangesJobs, KeepsJobs, TurnsJob};
     ghost use Rattle.ports_core.specs.Steps.{Does, Opens, Hears, Turns};
 
     /// A service whose tenants' worlds are as each begins, without connections, with places for
@@ -202,6 +205,7 @@ impl<K: Tenants> Service<K> {
         ensures does { Does event.now result self.old self.new }
         ensures counts { CountsTurns event.now result }
         ensures spends { EventSpends event.now result self.old }
+        ensures jobs { ChangesJobs event.now result self.old self.new }
     {
         match event {
             Event::Open(_) => self.open(),
@@ -216,6 +220,7 @@ impl<K: Tenants> Service<K> {
     fn open(&mut self) -> Told
         ensures opens { Opens result self.old self.new }
         ensures counts { CountsNone result }
+        ensures jobs { KeepsJobs self.old self.new }
     {
         if self.connections.len() >= MOST_CONNECTIONS || self.next == u64::MAX {
             return Told::refusal(Refused::Connections);
@@ -234,6 +239,7 @@ impl<K: Tenants> Service<K> {
         requires { OpenAnd (connection_of conn self.old) (Fits event.now) }
         ensures hears { Hears event.now conn result self.old self.new }
         ensures counts { CountsNone result }
+        ensures jobs { KeepsJobs self.old self.new }
     {
         let queues = &mut self.queues;
         hear_connection(
@@ -250,18 +256,20 @@ impl<K: Tenants> Service<K> {
         requires { tenant < length (keys_of self.old) }
         ensures turns { Turns tenant result self.old self.new }
         ensures counts { CountsTurns (Event.Turn tenant) result }
-        ensures spends { TurnSpends (slice_of tenant self.old) result }
+        ensures spends { TurnSpends (slice_of tenant self.old) (job_at tenant self.old) result }
+        ensures jobs { TurnsJob tenant result self.old self.new }
     {
         let queue = &mut self.queues[tenant];
-        let Some(QueuedRequest { conn, request }) = queue.next() else {
+        let Some(first) = queue.first() else {
             return Told::nothing();
         };
+        let conn = first.conn;
         let close = closes(&self.connections, conn);
-        let Worked {
-            reply,
-            bytes,
-            spent,
-        } = self.worlds.work(self.alloc, tenant, &request, close);
+        let Worked { reply, spent } = self.worlds.work(self.alloc, tenant, &first.request, close);
+        let Some(Answer { reply, bytes }) = reply else {
+            return Told::spending(spent); // the request stays where it is
+        };
+        let _answered = queue.next();
         answer_connection(&mut self.connections, conn, &reply, bytes);
         let closed = close_done(&mut self.connections, conn);
         let tell = Tell {

@@ -1,8 +1,9 @@
-//! The tenants' worlds, as the service needs them.
-ghost use Rattle.std.specs.Prelude.{◌≡◌, ◌<◌, true, List, length, replicate, IfOk};
+//! The tenants' worlds and jobs, as the service needs them.
+ghost use Rattle.std.specs.Prelude.{◌≡◌, ◌<◌, true, List, Option, None, length, replicate, IfOk, IfSome, IfNone};
 ghost use Rattle.mk_paths.specs.World.{World, opening_world};
 ghost use Rattle.ports_core.specs.Answering.{AnswersFor, AreBytesOf};
-ghost use Rattle.ports_core.specs.Charging.{ChargesFor};
+ghost use Rattle.ports_core.specs.Charging.{ChargesFor, GoesOn};
+ghost use Rattle.ports_core.specs.Jobs.{Job, job_in, spent_on, job_after, IsForRequest, BecomesJob};
 ghost use Rattle.ports_core.specs.Keys.{is_fit};
 
 use crate::keys::Config;
@@ -11,48 +12,77 @@ use ports_http::{Reply, Request};
 use ports_index::Spent;
 use std::alloc::Global;
 
-/// What was done for a tenant's first request.
+/// The answer to a request.
 #[derive(Drop)]
-pub struct Worked {
+pub struct Answer {
     /// The reply.
     pub reply: Reply,
     /// The reply's bytes, which say whether the connection closes; `None` if it is one of the fixed replies,
     /// for which room is reserved.
     pub bytes: Option<Vec<u8>>,
-    /// What was spent: units on lines, records and values, and answers checked of evaluations that were kept.
-    /// Nothing with 503.
+}
+
+/// What was done for a tenant's first request in a turn.
+#[derive(Drop)]
+pub struct Worked {
+    /// The answer; `None` if what was begun for the request isn't at its end.
+    pub reply: Option<Answer>,
+    /// What was spent in this turn: units on lines, records and values, and answers checked of evaluations that
+    /// were kept. Nothing with 503.
     pub spent: Spent,
 }
 
 /// The world of each tenant, by the tenants' numbers, wherever these worlds are kept, and the plain service
-/// over one of them. `worlds` is the list of the worlds.
+/// over one of them. `worlds` is the list of the worlds. `jobs` has for each tenant what is under way, if
+/// anything is: for which request, and what was spent on it so far.
 pub trait Tenants: Sized + Drop {
     ghost worlds: { Self → List World };
 
-    /// The worlds of the tenants whose keys a config has, as each begins.
+    ghost jobs: { Self → List (Option Job) };
+
+    /// The worlds of the tenants whose keys a config has, as each begins, with nothing under way.
     ///
     /// The error is `Store` if what keeps them refuses, and `Memory` if memory runs out.
     fn new(alloc: Global, config: &Config) -> Result<Self, FilesFault>
         requires { is_fit config.now ≡ true }
-        ensures { IfOk result (λ kept. worlds kept
-            ≡ replicate (length config.now.keys.items) opening_world) };
+        ensures worlds { IfOk result (λ kept. worlds kept
+            ≡ replicate (length config.now.keys.items) opening_world) }
+        ensures jobs { IfOk result (λ kept. jobs kept
+            ≡ replicate (length config.now.keys.items) None) };
 
-    /// The reply to a request over a tenant's world. Its bytes are made before the world changes. If what
-    /// keeps the worlds fails, or there is no memory, the world is unchanged. Then the reply is the fixed
-    /// one that says so, without bytes, and nothing is told as spent.
+    /// A turn of work for a request over a tenant's world. What is under way for the tenant, if anything is,
+    /// must be for this request.
     ///
-    /// A request that asks for the index spends at most the units that it costs. Any other spends just these. Or the
-    /// one evaluation that it needs was kept: then at least one answer is checked, and the evaluation's units aren't
-    /// spent. At most 1,028 answers are checked for each makefile on which the reply rests.
+    /// Without an answer the request's work goes on in later turns. No world changes, and the tenant's job is for
+    /// this request. What was spent on it so far is no more units than the request costs, and at most 1,028 checks
+    /// for each makefile on which the reply rests.
+    ///
+    /// With an answer nothing is under way any more. Its bytes are made before the world changes. If what keeps the
+    /// worlds fails, or there is no memory, the world is unchanged. Then the reply is the fixed one that says so,
+    /// without bytes, and nothing is told as spent in this turn.
+    ///
+    /// In all turns together a request that asks for the index spends at most the units that it costs. Any other
+    /// spends just these. Or the one evaluation that it needs was kept: then at least one answer is checked, and the
+    /// evaluation's units aren't spent. At most 1,028 answers are checked for each makefile on which the reply rests.
     fn work(&mut self, alloc: Global, tenant: usize, request: &Request, close: bool) -> Worked
-        requires { tenant < length (worlds self.old) }
-        ensures answers { AnswersFor tenant request.now result.reply (worlds self.old) (worlds self.new) }
-        ensures charges { ChargesFor tenant request.now result.reply result.spent (worlds self.old) }
-        ensures bytes { AreBytesOf result.reply close result.bytes }
-        ensures count { length (worlds self.new) ≡ length (worlds self.old) };
+        requires there { tenant < length (worlds self.old) }
+        requires for_request { IsForRequest request.now (job_in tenant (jobs self.old)) }
+        ensures answers { IfSome result.reply (λ answer. AnswersFor tenant request.now
+            answer.reply (worlds self.old) (worlds self.new)) }
+        ensures charges { IfSome result.reply (λ answer. ChargesFor tenant request.now answer.reply
+            (spent_on (job_in tenant (jobs self.old))) result.spent (worlds self.old)) }
+        ensures bytes { IfSome result.reply (λ answer. AreBytesOf answer.reply close answer.bytes) }
+        ensures goes_on { IfNone result.reply (GoesOn tenant request.now
+            (spent_on (job_in tenant (jobs self.old))) result.spent
+            (worlds self.old) (worlds self.new)) }
+        ensures job { BecomesJob tenant (job_after request.now result.reply result.spent
+            (job_in tenant (jobs self.old))) (jobs self.old) (jobs self.new) }
+        ensures count { length (worlds self.new) ≡ length (worlds self.old) }
+        ensures job_count { length (jobs self.new) ≡ length (jobs self.old) };
 
     /// Limits the steps of each later statement of what keeps the worlds, or removes the limit. A request
-    /// whose statement would take more is answered 503. It changes no world.
+    /// whose statement would take more is answered 503. It changes no world and no job.
     fn limit_steps(&mut self, limit: Option<u64>)
-        ensures { worlds self.new ≡ worlds self.old };
+        ensures worlds { worlds self.new ≡ worlds self.old }
+        ensures jobs { jobs self.new ≡ jobs self.old };
 }

@@ -18,7 +18,8 @@ const READ_SIZE: usize = 16_384;
 /// Serves clients for so many rounds, and hands the service back. In a round at most one client is
 /// accepted, under the number of the next connection. Each open connection is read once, at most as many
 /// bytes as it has room for. Each that has bytes pending is written to once, and each tenant has one turn.
-/// A connection that isn't opened, or that closes, is shut.
+/// A connection that isn't opened, or that closes, is shut. As long as a request waits, or a round brings something,
+/// the next client isn't waited for.
 ///
 /// Whatever the wire answers, the service changes by `step` alone, at events that may happen. It fails only
 /// if there is no memory for the buffer of what is read, before anything is served.
@@ -229,7 +230,8 @@ fn write<W: Wire, K: Tenants>(wire: &mut W, service: &mut Service<K>, conn: u64)
     }
 }
 
-/// Each tenant has a turn. It gives whether there was a reply, or a request waits.
+/// Each tenant has a turn. It gives whether there was a reply, or a request waits. So it does where work was done
+/// for a request that isn't answered yet: the request still waits.
 fn turn_all<W: Wire, K: Tenants>(wire: &mut W, service: &mut Service<K>) -> bool
     ensures { Goes W.after (λ old. Each TakesTurn
         (numbers_from 0 (length (keys_of old))) old) wire.old service.old wire.new service.new }

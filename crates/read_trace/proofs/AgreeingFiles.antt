@@ -1,5 +1,5 @@
 -- When files agree with what was asked of others.
-use Rattle.std.proofs.Common.{◌≡◌, ap, subst, sym, refl, Result, Ok, Err, OnOk, OnErr, ℕ, ◌+◌, Bool, true, false, List, [], ◌∷◌, ◌++◌, Option, Some, None}
+use Rattle.std.proofs.Common.{◌≡◌, ◌∙◌, ap, subst, sym, refl, Result, Ok, Err, OnOk, OnErr, ℕ, ◌+◌, Bool, true, false, List, [], ◌∷◌, ◌++◌, Option, Some, None}
 use Rattle.std.specs.Prelude.{if◌then◌else◌}
 use Rattle.std.specs.FinMap.{get, contains_key}
 use Rattle.std.proofs.lemmas.Bool.{false≢true}
@@ -72,3 +72,10 @@ pub IsAnswered-added : {A E : Type 0} (result : Result A E) (files : FileMap) (o
     → IsAnswered files old → has_reply files question ≡ true → OnOk result (new ≡ old ++ question ∷ []) → OnErr result (new ≡ old) → IsAnswered files new
 IsAnswered-added (Ok value) files old new question answered has ok err = subst (IsAnswered files) (sym ok) (IsAnswered-more files old question answered has)
 IsAnswered-added (Err fault) files old new question answered has ok err = subst (IsAnswered files) (sym err) answered
+
+-- answers that are those of the files are found to be so
+pub agreement-Agrees : (files : FileMap) (questions : List Question) → Agrees files questions → IsAnswered files questions
+agreement-Agrees files [] agrees = refl
+agreement-Agrees files (question ∷ questions) agrees =
+    ap (λ (same : Bool). (if same then one_more (agreement files questions) else (false, 1)).0) (has_reply-answered files question.0 question.1 agrees.0)
+    ∙ agreement-Agrees files questions agrees.1

@@ -1,5 +1,5 @@
 -- Files that write down what they are asked.
-use Rattle.std.specs.Prelude.{◌≡◌, ◌⊎◌, List, [], Option, Some, None}
+use Rattle.std.specs.Prelude.{◌≡◌, ◌⊎◌, List, Option, Some, None}
 use Rattle.mk_paths.specs.FilesView.{FilesView, Question, failed}
 use Rattle.mk_paths.specs.declared.asking.FilesFault.{FilesFault}
 use Rattle.mk_paths.specs.declared.asking.Names.{Ghosts}
@@ -22,9 +22,9 @@ view_of view recorder = record {
 abbrev pub log_of : {F : Type 0} {names : Ghosts F} → (F → FilesView) → Recorder F names → Option (List Question)
 log_of view recorder = (view_of view recorder).log
 
--- a view of which nothing was asked, as far as its log says
-abbrev pub asked_nothing : FilesView → FilesView
-asked_nothing view = record view { log = Some [] }
+-- a view with this trace as its log
+abbrev pub with_trace : FilesView → List Question → FilesView
+with_trace view trace = record view { log = Some trace }
 
 -- a recorder fails as the files that it asks may, or with Memory if there is none for its trace
 abbrev pub MayFail : (FilesFault → Type 0) → FilesFault → Type 0

@@ -9,7 +9,7 @@ mod recorder;
 mod trace;
 
 pub use agreeing::agrees;
-pub use evaluating::{Evaluation, evaluate_recorded};
+pub use evaluating::Evaluation;
 pub use laws::{agrees_where_answered, same_where_agreed};
 pub use recorder::Recorder;
 pub use trace::{Question, Reply, Trace};

@@ -24,7 +24,7 @@ pub struct Recorder<F: Files + Drop> {
 
 impl<F: Files + Drop> Recorder<F> {
     ghost use Rattle.mk_eval.specs.Sharing.{Agrees};
-    ghost use Rattle.read_trace.specs.Recording.{view_of, recording, log_of, asked_nothing};
+    ghost use Rattle.read_trace.specs.Recording.{view_of, recording, log_of, with_trace};
 
     /// What asks these files, and goes on with this trace, whose answers are those of the files. It takes no
     /// memory.
@@ -51,10 +51,18 @@ impl<F: Files + Drop> Recorder<F> {
     /// Takes out what was asked so far. After that nothing was asked, as far as the trace says.
     pub fn take_trace(&mut self) -> Trace
         ensures trace { log_of F.view self.old ≡ Some result }
-        ensures rest { view_of F.view self.new ≡ asked_nothing (view_of F.view self.old) }
+        ensures rest { view_of F.view self.new ≡ with_trace (view_of F.view self.old) [] }
         ensures answered { Agrees (view_of F.view self.old).files result }
     {
         mem::replace(&mut self.trace, Trace::new(self.alloc))
+    }
+
+    /// Goes on with this trace, whose answers are those of the files. What was written down before is dropped.
+    pub fn go_on(&mut self, trace: Trace)
+        requires { Agrees (view_of F.view self.old).files trace }
+        ensures { view_of F.view self.new ≡ with_trace (view_of F.view self.old) trace }
+    {
+        self.trace = trace;
     }
 
     // Writes down whether a file was there. If memory runs out, nothing changes.

@@ -1,5 +1,5 @@
 -- The tenants' worlds, as the store holds them.
-use Rattle.std.proofs.Common.{◌≡◌, ◌≢◌, ◌<◌, ◌≤◌, ◌∙◌, ℕ, ◌+◌, ◌∷◌, length, map, true, false, inl, inr, Option, None, Some, Result, Ok, Err, IfOk, refl, sym, ap, subst, arith, nat_lt, zero, suc}
+use Rattle.std.proofs.Common.{◌≡◌, ◌≢◌, ◌<◌, ◌≤◌, ◌∙◌, ℕ, ◌+◌, ◌∷◌, length, map, true, false, inl, inr, Option, None, Some, Result, Ok, Err, IfOk, refl, sym, ap, subst, arith, nat_lt, zero, suc, zero-add}
 use Rattle.std.specs.Prelude.{slice_get, option_map, replicate, MatchBool, ◌==◌, ◌&&◌, Bool, nat_le, string_bytes}
 use Rattle.std.specs.List.{range_with_len, list_all}
 use Rattle.std.proofs.lemmas.List.{length-map}
@@ -16,6 +16,7 @@ use Rattle.ports_plain.specs.Plain.{PlainRequest, Served, plain, answer}
 use Rattle.tenant_store.specs.Holdings.{Holdings, nothing, files_of, path_of}
 use Rattle.ports_core.specs.Answering.{Answers, AnswersFor, plain_request_of, plain_answer}
 use Rattle.ports_core.specs.Charging.{Spends, ChargesFor}
+use Rattle.ports_core.specs.Jobs.{Job, job_in, spent_then, spent_on, job_after, BecomesJob}
 use Rattle.ports_core.specs.Keys.{is_size, is_key, are_apart, key_texts, is_fit}
 use Rattle.ports_core.specs.Telling.{is_failure}
 use Rattle.ports_core.specs.declared.keys.Config.{Config}
@@ -103,17 +104,40 @@ spends : (world : World) (keeper : Option TenantKeeper) (request : RequestMessag
 spends world None request spent no_more spends_at = absurd spends_at
 spends world (Some keeper) request spent no_more spends_at = no_more world _ (need_of (question_of (plain_request_of request))) spent spends_at
 
+-- nothing was spent before
+pub after_nothing : (before spent : Spent) → before ≡ no_spending → spent_then before spent ≡ spent
+after_nothing before spent none = ap (λ (b : Spent). spent_then b spent) none ∙ (λ i. record { units = zero-add spent.units i; checks = zero-add spent.checks i })
+
 -- what was spent is what is told
-pub charges_for : (held : Holdings) (count t : ℕ) (keeper : Option TenantKeeper) (request : RequestMessage) (reply : ReplyMessage) (spent : Spent) (after : World) → t < count
+pub charges_for : (held : Holdings) (count t : ℕ) (keeper : Option TenantKeeper) (request : RequestMessage) (reply : ReplyMessage) (before spent : Spent) (after : World) → t < count → before ≡ no_spending
     → KeepingSpendsNoMore
     → ((world : World) (request : PlainRequest) → ((plain world request).0.status == 503) ≡ false)
     → plain_answer (world_in held t) request ≡ (reply, after) → SpendsAt (world_in held t) keeper (plain_request_of request) spent
-    → ChargesFor t request reply spent (worlds_in held count)
-charges_for held count t keeper request reply spent after within no_more never is spends_at world there =
+    → ChargesFor t request reply before spent (worlds_in held count)
+charges_for held count t keeper request reply before spent after within none no_more never is spends_at world there =
     let fine : is_failure reply.status ≡ false = ap (λ (end : Served). is_failure end.0.status) (sym is) ∙ never (world_in held t) (plain_request_of request) in
     let this : world_in held t ≡ world = some_same (sym (world_there held count t within) ∙ there) in
-    subst (λ failed. MatchBool failed (spent ≡ no_spending) (Spends world request spent)) (sym fine)
-    (subst (λ (w : World). Spends w request spent) this (spends (world_in held t) keeper request spent no_more spends_at))
+    subst (λ failed. MatchBool failed (spent ≡ no_spending) (Spends world request (spent_then before spent))) (sym fine)
+    (subst (λ (s : Spent). Spends world request s) (sym (after_nothing before spent none))
+    (subst (λ (w : World). Spends w request spent) this (spends (world_in held t) keeper request spent no_more spends_at)))
+
+-- nothing is under way for any tenant
+pub no_job_of : (count t : ℕ) → job_in t (replicate count None) ≡ None
+no_job_of zero t = refl
+no_job_of (suc count) zero = refl
+no_job_of (suc count) (suc t) = no_job_of count t
+
+pub nothing_before : (count t : ℕ) → spent_on (job_in t (replicate count None)) ≡ no_spending
+nothing_before count t = ap spent_on (no_job_of count t)
+
+-- with a reply nothing is under way then
+pub no_job_after : {A : Type 0} (count count_after t : ℕ) (request : RequestMessage) (reply : Option A) (answer : A) (spent : Spent) (job : Option Job) → reply ≡ Some answer
+    → BecomesJob t (job_after request reply spent job) (replicate count None) (replicate count_after None)
+no_job_after count count_after t request None answer spent job some = absurd cc
+no_job_after count count_after t request (Some one) answer spent job some = record {
+  job_is = no_job_of count_after t;
+  others = λ u ne. no_job_of count_after u ∙ sym (no_job_of count u);
+}
 
 few_of : (parses evals all apart : Bool) (n : ℕ) → (parses && evals && (nat_le 1 n && nat_le n 64 && all && apart)) ≡ true → n ≤ 64
 few_of true true true true n fit = grind (arith, nat_tests)

@@ -28,7 +28,7 @@ pub(crate) struct Asking<'a> {
 
 impl Asking<'_> {
     ghost use Rattle.std.specs.Prelude.{◌≡◌, IfOk};
-    ghost use Rattle.index_keep.specs.Keeping.{IsKept, rows_of};
+    ghost use Rattle.index_keep.specs.Keeping.{IsKept, refresh_of};
     ghost use Rattle.index_store.specs.PortTable.{stored_by};
     ghost use Rattle.kept_ports.specs.Calls.{request_of, IsPrepared};
     ghost use Rattle.tenant_store.specs.Holdings.{files_of};
@@ -39,7 +39,7 @@ impl Asking<'_> {
         requires { IsReady (files_of tenant store.old) self.old }
         ensures prepared { IfOk self.new.answered.now.prepared
             (IsPrepared (world_asked (files_of tenant store.old) self.old)
-            (rows_of stored_by self.old.keeper.now) (request_of self.old.call)) }
+            (refresh_of stored_by self.old.keeper.now) (request_of self.old.call)) }
         ensures kept { IsKept stored_by (world_asked (files_of tenant store.old) self.old)
             self.new.keeper.now }
         ensures same_keeper { self.new.keeper.ghost_name ≡ self.old.keeper.ghost_name }

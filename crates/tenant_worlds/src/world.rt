@@ -5,7 +5,7 @@ ghost use Rattle.ports_plain.specs.Changing.{changed, overfills, settle_change};
 ghost use Rattle.ports_plain.specs.Replies.{full as full_reply};
 ghost use Rattle.ports_core.specs.Answering.{plain_request_of, plain_answer};
 ghost use Rattle.index_store.specs.PortTable.{stored_by};
-ghost use Rattle.index_keep.specs.Keeping.{IsKept, rows_of};
+ghost use Rattle.index_keep.specs.Keeping.{IsKept, refresh_of};
 ghost use Rattle.kept_ports.specs.Calls.{request_of, IsPrepared, SpendsOnRequest};
 ghost use Rattle.tenant_worlds.specs.Stored.{world_in, KeepsOtherWorlds};
 
@@ -46,7 +46,7 @@ pub(crate) fn reply_to(
         plain_answer (world_in store.old tenant) incoming.now.request.now
         ≡ (r.0, world_in store.new tenant)) }
     ensures spent { IfOk result (λ r. SpendsOnRequest (world_in store.old tenant)
-        (rows_of stored_by keeper.old) (plain_request_of incoming.now.request.now) r.2) }
+        (refresh_of stored_by keeper.old) (plain_request_of incoming.now.request.now) r.2) }
     ensures others { OnOk result (KeepsOtherWorlds tenant store.old store.new) }
     ensures bytes { IfOk result (λ r. r.1.items ≡ reply_text r.0 incoming.now.close) }
     ensures err { OnErr result (store.new ≡ store.old) }
@@ -85,7 +85,7 @@ fn prepare<'x>(
 ) -> Result<(Prepared, Spent), FilesFault>
     requires { IsKept stored_by ((world_in store.old tenant).0, call.now.settings.now) keeper.old }
     ensures ok { IfOk result (IsPrepared ((world_in store.old tenant).0, call.now.settings.now)
-        (rows_of stored_by keeper.old) (request_of call.now)) }
+        (refresh_of stored_by keeper.old) (request_of call.now)) }
     ensures same { store.new ≡ store.old }
     ensures kept { IsKept stored_by
         ((world_in store.old tenant).0, call.now.settings.now) keeper.new }

@@ -6,7 +6,7 @@ use index_keep::Keeper;
 use index_store::IndexStore;
 use kept_ports::keeping_spends_no_more;
 use mk_paths::FilesFault;
-use ports_core::{Config, Tenants, Worked};
+use ports_core::{Answer, Config, Tenants, Worked};
 use ports_http::{Reply, Request};
 use ports_index::Spent;
 use ports_plain::{Plain, never_answers_503};
@@ -16,7 +16,8 @@ use tenant_store::TenantStore;
 
 /// The world of each tenant, by the tenants' numbers, all in one store, and the plain service that answers
 /// over one of them. The index of each world is kept in a database of its own. Parses and evaluations are kept
-/// in one cache, which all tenants share. A contract sees the list of the worlds.
+/// in one cache, which all tenants share. Each request is answered in one turn, so nothing is ever under way. A
+/// contract sees the list of the worlds.
 #[derive(Drop)]
 pub struct StoredTenants {
     store: TenantStore,
@@ -44,7 +45,11 @@ impl Model for StoredTenants {
 }
 
 impl Tenants for StoredTenants {
+    ghost use Rattle.std.specs.Prelude.{None, length, replicate};
+
     ghost worlds = { λ w. w };
+
+    ghost jobs = { λ w. replicate (length w) None };
 
     fn new(alloc: Global, config: &Config) -> Result<StoredTenants, FilesFault> {
         let store = TenantStore::open_in_memory(alloc)?;
@@ -76,13 +81,17 @@ impl Tenants for StoredTenants {
             &incoming,
         ) {
             Ok((reply, bytes, spent)) => Worked {
-                reply,
-                bytes: Some(bytes),
+                reply: Some(Answer {
+                    reply,
+                    bytes: Some(bytes),
+                }),
                 spent,
             },
             Err(_refused) => Worked {
-                reply: Reply::store_failed(),
-                bytes: None,
+                reply: Some(Answer {
+                    reply: Reply::store_failed(),
+                    bytes: None,
+                }),
                 spent: Spent::nothing(),
             },
         }

@@ -1,4 +1,4 @@
-use Rattle.std.proofs.Common.{refl, arith}
+use Rattle.std.proofs.Common.{refl}
 use Rattle.mk_step.proofs.Skipping.{skips-one, skips-all, costs-one}
 use Rattle.mk_step.proofs.blank_lines.skip_blank_lines.Goals as goal
 

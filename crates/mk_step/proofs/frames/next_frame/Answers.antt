@@ -1,4 +1,4 @@
-use Rattle.std.proofs.Common.{Option, Some, None, refl}
+use Rattle.std.proofs.Common.{None, refl}
 use Rattle.mk_step.specs.Views.{frames_of}
 use Rattle.mk_step.proofs.Stacks.{pops}
 use Rattle.mk_step.proofs.frames.next_frame.Goals as goal

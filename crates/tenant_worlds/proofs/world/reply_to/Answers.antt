@@ -5,7 +5,7 @@ use Rattle.mk_paths.specs.declared.search_path.Settings.{Settings}
 use Rattle.ports_plain.specs.Plain.{PlainRequest, answer}
 use Rattle.ports_core.specs.Answering.{plain_request_of}
 use Rattle.index_store.specs.PortTable.{stored_by}
-use Rattle.index_keep.specs.Keeping.{rows_of}
+use Rattle.index_keep.specs.Keeping.{refresh_of}
 use Rattle.kept_ports.specs.Calls.{SpendsOnRequest}
 use Rattle.tenant_worlds.specs.Stored.{world_in}
 use Rattle.tenant_worlds.proofs.WorldLemmas.{asked_world, served}
@@ -22,7 +22,7 @@ returns-clause-reply c =
 pub returns-clause-spent : goal.returns-clause-spent
 returns-clause-spent c =
     let asked : World = ((world_in c.settings.new.self c.args.tenant).0, c.call_of-call.result.settings.now) in
-    let rows = rows_of stored_by c.args.keeper.now in
+    let rows = refresh_of stored_by c.args.keeper.now in
     let spent = c.in_ok-prepared.spent in
     let same = asked_world c.args.store.now c.settings.new.self c.args.tenant c.call_of-call.result.settings.now c.in_ok-settings.ensures.same
     (ap (λ (settings : Settings). settings.path) c.call_of-call.ensures.settings ∙ c.in_ok-settings.ensures.path) in

@@ -7,8 +7,8 @@ use Rattle.ports_index.specs.Keeping.{Keeps}
 use Rattle.read_trace.specs.Recording.{view_of}
 use Rattle.std.proofs.Common.{None}
 use Rattle.index_keep.specs.Turns.{paths_left}
-use Rattle.index_keep.specs.Keeping.{IsKept, rows_of}
-use Rattle.index_keep.proofs.SpendLemmas.{SpendsSoFar}
+use Rattle.index_keep.specs.Keeping.{IsKept, rows_of, begun_in}
+use Rattle.index_keep.proofs.SpendLemmas.{SoFar}
 use Rattle.index_keep.proofs.keeper.Keeper.refresh.Given as goal
 
 abbrev pub invariant-loop-more : goal.invariant-loop-more
@@ -19,7 +19,7 @@ invariant-loop-more g l =
     record {
       kept : IsKept g.R.PathRows.entries world l.self;
       files : Keeps None (view_of g.F.Names.view l.initial.files) (view_of g.F.Names.view l.files);
-      spent : SpendsSoFar (cost_over world first) (evaluations_over world first) l.spent (cost_over world left) (evaluations_over world left);
+      spent : SoFar (cost_over world first) (evaluations_over world first) (begun_in l.initial.self.progress) (begun_in l.self.progress) l.spent (cost_over world left) (evaluations_over world left);
     }
 
 abbrev pub decreases-loop-more : goal.decreases-loop-more

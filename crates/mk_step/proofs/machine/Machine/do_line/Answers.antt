@@ -3,7 +3,6 @@ use Rattle.std.proofs.lemmas.Result.{err_from_is_err_and}
 use Rattle.mk_files.specs.Asking.{account}
 use Rattle.mk_eval.specs.Includes.{Place}
 use Rattle.mk_eval.specs.Views.{loops_of, file_of}
-use Rattle.mk_step.specs.Machine.{place_at}
 use Rattle.mk_step.specs.Views.{site_of}
 use Rattle.mk_step.proofs.Stepping.{line-stops, line-alone, line-enters, stops-purely, may-open, found-some, StopsPurelyAt-same}
 use Rattle.mk_step.proofs.machine.Machine.do_line.Goals as goal

@@ -1,6 +1,5 @@
-use Rattle.std.proofs.Common.{◌≡◌, ◌∙◌, Some, option_map, if◌then◌else◌, sym, ap}
+use Rattle.std.proofs.Common.{◌∙◌, sym, ap}
 use Rattle.std.proofs.lemmas.Result.{err_from_is_err_and}
-use Rattle.mk_ast.specs.Views.{block_of}
 use Rattle.mk_files.specs.Asking.{account}
 use Rattle.mk_loop.specs.Scopes.{turns_in}
 use Rattle.mk_eval.specs.Views.{loops_of}

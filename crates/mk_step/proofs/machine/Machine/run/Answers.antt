@@ -50,10 +50,11 @@ pub returns-in_err-step-clause-runs : goal.returns-in_err-step-clause-runs
 returns-in_err-step-clause-runs g c =
     let view = g.F.Names.view in
     let first = view c.args.files.now in
+    let low : c.loop-alloc.self.budget.spent < c.args.self.now.budget.spent + c.args.units = omega (arith, c.loop-alloc-test.true, c.spent.ensures.units, c.spent-before.ensures.units) in
     let p = err_from_is_err_and c.from_residual.result c.from_residual.ensures.1 in
     rw (p.1, p.2)
     (way-stops g.F.Names.fails_with first (point_of c.args.self.now) c.args.units (view c.loop-alloc.files) (view c.step.new.files) (point_of c.loop-alloc.self) c.loop-alloc.invariant.way (frame_of c.in-Some.frame) (frames_of c.next_frame.new.frames.items) c.step.new.self.budget
-    c.in-Some.ensures.alike c.in_err-step.ensures.later c.in_err-step.field-0.0 (point_of c.step.new.self) refl c.in_err-step.ensures.gives c.in_err-step.ensures.asks)
+    c.in-Some.ensures.alike c.in_err-step.ensures.later c.in_err-step.field-0.0 (point_of c.step.new.self) refl c.in_err-step.ensures.gives c.in_err-step.ensures.asks low)
 
 pub returns-in_default-clause-runs : goal.returns-in_default-clause-runs
 returns-in_default-clause-runs g c =

@@ -1,11 +1,11 @@
-use Rattle.std.proofs.Common.{◌≡◌, ◌∙◌, ◌∷◌, ◌+◌, if◌then◌else◌, option_map, sym, ap}
+use Rattle.std.proofs.Common.{◌∙◌, ◌+◌, if◌then◌else◌, option_map, sym, ap}
 use Rattle.std.proofs.lemmas.Result.{err_from_is_err_and}
 use Rattle.mk_ast.specs.Views.{block_of}
 use Rattle.mk_files.specs.Asking.{account}
 use Rattle.mk_eval.specs.Views.{loops_of}
 use Rattle.mk_step.specs.Machine as machine
 use Rattle.mk_step.specs.Machine.{place_at}
-use Rattle.mk_step.specs.Views.{site_of, frame_at, frames_of, later_from}
+use Rattle.mk_step.specs.Views.{site_of, frames_of, later_from}
 use Rattle.mk_step.proofs.Stacks.{onto}
 use Rattle.mk_step.proofs.Stepping.{later-stops, later-goes}
 use Rattle.mk_step.proofs.machine.Machine.step_later.Goals as goal

@@ -2,10 +2,12 @@ use Rattle.std.proofs.Common.{ap, sym, subst, ◌∙◌, arith, List, length}
 use Rattle.std.proofs.lemmas.List.{with_items_is}
 use Rattle.ports_core.specs.Keys.{key_texts}
 use Rattle.ports_core.specs.Connections.{Fits}
+use Rattle.ports_core.specs.Jobs.{AreForFirst}
 use Rattle.ports_core.specs.Opened.{OpenAnd}
 use Rattle.ports_core.specs.Places.{AreSeated}
 use Rattle.ports_core.specs.Slices.{Queue}
 use Rattle.ports_core.specs.State.{State, connection_of}
+use Rattle.ports_core.proofs.JobLemmas.{joined_first}
 use Rattle.ports_core.proofs.PlaceLemmas.{heard_fresh, heard_seats, open_places}
 use Rattle.ports_core.proofs.StepLemmas.{heard}
 use Rattle.ports_core.proofs.service.Service.hear.Goals as goal
@@ -26,12 +28,16 @@ invariant_of-self g c =
       seated = subst (λ (qs : List Queue). AreSeated qs c.hear_connection.new.connections.entries) (sym queues)
           (heard_seats _ c.args.event.now c.args.conn c.hear_connection.result _ c.hear_connection.new.connections.entries _ _ c.hear_connection.ensures.hears
           (subst (λ (qs : List Queue). AreSeated qs c.self.inside.connections.entries) (sym c.deref_mut.ensures.value) c.self.invariant.seated));
+      jobs = c.self.invariant.jobs;
+      first = subst (λ (qs : List Queue). AreForFirst qs (g.K.Tenants.jobs c.self.inside.worlds)) (sym queues)
+          (joined_first _ c.args.conn c.hear_connection.ensures.hears.0 _ c.hear_connection.new.queues (g.K.Tenants.jobs c.self.inside.worlds) c.hear_connection.ensures.hears.2
+          (subst (λ (qs : List Queue). AreForFirst qs (g.K.Tenants.jobs c.self.inside.worlds)) (sym c.deref_mut.ensures.value) c.self.invariant.first));
     }
 
 pub returns-clause-hears : goal.returns-clause-hears
 returns-clause-hears g c =
     rw (← c.self.view_is)
-    (heard (key_texts c.self.inside.keys.items) c.self.inside.next c.args.event.now c.args.conn c.hear_connection.result (g.K.Tenants.worlds c.self.inside.worlds)
+    (heard (key_texts c.self.inside.keys.items) c.self.inside.next (g.K.Tenants.jobs c.self.inside.worlds) c.args.event.now c.args.conn c.hear_connection.result (g.K.Tenants.worlds c.self.inside.worlds)
     c.self.inside.queues.items c.deref_mut.result.now c.hear_connection.new.queues _ c.self.inside.connections.entries c.hear_connection.new.connections.entries
     (key_texts c.deref.result.now) (ap key_texts c.deref.ensures.value) c.deref_mut.ensures.value
     (with_items_is c.self.inside.queues c.hear_connection.new.queues (c.hear_connection.auto.queues ∙ c.deref_mut.ensures.len))

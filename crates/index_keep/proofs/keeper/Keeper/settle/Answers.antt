@@ -1,0 +1,24 @@
+-- The row that is written is the path's, and the walk knows of it.
+use Rattle.std.proofs.Common.{subst, refl}
+use Rattle.index_keep.specs.Paths.{TurnsPath}
+use Rattle.index_keep.specs.Shown.{shown, no_name}
+use Rattle.index_keep.specs.Turns.{spent_in_all}
+use Rattle.index_keep.proofs.WalkLemmas.{kept-made, more-made, renews-made}
+use Rattle.index_keep.proofs.keeper.Keeper.settle.Goals as goal
+
+pub returns-in_ok-walk-in-Made-clause-settles : goal.returns-in_ok-walk-in-Made-clause-settles
+returns-in_ok-walk-in-Made-clause-settles g c = λ world path units ready turns.
+    let old = shown no_name (g.R.PathRows.entries c.args.self.now.rows) in
+    let new = shown no_name (g.R.PathRows.entries c.put_row.new.rows) in
+    let made = subst (TurnsPath world path units c.args.before) c.in-Made.is turns in
+    (renews-made world old new c.args.walk path ready c.in-Made.made made.0 c.in_ok-walk-in-Made.ensures.rows (spent_in_all c.args.before c.spent_since.result) c.spent_since.ensures, refl)
+
+pub returns-in_ok-walk-in-Made-clause-kept : goal.returns-in_ok-walk-in-Made-clause-kept
+returns-in_ok-walk-in-Made-clause-kept g c = λ world path units ready turns.
+    let old = shown no_name (g.R.PathRows.entries c.args.self.now.rows) in
+    let new = shown no_name (g.R.PathRows.entries c.put_row.new.rows) in
+    let made = subst (TurnsPath world path units c.args.before) c.in-Made.is turns in
+    record {
+      rows = kept-made world old new c.args.walk path ready c.in-Made.made made.0 c.in_ok-walk-in-Made.ensures.rows;
+      progress = c.in_ok-walk-in-Made.ensures.walk world old new ready.far (more-made world old new c.args.walk path ready c.in-Made.made made.0 c.in_ok-walk-in-Made.ensures.rows);
+    }

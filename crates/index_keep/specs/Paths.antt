@@ -1,0 +1,96 @@
+-- The row of a path, while it is made.
+use Rattle.std.specs.Prelude.{◌≡◌, ◌≤◌, ℕ, ◌+◌, ◌++◌, true, false, List, Option, Some, None, string_bytes}
+use Rattle.std.specs.Str.{bytes_eq}
+use Rattle.mk_paths.specs.World.{World, files_in}
+use Rattle.mk_eval.specs.Meaning.{means}
+use Rattle.mk_eval.specs.Sharing.{Agrees, questions_of}
+use Rattle.eval_cache.specs.Keys.{key_for}
+use Rattle.pkg_path.specs.Paths.{path_if_one}
+use Rattle.ports_index.specs.Pairs.{Pair, pair_at}
+use Rattle.ports_index.specs.PathOutcomes.{finding_at, finding_of_evaluation, nothing_found, own_directory}
+use Rattle.ports_index.specs.PathQuestions.{questions_at}
+use Rattle.ports_index.specs.Spending.{SpendsOnPath}
+use Rattle.ports_index.specs.declared.spending.Spent.{Spent}
+use Rattle.row_text.specs.Rows.{RowValue, make_row}
+use Rattle.row_text.specs.Seen.{row_seen}
+use Rattle.index_keep.specs.Asking.{IsAskIn, key_in, spent_so_far}
+use Rattle.index_keep.specs.Right.{IsRightRow, row_with}
+use Rattle.index_keep.specs.declared.asking.Asked.{Asked}
+use Rattle.index_keep.specs.declared.evaluating.FoundPath.{FoundPath}
+use Rattle.index_keep.specs.declared.evaluating.MadeRow.{MadeRow}
+use Rattle.index_keep.specs.declared.evaluating.NamedDirectory.{NamedDirectory}
+use Rattle.index_keep.specs.declared.evaluating.NamedDirectory.TheVariants.{Own, OfPath}
+use Rattle.index_keep.specs.declared.evaluating.PathAsk.{PathAsk}
+use Rattle.index_keep.specs.declared.evaluating.PathTurned.{PathTurned}
+use Rattle.index_keep.specs.declared.evaluating.PathTurned.TheVariants.{More, Made}
+
+-- the directory that a path names, and the flavors with which its makefile is evaluated, if any are given
+abbrev pub directory_of : NamedDirectory → List ℕ
+directory_of Own = own_directory
+directory_of (OfPath path) = path.directory
+
+abbrev pub flavors_of : NamedDirectory → Option (List (List ℕ))
+flavors_of Own = None
+flavors_of (OfPath path) = path.flavors
+
+-- it is the one that the path names; or the path names none
+abbrev pub IsNamed : List ℕ → Option NamedDirectory → Type 0
+IsNamed path None = (bytes_eq path own_directory ≡ false) × (path_if_one path ≡ None)
+IsNamed path (Some Own) = bytes_eq path own_directory ≡ true
+IsNamed path (Some (OfPath found)) = (bytes_eq path own_directory ≡ false) × (path_if_one path ≡ Some found)
+
+-- the row of a path without a makefile, for which files of these names were asked for
+abbrev pub absent_row : List (List ℕ) → RowValue
+absent_row names = make_row nothing_found.outcome 0 names
+
+-- The makefile of a path was found in a world, with the questions that were asked for that. What the path leads to, and
+-- on which questions that depends, follows from the makefile's evaluation.
+pub record IsFoundAt (world : World) (found : FoundPath) : Type 0 where
+  pub finding : finding_at world (string_bytes found.path)
+      ≡ finding_of_evaluation found.makefile (flavors_of found.named) (means world found.makefile (flavors_of found.named))
+  pub questions : questions_at world (string_bytes found.path)
+      ≡ found.placed ++ questions_of world.0 world.1 found.makefile (flavors_of found.named)
+  pub pair : ◌≡◌ {A = Option Pair} (pair_at world (string_bytes found.path))
+      (Some (record { makefile = found.makefile; flavors = flavors_of found.named }))
+  pub answered : Agrees (files_in world) found.placed
+
+-- the row that is made of an evaluation which was asked for
+abbrev pub row_made : FoundPath → Asked → RowValue
+row_made found asked =
+    row_with (finding_of_evaluation found.makefile (flavors_of found.named) asked.evaluation.value.outcome)
+    (found.placed ++ asked.evaluation.value.trace)
+
+-- the row of a path in a world is made, and so much was spent on it
+pub record IsMade (world : World) (path : List ℕ) (made : MadeRow) : Type 0 where
+  pub at : string_bytes made.path ≡ path
+  pub row : IsRightRow world path (row_seen made.row)
+  pub spent : SpendsOnPath world path made.spent
+
+-- the evaluation of a path's makefile is under way in a world
+pub record IsPathAsk (world : World) (path : List ℕ) (ask : PathAsk) : Type 0 where
+  pub at : string_bytes ask.found.path ≡ path
+  pub found : IsFoundAt world ask.found
+  pub key : key_in ask.ask ≡ key_for world.1 ask.found.makefile (flavors_of ask.found.named)
+  pub under : IsAskIn (files_in world) ask.ask
+
+-- nothing of what was spent is taken back
+pub record IsUpFrom (before after : Spent) : Type 0 where
+  pub units : before.units ≤ after.units
+  pub checks : before.checks ≤ after.checks
+
+-- and this much more was spent, units and checks together
+abbrev pub IsUpBy : ℕ → Spent → Spent → Type 0
+IsUpBy units before after =
+    IsUpFrom before after × ((before.units + before.checks) + units ≤ after.units + after.checks)
+
+-- What a turn makes of the row of a path, on which so much was spent before: the row is made; or its makefile's
+-- evaluation goes on, and the units are spent that the turn was given.
+abbrev pub TurnsPath : World → List ℕ → ℕ → Spent → PathTurned → Type 0
+TurnsPath world path units before (Made made) = IsMade world path made × IsUpFrom before made.spent
+TurnsPath world path units before (More ask) =
+    IsPathAsk world path ask × IsUpBy units before (spent_so_far ask.ask)
+
+-- nothing is taken back of what was spent before on the row of a path
+abbrev pub IsUpTo : Spent → PathTurned → Type 0
+IsUpTo before (Made made) = IsUpFrom before made.spent
+IsUpTo before (More ask) = IsUpFrom before (spent_so_far ask.ask)

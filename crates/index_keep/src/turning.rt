@@ -1,0 +1,246 @@
+//! The turns of a refresh.
+ghost use Rattle.std.specs.Prelude.{◌≡◌, ℕ, List, false, Some, None, Ok, if◌then◌else◌, string_bytes};
+ghost use Rattle.std.specs.Prelude.{IfOk, OnOk, OnErr};
+ghost use Rattle.std.specs.BTreeSet.{contains_text};
+ghost use Rattle.std.specs.Result.{result_err};
+ghost use Rattle.std.specs.Str.{bytes_eq};
+ghost use Rattle.mk_paths.specs.FilesView.{world_of};
+ghost use Rattle.mk_paths.specs.World.{World};
+ghost use Rattle.read_trace.specs.Recording.{view_of};
+ghost use Rattle.mk_paths.specs.declared.search_path.Settings.{Settings};
+ghost use Rattle.index_store.specs.Entries.{SameRows};
+ghost use Rattle.ports_index.specs.Spending.{no_spending};
+ghost use Rattle.row_text.specs.Seen.{row_seen};
+ghost use Rattle.index_keep.specs.Asking.{IsAskIn, spent_so_far};
+ghost use Rattle.index_keep.specs.Shown.{ShownRows, shown, no_name, ShowsSame};
+ghost use Rattle.index_keep.specs.Right.{LeavesFiles};
+ghost use Rattle.index_keep.specs.Paths.{IsUpFrom, IsUpTo, TurnsPath};
+ghost use Rattle.index_keep.specs.Turns.{EndsTurn, DropsTurn, refresh_at, spent_in_all};
+ghost use Rattle.index_keep.specs.Walking.{IsWalk, IsOnTheWay, HasRowMore};
+ghost use Rattle.index_keep.specs.Keeping.{refresh_of, IsKept, IsDoneAfter};
+ghost use Rattle.index_keep.specs.Keeping.{IsAskOnTheWay, IsReadyFor, IsAtEnd};
+
+use crate::ending::take_out_others;
+use crate::evaluating::{MadeRow, PathAsk, PathTurned};
+use crate::keeper::{Keeper, Progress, Turned};
+use crate::walking::{LastStage, Next, Stage, Walk, begin_walk};
+use eval_cache::EvalCache;
+use index_store::PathRows;
+use mk_files::Listing;
+use mk_paths::{FilesFault, Settings};
+use ports_index::Spent;
+use read_trace::Recorder;
+use row_text::{KeptRow, write_row};
+use std::alloc::Global;
+use std::collections::BTreeSet;
+use std::mem;
+
+impl<R: PathRows + Drop> Keeper<R> {
+    /// Takes a turn of a refresh.
+    pub(crate) fn turn<F: Listing + Drop>(
+        &mut self,
+        alloc: Global,
+        cache: &mut EvalCache,
+        files: &mut Recorder<F>,
+        settings: &Settings,
+        units: u64,
+    ) -> Result<Turned, FilesFault>
+        requires { IsKept R.entries (world_of (view_of F.view files.old) settings.now) self.old }
+        ensures turn { IfOk result (EndsTurn (world_of (view_of F.view files.old) settings.now) units
+            (refresh_of R.entries self.old) (refresh_of R.entries self.new)) }
+        ensures done { IfOk result (IsDoneAfter self.new) }
+        ensures err { OnErr result (DropsTurn (refresh_of R.entries self.old) (refresh_of R.entries self.new)) }
+        ensures kept { IsKept R.entries (world_of (view_of F.view files.old) settings.now) self.new }
+        ensures leaves { LeavesFiles (result_err result) (view_of F.view files.old) (view_of F.view files.new) }
+    {
+        match mem::replace(&mut self.progress, Progress::nothing(alloc)) {
+            Progress::Changed(names) => {
+                let walk = self.begun(alloc, files, names)?;
+                self.walk_on(alloc, cache, files, settings, walk, units)
+            }
+            Progress::Walking(walk) => self.walk_on(alloc, cache, files, settings, walk, units),
+            Progress::Asking(walk, ask) => self.ask_on(alloc, cache, files, walk, ask, units),
+            Progress::Current(listed) => {
+                self.progress = Progress::Current(listed);
+                Ok(Turned::Done(None))
+            }
+        }
+    }
+
+    // Goes on with a walk that was taken out of the keeper: to its next path that has no fresh row, or to its end.
+    fn walk_on<F: Listing + Drop>(
+        &mut self,
+        alloc: Global,
+        cache: &mut EvalCache,
+        files: &mut Recorder<F>,
+        settings: &Settings,
+        walk: Walk,
+        units: u64,
+    ) -> Result<Turned, FilesFault>
+        requires { IsOnTheWay (world_of (view_of F.view files.old) settings.now)
+            (shown no_name (R.entries self.old.rows)) walk }
+        ensures turn { IfOk result (EndsTurn (world_of (view_of F.view files.old) settings.now) units
+            (refresh_at (shown no_name (R.entries self.old.rows)) no_spending)
+            (refresh_of R.entries self.new)) }
+        ensures done { IfOk result (IsDoneAfter self.new) }
+        ensures kept { OnOk result (IsKept R.entries (world_of (view_of F.view files.old) settings.now) self.new) }
+        ensures err { OnErr result (SameRows (R.entries self.old.rows) (R.entries self.new.rows)
+            × (self.new.progress ≡ self.old.progress)) }
+        ensures leaves { LeavesFiles (result_err result) (view_of F.view files.old) (view_of F.view files.new) }
+    {
+        match walk.next(alloc)? {
+            Next::Lacks(walk, path) => {
+                let turned = PathAsk::begin(alloc, cache, files, settings, path, units)?;
+                self.settle(alloc, walk, Spent::nothing(), turned)
+            }
+            Next::All(last) => self.end(alloc, last),
+        }
+    }
+
+    // Goes on with the evaluation of a path and with its walk, which were taken out of the keeper.
+    fn ask_on<F: Listing + Drop>(
+        &mut self,
+        alloc: Global,
+        cache: &mut EvalCache,
+        files: &mut Recorder<F>,
+        walk: Walk,
+        ask: PathAsk,
+        units: u64,
+    ) -> Result<Turned, FilesFault>
+        requires { IsAskIn (view_of F.view files.old).files ask.ask }
+        ensures turn { (settings : Settings)
+            → IsAskOnTheWay ((view_of F.view files.old).files, settings)
+            (shown no_name (R.entries self.old.rows)) walk ask
+            → IfOk result (EndsTurn ((view_of F.view files.old).files, settings) units
+            (refresh_at (shown no_name (R.entries self.old.rows)) (spent_so_far ask.ask))
+            (refresh_of R.entries self.new)) }
+        ensures kept { (settings : Settings)
+            → IsAskOnTheWay ((view_of F.view files.old).files, settings)
+            (shown no_name (R.entries self.old.rows)) walk ask
+            → OnOk result (IsKept R.entries ((view_of F.view files.old).files, settings) self.new) }
+        ensures done { IfOk result (IsDoneAfter self.new) }
+        ensures err { OnErr result (SameRows (R.entries self.old.rows) (R.entries self.new.rows)
+            × (self.new.progress ≡ self.old.progress)) }
+        ensures leaves { LeavesFiles (result_err result) (view_of F.view files.old) (view_of F.view files.new) }
+    {
+        let before = ask.spent();
+        let turned = ask.turn(alloc, cache, files, units)?;
+        self.settle(alloc, walk, before, turned)
+    }
+
+    // Writes the row of a path, if it is made, or keeps its evaluation for the next turn. So much was spent on it
+    // before this turn.
+    fn settle(
+        &mut self,
+        alloc: Global,
+        walk: Walk,
+        before: Spent,
+        turned: PathTurned,
+    ) -> Result<Turned, FilesFault>
+        requires { IsUpTo before turned }
+        ensures settles { (world : World) (path : List ℕ) (units : ℕ)
+            → IsReadyFor world (shown no_name (R.entries self.old.rows)) walk path
+            → TurnsPath world path units before turned
+            → IfOk result (EndsTurn world units
+            (refresh_at (shown no_name (R.entries self.old.rows)) before) (refresh_of R.entries self.new)) }
+        ensures kept { (world : World) (path : List ℕ) (units : ℕ)
+            → IsReadyFor world (shown no_name (R.entries self.old.rows)) walk path
+            → TurnsPath world path units before turned → OnOk result (IsKept R.entries world self.new) }
+        ensures done { IfOk result (IsDoneAfter self.new) }
+        ensures err { OnErr result (SameRows (R.entries self.old.rows) (R.entries self.new.rows)
+            × (self.new.progress ≡ self.old.progress)) }
+    {
+        match turned {
+            PathTurned::Made(made) => {
+                let MadeRow { path, row, spent } = made;
+                let walk = put_row(alloc, &mut self.rows, walk, path, row)?;
+                self.progress = Progress::Walking(walk);
+                Ok(Turned::Evaluated(spent_since(before, spent)))
+            }
+            PathTurned::More(ask) => {
+                let spent = spent_since(before, ask.spent());
+                self.progress = Progress::Asking(walk, ask);
+                Ok(Turned::More(spent))
+            }
+        }
+    }
+
+    // Ends a refresh: takes out the rows that nothing needs.
+    fn end(&mut self, alloc: Global, last: LastStage) -> Result<Turned, FilesFault>
+        ensures ends { (world : World) (units : ℕ) → IsAtEnd world (shown no_name (R.entries self.old.rows)) last
+            → IfOk result (EndsTurn world units
+            (refresh_at (shown no_name (R.entries self.old.rows)) no_spending)
+            (refresh_of R.entries self.new)) }
+        ensures kept { (world : World) → IsAtEnd world (shown no_name (R.entries self.old.rows)) last
+            → OnOk result (IsKept R.entries world self.new) }
+        ensures done { IfOk result (IsDoneAfter self.new) }
+        ensures err { OnErr result (SameRows (R.entries self.old.rows) (R.entries self.new.rows)
+            × (self.new.progress ≡ self.old.progress)) }
+    {
+        let LastStage { stage, listed } = last;
+        let Stage { paths, known, .. } = stage;
+        take_out_others(alloc, &mut self.rows, &paths)?;
+        self.progress = Progress::Current(listed);
+        Ok(Turned::Done(Some(known)))
+    }
+
+    // The walk with which a refresh begins after files of these names have changed. If that fails, the names
+    // are kept.
+    fn begun<F: Listing + Drop>(
+        &mut self,
+        alloc: Global,
+        files: &mut Recorder<F>,
+        names: BTreeSet<String>,
+    ) -> Result<Walk, FilesFault>
+        ensures walk { IfOk result (λ walk. (settings : Settings) → IsWalk
+            (world_of (view_of F.view files.old) settings) (shown no_name (R.entries self.new.rows)) walk) }
+        ensures ok { OnOk result (ShowsSame (shown (contains_text names) (R.entries self.old.rows))
+            (shown no_name (R.entries self.new.rows)) × (self.new.progress ≡ self.old.progress)) }
+        ensures err { OnErr result (SameRows (R.entries self.old.rows) (R.entries self.new.rows)
+            × (self.new.progress ≡ Progress.Changed names)) }
+        ensures leaves { LeavesFiles (result_err result) (view_of F.view files.old) (view_of F.view files.new) }
+    {
+        match begin_walk(alloc, files, &mut self.rows, &names) {
+            Ok(walk) => Ok(walk),
+            Err(fault) => {
+                self.progress = Progress::Changed(names);
+                Err(fault)
+            }
+        }
+    }
+}
+
+// Gives a path this row, which is fresh, and tells the walk of it. If it fails, all rows are as they were.
+fn put_row<R: PathRows>(
+    alloc: Global,
+    rows: &mut R,
+    walk: Walk,
+    path: String,
+    row: KeptRow,
+) -> Result<Walk, FilesFault>
+    ensures rows { OnOk result ((other : List ℕ) → shown no_name (R.entries rows.new) other
+        ≡ (if bytes_eq (string_bytes path) other
+        then Some (record { row = row_seen row; stale = false })
+        else shown no_name (R.entries rows.old) other)) }
+    ensures walk { (world : World) (old new : ShownRows) → IsWalk world old walk
+        → HasRowMore (string_bytes path) (row_seen row).outcome old new
+        → IfOk result (IsWalk world new) }
+    ensures err { OnErr result (SameRows (R.entries rows.old) (R.entries rows.new)) }
+{
+    let text = write_row(alloc, &row)?;
+    let key = String::from_str(alloc, path.as_str())?;
+    let walk = walk.with_row(key, row.found.row)?;
+    rows.put(path.as_str(), &text)?;
+    Ok(walk)
+}
+
+// What was spent in a turn, before which and after which so much was spent.
+fn spent_since(before: Spent, after: Spent) -> Spent
+    requires { IsUpFrom before after }
+    ensures { spent_in_all before result ≡ after }
+{
+    Spent {
+        units: after.units - before.units,
+        checks: after.checks - before.checks,
+    }
+}
