@@ -26,9 +26,9 @@ put() { # put NAME FILE: what stores this file under the name
     echo "wrote 0 all"
 }
 
-get() { # get TARGET: what asks for it
+get() { # get TARGET TURNS: what asks for it, and has it answered in so many turns
     echo "piece 0 GET $1 HTTP/1.1\\r\\nHost: x\\r\\nX-Ports-Key: alpha\\r\\n\\r\\n"
-    echo "turn 0"
+    awk -v turns="$2" 'BEGIN { for (turn = 0; turn < turns; turn++) print "turn 0" }'
     echo "wrote 0 all"
 }
 
@@ -53,8 +53,8 @@ repeat() { # repeat TIMES COMMAND..: what the command prints, so many times; eac
         "$@" "$number"
     done
 }
-asks() { get "$1"; }
-uploads_and_asks() { new_version "$2" "$1" && get "$matching"; }
+asks() { get "$1" 1; }
+uploads_and_asks() { new_version "$2" "$1" && get "$matching" 2; }
 uploads_one() { new_version "$2" "$1"; }
 
 run() { # run SCRIPT: runs it once, and prints the microseconds or the instructions that this took
@@ -102,9 +102,10 @@ tell() {
 for ports in $sizes; do
     make_tree "$work/tree$ports" "$ports"
     puts "$work/tree$ports" >"$work/stored"
-    { cat "$work/stored" && get /v1/list; } >"$work/list"
-    { cat "$work/stored" && get "$matching"; } >"$work/match"
-    { cat "$work/stored" && get "$reaching"; } >"$work/rdeps"
+    all=$((ports + 1)) # a turn for each port, and one for the reply
+    { cat "$work/stored" && get /v1/list "$all"; } >"$work/list"
+    { cat "$work/stored" && get "$matching" "$all"; } >"$work/match"
+    { cat "$work/stored" && get "$reaching" "$all"; } >"$work/rdeps"
     { cat "$work/list" && repeat "$times" asks /v1/list; } >"$work/again"
     { cat "$work/list" && repeat "$times" uploads_and_asks "$ports"; } >"$work/changed"
     { cat "$work/list" && repeat "$times" asks "$reaching"; } >"$work/reached"

@@ -143,8 +143,8 @@ impl EvalCache {
 
     /// Keeps an evaluation that is right for the key, as the newest one there. The oldest one goes if there
     /// are more than four. If there is no memory to keep it, it isn't kept, and others of the key may go. It
-    /// isn't kept either if its trace has no answer, or more than 257. What `evaluate_recorded` of
-    /// `read_trace` gives is right for the key of its arguments.
+    /// isn't kept either if its trace has no answer, or more than 257. Right for a key is what its makefile means
+    /// in some files, with each question that this evaluation asks there and its answer.
     pub fn keep(&mut self, key: EvalKey, evaluation: Rc<Evaluation>)
         requires { IsRight (key_of key) evaluation.value }
         ensures counts { self.new.counts ≡ self.old.counts }

@@ -1,4 +1,4 @@
--- How proofs tell the ends of evaluations apart.
+-- How proofs tell evaluations and their ends apart.
 use Rattle.std.proofs.Common.{◌≡◌, ◌⊎◌, inl, inr, ap, refl, ℕ, Bool, List, [], ◌∷◌, slice_get, Option, unwrap_or, Result}
 use Rattle.std.specs.Coded.{Coded, code_by, coded×, coded⊎, coded_list, coded_ℕ, coded_bool, coded_option, coded_result}
 use Rattle.std.specs.FinMap.{code}
@@ -10,9 +10,12 @@ use Rattle.mk_base.specs.declared.faults.FaultKind.TheVariants as kinds
 use Rattle.mk_env.specs.Texts.{Variables}
 use Rattle.mk_paths.specs.FilesView.{Question, Reply, Presence, Contents}
 use Rattle.mk_files.specs.Asking.{Account}
+use Rattle.mk_eval.specs.declared.outcome.Evaluated.{Evaluated}
+use Rattle.mk_eval.specs.declared.outcome.Failed.{Failed}
 use Rattle.mk_eval.specs.declared.outcome.Kind.{Kind}
 use Rattle.mk_eval.specs.declared.outcome.Kind.TheVariants as outcome
 use Rattle.mk_eval.specs.declared.state.EvalState.{EvalState}
+use Rattle.read_trace.specs.declared.evaluating.Evaluation.{Evaluation}
 
 -- the kind of fault of each number, of which the first is 1
 abbrev fault_kinds : List FaultKind
@@ -64,14 +67,16 @@ kind_of-number outcome.Port = refl
 kind_of-number outcome.List = refl
 kind_of-number outcome.Other = refl
 
+kind_code : Coded Kind
+kind_code = code_by ℕ coded_ℕ kind_number kind_of kind_of-number
+
 variables_code : Coded Variables
 variables_code = code (coded_list coded_ℕ) (coded_list coded_ℕ)
 
 state_code : Coded EvalState
 state_code =
-    code_by (Variables × (ℕ × Bool)) (coded× variables_code (coded× coded_ℕ coded_bool))
-    (λ state. (state.variables, (kind_number state.kind, state.shared_asked))) (λ parts. record { variables = parts.0; kind = kind_of parts.1.0; shared_asked = parts.1.1 })
-    (λ state. ap (λ kind. let same : EvalState = record { variables = state.variables; kind = kind; shared_asked = state.shared_asked } in same) (kind_of-number state.kind))
+    code_by (Variables × (Kind × Bool)) (coded× variables_code (coded× kind_code coded_bool))
+    (λ state. (state.variables, (state.kind, state.shared_asked))) (λ parts. record { variables = parts.0; kind = parts.1.0; shared_asked = parts.1.1 }) (λ state. refl)
 
 abbrev reply_parts : Reply → Bool ⊎ Option (List ℕ)
 reply_parts (Presence there) = inl there
@@ -104,3 +109,17 @@ account_code =
 -- the end of an evaluation, with what it leaves
 pub end_code : Coded (Result (EvalState × Account) (FaultAt × Account))
 end_code = coded_result (coded× state_code account_code) (coded× fault_code account_code)
+
+evaluated_code : Coded Evaluated
+evaluated_code =
+    code_by (Kind × (Variables × ℕ)) (coded× kind_code (coded× variables_code coded_ℕ))
+    (λ evaluated. (evaluated.kind, (evaluated.env, evaluated.cost))) (λ parts. record { kind = parts.0; env = parts.1.0; cost = parts.1.1 }) (λ evaluated. refl)
+
+failed_code : Coded Failed
+failed_code = code_by (FaultAt × ℕ) (coded× fault_code coded_ℕ) (λ failed. (failed.fault, failed.cost)) (λ parts. record { fault = parts.0; cost = parts.1 }) (λ failed. refl)
+
+-- what a makefile means, with what its evaluation asks
+pub evaluation_code : Coded Evaluation
+evaluation_code =
+    code_by (Result Evaluated Failed × List Question) (coded× (coded_result evaluated_code failed_code) (coded_list question_code))
+    (λ evaluation. (evaluation.outcome, evaluation.trace)) (λ parts. record { outcome = parts.0; trace = parts.1 }) (λ evaluation. refl)

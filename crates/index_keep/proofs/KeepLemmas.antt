@@ -1,5 +1,5 @@
 -- What a change of a file, and what is known of changes, makes of rows; and what is left of a refresh.
-use Rattle.std.proofs.Common.{◌≡◌, ◌≤◌, arith, ◌∙◌, sym, ap, subst, refl, ℕ, ◌+◌, Bool, true, false, ◌||◌, if◌then◌else◌, List, [], ◌∷◌, ◌++◌, Result, Ok, Err, OnOk, OnErr, Option, Some, None, is_some, is_none, option_map, option_and_then, String, Global, string_bytes}
+use Rattle.std.proofs.Common.{◌≡◌, ◌≤◌, ◌⊎◌, inl, inr, arith, ◌∙◌, sym, ap, subst, refl, ℕ, ◌+◌, Bool, true, false, ◌||◌, if◌then◌else◌, List, [], ◌∷◌, ◌++◌, Result, Ok, Err, OnOk, OnErr, Option, Some, None, is_some, is_none, option_map, option_and_then, String, Global, string_bytes}
 use Rattle.std.proofs.lemmas.Bool.{false≢true, or_right}
 use Rattle.std.proofs.lemmas.Slice.Eq.{bytes_eq-Decides}
 use Rattle.std.specs.BTreeSet.{BTreeSet, contains_text, keys}
@@ -24,14 +24,16 @@ use Rattle.ports_index.specs.Depending.{roots_among, edges_among}
 use Rattle.ports_index.specs.Naming.{directories, named_at}
 use Rattle.ports_index.specs.Seen.{known_in}
 use Rattle.row_text.specs.Rows.{RowValue, row_of}
-use Rattle.index_store.specs.Entries.{StoredValue, Entries}
+use Rattle.index_store.specs.Entries.{StoredValue, Entries, SameRows}
 use Rattle.index_keep.specs.declared.keeper.Progress.{Progress}
 use Rattle.index_keep.specs.declared.keeper.Progress.TheVariants.{Changed, Walking, Asking, Current}
 use Rattle.index_keep.specs.Shown.{ShownRow, ShownRows, shown, show_row, show_stored, asked_one, no_name, fresh, fresh_outcome, stale_if_asked, made_stale, ShowsSame}
 use Rattle.index_keep.specs.Right.{names_in, row_with, IsRightRow, AreKept, AreCurrent, HaveFresh, DifferAt, RenewsOneOf, fresh_row}
 use Rattle.ports_index.specs.Spending.{no_spending}
 use Rattle.index_keep.specs.Turns.{DropsTurn, refresh_at}
-use Rattle.index_keep.specs.Keeping.{changed_in, begun_in, IsProgress, HasForgotten, IsDropped}
+use Rattle.index_keep.specs.Keeping.{changed_in, begun_in, IsKept, IsProgress, HasForgotten, IsDropped, Halts}
+use Rattle.index_keep.specs.declared.keeper.Keeper.{Keeper}
+use Rattle.index_keep.proofs.AnswerLemmas.{few-come}
 use Rattle.index_keep.proofs.ShownLemmas.{shown-test}
 
 -- ---- another world, which differs at one name
@@ -106,6 +108,17 @@ DifferAt-itself name world = record { settings = refl; files = λ file apart. re
 pub AreKept-same : (world : World) (old new : ShownRows) → ShowsSame old new → AreKept world old → AreKept world new
 AreKept-same world old new same kept = record { right = λ path row is fresh. kept.right path row (sym (same path) ∙ is) fresh }
 
+-- the same of a keeper, of whose rows the same is stored
+pub IsKept-same : {R : Type 0} (entries : R → Entries) (world : World) (rows other : R) (progress : Progress) → SameRows (entries rows) (entries other)
+    → (let before : Keeper R = record { rows = rows; progress = progress } in IsKept entries world before)
+    → (let after : Keeper R = record { rows = other; progress = progress } in IsKept entries world after)
+IsKept-same entries world rows other progress same kept =
+    let whole : entries other ≡ entries rows = λ i. λ path. same path i in
+    record {
+      rows = subst (λ (stored : Entries). AreKept world (shown (changed_in progress) stored)) (sym whole) kept.rows;
+      progress = subst (λ (stored : Entries). IsProgress world (shown (changed_in progress) stored) progress) (sym whole) kept.progress;
+    }
+
 pub AreKept-stale : (world : World) (old new : ShownRows) → ((path : List ℕ) → new path ≡ option_map made_stale (old path)) → AreKept world new
 AreKept-stale world old new all = record { right = λ path row is fresh. at path (old path) refl row is fresh }
   where
@@ -133,11 +146,19 @@ begun-forgotten (Walking walk) none = absurd none
 begun-forgotten (Asking walk ask) none = absurd none
 begun-forgotten (Current listed) none = absurd none
 
+-- ---- a refresh that is stopped
+
+pub shown-halted : (entries : Entries) (old new : Progress) → Halts old new → ShowsSame (shown (changed_in old) entries) (shown (changed_in new) entries)
+shown-halted entries (Changed names) new is path = ap (λ (p : Progress). shown (changed_in p) entries path) is
+shown-halted entries (Walking walk) new none path = shown-test (changed_in new) no_name entries (forgotten new none) path
+shown-halted entries (Asking walk ask) new none path = shown-test (changed_in new) no_name entries (forgotten new none) path
+shown-halted entries (Current listed) new is path = ap (λ (p : Progress). shown (changed_in p) entries path) is
+
 -- little is spent on a path whose evaluation isn't at its end
 pub begun-few : (world : World) (rows : ShownRows) (progress : Progress) → IsProgress world rows progress → ((begun_in progress).units ≤ 50000) × ((begun_in progress).checks ≤ 1028)
 begun-few world rows (Changed names) is = (omega arith, omega arith)
 begun-few world rows (Walking walk) is = (omega arith, omega arith)
-begun-few world rows (Asking walk ask) is = (is.2.under.under.within, is.2.under.few)
+begun-few world rows (Asking walk ask) is = few-come _ _ ask.ask is.2.come
 begun-few world rows (Current listed) is = (omega arith, omega arith)
 
 pub IsProgress-forgotten : (world : World) (rows : ShownRows) (progress : Progress) → HasForgotten progress → IsProgress world rows progress
@@ -145,6 +166,23 @@ IsProgress-forgotten world rows (Changed names) none = tt
 IsProgress-forgotten world rows (Walking walk) none = absurd none
 IsProgress-forgotten world rows (Asking walk ask) none = absurd none
 IsProgress-forgotten world rows (Current listed) none = absurd none
+
+either-halted : (old new : Progress) → Halts old new → HasForgotten new ⊎ (new ≡ old)
+either-halted (Changed names) new is = inr is
+either-halted (Walking walk) new none = inl none
+either-halted (Asking walk ask) new none = inl none
+either-halted (Current listed) new is = inr is
+
+pub IsKept-halted : {R : Type 0} (entries : R → Entries) (world : World) (rows : R) (old new : Progress) → Halts old new
+    → (let before : Keeper R = record { rows = rows; progress = old } in IsKept entries world before)
+    → (let after : Keeper R = record { rows = rows; progress = new } in IsKept entries world after)
+IsKept-halted {R = R} entries world rows old new halts kept = elim (either-halted old new halts) [
+  | inl none ↦ record {
+    rows = AreKept-same world (shown (changed_in old) (entries rows)) (shown (changed_in new) (entries rows)) (shown-halted (entries rows) old new halts) kept.rows;
+    progress = IsProgress-forgotten world (shown (changed_in new) (entries rows)) new none;
+  }
+  | inr same ↦ subst (λ (p : Progress). let keeper : Keeper R = record { rows = rows; progress = p } in IsKept entries world keeper) (sym same) kept
+]
 
 pub IsProgress-dropped : (world : World) (rows : ShownRows) (progress : Progress) → IsDropped progress → IsProgress world rows progress
 IsProgress-dropped world rows (Changed names) dropped = tt

@@ -9,3 +9,5 @@ pub mod Props
 pub mod MadeLemmas
 pub mod AskLemmas
 pub mod SpendLemmas
+pub mod AnswerLemmas
+pub mod LeftLemmas

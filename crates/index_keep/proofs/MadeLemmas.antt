@@ -1,5 +1,5 @@
 -- The row of a path, made of what was found and asked.
-use Rattle.std.proofs.Common.{IfOk, Result, Ok, Err, codes, append-nil, ◌≡◌, ◌≤◌, ◌⊎◌, ◌∙◌, sym, ap, ap₂, subst, refl, inl, inr, arith, ℕ, ◌-◌, Bool, true, false, if◌then◌else◌, List, [], ◌∷◌, ◌++◌, Option, Some, None, option_map, option_and_then, string_bytes}
+use Rattle.std.proofs.Common.{Result, Ok, Err, codes, append-nil, ◌≡◌, ◌≤◌, ◌⊎◌, ◌∙◌, sym, ap, ap₂, subst, refl, inl, inr, arith, ℕ, zero, suc, ◌+◌, ◌-◌, Bool, false, if◌then◌else◌, List, [], ◌∷◌, ◌++◌, Option, Some, None, option_map, option_and_then, string_bytes}
 use Rattle.std.proofs.lemmas.Slice.Eq.{bytes_eq-Decides}
 use Rattle.std.specs.Str.{bytes_eq}
 use Rattle.mk_paths.specs.World.{World, FileMap, files_in, search_path_of}
@@ -15,12 +15,12 @@ use Rattle.mk_eval.specs.declared.outcome.Kind.TheVariants as kinds
 use Rattle.port_rules.specs.Records.{record_of}
 use Rattle.port_rules.specs.declared.recording.Recorded.{Recorded}
 use Rattle.mk_eval.specs.Sharing.{Agrees, cost_of, questions_of}
-use Rattle.eval_cache.specs.Cache.{CacheValue}
 use Rattle.eval_cache.specs.Keys.{Key, key_for}
 use Rattle.eval_cache.specs.Right.{evaluation_of}
 use Rattle.pkg_path.specs.Paths.{PathValue, path_if_one}
 use Rattle.read_trace.specs.Recording.{with_trace}
 use Rattle.read_trace.specs.declared.evaluating.Evaluation.{Evaluation}
+use Rattle.ports_index.specs.Efforts.{evaluations_at, evaluations_for}
 use Rattle.ports_index.specs.NamedPaths.{finding-own, finding-named, finding-none, questions-own, questions-named, questions-none}
 use Rattle.ports_index.specs.Pairs.{Pair, pair_in, pair_named, pair_at}
 use Rattle.ports_index.specs.PathOutcomes.{port_finding, list_finding, finding_by, Finding, finding_at, cost_at, finding_in, finding_of, finding_of_evaluation, nothing_found, own_directory}
@@ -29,18 +29,17 @@ use Rattle.ports_index.specs.Spending.{SpendsOnOne, SpendsOn, SpendsOnPath, no_s
 use Rattle.ports_index.specs.declared.spending.Spent.{Spent}
 use Rattle.row_text.specs.Rows.{RowValue}
 use Rattle.row_text.specs.Seen.{row_seen}
-use Rattle.index_keep.specs.Asking.{is_held, IsAskedOf, EndsAsk, key_in, spent_on, spent_so_far}
-use Rattle.index_keep.specs.Paths.{directory_of, flavors_of, absent_row, row_made, IsNamed, IsFoundAt, IsPathAsk, IsMade, IsUpFrom, TurnsPath}
+use Rattle.index_keep.specs.Asking.{HasComeTo, IsAnswerTo, IsUpBy, IsUpFrom, spent_in, spent_on}
+use Rattle.index_keep.specs.Paths.{directory_of, flavors_of, absent_row, row_made, IsNamed, IsFoundAt, IsPathAsk, IsMade}
 use Rattle.index_keep.specs.Right.{names_in, row_with, IsRightRow}
-use Rattle.index_keep.specs.declared.asking.Ask.{Ask}
 use Rattle.index_keep.specs.declared.asking.Asked.{Asked}
+use Rattle.index_keep.specs.declared.asking.AskTurned.TheVariants as asks
 use Rattle.index_keep.specs.declared.evaluating.FoundPath.{FoundPath}
 use Rattle.index_keep.specs.declared.evaluating.MadeRow.{MadeRow}
 use Rattle.index_keep.specs.declared.evaluating.PathAsk.{PathAsk}
-use Rattle.index_keep.specs.declared.evaluating.PathTurned.{PathTurned}
-use Rattle.index_keep.specs.declared.evaluating.PathTurned.TheVariants.{More, Made}
 use Rattle.index_keep.specs.declared.evaluating.NamedDirectory.{NamedDirectory}
 use Rattle.index_keep.specs.declared.evaluating.NamedDirectory.TheVariants.{Own, OfPath}
+use Rattle.index_keep.proofs.AnswerLemmas.{cost-within, within-answer}
 
 pub Agrees-joined : (files : FileMap) (first rest : List Question) → Agrees files first → Agrees files rest → Agrees files (first ++ rest)
 Agrees-joined files [] rest agrees more = more
@@ -63,28 +62,19 @@ module _ (first : FilesView) (settings : Settings) (directory : List ℕ) (befor
   placed-is trace logs = some_same (sym logs ∙ ap (λ (view : FilesView). view.log) asked_first)
 
 -- what is spent on an evaluation and on what is made of it
-spent_by : (held : Bool) (cost evaluation units checks : ℕ) → units ≡ (if held then 0 else evaluation) → (held ≡ true → 1 ≤ checks)
+spent_by : (cost evaluation units checks : ℕ) → (1 ≤ units → units ≡ evaluation) → (checks ≡ 0 → units ≡ evaluation)
     → (cost - (evaluation - units) ≡ cost) ⊎ ((1 ≤ checks) × (cost - (evaluation - units) ≡ cost - evaluation))
-spent_by true cost evaluation units checks is some = inr (some refl, omega (arith, is))
-spent_by false cost evaluation units checks is some = inl (omega (arith, is))
+spent_by cost evaluation units zero whole unchecked = inl (omega (arith, unchecked refl))
+spent_by cost evaluation zero (suc checks) whole unchecked = inr (omega arith, omega arith)
+spent_by cost evaluation (suc units) (suc checks) whole unchecked = inl (omega (arith, whole (omega arith)))
 
-pub SpendsOnOne-asked : (files : FileMap) (cache : CacheValue) (key : Key) (asked : Asked) (cost : ℕ) → IsAskedOf files cache key asked
+pub SpendsOnOne-answer : (files : FileMap) (key : Key) (asked : Asked) (cost : ℕ) → IsAnswerTo files key asked
     → SpendsOnOne cost (cost_of (evaluation_of files key).outcome) 1 (spent_on asked cost)
-SpendsOnOne-asked files cache key asked cost is = record {
+SpendsOnOne-answer files key asked cost is = record {
   few = omega (arith, is.few);
   paid = subst (λ (n : ℕ). (cost - (n - asked.units) ≡ cost) ⊎ ((1 ≤ asked.checks) × (cost - (n - asked.units) ≡ cost - cost_of (evaluation_of files key).outcome)))
       (sym (ap (λ (e : Evaluation). cost_of e.outcome) is.evaluation))
-      (spent_by (is_held files cache key) cost (cost_of (evaluation_of files key).outcome) asked.units asked.checks is.units is.some);
-}
-
--- the same of an evaluation that came to its end in several turns
-pub SpendsOnOne-ended : (files : FileMap) (ask : Ask) (asked : Asked) (cost : ℕ) → EndsAsk files ask asked → ask.looked.checks ≤ 1028
-    → SpendsOnOne cost (cost_of (evaluation_of files (key_in ask)).outcome) 1 (spent_on asked cost)
-SpendsOnOne-ended files ask asked cost ends few = record {
-  few = omega (arith, few, ends.checks);
-  paid =
-      let all : cost_of asked.evaluation.value.outcome ≡ asked.units = ap (λ (e : Evaluation). cost_of e.outcome) ends.evaluation ∙ sym ends.units in
-      inl (omega (arith, all));
+      (spent_by cost (cost_of (evaluation_of files key).outcome) asked.units asked.checks is.whole is.unchecked);
 }
 
 -- ---- the directory that a path names
@@ -211,42 +201,76 @@ cost_up : (n : ℕ) (makefile : List ℕ) (flavors : Option (List (List ℕ))) (
 cost_up n makefile flavors (Ok evaluated) low few = cost_after n makefile flavors evaluated evaluated.kind low few
 cost_up n makefile flavors (Err failed) low few = low
 
-module _ (files : FileMap) (self : PathAsk) (few : self.ask.looked.checks ≤ 1028) (asked : Asked)
-    (ends : EndsAsk files self.ask asked) (onward : self.ask.machine.budget.spent ≤ asked.units) (within : self.ask.machine.budget.spent ≤ 50000) (made : MadeRow)
-    (path_is : string_bytes made.path ≡ string_bytes self.found.path) (row_is : row_seen made.row ≡ row_made self.found asked) (spent_is : made.spent ≡ spent_on asked (row_seen made.row).cost) where
-  all_units : cost_of asked.evaluation.value.outcome ≡ asked.units
-  all_units = ap (λ (e : Evaluation). cost_of e.outcome) ends.evaluation ∙ sym ends.units
+-- what was spent so far on a path is no more than it costs
+pub within-path : (world : World) (path : List ℕ) (self : PathAsk) → IsPathAsk world path self → (units : ℕ)
+    → ((files : FileMap) (key : Key) → HasComeTo files key self.ask → units ≤ cost_of (evaluation_of files key).outcome) → units ≤ cost_at world path
+within-path world path self is units within =
+    let makefile = self.found.makefile in
+    let flavors = flavors_of self.found.named in
+    let outcome = means world makefile flavors in
+    let low : units ≤ cost_of outcome = within (files_in world) (key_for world.1 makefile flavors) is.come in
+    let all : cost_of outcome ≤ 50000 = cost-within (files_in world) (key_for world.1 makefile flavors) in
+    let up = cost_up units makefile flavors outcome low (omega (arith, low, all)) in
+    let cost : cost_at world path ≡ (finding_of_evaluation makefile flavors outcome).cost = ap (cost_at world) (sym is.at) ∙ ap (λ (finding : Finding). finding.cost) is.found.finding in
+    omega (arith, up, cost)
 
-  up_units : self.ask.machine.budget.spent ≤ made.spent.units
-  up_units =
-      let low : self.ask.machine.budget.spent ≤ cost_of asked.evaluation.value.outcome = omega (arith, onward, all_units) in
-      let cost = cost_up self.ask.machine.budget.spent self.found.makefile (flavors_of self.found.named) asked.evaluation.value.outcome low within in
-      let row : (row_seen made.row).cost ≡ (finding_of_evaluation self.found.makefile (flavors_of self.found.named) asked.evaluation.value.outcome).cost = ap (λ (r : RowValue). r.cost) row_is in
-      let spent : made.spent.units ≡ (row_seen made.row).cost - (cost_of asked.evaluation.value.outcome - asked.units) = ap (λ (s : Spent). s.units) spent_is in
-      omega (arith, cost, row, all_units, spent)
+there_after : (makefile : List ℕ) (flavors : Option (List (List ℕ))) (evaluated : Evaluated) (kind : Kind) → evaluations_for (finding_by makefile flavors evaluated kind).outcome ≡ 1
+there_after makefile flavors evaluated kinds.Port = port (record_of evaluated.env makefile)
+  where
+    port : (recorded : Result Recorded Failed) → evaluations_for (port_finding evaluated.cost recorded).outcome ≡ 1
+    port (Ok recorded) = refl
+    port (Err failed) = refl
+there_after makefile (Some flavors) evaluated kinds.List = refl
+there_after makefile None evaluated kinds.List = lists (value_of evaluated.env makefile (codes "SUBDIR"))
+  where
+    lists : (value : Result (Option Expanded) Failed) → evaluations_for (list_finding evaluated.cost value).outcome ≡ 1
+    lists (Ok value) = refl
+    lists (Err failed) = refl
+there_after makefile flavors evaluated kinds.Other = refl
 
+there : (makefile : List ℕ) (flavors : Option (List (List ℕ))) (outcome : Result Evaluated Failed) → evaluations_for (finding_of_evaluation makefile flavors outcome).outcome ≡ 1
+there makefile flavors (Ok evaluated) = there_after makefile flavors evaluated evaluated.kind
+there makefile flavors (Err failed) = refl
+
+-- its makefile is there
+pub one-evaluation : (world : World) (path : List ℕ) (self : PathAsk) → IsPathAsk world path self → evaluations_at world path ≡ 1
+one-evaluation world path self is =
+    ap (evaluations_at world) (sym is.at) ∙ ap (λ (finding : Finding). evaluations_for finding.outcome) is.found.finding
+    ∙ there self.found.makefile (flavors_of self.found.named) (means world self.found.makefile (flavors_of self.found.named))
+
+-- ---- the row that is made of an evaluation that is at its end
+
+module _ (files : FileMap) (found : FoundPath) (asked : Asked) (made : MadeRow)
+    (path_is : string_bytes made.path ≡ string_bytes found.path) (row_is : row_seen made.row ≡ row_made found asked) (spent_is : made.spent ≡ spent_on asked (row_seen made.row).cost) where
   -- nothing is taken back
-  pub ended-up : IsUpFrom (spent_so_far self.ask) made.spent
-  ended-up = record { units = up_units; checks = omega (arith, ends.checks, ap (λ (s : Spent). s.checks) spent_is) }
+  pub made-up : (key : Key) → IsAnswerTo files key asked → IsUpFrom (spent_in (asks.Done asked)) made.spent
+  made-up key is =
+      let outcome = asked.evaluation.value.outcome in
+      let same : cost_of outcome ≡ cost_of (evaluation_of files key).outcome = ap (λ (e : Evaluation). cost_of e.outcome) is.evaluation in
+      let all : cost_of outcome ≤ 50000 = omega (arith, same, cost-within files key) in
+      let up = cost_up (cost_of outcome) found.makefile (flavors_of found.named) outcome (omega arith) all in
+      let row : (row_seen made.row).cost ≡ (finding_of_evaluation found.makefile (flavors_of found.named) outcome).cost = ap (λ (r : RowValue). r.cost) row_is in
+      let units : made.spent.units ≡ (row_seen made.row).cost - (cost_of outcome - asked.units) = ap (λ (s : Spent). s.units) spent_is in
+      record {
+        units = omega (arith, up, row, units, same, within-answer files key asked is);
+        checks = omega (arith, ap (λ (s : Spent). s.checks) spent_is);
+      }
 
-  module _ (settings : Settings) (path : List ℕ) (is : IsPathAsk (files, settings) path self) where
-    abbrev its_key : Key
-    its_key = key (files, settings) self.found is.found asked made path_is row_is spent_is
+  pub made-row : (settings : Settings) (path : List ℕ) → string_bytes found.path ≡ path → (let world : World = (files, settings) in IsFoundAt world found)
+      → IsAnswerTo files (key_for settings found.makefile (flavors_of found.named)) asked → (let world : World = (files, settings) in IsMade world path made)
+  made-row settings path at there is =
+      let world : World = (files, settings) in
+      subst (λ path. IsMade world path made) at
+      (IsMade-found world found there asked made path_is row_is spent_is is.evaluation is.answered
+      (λ cost. SpendsOnOne-answer files (key_for settings found.makefile (flavors_of found.named)) asked cost is))
 
-    evaluation_is : asked.evaluation.value ≡ evaluation_of files its_key
-    evaluation_is = ends.evaluation ∙ ap (evaluation_of files) is.key
+pub IsUpFrom-on : (first next last : Spent) → IsUpFrom first next → IsUpFrom next last → IsUpFrom first last
+IsUpFrom-on first next last up more = record { units = omega (arith, up.units, more.units); checks = omega (arith, up.checks, more.checks) }
 
-    spends_ended : (cost : ℕ) → SpendsOnOne cost (cost_of (evaluation_of files its_key).outcome) 1 (spent_on asked cost)
-    spends_ended cost = subst (λ (k : Key). SpendsOnOne cost (cost_of (evaluation_of files k).outcome) 1 (spent_on asked cost)) is.key (SpendsOnOne-ended files self.ask asked cost ends few)
-
-    pub ended-made : IsMade (files, settings) path made
-    ended-made = subst (λ path. IsMade (files, settings) path made) is.at (IsMade-found (files, settings) self.found is.found asked made path_is row_is spent_is evaluation_is ends.answered spends_ended)
-
--- a turn that came after answers were checked
-pub turn-after : (world : World) (path : List ℕ) (units : ℕ) (before : Spent) (turned : PathTurned) → before.units ≡ 0 → TurnsPath world path (units - before.checks) before turned → TurnsPath world path units no_spending turned
-turn-after world path units before (Made made) none turns = (turns.0, record { units = omega arith; checks = omega arith })
-turn-after world path units before (More ask) none turns = (turns.0, (record { units = omega arith; checks = omega arith }, omega (arith, none, turns.1.1)))
-
-pub IfOk-map : {A E : Type 0} (result : Result A E) {P Q : A → Type 0} → ((value : A) → P value → Q value) → IfOk result P → IfOk result Q
-IfOk-map (Ok value) f p = f value p
-IfOk-map (Err fault) f p = tt
+-- a turn that has nothing left
+pub all-spent : (units : ℕ) (before after now : Spent) → now ≡ after → IsUpFrom before after → units - ((now.units - before.units) + (now.checks - before.checks)) ≡ 0
+    → IsUpBy units before after
+all-spent units before after now same up none =
+    let units_same : now.units ≡ after.units = ap (λ (s : Spent). s.units) same in
+    let checks_same : now.checks ≡ after.checks = ap (λ (s : Spent). s.checks) same in
+    (up, omega (arith, units_same, checks_same, up.units, up.checks, none))

@@ -74,6 +74,50 @@ TurnsAsk files units old (More new) =
 TurnsAsk files units old (Done asked) =
     EndsAsk files old asked × StopsInTime files units (point_of old.machine) asked.units
 
+-- An evaluation of this key is at its end. It is the one that the key has among these files, and each of its questions
+-- has the answer that the files give. It took all of its units; or none were spent on lines, and some answer was checked.
+pub record IsAnswerTo (files : FileMap) (key : Key) (asked : Asked) : Type 0 where
+  pub evaluation : asked.evaluation.value ≡ evaluation_of files key
+  pub answered : Agrees files asked.evaluation.value.trace
+  pub few : asked.checks ≤ 1028
+  pub whole : 1 ≤ asked.units → asked.units ≡ cost_of (evaluation_of files key).outcome
+  pub unchecked : asked.checks ≡ 0 → asked.units ≡ cost_of (evaluation_of files key).outcome
+
+-- what an evaluation of this key has come to: it is under way, or at its end
+abbrev pub HasComeTo : FileMap → Key → AskTurned → Type 0
+HasComeTo files key (More ask) = (key_in ask ≡ key) × IsAskIn files ask
+HasComeTo files key (Done asked) = IsAnswerTo files key asked
+
+-- an evaluation that isn't at its end is under way among these files
+abbrev pub CanGoOn : FileMap → AskTurned → Type 0
+CanGoOn files (More ask) = IsAskIn files ask
+CanGoOn files (Done asked) = Unit {0}
+
+-- an evaluation has come so far among these files
+pub record HasBegun (files : FileMap) (ask : AskTurned) : Type 0 where
+  pub key : Key
+  pub come : HasComeTo files key ask
+
+-- what was spent on an evaluation so far
+abbrev pub spent_in : AskTurned → Spent
+spent_in (More ask) = spent_so_far ask
+spent_in (Done asked) = record { units = asked.units; checks = asked.checks }
+
+-- nothing of what was spent is taken back
+pub record IsUpFrom (before after : Spent) : Type 0 where
+  pub units : before.units ≤ after.units
+  pub checks : before.checks ≤ after.checks
+
+-- and this much more was spent, units and checks together
+abbrev pub IsUpBy : ℕ → Spent → Spent → Type 0
+IsUpBy units before after =
+    IsUpFrom before after × ((before.units + before.checks) + units ≤ after.units + after.checks)
+
+-- an evaluation that isn't at its end after a turn has spent the units of the turn
+abbrev pub SpendsTurn : ℕ → Spent → AskTurned → Type 0
+SpendsTurn units before (More ask) = IsUpBy units before (spent_so_far ask)
+SpendsTurn units before (Done asked) = Unit {0}
+
 -- if a machine is done, its answer is right for the key, with what was asked
 abbrev pub EndsRight : Key → List Question → Turned → Type 0
 EndsRight key trace (turned.More machine) = Unit {0}
@@ -102,5 +146,5 @@ spent_on asked cost = record {
 -- What is spent on one evaluation that was asked for, and on what is made of it.
 abbrev pub AskingSpends : Type 0
 AskingSpends =
-    (files : FileMap) (cache : CacheValue) (key : Key) (asked : Asked) (cost : ℕ) → IsAskedOf files cache key asked
+    (files : FileMap) (key : Key) (asked : Asked) (cost : ℕ) → IsAnswerTo files key asked
     → SpendsOnOne cost (cost_of (evaluation_of files key).outcome) 1 (spent_on asked cost)

@@ -16,13 +16,13 @@ use Rattle.index_keep.specs.declared.evaluating.PathAsk.{PathAsk}
 use Rattle.index_keep.specs.declared.walking.LastStage.{LastStage}
 use Rattle.index_keep.specs.declared.walking.Walk.{Walk}
 use Rattle.index_keep.specs.declared.walking.Walk.TheVariants.{Needed}
-use Rattle.index_keep.specs.Asking.{spent_so_far}
+use Rattle.index_keep.specs.Asking.{spent_in}
 use Rattle.index_keep.specs.Paths.{IsPathAsk}
 use Rattle.index_keep.specs.Right.{AreKept, AreCurrent, HaveFresh}
 use Rattle.index_keep.specs.Turns.{RefreshView, refresh_at}
 use Rattle.index_keep.specs.Walking.{IsWalk, IsLacking}
 
--- the path whose evaluation is under way
+-- the path that is evaluated
 abbrev pub path_in : PathAsk → List ℕ
 path_in ask = string_bytes ask.found.path
 
@@ -45,11 +45,11 @@ changed_in (Current listed) = no_name
 abbrev pub rows_of : {R : Type 0} → (R → Entries) → Keeper R → ShownRows
 rows_of entries keeper = shown (changed_in keeper.progress) (entries keeper.rows)
 
--- what was spent so far on a path whose evaluation is under way
+-- what was spent so far on a path that is evaluated
 abbrev pub begun_in : Progress → Spent
 begun_in (Changed names) = no_spending
 begun_in (Walking walk) = no_spending
-begun_in (Asking walk ask) = spent_so_far ask.ask
+begun_in (Asking walk ask) = spent_in ask.ask
 begun_in (Current listed) = no_spending
 
 -- how far the refresh of a keeper is
@@ -107,6 +107,13 @@ HasForgotten (Changed names) = keys names ≡ []
 HasForgotten (Walking walk) = ⊥
 HasForgotten (Asking walk ask) = ⊥
 HasForgotten (Current listed) = ⊥
+
+-- a refresh that is under way is dropped; names that have changed, and rows that are current, stay
+abbrev pub Halts : Progress → Progress → Type 0
+Halts (Changed names) new = new ≡ Changed names
+Halts (Walking walk) new = HasForgotten new
+Halts (Asking walk ask) new = HasForgotten new
+Halts (Current listed) new = new ≡ Current listed
 
 -- a refresh goes on as before, or not at all
 abbrev pub Stops : Progress → Progress → Type 0

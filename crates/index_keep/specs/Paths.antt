@@ -1,5 +1,5 @@
 -- The row of a path, while it is made.
-use Rattle.std.specs.Prelude.{◌≡◌, ◌≤◌, ℕ, ◌+◌, ◌++◌, true, false, List, Option, Some, None, string_bytes}
+use Rattle.std.specs.Prelude.{◌≡◌, ℕ, ◌++◌, true, false, List, Option, Some, None, string_bytes}
 use Rattle.std.specs.Str.{bytes_eq}
 use Rattle.mk_paths.specs.World.{World, files_in}
 use Rattle.mk_eval.specs.Meaning.{means}
@@ -13,7 +13,7 @@ use Rattle.ports_index.specs.Spending.{SpendsOnPath}
 use Rattle.ports_index.specs.declared.spending.Spent.{Spent}
 use Rattle.row_text.specs.Rows.{RowValue, make_row}
 use Rattle.row_text.specs.Seen.{row_seen}
-use Rattle.index_keep.specs.Asking.{IsAskIn, key_in, spent_so_far}
+use Rattle.index_keep.specs.Asking.{HasComeTo, IsUpBy, IsUpFrom, spent_in}
 use Rattle.index_keep.specs.Right.{IsRightRow, row_with}
 use Rattle.index_keep.specs.declared.asking.Asked.{Asked}
 use Rattle.index_keep.specs.declared.evaluating.FoundPath.{FoundPath}
@@ -66,31 +66,20 @@ pub record IsMade (world : World) (path : List ℕ) (made : MadeRow) : Type 0 wh
   pub row : IsRightRow world path (row_seen made.row)
   pub spent : SpendsOnPath world path made.spent
 
--- the evaluation of a path's makefile is under way in a world
+-- the evaluation of a path's makefile is under way in a world, or at its end
 pub record IsPathAsk (world : World) (path : List ℕ) (ask : PathAsk) : Type 0 where
   pub at : string_bytes ask.found.path ≡ path
   pub found : IsFoundAt world ask.found
-  pub key : key_in ask.ask ≡ key_for world.1 ask.found.makefile (flavors_of ask.found.named)
-  pub under : IsAskIn (files_in world) ask.ask
+  pub come : HasComeTo (files_in world) (key_for world.1 ask.found.makefile (flavors_of ask.found.named)) ask.ask
 
--- nothing of what was spent is taken back
-pub record IsUpFrom (before after : Spent) : Type 0 where
-  pub units : before.units ≤ after.units
-  pub checks : before.checks ≤ after.checks
-
--- and this much more was spent, units and checks together
-abbrev pub IsUpBy : ℕ → Spent → Spent → Type 0
-IsUpBy units before after =
-    IsUpFrom before after × ((before.units + before.checks) + units ≤ after.units + after.checks)
-
--- What a turn makes of the row of a path, on which so much was spent before: the row is made; or its makefile's
--- evaluation goes on, and the units are spent that the turn was given.
+-- What a turn makes of the row of a path, on which so much was spent before: the row is made; or it isn't yet, and the
+-- units are spent that the turn was given.
 abbrev pub TurnsPath : World → List ℕ → ℕ → Spent → PathTurned → Type 0
 TurnsPath world path units before (Made made) = IsMade world path made × IsUpFrom before made.spent
 TurnsPath world path units before (More ask) =
-    IsPathAsk world path ask × IsUpBy units before (spent_so_far ask.ask)
+    IsPathAsk world path ask × IsUpBy units before (spent_in ask.ask)
 
 -- nothing is taken back of what was spent before on the row of a path
 abbrev pub IsUpTo : Spent → PathTurned → Type 0
 IsUpTo before (Made made) = IsUpFrom before made.spent
-IsUpTo before (More ask) = IsUpFrom before (spent_so_far ask.ask)
+IsUpTo before (More ask) = IsUpFrom before (spent_in ask.ask)

@@ -1,5 +1,6 @@
 -- What one turn of a refresh does.
-use Rattle.std.specs.Prelude.{◌≡◌, ◌≤◌, ℕ, ◌+◌, List, Option, Some, None}
+use Rattle.std.specs.Prelude.{◌≡◌, ◌≤◌, ℕ, ◌+◌, ◌*◌, List, [], Option, Some, None}
+use Rattle.std.specs.List.{sum_by}
 use Rattle.mk_paths.specs.World.{World}
 use Rattle.ports_index.specs.Efforts.{cost_over, evaluations_over, lacking}
 use Rattle.ports_index.specs.Index.{needed_paths}
@@ -15,7 +16,7 @@ use Rattle.index_keep.specs.Shown.{ShownRows, ShowsSame, fresh}
 use Rattle.index_keep.specs.Right.{HaveFresh, AreCurrent, RenewsRow}
 pub use Rattle.index_keep.specs.Walking.{KnowsNeeded}
 
--- How far a refresh is: the rows as they are shown, and what was spent so far on a path whose evaluation is under way.
+-- How far a refresh is: the rows as they are shown, and what was spent so far on a path that is evaluated.
 pub record RefreshView : Type 0 where
   pub rows : ShownRows
   pub begun : Spent
@@ -32,11 +33,38 @@ abbrev pub RenewsOne : World → RefreshView → RefreshView → Spent → Type 
 RenewsOne world old new spent =
     RenewsRow world old.rows new.rows (spent_in_all old.begun spent) × (new.begun ≡ no_spending)
 
--- The evaluation of a path isn't at its end. It has spent the units of this turn, of which each checked answer was one.
-pub record GoesOn (units : ℕ) (old new : RefreshView) (spent : Spent) : Type 0 where
+-- the paths that are left to be evaluated: those on which the index depends, and which have no fresh row
+abbrev pub paths_left : World → ShownRows → List (List ℕ)
+paths_left world rows = lacking (fresh rows) (needed_paths world)
+
+-- how many these are
+abbrev pub count_left : World → ShownRows → ℕ
+count_left world rows = sum_by (λ path. 1) (paths_left world rows)
+
+-- what these cost
+abbrev pub cost_left : World → ShownRows → ℕ
+cost_left world rows = cost_over world (paths_left world rows)
+
+-- the units of this, as they are counted
+abbrev pub units_left : World → ShownRows → ℕ
+units_left world rows = counted (cost_left world rows)
+
+-- how many makefiles are evaluated for these
+abbrev pub evaluations_left : World → ShownRows → ℕ
+evaluations_left world rows = evaluations_over world (paths_left world rows)
+
+-- What was spent so far on a path is no more than what the paths cost that are left, and few answers were checked for
+-- each of their makefiles.
+pub record IsWithinLeft (world : World) (refresh : RefreshView) : Type 0 where
+  pub units : refresh.begun.units ≤ cost_left world refresh.rows
+  pub checks : ChecksFew (evaluations_left world refresh.rows) refresh.begun.checks
+
+-- A path has no row yet. The turn has spent its units, of which each checked answer was one.
+pub record GoesOn (world : World) (units : ℕ) (old new : RefreshView) (spent : Spent) : Type 0 where
   pub rows : ShowsSame old.rows new.rows
   pub begun : new.begun ≡ spent_in_all old.begun spent
   pub enough : units ≤ spent.units + spent.checks
+  pub within : IsWithinLeft world new
 
 -- No row was left to be renewed, and the rows are those of the index.
 pub record EndsRefresh (world : World) (old new : RefreshView) : Type 0 where
@@ -48,7 +76,7 @@ pub record EndsRefresh (world : World) (old new : RefreshView) : Type 0 where
 -- what a turn does that is given some units
 abbrev pub TakesTurn : World → ℕ → RefreshView → RefreshView → Refreshed → Type 0
 TakesTurn world units old new (Evaluated spent) = RenewsOne world old new spent
-TakesTurn world units old new (More spent) = GoesOn units old new spent
+TakesTurn world units old new (More spent) = GoesOn world units old new spent
 TakesTurn world units old new Done = EndsRefresh world old new
 
 -- a turn that failed: all rows are as they were, and nothing is under way
@@ -66,19 +94,24 @@ EndsTurn world units old new (turned.Evaluated spent) = TakesTurn world units ol
 EndsTurn world units old new (turned.More spent) = TakesTurn world units old new (More spent)
 EndsTurn world units old new (turned.Done known) = TakesTurn world units old new Done × KnowsAtEnd world known
 
--- the paths that are left to be evaluated: those on which the index depends, and which have no fresh row
-abbrev pub paths_left : World → ShownRows → List (List ℕ)
-paths_left world rows = lacking (fresh rows) (needed_paths world)
-
--- the units that these cost
-abbrev pub units_left : World → ShownRows → ℕ
-units_left world rows = counted (cost_over world (paths_left world rows))
-
 -- What is spent to make all rows fresh. For each makefile that is left to be evaluated few answers are checked. No more
--- units are spent than the paths cost that are left. With what was spent before on a path whose evaluation was under
--- way, all of these are spent, if no answer was checked.
+-- units are spent than the paths cost that are left. With what was spent before on a path that was evaluated, all of
+-- these are spent, if no answer was checked.
 pub record SpendsOnRows (world : World) (old : RefreshView) (spent : Spent) : Type 0 where
   pub few : ChecksFew (evaluations_over world (paths_left world old.rows)) spent.checks
   pub within : spent.units ≤ units_left world old.rows
   pub whole : (spent_together old.begun spent).checks ≡ 0
       → (spent_together old.begun spent).units ≡ units_left world old.rows
+
+-- what turns leave to be done
+pub record RefreshingPays : Type 0 where
+  -- a row that is renewed leaves less to be done, by at least what was spent on it
+  pub renews : (world : World) (old new : RefreshView) (spent : Spent) → RenewsOne world old new spent
+      → ((old.begun.units + spent.units) + cost_left world new.rows ≤ cost_left world old.rows)
+      × ((old.begun.checks + spent.checks) + 1028 * evaluations_left world new.rows
+      ≤ 1028 * evaluations_left world old.rows)
+  -- and one path fewer
+  pub fewer : (world : World) (old new : RefreshView) (spent : Spent) → RenewsOne world old new spent
+      → 1 + count_left world new.rows ≡ count_left world old.rows
+  -- rows that are those of the index leave nothing to be done
+  pub ends : (world : World) (rows : ShownRows) → AreCurrent world rows → paths_left world rows ≡ []

@@ -1,12 +1,15 @@
 //! One evaluation that is asked for.
-ghost use Rattle.std.specs.Prelude.{◌≡◌, IfOk, IfErr, OnErr};
+ghost use Rattle.std.specs.Prelude.{◌≡◌, ◌≤◌, IfOk, IfErr, OnErr};
 ghost use Rattle.std.specs.Result.{result_err};
+ghost use Rattle.mk_eval.specs.Sharing.{cost_of};
 ghost use Rattle.mk_eval.specs.Views.{flavors_in};
-ghost use Rattle.eval_cache.specs.Keys.{key_for, key_of};
-ghost use Rattle.eval_cache.specs.Right.{IsRight};
+ghost use Rattle.mk_paths.specs.World.{FileMap};
+ghost use Rattle.eval_cache.specs.Keys.{Key, key_for, key_of};
+ghost use Rattle.eval_cache.specs.Right.{IsRight, evaluation_of};
 ghost use Rattle.read_trace.specs.Recording.{view_of, LeavesMap, MayFail};
 ghost use Rattle.index_keep.specs.Asking.{IsAskedOf, IsAskIn, BeginsAsk, TurnsAsk, EndsAsk, EndsRight, ComesTo};
-ghost use Rattle.index_keep.specs.Asking.{evals_after, spent_on, spent_so_far};
+ghost use Rattle.index_keep.specs.Asking.{IsAnswerTo, HasComeTo, CanGoOn, IsUpFrom, SpendsTurn};
+ghost use Rattle.index_keep.specs.Asking.{evals_after, key_in, spent_in, spent_on, spent_so_far};
 
 use eval_cache::{EvalCache, EvalKey, Look};
 use mk_files::Files;
@@ -91,6 +94,8 @@ impl Ask {
     ) -> Result<AskTurned, FilesFault>
         ensures begins { IfOk result (BeginsAsk (view_of F.view files.old).files cache.old
             (key_for settings.now name.now (flavors_in flavors.entry))) }
+        ensures comes { IfOk result (HasComeTo (view_of F.view files.old).files
+            (key_for settings.now name.now (flavors_in flavors.entry))) }
         ensures counted { IfOk result (λ turned. cache.new.counts.evals
             ≡ evals_after (view_of F.view files.old).files cache.old
             (key_for settings.now name.now (flavors_in flavors.entry))) }
@@ -117,8 +122,8 @@ impl Ask {
         }
     }
 
-    /// Goes on until so many units more are spent, or the evaluation is at its end. It is kept then, if there is
-    /// memory for that. Nothing that was asked before is asked again.
+    /// Goes on with the same evaluation until so many units more are spent, or it is at its end. Before the last
+    /// thing that is done, fewer are spent.
     ///
     /// # Errors
     ///
@@ -166,13 +171,62 @@ impl Ask {
         }
     }
 
-    /// What was spent on it so far: units on lines, and answers checked before it began.
+    /// What was spent on it so far: units on lines, and answers checked before it began. The units aren't more
+    /// than the whole evaluation costs.
     pub fn spent(&self) -> Spent
-        ensures { result ≡ spent_so_far self.now }
+        ensures is { result ≡ spent_so_far self.now }
+        ensures within { (files : FileMap) → IsAskIn files self.now
+            → result.units ≤ cost_of (evaluation_of files (key_in self.now)).outcome }
     {
         Spent {
             units: self.machine.spent(),
             checks: self.looked.checks,
+        }
+    }
+}
+
+impl AskTurned {
+    /// Goes on until so many units more are spent, or the evaluation is at its end. If it is at its end already,
+    /// nothing is done.
+    ///
+    /// # Errors
+    ///
+    /// It is the fault of the files if they fail, and `Memory` if memory runs out.
+    pub fn turn<F: Files + Drop>(
+        self,
+        alloc: Global,
+        cache: &mut EvalCache,
+        files: &mut Recorder<F>,
+        units: u64,
+    ) -> Result<AskTurned, FilesFault>
+        requires { CanGoOn (view_of F.view files.old).files self }
+        ensures comes { (key : Key) → HasComeTo (view_of F.view files.old).files key self
+            → IfOk result (HasComeTo (view_of F.view files.old).files key) }
+        ensures up { IfOk result (λ came. IsUpFrom (spent_in self) (spent_in came)) }
+        ensures enough { IfOk result (SpendsTurn units (spent_in self)) }
+        ensures counted { cache.new.counts.evals ≡ cache.old.counts.evals }
+        ensures kind { IfErr result (MayFail F.fails_with) }
+        ensures leaves { LeavesMap (result_err result) (view_of F.view files.old) (view_of F.view files.new) }
+    {
+        match self {
+            AskTurned::More(ask) => Ok(ask.turn(alloc, cache, files, units)?),
+            AskTurned::Done(asked) => Ok(AskTurned::Done(asked)),
+        }
+    }
+
+    /// What was spent on it so far: units on lines, and answers checked before it began. The units aren't more
+    /// than the whole evaluation costs.
+    pub fn spent(&self) -> Spent
+        ensures is { result ≡ spent_in self.now }
+        ensures within { (files : FileMap) (key : Key) → HasComeTo files key self.now
+            → result.units ≤ cost_of (evaluation_of files key).outcome }
+    {
+        match self {
+            AskTurned::More(ask) => ask.spent(),
+            AskTurned::Done(asked) => Spent {
+                units: asked.units,
+                checks: asked.checks,
+            },
         }
     }
 }
@@ -227,6 +281,8 @@ pub fn ask_at_once<F: Files + Drop>(
 ) -> Result<Asked, FilesFault>
     ensures asked { IfOk result (λ asked. IsAskedOf (view_of F.view files.old).files cache.old
         (key_for settings.now name.now (flavors_in flavors.entry)) asked) }
+    ensures answers { IfOk result (IsAnswerTo (view_of F.view files.old).files
+        (key_for settings.now name.now (flavors_in flavors.entry))) }
     ensures counted { IfOk result (λ asked. cache.new.counts.evals
         ≡ evals_after (view_of F.view files.old).files cache.old
         (key_for settings.now name.now (flavors_in flavors.entry))) }

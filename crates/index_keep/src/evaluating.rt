@@ -1,19 +1,22 @@
 //! The row of a path, made by evaluating its makefile turn by turn, with what was asked for it.
-ghost use Rattle.std.specs.Prelude.{◌≡◌, ◌++◌, map, option_map, string_bytes, IfOk, OnOk};
+ghost use Rattle.std.specs.Prelude.{◌≡◌, ◌≤◌, ◌++◌, ℕ, List, map, option_map, string_bytes, IfOk, OnOk};
 ghost use Rattle.std.specs.Result.{result_err};
 ghost use Rattle.mk_paths.specs.FilesView.{world_of};
+ghost use Rattle.mk_paths.specs.World.{World};
 ghost use Rattle.mk_paths.specs.Place.{place, places_asked};
 ghost use Rattle.mk_paths.specs.declared.search_path.Settings.{Settings};
 ghost use Rattle.mk_eval.specs.Sharing.{Agrees};
+ghost use Rattle.ports_index.specs.PathOutcomes.{cost_at};
 ghost use Rattle.ports_index.specs.Spending.{no_spending};
 ghost use Rattle.read_trace.specs.Recording.{view_of};
 ghost use Rattle.row_text.specs.Seen.{row_seen};
-ghost use Rattle.index_keep.specs.Asking.{IsAskIn, spent_on, spent_so_far};
+ghost use Rattle.index_keep.specs.Asking.{HasBegun, IsUpFrom, spent_in, spent_on};
 ghost use Rattle.index_keep.specs.Paths as paths;
 ghost use Rattle.index_keep.specs.Paths.{IsNamed, IsPathAsk, IsUpTo, TurnsPath};
 ghost use Rattle.index_keep.specs.Right.{LeavesFiles, names_in};
 
 use crate::asking::{Ask, AskTurned, Asked};
+use crate::spending::left_of;
 use eval_cache::EvalCache;
 use mk_files::Files;
 use mk_paths::{FilesFault, Name, Settings, find};
@@ -49,17 +52,17 @@ pub(crate) struct FoundPath {
     placed: Trace,
 }
 
-/// A path whose makefile is evaluated, which isn't at its end.
+/// A path whose makefile is evaluated, and which has no row yet.
 #[derive(Drop)]
 pub(crate) struct PathAsk {
     found: FoundPath,
-    ask: Ask,
+    ask: AskTurned,
 }
 
 /// What the row of a path has come to.
 #[derive(Drop)]
 pub(crate) enum PathTurned {
-    /// The makefile's evaluation isn't at its end.
+    /// The makefile's evaluation isn't at its end, or its end waits for the row to be made of it.
     More(PathAsk),
     /// The row is made.
     Made(MadeRow),
@@ -68,7 +71,8 @@ pub(crate) enum PathTurned {
 impl PathAsk {
     /// Begins to make the row of a path: what it leads to in these files under these settings, with the names
     /// that are asked for. The makefile is evaluated until so many units are spent. Each answer that is checked
-    /// before counts as one of them. It fails if the files fail, or if memory runs out.
+    /// before counts as one of them. Then the row is made, if fewer are spent. It fails if the files fail, or if
+    /// memory runs out.
     pub(crate) fn begin<F: Files + Drop>(
         alloc: Global,
         cache: &mut EvalCache,
@@ -90,24 +94,18 @@ impl PathAsk {
             let names = names_of(alloc, placed.questions())?;
             return Ok(PathTurned::Made(MadeRow::absent(path, names)));
         };
-        let turned = Ask::begin(alloc, cache, files, settings, &makefile, named.flavors())?;
+        let ask = Ask::begin(alloc, cache, files, settings, &makefile, named.flavors())?;
         let found = FoundPath {
             path,
             named,
             makefile,
             placed,
         };
-        match turned {
-            AskTurned::Done(asked) => Ok(PathTurned::Made(found.made(alloc, &asked)?)),
-            AskTurned::More(ask) => {
-                let units = units.saturating_sub(ask.spent().checks);
-                PathAsk { found, ask }.turn(alloc, cache, files, units)
-            }
-        }
+        PathAsk { found, ask }.go_on(alloc, cache, files, Spent::nothing(), units)
     }
 
-    /// Goes on with the makefile's evaluation until so many units more are spent, or the row is made. It fails
-    /// if the files fail, or if memory runs out.
+    /// Goes on with the makefile's evaluation until so many units more are spent, or it is at its end. Then the row
+    /// is made, if fewer are spent. It fails if the files fail, or if memory runs out.
     pub(crate) fn turn<F: Files + Drop>(
         self,
         alloc: Global,
@@ -115,24 +113,53 @@ impl PathAsk {
         files: &mut Recorder<F>,
         units: u64,
     ) -> Result<PathTurned, FilesFault>
-        requires { IsAskIn (view_of F.view files.old).files self.ask }
+        requires { HasBegun (view_of F.view files.old).files self.ask }
         ensures turns { (settings : Settings)
             → IsPathAsk ((view_of F.view files.old).files, settings) (string_bytes self.found.path) self
             → IfOk result (TurnsPath ((view_of F.view files.old).files, settings)
-            (string_bytes self.found.path) units (spent_so_far self.ask)) }
-        ensures up { IfOk result (IsUpTo (spent_so_far self.ask)) }
+            (string_bytes self.found.path) units (spent_in self.ask)) }
+        ensures up { IfOk result (IsUpTo (spent_in self.ask)) }
+        ensures leaves { LeavesFiles (result_err result) (view_of F.view files.old) (view_of F.view files.new) }
+    {
+        let before = self.spent();
+        self.go_on(alloc, cache, files, before, units)
+    }
+
+    // The same in a turn before which so much was spent on the path.
+    fn go_on<F: Files + Drop>(
+        self,
+        alloc: Global,
+        cache: &mut EvalCache,
+        files: &mut Recorder<F>,
+        before: Spent,
+        units: u64,
+    ) -> Result<PathTurned, FilesFault>
+        requires begun { HasBegun (view_of F.view files.old).files self.ask }
+        requires up { IsUpFrom before (spent_in self.ask) }
+        ensures turns { (settings : Settings)
+            → IsPathAsk ((view_of F.view files.old).files, settings) (string_bytes self.found.path) self
+            → IfOk result (TurnsPath ((view_of F.view files.old).files, settings)
+            (string_bytes self.found.path) units before) }
+        ensures up { IfOk result (IsUpTo before) }
         ensures leaves { LeavesFiles (result_err result) (view_of F.view files.old) (view_of F.view files.new) }
     {
         let PathAsk { found, ask } = self;
-        match ask.turn(alloc, cache, files, units)? {
+        let given = left_of(units, before, ask.spent());
+        let ask = ask.turn(alloc, cache, files, given)?;
+        if left_of(units, before, ask.spent()) == 0 {
+            return Ok(PathTurned::More(PathAsk { found, ask }));
+        }
+        match ask {
             AskTurned::Done(asked) => Ok(PathTurned::Made(found.made(alloc, &asked)?)),
-            AskTurned::More(ask) => Ok(PathTurned::More(PathAsk { found, ask })),
+            AskTurned::More(_ask) => unreachable!(), // its turn has spent what was left
         }
     }
 
-    /// What was spent on it so far.
+    /// What was spent on it so far. The units aren't more than the path costs.
     pub(crate) fn spent(&self) -> Spent
-        ensures { result ≡ spent_so_far self.now.ask }
+        ensures is { result ≡ spent_in self.now.ask }
+        ensures within { (world : World) (path : List ℕ) → IsPathAsk world path self.now
+            → result.units ≤ cost_at world path }
     {
         self.ask.spent()
     }

@@ -14,7 +14,7 @@ ghost use Rattle.index_keep.specs.Right.{DifferAt, LeavesFiles};
 ghost use Rattle.index_keep.specs.Turns.{TakesTurn, DropsTurn, SpendsOnRows};
 ghost use Rattle.index_keep.specs.Walking.{KnowsNeeded};
 ghost use Rattle.index_keep.specs.Keeping.{rows_of, refresh_of, begun_in, changed_in, IsKept, IsDone};
-ghost use Rattle.index_keep.specs.Keeping.{IsDropped, HasForgotten, Stops};
+ghost use Rattle.index_keep.specs.Keeping.{IsDropped, HasForgotten, Halts, Stops};
 
 use crate::beginning::{begin, fresh_rows};
 use crate::evaluating::PathAsk;
@@ -42,7 +42,7 @@ const MOST_CHANGED: usize = 1024;
 pub enum Refreshed {
     /// One path was evaluated, and has its row now. So much was spent on it in this turn.
     Evaluated(Spent),
-    /// The evaluation of a path isn't at its end. So much was spent on it in this turn.
+    /// A path has no row yet, and the turn has spent its units. So much was spent on the path in this turn.
     More(Spent),
     /// Each path has its row: the index is current.
     Done,
@@ -55,7 +55,7 @@ pub(crate) enum Progress {
     Changed(BTreeSet<String>),
     /// A refresh is under way, and is between two paths.
     Walking(Walk),
-    /// A refresh is under way, and so is the evaluation of a path.
+    /// A refresh is under way, and a path is evaluated.
     Asking(Walk, PathAsk),
     /// All rows are right, and these are the listed paths.
     Current(Vec<String>),
@@ -66,7 +66,7 @@ pub(crate) enum Progress {
 pub(crate) enum Turned {
     /// One path was evaluated, and so much was spent on it in this turn.
     Evaluated(Spent),
-    /// The evaluation of a path isn't at its end, and so much was spent on it in this turn.
+    /// A path has no row yet, and so much was spent on it in this turn.
     More(Spent),
     /// Each path has its row. If this turn ended the refresh, it still knows what the rows say.
     Done(Option<MemoryRows>),
@@ -132,9 +132,9 @@ impl<R: PathRows + Drop> Keeper<R> {
 
     /// Goes on with a refresh, or begins one, up to the next path that has no fresh row. That path is evaluated in
     /// these files under these settings, until so many units are spent. Each answer that is checked counts as one
-    /// of them. The evaluation is one that the cache keeps, if the files agree with it. Once it is at its end, the
-    /// path's row is written. Once each path has its row, the rows that nothing needs are taken out, and the refresh
-    /// is done.
+    /// of them. The evaluation is one that the cache keeps, if the files agree with it. If it is at its end and fewer
+    /// units are spent in this turn, the path's row is made and written; otherwise the next turn goes on there. Once
+    /// each path has its row, the rows that nothing needs are taken out, and the refresh is done.
     ///
     /// # Errors
     ///
@@ -251,9 +251,20 @@ impl<R: PathRows + Drop> Keeper<R> {
     /// changes.
     pub fn limit_steps(&mut self, limit: Option<u64>)
         ensures rows { ShowsSame (rows_of R.entries self.old) (rows_of R.entries self.new) }
+        ensures begun { begun_in self.new.progress ≡ begun_in self.old.progress }
         ensures kept { (world : World) → IsKept R.entries world self.old → IsKept R.entries world self.new }
     {
         self.rows.limit_steps(limit);
+    }
+
+    /// Stops a refresh that is under way: its walk and an evaluation that was begun are dropped. All rows stay, and
+    /// names that have changed stay noted.
+    pub fn stop(&mut self, alloc: Global)
+        ensures rows { ShowsSame (rows_of R.entries self.old) (rows_of R.entries self.new) }
+        ensures begun { begun_in self.new.progress ≡ no_spending }
+        ensures kept { (world : World) → IsKept R.entries world self.old → IsKept R.entries world self.new }
+    {
+        self.progress.halt(alloc);
     }
 
     // Whether no more names are to be kept.
@@ -283,6 +294,16 @@ impl Progress {
         ensures { HasForgotten result }
     {
         Progress::Changed(BTreeSet::new(alloc))
+    }
+
+    // A refresh that is under way is dropped.
+    fn halt(&mut self, alloc: Global)
+        ensures { Halts self.old self.new }
+    {
+        match self {
+            Progress::Walking(_) | Progress::Asking(_, _) => *self = Progress::nothing(alloc),
+            Progress::Changed(_) | Progress::Current(_) => {}
+        }
     }
 
     // The file of this name has changed too. A refresh that is under way is dropped. If memory runs out,

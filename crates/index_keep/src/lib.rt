@@ -9,9 +9,11 @@ mod evaluating;
 mod keeper;
 mod laws;
 mod names;
+mod spending;
 mod turning;
 mod walking;
 
 pub use asking::{Ask, AskTurned, Asked, ask_at_once};
 pub use keeper::{Keeper, Refreshed};
-pub use laws::asking_spends;
+pub use laws::{asking_spends, refreshing_pays};
+pub use spending::spent_since;

@@ -11,11 +11,11 @@ ghost use Rattle.mk_paths.specs.declared.search_path.Settings.{Settings};
 ghost use Rattle.index_store.specs.Entries.{SameRows};
 ghost use Rattle.ports_index.specs.Spending.{no_spending};
 ghost use Rattle.row_text.specs.Seen.{row_seen};
-ghost use Rattle.index_keep.specs.Asking.{IsAskIn, spent_so_far};
+ghost use Rattle.index_keep.specs.Asking.{HasBegun, spent_in};
 ghost use Rattle.index_keep.specs.Shown.{ShownRows, shown, no_name, ShowsSame};
 ghost use Rattle.index_keep.specs.Right.{LeavesFiles};
-ghost use Rattle.index_keep.specs.Paths.{IsUpFrom, IsUpTo, TurnsPath};
-ghost use Rattle.index_keep.specs.Turns.{EndsTurn, DropsTurn, refresh_at, spent_in_all};
+ghost use Rattle.index_keep.specs.Paths.{IsUpTo, TurnsPath};
+ghost use Rattle.index_keep.specs.Turns.{EndsTurn, DropsTurn, refresh_at};
 ghost use Rattle.index_keep.specs.Walking.{IsWalk, IsOnTheWay, HasRowMore};
 ghost use Rattle.index_keep.specs.Keeping.{refresh_of, IsKept, IsDoneAfter};
 ghost use Rattle.index_keep.specs.Keeping.{IsAskOnTheWay, IsReadyFor, IsAtEnd};
@@ -23,6 +23,7 @@ ghost use Rattle.index_keep.specs.Keeping.{IsAskOnTheWay, IsReadyFor, IsAtEnd};
 use crate::ending::take_out_others;
 use crate::evaluating::{MadeRow, PathAsk, PathTurned};
 use crate::keeper::{Keeper, Progress, Turned};
+use crate::spending::spent_since;
 use crate::walking::{LastStage, Next, Stage, Walk, begin_walk};
 use eval_cache::EvalCache;
 use index_store::PathRows;
@@ -107,12 +108,12 @@ impl<R: PathRows + Drop> Keeper<R> {
         ask: PathAsk,
         units: u64,
     ) -> Result<Turned, FilesFault>
-        requires { IsAskIn (view_of F.view files.old).files ask.ask }
+        requires { HasBegun (view_of F.view files.old).files ask.ask }
         ensures turn { (settings : Settings)
             → IsAskOnTheWay ((view_of F.view files.old).files, settings)
             (shown no_name (R.entries self.old.rows)) walk ask
             → IfOk result (EndsTurn ((view_of F.view files.old).files, settings) units
-            (refresh_at (shown no_name (R.entries self.old.rows)) (spent_so_far ask.ask))
+            (refresh_at (shown no_name (R.entries self.old.rows)) (spent_in ask.ask))
             (refresh_of R.entries self.new)) }
         ensures kept { (settings : Settings)
             → IsAskOnTheWay ((view_of F.view files.old).files, settings)
@@ -232,15 +233,4 @@ fn put_row<R: PathRows>(
     let walk = walk.with_row(key, row.found.row)?;
     rows.put(path.as_str(), &text)?;
     Ok(walk)
-}
-
-// What was spent in a turn, before which and after which so much was spent.
-fn spent_since(before: Spent, after: Spent) -> Spent
-    requires { IsUpFrom before after }
-    ensures { spent_in_all before result ≡ after }
-{
-    Spent {
-        units: after.units - before.units,
-        checks: after.checks - before.checks,
-    }
 }

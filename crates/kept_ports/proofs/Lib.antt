@@ -1,1 +1,2 @@
 pub mod SpendingLemmas
+pub mod PortLemmas

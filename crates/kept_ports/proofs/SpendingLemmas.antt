@@ -1,5 +1,5 @@
 -- Paths that are picked from others, each once, cost no more than these.
-use Rattle.std.proofs.Common.{ℕ, ◌+◌, ◌*◌, ◌≤◌, ◌≡◌, length, Bool, true, false, if◌then◌else◌, List, [], ◌∷◌, arith}
+use Rattle.std.proofs.Common.{ℕ, ◌+◌, ◌*◌, ◌^◌, ◌-◌, min, ◌≤◌, ◌<◌, ◌≡◌, ◌∙◌, refl, sym, ap, subst, length, Bool, true, false, if◌then◌else◌, List, [], ◌∷◌, arith}
 use Rattle.std.proofs.lemmas.List.Sums.{sum_by-cons}
 use Rattle.std.specs.BTreeSet.{insert_key}
 use Rattle.std.specs.Cmp.Lexicographic.{slice_cmp}
@@ -13,14 +13,18 @@ use Rattle.mk_paths.specs.World.{World}
 use Rattle.ports_index.specs.Efforts.{cost_over, evaluations_at, evaluations_over}
 use Rattle.ports_index.specs.Index.{needed_paths}
 use Rattle.ports_index.specs.PathLaws.{MakefilesAreEvaluated}
-use Rattle.ports_index.specs.PathOutcomes.{cost_at, counted}
+use Rattle.ports_index.specs.PathOutcomes.{cost_at}
 use Rattle.ports_index.specs.Pairs.{pairs_at}
-use Rattle.ports_index.specs.Spending.{ChecksFew}
+use Rattle.ports_index.specs.Spending.{no_spending, spent_together, ChecksFew}
 use Rattle.ports_index.specs.declared.spending.Spent.{Spent}
-use Rattle.ports_plain.specs.Resting.{NoNeed, ValueNeed, RecordNeed, RootsNeed, IndexNeed}
+use Rattle.ports_plain.specs.Resting.{Need, NoNeed, ValueNeed, RecordNeed, RootsNeed, IndexNeed, need_of, cost_for, rests_for}
+use Rattle.ports_plain.specs.Spending.{SpendsFor, is_of_index}
+use Rattle.ports_plain.specs.declared.questions.Question.{Question}
 use Rattle.index_keep.specs.Shown.{ShownRows, fresh}
-use Rattle.index_keep.specs.Turns.{RefreshView, units_left, paths_left, SpendsOnRows}
-use Rattle.kept_ports.specs.Spending.{KeepingSpendsNoMore}
+use Rattle.index_keep.specs.Turns.{RefreshView, refresh_at, spent_in_all, cost_left, count_left, evaluations_left, paths_left, IsWithinLeft, GoesOn, RenewsOne, EndsRefresh, TakesTurn, RefreshingPays, SpendsOnRows}
+use Rattle.index_keep.specs.declared.keeper.Refreshed.{Refreshed}
+use Rattle.kept_ports.specs.Spending.{SpendsOnKept}
+use Rattle.kept_ports.specs.Pending.{IsSpentOnIndex, StaysWithin}
 
 abbrev by_bytes : List ℕ → List ℕ → Ordering
 by_bytes = slice_cmp nat_cmp
@@ -51,38 +55,197 @@ module _ (weight : List ℕ → ℕ) where
   picked test [] = omega arith
   picked test (text ∷ texts) = picked_by test text texts (test text) (picked test texts)
 
-counted-less : (n : ℕ) → counted n ≤ n
-counted-less n = omega arith
-
-left_spends_no_more : (world : World) (rows : ShownRows) → units_left world rows ≤ cost_over world (needed_paths world)
-left_spends_no_more world rows =
+left_costs_no_more : (world : World) (rows : ShownRows) → cost_left world rows ≤ cost_over world (needed_paths world)
+left_costs_no_more world rows =
     let paths = needed_paths world in
-    let all = counted-less (cost_over world (paths_left world rows)) in
     let few = picked (cost_at world) (λ path. is_none (fresh rows path)) (in_order paths) in
-    omega (arith, all, few, ordered (cost_at world) paths)
+    omega (arith, few, ordered (cost_at world) paths)
 
-left_takes_no_more : (world : World) (rows : ShownRows) → evaluations_over world (paths_left world rows) ≤ evaluations_over world (needed_paths world)
+left_takes_no_more : (world : World) (rows : ShownRows) → evaluations_left world rows ≤ evaluations_over world (needed_paths world)
 left_takes_no_more world rows =
     let paths = needed_paths world in
     let few = picked (evaluations_at world) (λ path. is_none (fresh rows path)) (in_order paths) in
     omega (arith, few, ordered (evaluations_at world) paths)
 
-few_checks : (checks left all pairs : ℕ) → checks ≤ 1028 * left → left ≤ all → all ≡ pairs → checks ≤ 1028 * pairs
-few_checks checks left all pairs few less same = omega arith
+few_left : (left all : ℕ) → left ≤ all → 0 + 1028 * left ≤ 1028 * all + 0
+few_left left all less = omega (arith, less)
 
-index_spends_no_more : MakefilesAreEvaluated → (world : World) (refresh : RefreshView) (spent : Spent) → SpendsOnRows world refresh spent
+-- nothing is begun
+within_nothing : (world : World) (refresh : RefreshView) → refresh.begun ≡ no_spending → IsWithinLeft world refresh
+within_nothing world refresh nothing =
+    let none : IsWithinLeft world (refresh_at refresh.rows no_spending) = record { units = omega arith; checks = omega arith } in
+    subst (λ begun. IsWithinLeft world (refresh_at refresh.rows begun)) (sym nothing) none
+
+-- nothing was spent, and nothing is begun
+pub begins : (world : World) (refresh : RefreshView) → refresh.begun ≡ no_spending → IsSpentOnIndex world refresh no_spending
+begins world refresh nothing =
+    let units = left_costs_no_more world refresh.rows in
+    let none : IsSpentOnIndex world (refresh_at refresh.rows no_spending) no_spending = record {
+      units = omega (arith, units);
+      checks = few_left (evaluations_left world refresh.rows) (evaluations_over world (needed_paths world)) (left_takes_no_more world refresh.rows);
+      begun = within_nothing world (refresh_at refresh.rows no_spending) refl;
+    } in
+    subst (λ begun. IsSpentOnIndex world (refresh_at refresh.rows begun) no_spending) (sym nothing) none
+
+-- more is spent on a path, and that is begun then
+more_begun : (before after left all begun more : ℕ) → before + left ≤ all + begun → after ≤ before + more → after + left ≤ all + (begun + more)
+more_begun before after left all begun more is few = omega (arith, is, few)
+
+-- a path is done that had been begun
+one_done : (before after left left_after all begun more : ℕ) → before + left ≤ all + begun → after ≤ before + more → (begun + more) + left_after ≤ left
+    → after + left_after ≤ all + 0
+one_done before after left left_after all begun more is few pays = omega (arith, is, few, pays)
+
+sum_few : (most before more : ℕ) → min (before + more) most ≤ before + more
+sum_few most before more = omega arith
+
+-- a turn goes on with a path
+pub goes_on : (world : World) (units : ℕ) (old new : RefreshView) (before spent : Spent) → GoesOn world units old new spent → IsSpentOnIndex world old before
+    → IsSpentOnIndex world new (spent_together before spent)
+goes_on world units old new before spent goes is =
+    let rows : old.rows ≡ new.rows = λ i path. sym (goes.rows path) i in
+    let so_far : IsSpentOnIndex world (refresh_at old.rows (spent_in_all old.begun spent)) (spent_together before spent) = record {
+      units = more_begun before.units _ (cost_left world old.rows) (cost_over world (needed_paths world)) old.begun.units spent.units is.units (sum_few (2 ^ 64 - 1) before.units spent.units);
+      checks = more_begun before.checks _ (1028 * evaluations_left world old.rows) (1028 * evaluations_over world (needed_paths world)) old.begun.checks spent.checks is.checks
+          (sum_few (2 ^ 64 - 1) before.checks spent.checks);
+      begun = subst (λ rows. IsWithinLeft world (refresh_at rows (spent_in_all old.begun spent))) (sym rows)
+          (subst (λ begun. IsWithinLeft world (refresh_at new.rows begun)) goes.begun goes.within);
+    } in
+    subst (λ rows. IsSpentOnIndex world (refresh_at rows new.begun) (spent_together before spent)) rows
+    (subst (λ begun. IsSpentOnIndex world (refresh_at old.rows begun) (spent_together before spent)) (sym goes.begun) so_far)
+
+-- a turn renews a row; so much was spent in all then, or less
+renews_by : RefreshingPays → (world : World) (old new : RefreshView) (before spent after : Spent) → RenewsOne world old new spent → IsSpentOnIndex world old before
+    → after.units ≤ before.units + spent.units → after.checks ≤ before.checks + spent.checks → IsSpentOnIndex world new after
+renews_by law world old new before spent after renews is units checks =
+    let pays = law.renews world old new spent renews in
+    let so_far : IsSpentOnIndex world (refresh_at new.rows no_spending) after = record {
+      units = one_done before.units after.units (cost_left world old.rows) (cost_left world new.rows) (cost_over world (needed_paths world)) old.begun.units spent.units is.units units pays.0;
+      checks = one_done before.checks after.checks (1028 * evaluations_left world old.rows) (1028 * evaluations_left world new.rows) (1028 * evaluations_over world (needed_paths world))
+          old.begun.checks spent.checks is.checks checks pays.1;
+      begun = within_nothing world (refresh_at new.rows no_spending) refl;
+    } in
+    subst (λ begun. IsSpentOnIndex world (refresh_at new.rows begun) after) (sym renews.1) so_far
+
+pub renews : RefreshingPays → (world : World) (old new : RefreshView) (before spent : Spent) → RenewsOne world old new spent → IsSpentOnIndex world old before
+    → IsSpentOnIndex world new (spent_together before spent)
+renews law world old new before spent renewed is =
+    renews_by law world old new before spent (spent_together before spent) renewed is (sum_few (2 ^ 64 - 1) before.units spent.units) (sum_few (2 ^ 64 - 1) before.checks spent.checks)
+
+-- a row is renewed on which nothing was spent
+pub renews_freely : RefreshingPays → (world : World) (old new : RefreshView) (before spent : Spent) → spent ≡ no_spending → RenewsOne world old new spent → IsSpentOnIndex world old before
+    → IsSpentOnIndex world new before
+renews_freely law world old new before spent free renewed is =
+    renews_by law world old new before spent before renewed is (omega arith) (omega arith)
+
+nothing_left : (before left all begun : ℕ) → before + left ≤ all + begun → begun ≡ 0 → before + 0 ≤ all + 0
+nothing_left before left all begun is none = omega (arith, is, none)
+
+-- the refresh ends
+pub ends : RefreshingPays → (world : World) (old new : RefreshView) (before : Spent) → EndsRefresh world old new → IsSpentOnIndex world old before
+    → IsSpentOnIndex world new before × (new.begun ≡ no_spending)
+ends law world old new before ended is =
+    let none : paths_left world new.rows ≡ [] = law.ends world new.rows ended.current in
+    let so_far : IsSpentOnIndex world (refresh_at new.rows no_spending) before = record {
+      units = subst (λ paths. before.units + cost_over world paths ≤ cost_over world (needed_paths world) + 0) (sym none)
+          (nothing_left before.units (cost_left world old.rows) (cost_over world (needed_paths world)) old.begun.units is.units (ap (λ (s : Spent). s.units) ended.nothing_begun));
+      checks = subst (λ paths. before.checks + 1028 * evaluations_over world paths ≤ 1028 * evaluations_over world (needed_paths world) + 0) (sym none)
+          (nothing_left before.checks (1028 * evaluations_left world old.rows) (1028 * evaluations_over world (needed_paths world)) old.begun.checks is.checks
+          (ap (λ (s : Spent). s.checks) ended.nothing_begun));
+      begun = within_nothing world (refresh_at new.rows no_spending) refl;
+    } in
+    (subst (λ begun. IsSpentOnIndex world (refresh_at new.rows begun) before) (sym ended.nothing_left) so_far, ended.nothing_left)
+
+at_most_all : (before left all begun : ℕ) → before + left ≤ all + begun → begun ≤ left → before ≤ all
+at_most_all before left all begun is within = omega (arith, is, within)
+
+few_for_pairs : (checks all pairs : ℕ) → checks ≤ 1028 * all → all ≡ pairs → checks ≤ 1028 * pairs
+few_for_pairs checks all pairs few same = omega (arith, few, same)
+
+-- what is spent on the index so far stays within what it takes
+index_stays : MakefilesAreEvaluated → (world : World) (refresh : RefreshView) (spent : Spent) → IsSpentOnIndex world refresh spent
     → (spent.units ≤ cost_over world (needed_paths world)) × ChecksFew (length (pairs_at world (needed_paths world))) spent.checks
-index_spends_no_more law world refresh spent spends = (
-  omega (arith, spends.within, left_spends_no_more world refresh.rows),
-  few_checks spent.checks (evaluations_over world (paths_left world refresh.rows)) (evaluations_over world (needed_paths world)) (length (pairs_at world (needed_paths world)))
-      spends.few (left_takes_no_more world refresh.rows) (law world (needed_paths world)),
+index_stays law world refresh spent is = (
+  at_most_all spent.units (cost_left world refresh.rows) (cost_over world (needed_paths world)) refresh.begun.units is.units is.begun.units,
+  few_for_pairs spent.checks (evaluations_over world (needed_paths world)) (length (pairs_at world (needed_paths world)))
+      (at_most_all spent.checks (1028 * evaluations_left world refresh.rows) (1028 * evaluations_over world (needed_paths world)) refresh.begun.checks is.checks is.begun.checks)
+      (law world (needed_paths world)),
 )
 
-pub spends_no_more : MakefilesAreEvaluated → KeepingSpendsNoMore
-spends_no_more law world refresh NoNeed spent spends = spends
-spends_no_more law world refresh (ValueNeed asked) spent spends = spends
-spends_no_more law world refresh (RecordNeed path) spent spends = spends
-spends_no_more law world refresh RootsNeed spent spends =
-    let no_more = index_spends_no_more law world refresh spent spends in record { few = no_more.1; within = no_more.0 }
-spends_no_more law world refresh IndexNeed spent spends =
-    let no_more = index_spends_no_more law world refresh spent spends in record { few = no_more.1; within = no_more.0 }
+stays_by : MakefilesAreEvaluated → (world : World) (refresh : RefreshView) (need : Need) (spent : Spent) → is_of_index need ≡ true → IsSpentOnIndex world refresh spent
+    → (spent.units ≤ cost_for world need) × ChecksFew (length (rests_for world need)) spent.checks
+stays_by law world refresh NoNeed spent index is = absurd cc
+stays_by law world refresh (ValueNeed asked) spent index is = absurd cc
+stays_by law world refresh (RecordNeed path) spent index is = absurd cc
+stays_by law world refresh RootsNeed spent index is = index_stays law world refresh spent is
+stays_by law world refresh IndexNeed spent index is = index_stays law world refresh spent is
+
+pub stays : MakefilesAreEvaluated → (world : World) (refresh : RefreshView) (question : Question) (spent : Spent) → is_of_index (need_of question) ≡ true → IsSpentOnIndex world refresh spent
+    → StaysWithin world question spent
+stays law world refresh question spent index is =
+    let both = stays_by law world refresh (need_of question) spent index is in
+    record { units = both.0; checks = both.1 }
+
+last_units : (most before more left all : ℕ) → before + left ≤ all + 0 → more ≤ min left most → min (before + more) most ≤ all
+last_units most before more left all is few = omega (arith, is, few)
+
+last_checks : (most before more left all pairs : ℕ) → before + 1028 * left ≤ 1028 * all + 0 → more ≤ 1028 * left → all ≡ pairs → min (before + more) most ≤ 1028 * pairs
+last_checks most before more left all pairs is few same = omega (arith, is, few, same)
+
+-- what is read of the index takes no more than what was left of it
+index_ends : MakefilesAreEvaluated → (world : World) (refresh : RefreshView) (before spent : Spent) → IsSpentOnIndex world refresh before → refresh.begun ≡ no_spending
+    → SpendsOnRows world refresh spent
+    → ((spent_together before spent).units ≤ cost_over world (needed_paths world))
+    × ChecksFew (length (pairs_at world (needed_paths world))) (spent_together before spent).checks
+index_ends law world refresh before spent is nothing more =
+    let so_far : IsSpentOnIndex world (refresh_at refresh.rows no_spending) before = subst (λ begun. IsSpentOnIndex world (refresh_at refresh.rows begun) before) nothing is in (
+      last_units (2 ^ 64 - 1) before.units spent.units (cost_left world refresh.rows) (cost_over world (needed_paths world)) so_far.units more.within,
+      last_checks (2 ^ 64 - 1) before.checks spent.checks (evaluations_left world refresh.rows) (evaluations_over world (needed_paths world)) (length (pairs_at world (needed_paths world)))
+          so_far.checks more.few (law world (needed_paths world)),
+    )
+
+pub charged : MakefilesAreEvaluated → (world : World) (refresh : RefreshView) (need : Need) (before spent : Spent) → is_of_index need ≡ true → IsSpentOnIndex world refresh before
+    → refresh.begun ≡ no_spending → SpendsOnKept world refresh need spent → SpendsFor world need (spent_together before spent)
+charged law world refresh NoNeed before spent index is nothing more = absurd cc
+charged law world refresh (ValueNeed asked) before spent index is nothing more = absurd cc
+charged law world refresh (RecordNeed path) before spent index is nothing more = absurd cc
+charged law world refresh RootsNeed before spent index is nothing more =
+    let end = index_ends law world refresh before spent is nothing more in record { few = end.1; within = end.0 }
+charged law world refresh IndexNeed before spent index is nothing more =
+    let end = index_ends law world refresh before spent is nothing more in record { few = end.1; within = end.0 }
+
+-- a turn of a refresh in a world that is the first one, which came to this
+pub turn_in : (first now : World) (units : ℕ) (old new : RefreshView) (turned one : Refreshed) → now ≡ first → turned ≡ one → TakesTurn now units old new turned
+    → TakesTurn first units old new one
+turn_in first now units old new turned one same is takes =
+    subst (TakesTurn first units old new) is (subst (λ (world : World). TakesTurn world units old new turned) same takes)
+
+one_fewer : (after before : ℕ) → 1 + after ≡ before → after < before
+one_fewer after before is = omega (arith, is)
+
+-- a path fewer is left
+pub fewer : RefreshingPays → (world : World) (old new : RefreshView) (spent : Spent) → RenewsOne world old new spent → count_left world new.rows < count_left world old.rows
+fewer law world old new spent renewed = one_fewer (count_left world new.rows) (count_left world old.rows) (law.fewer world old new spent renewed)
+
+-- nothing was spent before
+pub after_nothing : (spent : Spent) → spent.units ≤ 2 ^ 64 - 1 → spent.checks ≤ 2 ^ 64 - 1 → spent_together no_spending spent ≡ spent
+after_nothing spent units checks = λ i. record { units = capped spent.units units i; checks = capped spent.checks checks i }
+  where
+    capped : (n : ℕ) → n ≤ 2 ^ 64 - 1 → min (0 + n) (2 ^ 64 - 1) ≡ n
+    capped n small = omega (arith, small)
+
+-- nothing is spent after
+pub nothing_more : (spent more : Spent) → more ≡ no_spending → spent.units ≤ 2 ^ 64 - 1 → spent.checks ≤ 2 ^ 64 - 1 → spent ≡ spent_together spent more
+nothing_more spent more none units checks =
+    (λ i. record { units = whole spent.units units i; checks = whole spent.checks checks i }) ∙ ap (λ (s : Spent). spent_together spent s) (sym none)
+  where
+    whole : (n : ℕ) → n ≤ 2 ^ 64 - 1 → n ≡ min (n + 0) (2 ^ 64 - 1)
+    whole n small = omega (arith, small)
+
+-- what isn't about the index is spent as without rows
+pub kept_is : (world : World) (refresh : RefreshView) (need : Need) (spent : Spent) → is_of_index need ≡ false → SpendsOnKept world refresh need spent → SpendsFor world need spent
+kept_is world refresh NoNeed spent other is = is
+kept_is world refresh (ValueNeed asked) spent other is = is
+kept_is world refresh (RecordNeed path) spent other is = is
+kept_is world refresh RootsNeed spent other is = absurd cc
+kept_is world refresh IndexNeed spent other is = absurd cc

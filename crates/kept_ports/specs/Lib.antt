@@ -1,3 +1,5 @@
 pub mod Spending
 pub mod Leaving
 pub mod Calls
+pub mod Evaluating
+pub mod Pending

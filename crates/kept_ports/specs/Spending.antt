@@ -14,9 +14,3 @@ SpendsOnKept world refresh (ValueNeed asked) spent = SpendsFor world (ValueNeed 
 SpendsOnKept world refresh (RecordNeed path) spent = SpendsFor world (RecordNeed path) spent
 SpendsOnKept world refresh RootsNeed spent = SpendsOnRows world refresh spent
 SpendsOnKept world refresh IndexNeed spent = SpendsOnRows world refresh spent
-
--- however far the refresh is, no more is spent than what is needed may take
-abbrev pub KeepingSpendsNoMore : Type 0
-KeepingSpendsNoMore =
-    (world : World) (refresh : RefreshView) (need : Need) (spent : Spent) → SpendsOnKept world refresh need spent
-    → SpendsFor world need spent

@@ -23,10 +23,10 @@ use std::alloc::Global;
 /// refreshed first. Each evaluation is asked of the cache.
 #[derive(Drop)]
 pub(crate) struct KeptPorts<'a, F: Listing + Drop, R: PathRows + Drop> {
-    cache: &'a mut EvalCache,
-    files: &'a mut Recorder<F>,
-    settings: &'a Settings,
-    keeper: &'a mut Keeper<R>,
+    pub(crate) cache: &'a mut EvalCache,
+    pub(crate) files: &'a mut Recorder<F>,
+    pub(crate) settings: &'a Settings,
+    pub(crate) keeper: &'a mut Keeper<R>,
     // the keeper is right about the world
     ghost is_kept: { IsKept R.entries
         (world_of (view_of F.view files.now) settings.now) keeper.now } by { IsKept-prop R.entries

@@ -3,9 +3,13 @@
 #![tactic(auto)]
 
 mod calling;
+mod evaluating;
 mod finding;
 mod keeping;
-mod laws;
+mod pending;
+mod sought;
+mod turning;
 
 pub use calling::PlainCall;
-pub use laws::keeping_spends_no_more;
+pub use evaluating::PortAsk;
+pub use pending::{CallTurned, Stage, UnderWay};

@@ -4,13 +4,13 @@ use Rattle.std.specs.Prelude.{MatchBool, MatchOption, slice_get}
 use Rattle.std.proofs.lemmas.Option.{slice_get-get_or}
 use Rattle.mk_paths.specs.World.{World, opening_world}
 use Rattle.ports_index.specs.declared.spending.Spent.{Spent}
-use Rattle.ports_index.specs.Spending.{no_spending}
+use Rattle.ports_index.specs.Spending.{no_spending, spent_together}
 use Rattle.ports_http.specs.Messages.{ReplyMessage}
 use Rattle.ports_core.specs.declared.event.Tell.{Tell}
 use Rattle.ports_core.specs.declared.event.Told.{Told}
 use Rattle.ports_core.specs.declared.queue.QueuedRequest.{QueuedRequest}
 use Rattle.ports_core.specs.Charging.{Spends, SpendsWithin, Charges, ChargesFor, GoesOn, TurnSpends}
-use Rattle.ports_core.specs.Jobs.{Job, spent_then, spent_on}
+use Rattle.ports_core.specs.Jobs.{Job, spent_on}
 use Rattle.ports_core.specs.Slices.{Slice, Queue, sliced}
 use Rattle.ports_core.specs.Telling.{in_turn, is_failure, spent_in, CountsNone}
 
@@ -33,9 +33,9 @@ module _ (t : ℕ) (told : Told) (worlds : List World) (queues : List Queue) (jo
   pub turn_spends : TurnSpends (sliced (slice_get worlds t) (slice_get queues t)) job told
   turn_spends =
       subst (λ (s : Option Slice). TurnSpends s job told) (sym (slice_there t worlds queues queue rest first world there was waited))
-      (subst (λ (r : Option Tell). MatchOption r (SpendsWithin world first.request (spent_then (spent_on job) (spent_in told))) (λ (tell : Tell). Charges world first.request tell.reply (spent_on job) (spent_in told))) (sym tells) charged)
+      (subst (λ (r : Option Tell). MatchOption r (SpendsWithin world first.request (spent_together (spent_on job) (spent_in told))) (λ (tell : Tell). Charges world first.request tell.reply (spent_on job) (spent_in told))) (sym tells) charged)
 
-  none_with_503 : (failed : Bool) → MatchBool failed (spent_in told ≡ no_spending) (Spends world first.request (spent_then (spent_on job) (spent_in told))) → failed ≡ true → CountsNone told
+  none_with_503 : (failed : Bool) → MatchBool failed (spent_in told ≡ no_spending) (Spends world first.request (spent_together (spent_on job) (spent_in told))) → failed ≡ true → CountsNone told
   none_with_503 true none is = counts_none told none
   none_with_503 false spends is = absurd cc
 
@@ -62,7 +62,7 @@ pub pending_spends : (t : ℕ) (told : Told) (worlds worlds_after : List World) 
 pending_spends t told worlds worlds_after queues job queue rest first spent within was waited goes_on silent tells_spent =
     let world : World = get_or worlds t opening_world in
     let there : slice_get worlds t ≡ Some world = slice_get-get_or worlds t opening_world within in
-    let spends : SpendsWithin world first.request (spent_then (spent_on job) (spent_in told)) =
-    subst (λ (s : Spent). SpendsWithin world first.request (spent_then (spent_on job) s)) (sym tells_spent) (goes_on.within world there) in
+    let spends : SpendsWithin world first.request (spent_together (spent_on job) (spent_in told)) =
+    subst (λ (s : Spent). SpendsWithin world first.request (spent_together (spent_on job) s)) (sym tells_spent) (goes_on.within world there) in
     subst (λ (s : Option Slice). TurnSpends s job told) (sym (slice_there t worlds queues queue rest first world there was waited))
-    (subst (λ (r : Option Tell). MatchOption r (SpendsWithin world first.request (spent_then (spent_on job) (spent_in told))) (λ (tell : Tell). Charges world first.request tell.reply (spent_on job) (spent_in told))) (sym silent) spends)
+    (subst (λ (r : Option Tell). MatchOption r (SpendsWithin world first.request (spent_together (spent_on job) (spent_in told))) (λ (tell : Tell). Charges world first.request tell.reply (spent_on job) (spent_in told))) (sym silent) spends)

@@ -2,7 +2,7 @@
 use Rattle.std.specs.Prelude.{◌≡◌, ℕ, ◌≤◌, MatchBool, MatchOption, List, [], ◌∷◌, slice_get, Option, Some, None}
 use Rattle.mk_paths.specs.World.{World}
 use Rattle.ports_index.specs.declared.spending.Spent.{Spent}
-use Rattle.ports_index.specs.Spending.{no_spending, ChecksFew}
+use Rattle.ports_index.specs.Spending.{no_spending, spent_together, ChecksFew}
 use Rattle.ports_http.specs.Messages.{RequestMessage, ReplyMessage}
 use Rattle.ports_plain.specs.Questions.{question_of}
 use Rattle.ports_plain.specs.Resting.{need_of, evaluations, cost}
@@ -13,7 +13,7 @@ use Rattle.ports_core.specs.declared.event.Told.{Told}
 use Rattle.ports_core.specs.declared.event.Tell.{Tell}
 use Rattle.ports_core.specs.Answering.{plain_request_of}
 use Rattle.ports_core.specs.Slices.{Slice}
-use Rattle.ports_core.specs.Jobs.{Job, spent_then, spent_on}
+use Rattle.ports_core.specs.Jobs.{Job, spent_on}
 use Rattle.ports_core.specs.State.{State, slice_of, job_at}
 use Rattle.ports_core.specs.Telling.{is_failure, spent_in, CountsNone}
 
@@ -31,7 +31,7 @@ pub record SpendsWithin (world : World) (request : RequestMessage) (spent : Spen
 -- what is spent on the request.
 abbrev pub Charges : World → RequestMessage → ReplyMessage → Spent → Spent → Type 0
 Charges world request reply before spent =
-    MatchBool (is_failure reply.status) (spent ≡ no_spending) (Spends world request (spent_then before spent))
+    MatchBool (is_failure reply.status) (spent ≡ no_spending) (Spends world request (spent_together before spent))
 
 -- the same of a request of this tenant
 abbrev pub ChargesFor : ℕ → RequestMessage → ReplyMessage → Spent → Spent → List World → Type 0
@@ -42,7 +42,7 @@ ChargesFor t request reply before spent worlds =
 -- may be.
 pub record GoesOn (t : ℕ) (request : RequestMessage) (before spent : Spent) (old new : List World) : Type 0 where
   pub worlds : new ≡ old
-  pub within : (world : World) → slice_get old t ≡ Some world → SpendsWithin world request (spent_then before spent)
+  pub within : (world : World) → slice_get old t ≡ Some world → SpendsWithin world request (spent_together before spent)
 
 -- What is told as spent in a turn of a tenant with this slice and this job, if there is such a tenant. If no reply is
 -- told, it is with what the job had no more than may be spent.
@@ -50,7 +50,7 @@ abbrev pub TurnSpends : Option Slice → Option Job → Told → Type 0
 TurnSpends None job told = CountsNone told
 TurnSpends (Some (world, [])) job told = CountsNone told
 TurnSpends (Some (world, first ∷ rest)) job told =
-    MatchOption told.reply (SpendsWithin world first.request (spent_then (spent_on job) (spent_in told)))
+    MatchOption told.reply (SpendsWithin world first.request (spent_together (spent_on job) (spent_in told)))
     (λ (tell : Tell). Charges world first.request tell.reply (spent_on job) (spent_in told))
 
 -- what is told as spent in an event: only a turn spends

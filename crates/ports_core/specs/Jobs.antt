@@ -1,8 +1,8 @@
 -- What is under way for a tenant: a request on which a turn or more was spent, and that isn't answered yet.
-use Rattle.std.specs.Prelude.{◌≡◌, ◌≢◌, ℕ, ◌+◌, List, slice_get, Option, Some, None, option_map, unwrap_or}
+use Rattle.std.specs.Prelude.{◌≡◌, ◌≢◌, ℕ, List, slice_get, Option, Some, None, option_map, unwrap_or}
 use Rattle.std.specs.Option.{ForSome}
 use Rattle.ports_index.specs.declared.spending.Spent.{Spent}
-use Rattle.ports_index.specs.Spending.{no_spending}
+use Rattle.ports_index.specs.Spending.{no_spending, spent_together}
 use Rattle.ports_http.specs.Messages.{RequestMessage}
 use Rattle.ports_plain.specs.Plain.{PlainRequest}
 use Rattle.ports_core.specs.declared.queue.QueuedRequest.{QueuedRequest}
@@ -13,10 +13,6 @@ use Rattle.ports_core.specs.Slices.{Queue}
 pub record Job : Type 0 where
   pub request : PlainRequest
   pub spent : Spent
-
--- what was spent before, and then more
-abbrev pub spent_then : Spent → Spent → Spent
-spent_then before more = record { units = before.units + more.units; checks = before.checks + more.checks }
 
 -- what a job had so far: nothing, if there is none
 abbrev pub spent_on : Option Job → Spent
@@ -50,7 +46,7 @@ AreForFirst queues jobs = (t : ℕ) (queue : Queue) → slice_get queues t ≡ S
 -- The job for a request after a turn in which so much was spent. With a reply there is none. Without one it is for
 -- this request, and had this turn's spending too.
 abbrev pub job_after : {A : Type 0} → RequestMessage → Option A → Spent → Option Job → Option Job
-job_after request None spent job = Some (record { request = plain_request_of request; spent = spent_then (spent_on job) spent })
+job_after request None spent job = Some (record { request = plain_request_of request; spent = spent_together (spent_on job) spent })
 job_after request (Some reply) spent job = None
 
 -- the job of a tenant becomes this one, or none, and no other job changes

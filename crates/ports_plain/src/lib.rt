@@ -29,6 +29,8 @@ pub use changing::{Change, Prepared};
 pub use dependencies::{DependencyQuestion, Direction};
 pub use depth::Depth;
 pub use laws::{never_answers_503, questions_have_the_answers, spending_is_bounded};
+pub use port::record_reply;
 pub use ports::{Ports, RecordFound, ValueFound};
 pub use questions::{Question, VariableQuestion};
 pub use replies::full;
+pub use variables::value_reply;

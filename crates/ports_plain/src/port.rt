@@ -43,8 +43,8 @@ pub fn port_reply<P: Ports>(
     Ok((record_reply(alloc, path, &found)?, spent))
 }
 
-// The reply to what is found of the port at a path.
-fn record_reply(alloc: Global, path: &PkgPath, found: &RecordFound) -> Result<Reply, AllocError>
+/// The reply to what is found of the port at a path. It fails only if memory runs out.
+pub fn record_reply(alloc: Global, path: &PkgPath, found: &RecordFound) -> Result<Reply, AllocError>
     ensures { IfOk result (λ reply. reply
         ≡ option_map_or (port_reply_of path.now) found.now no_port) }
 {

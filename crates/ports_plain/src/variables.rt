@@ -47,8 +47,8 @@ pub fn variable_reply<P: Ports>(
     Ok((value_reply(alloc, &found)?, spent))
 }
 
-// The reply to what is found of a variable.
-fn value_reply(alloc: Global, found: &ValueFound) -> Result<Reply, AllocError>
+/// The reply to what is found of a variable. It fails only if memory runs out.
+pub fn value_reply(alloc: Global, found: &ValueFound) -> Result<Reply, AllocError>
     ensures { IfOk result (λ reply. reply ≡ option_map_or value_reply_of found.now no_port) }
 {
     match found {

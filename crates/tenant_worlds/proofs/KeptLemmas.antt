@@ -1,6 +1,6 @@
--- The tenants' keepers, after one of them and its world have changed.
+-- The tenants, after one of them and its world have changed.
 use Rattle.std.proofs.Common.{◌≡◌, ◌≢◌, ◌<◌, ◌∙◌, ℕ, zero, suc, false, cond, inl, inr, List, [], ◌∷◌, ◌++◌, length, take, drop, get_or, Option, None, Some, Result, Ok, Err, OnOk, OnErr, refl, sym, ap, subst, arith, append-nil}
-use Rattle.std.specs.Prelude.{slice_get, slice_set, ◌==◌}
+use Rattle.std.specs.Prelude.{slice_get, slice_set, ◌==◌, IfSome}
 use Rattle.std.specs.FinMap as finite
 use Rattle.std.specs.Cmp.Lexicographic.{slice_cmp, nat_list_cmp_total}
 use Rattle.std.specs.Ordering.{nat_cmp, eq_by_cmp}
@@ -15,10 +15,16 @@ use Rattle.general_facts.specs.Texts.{bytes_eq-sym}
 use Rattle.mk_paths.specs.World.{World, FileMap}
 use Rattle.mk_paths.specs.declared.search_path.Settings.{Settings}
 use Rattle.index_keep.specs.Right.{DifferAt}
-use Rattle.index_keep.specs.Keeping.{IsKept}
+use Rattle.index_keep.specs.Keeping.{IsKept, rows_of, begun_in, refresh_of}
+use Rattle.index_keep.specs.Shown.{ShowsSame}
+use Rattle.index_keep.specs.Turns.{RefreshView, refresh_at}
+use Rattle.kept_ports.specs.Pending.{IsPendingFor}
 use Rattle.index_store.specs.PortTable.{stored_by}
 use Rattle.tenant_store.specs.Holdings.{Holdings, files_of, path_of, ChangesFiles}
-use Rattle.tenant_worlds.specs.Kept.{TenantKeeper, AreKeptFor}
+use Rattle.index_store.specs.PortTable.{Entry}
+use Rattle.index_keep.specs.declared.keeper.Keeper.{Keeper}
+use Rattle.tenant_worlds.specs.declared.tenant.Tenant.{Tenant}
+use Rattle.tenant_worlds.specs.Kept.{IsTenantOf, AreTenantsOf, asked_by}
 use Rattle.tenant_worlds.specs.Stored.{world_in, KeepsOtherWorlds}
 
 pub get-set_same : {A : Type 0} (items : List A) (t : ℕ) (item : A) → t < length items → slice_get (slice_set items t item) t ≡ Some item
@@ -43,32 +49,32 @@ refill_same count old new same is =
 some_same : {A : Type 0} {x y : A} → ◌≡◌ {A = Option A} (Some x) (Some y) → x ≡ y
 some_same e = cc
 
--- one keeper is another one, and right; the others are right too
-pub set_kept
-    : (worlds : ℕ → World) (keepers : List TenantKeeper) (t : ℕ) (keeper : TenantKeeper) → t < length keepers
-    → ((u : ℕ) (other : TenantKeeper) → u ≢ t → slice_get keepers u ≡ Some other → IsKept stored_by (worlds u) other)
-    → IsKept stored_by (worlds t) keeper → AreKeptFor worlds (slice_set keepers t keeper)
-set_kept worlds keepers t keeper within others kept u other there = elim (cases_Bool (u == t)) [
+-- one tenant changes and is that of its world; the others are those of theirs
+pub set_right
+    : (worlds : ℕ → World) (tenants : List Tenant) (t : ℕ) (tenant : Tenant) → t < length tenants
+    → ((u : ℕ) (other : Tenant) → u ≢ t → slice_get tenants u ≡ Some other → IsTenantOf (worlds u) other)
+    → IsTenantOf (worlds t) tenant → AreTenantsOf worlds (slice_set tenants t tenant)
+set_right worlds tenants t tenant within others kept u other there = elim (cases_Bool (u == t)) [
   | inl is ↦
       let same : u ≡ t = grind (arith, nat_tests) in
-      let this : keeper ≡ other = some_same (sym (get-set_same keepers t keeper within) ∙ ap (slice_get (slice_set keepers t keeper)) (sym same) ∙ there) in
-      subst (λ (k : TenantKeeper). IsKept stored_by (worlds u) k) this (subst (λ v. IsKept stored_by (worlds v) keeper) (sym same) kept)
+      let this : tenant ≡ other = some_same (sym (get-set_same tenants t tenant within) ∙ ap (slice_get (slice_set tenants t tenant)) (sym same) ∙ there) in
+      subst (λ (k : Tenant). IsTenantOf (worlds u) k) this (subst (λ v. IsTenantOf (worlds v) tenant) (sym same) kept)
   | inr not ↦
       let apart : u ≢ t = λ e. absurd grind (arith, nat_tests) in
-      others u other apart (sym (get-set_other keepers t u keeper apart) ∙ there)
+      others u other apart (sym (get-set_other tenants t u tenant apart) ∙ there)
 ]
 
--- a tenant's keeper is right about the new world, and no other world has changed
-pub kept_after
-    : (old new : Holdings) (keepers : List TenantKeeper) (t : ℕ) (keeper : TenantKeeper) → t < length keepers → AreKeptFor (world_in old) keepers
-    → KeepsOtherWorlds t old new → IsKept stored_by (world_in new t) keeper → AreKeptFor (world_in new) (slice_set keepers t keeper)
-kept_after old new keepers t keeper within kept same right =
-    set_kept (world_in new) keepers t keeper within
-    (λ u other apart there. subst (λ (w : World). IsKept stored_by w other) (sym (same u apart)) (kept u other there)) right
+-- a tenant is that of its new world, and no other world has changed
+pub right_after
+    : (old new : Holdings) (tenants : List Tenant) (t : ℕ) (tenant : Tenant) → t < length tenants → AreTenantsOf (world_in old) tenants
+    → KeepsOtherWorlds t old new → IsTenantOf (world_in new t) tenant → AreTenantsOf (world_in new) (slice_set tenants t tenant)
+right_after old new tenants t tenant within kept same right =
+    set_right (world_in new) tenants t tenant within
+    (λ u other apart there. subst (λ (w : World). IsTenantOf w other) (sym (same u apart)) (kept u other there)) right
 
--- the keeper at a place is right about the world of that place
-pub kept_at : (worlds : ℕ → World) (keepers : List TenantKeeper) (t : ℕ) (any : TenantKeeper) → t < length keepers → AreKeptFor worlds keepers → IsKept stored_by (worlds t) (get_or keepers t any)
-kept_at worlds keepers t any within kept = kept t (get_or keepers t any) (slice_get-get_or keepers t any within)
+-- the tenant at a place is that of the world of that place
+pub right_at : (worlds : ℕ → World) (tenants : List Tenant) (t : ℕ) (any : Tenant) → t < length tenants → AreTenantsOf worlds tenants → IsTenantOf (worlds t) (get_or tenants t any)
+right_at worlds tenants t any within kept = kept t (get_or tenants t any) (slice_get-get_or tenants t any within)
 
 -- where work failed, no world has changed at all
 pub others_stay : {A E : Type 0} (result : Result A E) (t : ℕ) (old new : Holdings) → OnOk result (KeepsOtherWorlds t old new) → OnErr result (new ≡ old) → KeepsOtherWorlds t old new
@@ -76,14 +82,26 @@ others_stay (Ok done) t old new others same = others
 others_stay (Err fault) t old new others same = λ u apart. ap (λ (held : Holdings). world_in held u) same
 
 -- what is added at the end is right wherever it is
-pub added_kept
-    : (worlds : ℕ → World) (keepers : List TenantKeeper) (keeper : TenantKeeper) → AreKeptFor worlds keepers
-    → ((world : World) → IsKept stored_by world keeper) → AreKeptFor worlds (keepers ++ keeper ∷ [])
-added_kept worlds [] keeper kept right zero other there = subst (λ (k : TenantKeeper). IsKept stored_by (worlds 0) k) (some_same there) (right (worlds 0))
-added_kept worlds [] keeper kept right (suc u) other there = absurd cc
-added_kept worlds (first ∷ keepers) keeper kept right zero other there = kept 0 other there
-added_kept worlds (first ∷ keepers) keeper kept right (suc u) other there =
-    added_kept (λ v. worlds (suc v)) keepers keeper (λ v k is. kept (suc v) k is) right u other there
+pub added_right
+    : (worlds : ℕ → World) (tenants : List Tenant) (tenant : Tenant) → AreTenantsOf worlds tenants
+    → ((world : World) → IsTenantOf world tenant) → AreTenantsOf worlds (tenants ++ tenant ∷ [])
+added_right worlds [] tenant kept right zero other there = subst (λ (k : Tenant). IsTenantOf (worlds 0) k) (some_same there) (right (worlds 0))
+added_right worlds [] tenant kept right (suc u) other there = absurd cc
+added_right worlds (first ∷ tenants) tenant kept right zero other there = kept 0 other there
+added_right worlds (first ∷ tenants) tenant kept right (suc u) other there =
+    added_right (λ v. worlds (suc v)) tenants tenant (λ v k is. kept (suc v) k is) right u other there
+
+-- a keeper that shows the same, with as much begun, keeps the tenant that of the world
+pub limited
+    : (world : World) (tenant : Tenant) (keeper : Keeper (List Entry)) → ShowsSame (rows_of stored_by tenant.keeper) (rows_of stored_by keeper)
+    → begun_in keeper.progress ≡ begun_in tenant.keeper.progress → (IsKept stored_by world tenant.keeper → IsKept stored_by world keeper)
+    → IsTenantOf world tenant → IsTenantOf world (record tenant { keeper = keeper })
+limited world tenant keeper rows begun kept is =
+    let same : refresh_of stored_by keeper ≡ refresh_of stored_by tenant.keeper = λ i. refresh_at (λ path. rows path i) (begun i) in
+    record {
+      keeper = kept is.keeper;
+      pending = subst (λ (refresh : RefreshView). IfSome tenant.job (λ job. IsPendingFor world refresh (asked_by job.asked) job.under_way)) (sym same) is.pending;
+    }
 
 apart_from : (name file : List ℕ) → bytes_eq name file ≡ false → eq_by_cmp (slice_cmp nat_cmp) file name ≡ false
 apart_from name file other = is_eq-slice_cmp file name ∙ bytes_eq-sym file name ∙ other
@@ -118,7 +136,7 @@ removed_differs old new t name changes = record {
 -- An upload succeeds or fails, after the keeper was told of it. So the keeper is right about the world that it
 -- leaves.
 pub kept_by_put
-    : {A E : Type 0} (result : Result A E) (old new : Holdings) (t : ℕ) (name content : List ℕ) (keeper : TenantKeeper)
+    : {A E : Type 0} (result : Result A E) (old new : Holdings) (t : ℕ) (name content : List ℕ) (keeper : Keeper (List Entry))
     → OnOk result (ChangesFiles old new t (finite.insert (files_of t old) name content)) → OnErr result (new ≡ old)
     → ((other : World) → DifferAt name (world_in old t) other → IsKept stored_by other keeper)
     → IsKept stored_by (world_in old t) keeper → IsKept stored_by (world_in new t) keeper

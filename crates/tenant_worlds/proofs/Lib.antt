@@ -1,2 +1,4 @@
 mod KeptLemmas
 mod WorldLemmas
+mod JobLemmas
+mod TurnLemmas

@@ -1,6 +1,6 @@
 -- The tenants' worlds, as the store holds them.
-use Rattle.std.proofs.Common.{◌≡◌, ◌≢◌, ◌<◌, ◌≤◌, ◌∙◌, ℕ, ◌+◌, ◌∷◌, length, map, true, false, inl, inr, Option, None, Some, Result, Ok, Err, IfOk, refl, sym, ap, subst, arith, nat_lt, zero, suc, zero-add}
-use Rattle.std.specs.Prelude.{slice_get, option_map, replicate, MatchBool, ◌==◌, ◌&&◌, Bool, nat_le, string_bytes}
+use Rattle.std.proofs.Common.{◌≡◌, ◌≢◌, ◌<◌, ◌≤◌, ◌∙◌, ℕ, ◌+◌, ◌∷◌, length, map, true, false, inl, inr, Option, None, Some, Result, Ok, Err, IfOk, OnErr, refl, sym, ap, subst, arith, nat_lt, zero, suc}
+use Rattle.std.specs.Prelude.{slice_get, option_map, replicate, MatchBool, IfSome, IfNone, ◌==◌, ◌&&◌, Bool, nat_le, string_bytes}
 use Rattle.std.specs.List.{range_with_len, list_all}
 use Rattle.std.proofs.lemmas.List.{length-map}
 use Rattle.std.proofs.lemmas.Bool.{cases_Bool}
@@ -15,23 +15,23 @@ use Rattle.ports_plain.specs.Changing.{settle_change}
 use Rattle.ports_plain.specs.Plain.{PlainRequest, Served, plain, answer}
 use Rattle.tenant_store.specs.Holdings.{Holdings, nothing, files_of, path_of}
 use Rattle.ports_core.specs.Answering.{Answers, AnswersFor, plain_request_of, plain_answer}
-use Rattle.ports_core.specs.Charging.{Spends, ChargesFor}
-use Rattle.ports_core.specs.Jobs.{Job, job_in, spent_then, spent_on, job_after, BecomesJob}
+use Rattle.ports_core.specs.Charging.{Spends, SpendsWithin, Charges, ChargesFor, GoesOn}
+use Rattle.ports_core.specs.declared.tenants.Answer.{Answer}
 use Rattle.ports_core.specs.Keys.{is_size, is_key, are_apart, key_texts, is_fit}
 use Rattle.ports_core.specs.Telling.{is_failure}
 use Rattle.ports_core.specs.declared.keys.Config.{Config}
-use Rattle.ports_plain.specs.Questions.{question_of}
-use Rattle.ports_plain.specs.Resting.{need_of}
-use Rattle.ports_index.specs.Spending.{no_spending}
+use Rattle.ports_index.specs.Spending.{no_spending, spent_together}
 use Rattle.ports_index.specs.declared.spending.Spent.{Spent}
-use Rattle.kept_ports.specs.Spending.{KeepingSpendsNoMore}
-use Rattle.tenant_worlds.specs.Kept.{TenantKeeper}
-use Rattle.tenant_worlds.specs.Prepared.{SpendsAt}
 use Rattle.tenant_worlds.specs.Stored.{world_in, worlds_in, KeepsOtherWorlds}
+use Rattle.tenant_worlds.specs.Turning.{AnswersOver, ChargesOver}
 
 pub if_ok : {A E : Type 0} {P Q : A → Type 0} (r : Result A E) → ((a : A) → P a → Q a) → IfOk r P → IfOk r Q
 if_ok (Ok a) f p = f a p
 if_ok (Err e) f p = tt
+
+pub if_err : {A E P Q : Type 0} (r : Result A E) → (P → Q) → OnErr r P → OnErr r Q
+if_err (Ok a) f p = tt
+if_err (Err e) f p = f p
 
 -- the world of a tenant's files and settings is the tenant's
 pub asked_world : (held asked_in : Holdings) (tenant : ℕ) (settings : Settings) → asked_in ≡ held → settings.path ≡ path_of tenant held
@@ -98,46 +98,45 @@ answers_for old new count t request reply within answers keeps = record {
 some_same : {A : Type 0} {x y : A} → ◌≡◌ {A = Option A} (Some x) (Some y) → x ≡ y
 some_same e = cc
 
--- what is spent by the rows that are kept is what may be spent
-spends : (world : World) (keeper : Option TenantKeeper) (request : RequestMessage) (spent : Spent) → KeepingSpendsNoMore → SpendsAt world keeper (plain_request_of request) spent
-    → Spends world request spent
-spends world None request spent no_more spends_at = absurd spends_at
-spends world (Some keeper) request spent no_more spends_at = no_more world _ (need_of (question_of (plain_request_of request))) spent spends_at
+-- the world of a tenant is the one that the list has
+pub this_world : (held : Holdings) (count t : ℕ) (world : World) → t < count → slice_get (worlds_in held count) t ≡ Some world → world_in held t ≡ world
+this_world held count t world within there = some_same (sym (world_there held count t within) ∙ there)
 
--- nothing was spent before
-pub after_nothing : (before spent : Spent) → before ≡ no_spending → spent_then before spent ≡ spent
-after_nothing before spent none = ap (λ (b : Spent). spent_then b spent) none ∙ (λ i. record { units = zero-add spent.units i; checks = zero-add spent.checks i })
+-- an answer is one that the tenants may give
+pub work_answers : (old new : Holdings) (count t : ℕ) (request : RequestMessage) (reply : Option Answer) → t < count
+    → AnswersOver (world_in old t) (world_in new t) request reply → KeepsOtherWorlds t old new
+    → IfSome reply (λ answer. AnswersFor t request answer.reply (worlds_in old count) (worlds_in new count))
+work_answers old new count t request None within answers keeps = tt
+work_answers old new count t request (Some answer) within answers keeps = answers_for old new count t request answer.reply within (inl answers) keeps
 
--- what was spent is what is told
-pub charges_for : (held : Holdings) (count t : ℕ) (keeper : Option TenantKeeper) (request : RequestMessage) (reply : ReplyMessage) (before spent : Spent) (after : World) → t < count → before ≡ no_spending
-    → KeepingSpendsNoMore
+charges : (world after : World) (request : RequestMessage) (reply : ReplyMessage) (before spent : Spent)
     → ((world : World) (request : PlainRequest) → ((plain world request).0.status == 503) ≡ false)
-    → plain_answer (world_in held t) request ≡ (reply, after) → SpendsAt (world_in held t) keeper (plain_request_of request) spent
-    → ChargesFor t request reply before spent (worlds_in held count)
-charges_for held count t keeper request reply before spent after within none no_more never is spends_at world there =
-    let fine : is_failure reply.status ≡ false = ap (λ (end : Served). is_failure end.0.status) (sym is) ∙ never (world_in held t) (plain_request_of request) in
-    let this : world_in held t ≡ world = some_same (sym (world_there held count t within) ∙ there) in
-    subst (λ failed. MatchBool failed (spent ≡ no_spending) (Spends world request (spent_then before spent))) (sym fine)
-    (subst (λ (s : Spent). Spends world request s) (sym (after_nothing before spent none))
-    (subst (λ (w : World). Spends w request spent) this (spends (world_in held t) keeper request spent no_more spends_at)))
+    → plain_answer world request ≡ (reply, after) → Spends world request (spent_together before spent) → Charges world request reply before spent
+charges world after request reply before spent never is spends =
+    let fine : is_failure reply.status ≡ false = ap (λ (end : Served). is_failure end.0.status) (sym is) ∙ never world (plain_request_of request) in
+    subst (λ failed. MatchBool failed (spent ≡ no_spending) (Spends world request (spent_together before spent))) (sym fine) spends
 
--- nothing is under way for any tenant
-pub no_job_of : (count t : ℕ) → job_in t (replicate count None) ≡ None
-no_job_of zero t = refl
-no_job_of (suc count) zero = refl
-no_job_of (suc count) (suc t) = no_job_of count t
+-- what was spent with an answer is what is told
+pub work_charges : (held : Holdings) (after : World) (count t : ℕ) (request : RequestMessage) (reply : Option Answer) (before spent : Spent) → t < count
+    → ((world : World) (request : PlainRequest) → ((plain world request).0.status == 503) ≡ false)
+    → AnswersOver (world_in held t) after request reply
+    → ChargesOver (world_in held t) request before reply spent
+    → IfSome reply (λ answer. ChargesFor t request answer.reply before spent (worlds_in held count))
+work_charges held after count t request None before spent within never answers charged = tt
+work_charges held after count t request (Some answer) before spent within never answers charged = λ world there.
+    subst (λ (w : World). Charges w request answer.reply before spent) (this_world held count t world within there)
+    (charges (world_in held t) after request answer.reply before spent never answers charged)
 
-pub nothing_before : (count t : ℕ) → spent_on (job_in t (replicate count None)) ≡ no_spending
-nothing_before count t = ap spent_on (no_job_of count t)
-
--- with a reply nothing is under way then
-pub no_job_after : {A : Type 0} (count count_after t : ℕ) (request : RequestMessage) (reply : Option A) (answer : A) (spent : Spent) (job : Option Job) → reply ≡ Some answer
-    → BecomesJob t (job_after request reply spent job) (replicate count None) (replicate count_after None)
-no_job_after count count_after t request None answer spent job some = absurd cc
-no_job_after count count_after t request (Some one) answer spent job some = record {
-  job_is = no_job_of count_after t;
-  others = λ u ne. no_job_of count_after u ∙ sym (no_job_of count u);
+-- without an answer no world changes, and no more is spent than may be
+pub work_goes_on : (old new : Holdings) (count count_after t : ℕ) (request : RequestMessage) (reply : Option Answer) (before spent : Spent) → t < count → count_after ≡ count
+    → IfNone reply (new ≡ old)
+    → ChargesOver (world_in old t) request before reply spent
+    → IfNone reply (GoesOn t request before spent (worlds_in old count) (worlds_in new count_after))
+work_goes_on old new count count_after t request None before spent within same silent charged = record {
+  worlds = ap (λ held. worlds_in held count_after) silent ∙ ap (worlds_in old) same;
+  within = λ world there. subst (λ (w : World). SpendsWithin w request (spent_together before spent)) (this_world old count t world within there) charged;
 }
+work_goes_on old new count count_after t request (Some answer) before spent within same silent charged = tt
 
 few_of : (parses evals all apart : Bool) (n : ℕ) → (parses && evals && (nat_le 1 n && nat_le n 64 && all && apart)) ≡ true → n ≤ 64
 few_of true true true true n fit = grind (arith, nat_tests)

@@ -1,21 +1,68 @@
--- The indexes of the tenants' worlds, as their keepers have them.
-use Rattle.std.specs.Prelude.{◌≡◌, ℕ, ◌≤◌, List, length, slice_get, Some}
+-- The tenants: the indexes of their worlds, as their keepers have them, and what is under way for their requests.
+use Rattle.std.specs.Prelude.{◌≡◌, ℕ, ◌≤◌, List, length, map, replicate, slice_get, string_bytes, Option, Some, None, option_map, IfSome}
 use Rattle.mk_paths.specs.World.{World}
-use Rattle.index_store.specs.PortTable.{Entry, stored_by}
-use Rattle.index_keep.specs.declared.keeper.Keeper.{Keeper}
-use Rattle.index_keep.specs.Keeping.{IsKept}
+use Rattle.ports_plain.specs.Plain.{PlainRequest, plain_request}
+use Rattle.ports_http.specs.Messages.{RequestMessage}
+use Rattle.ports_core.specs.Answering.{plain_request_of}
+use Rattle.ports_core.specs.Jobs as jobs
+use Rattle.ports_core.specs.Jobs.{job_in}
+use Rattle.index_store.specs.PortTable.{stored_by}
+use Rattle.index_keep.specs.Keeping.{IsKept, refresh_of}
 use Rattle.tenant_store.specs.Holdings.{Holdings}
+use Rattle.kept_ports.specs.Pending.{IsPendingFor}
+use Rattle.tenant_worlds.specs.declared.tenant.AskedRequest.{AskedRequest}
+use Rattle.tenant_worlds.specs.declared.tenant.Job.{Job}
+use Rattle.tenant_worlds.specs.declared.tenant.Tenant.{Tenant}
 use Rattle.tenant_worlds.specs.Stored.{world_in}
 
--- the keeper of a tenant's index, over rows in a database
-abbrev pub TenantKeeper : Type 0
-TenantKeeper = Keeper (List Entry)
+-- what a request asks of the plain service, by its copy
+abbrev pub asked_by : AskedRequest → PlainRequest
+asked_by asked = plain_request asked.method (string_bytes asked.target) asked.body.items
 
--- each keeper is right about the world of its tenant
-abbrev pub AreKeptFor : (ℕ → World) → List TenantKeeper → Type 0
-AreKeptFor worlds keepers = (t : ℕ) (keeper : TenantKeeper) → slice_get keepers t ≡ Some keeper → IsKept stored_by (worlds t) keeper
+-- a job as it is kept
+abbrev pub KeptJob : Type 0
+KeptJob = Job
 
--- there are few tenants, and each one's keeper is right about its world
-pub record IsKeptBy (held : Holdings) (keepers : List TenantKeeper) : Type 0 where
-  pub few : length keepers ≤ 64
-  pub each : AreKeptFor (world_in held) keepers
+-- what a request asks, by its copy if there is one
+abbrev pub asked_or : Option AskedRequest → RequestMessage → PlainRequest
+asked_or None request = plain_request_of request
+asked_or (Some asked) request = asked_by asked
+
+-- what a contract sees of a job
+abbrev pub seen_job : Job → jobs.Job
+seen_job job = record { request = asked_by job.asked; spent = job.under_way.spent }
+
+-- what is under way for a tenant, if anything is
+abbrev pub job_of : Tenant → Option jobs.Job
+job_of tenant = option_map seen_job tenant.job
+
+-- The keeper is right about the tenant's world. What is under way is for the job's request, over this world.
+pub record IsTenantOf (world : World) (tenant : Tenant) : Type 0 where
+  pub keeper : IsKept stored_by world tenant.keeper
+  pub pending : IfSome tenant.job (λ job.
+      IsPendingFor world (refresh_of stored_by tenant.keeper) (asked_by job.asked) job.under_way)
+
+-- each tenant is the one of its world
+abbrev pub AreTenantsOf : (ℕ → World) → List Tenant → Type 0
+AreTenantsOf worlds tenants = (t : ℕ) (tenant : Tenant) → slice_get tenants t ≡ Some tenant → IsTenantOf (worlds t) tenant
+
+-- the jobs of the tenants, by the tenants' numbers
+abbrev pub jobs_of : List Tenant → List (Option jobs.Job)
+jobs_of tenants = map job_of tenants
+
+-- the job of the tenant with this number
+abbrev pub job_at : ℕ → List Tenant → Option jobs.Job
+job_at number tenants = job_in number (jobs_of tenants)
+
+-- no tenant has a job
+abbrev pub HaveNoJob : List Tenant → Type 0
+HaveNoJob tenants = jobs_of tenants ≡ replicate (length tenants) None
+
+-- no job changes
+abbrev pub KeepJobs : List Tenant → List Tenant → Type 0
+KeepJobs old new = jobs_of new ≡ jobs_of old
+
+-- there are few tenants, and each is the one of its world
+pub record IsKeptBy (held : Holdings) (tenants : List Tenant) : Type 0 where
+  pub few : length tenants ≤ 64
+  pub each : AreTenantsOf (world_in held) tenants

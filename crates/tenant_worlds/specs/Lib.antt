@@ -1,3 +1,5 @@
 pub mod Stored
 pub mod Kept
 pub mod Prepared
+pub mod Turning
+pub mod Codes

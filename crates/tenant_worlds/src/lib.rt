@@ -3,7 +3,8 @@
 #![tactic(auto)]
 
 mod asking;
-mod keepers;
+mod tenant;
+mod tenants;
 mod world;
 mod worlds;
 

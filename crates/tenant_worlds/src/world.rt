@@ -1,23 +1,26 @@
 //! A request over the world of one tenant in the store.
-ghost use Rattle.std.specs.Prelude.{◌≡◌, false, IfOk, IsErrOf, IsTrue, OnOk, OnErr};
-ghost use Rattle.ports_http.specs.Replies.{reply_text};
+ghost use Rattle.std.specs.Prelude.{◌≡◌, false, None, IfOk, IfSome, IfNone, IsErrOf, IsTrue, OnOk, OnErr};
 ghost use Rattle.ports_plain.specs.Changing.{changed, overfills, settle_change};
-ghost use Rattle.ports_plain.specs.Replies.{full as full_reply};
-ghost use Rattle.ports_core.specs.Answering.{plain_request_of, plain_answer};
+ghost use Rattle.ports_core.specs.Answering.{plain_request_of, AreBytesOf};
+ghost use Rattle.ports_core.specs.Jobs.{IsForRequest};
 ghost use Rattle.index_store.specs.PortTable.{stored_by};
 ghost use Rattle.index_keep.specs.Keeping.{IsKept, refresh_of};
-ghost use Rattle.kept_ports.specs.Calls.{request_of, IsPrepared, SpendsOnRequest};
+ghost use Rattle.kept_ports.specs.Calls.{request_of};
+ghost use Rattle.kept_ports.specs.Pending.{IsPendingFor, TurnsRequest, spent_before};
+ghost use Rattle.tenant_worlds.specs.Kept.{IsTenantOf, job_of};
+ghost use Rattle.tenant_worlds.specs.Turning.{WorksOn};
 ghost use Rattle.tenant_worlds.specs.Stored.{world_in, KeepsOtherWorlds};
 
-use crate::asking::{Answered, Asking};
+use crate::asking::{Asking, Turn};
+use crate::tenant::{Job, Tenant};
 use eval_cache::EvalCache;
 use index_keep::Keeper;
 use index_store::IndexStore;
-use kept_ports::PlainCall;
+use kept_ports::{CallTurned, PlainCall, UnderWay};
 use mk_paths::{FilesFault, Settings};
+use ports_core::{Answer, Worked};
 use ports_http::{Reply, Request, write_reply};
-use ports_index::Spent;
-use ports_plain::{Change, Plain, Prepared, full};
+use ports_plain::{Change, Plain, Prepared, full, questions_have_the_answers};
 use std::alloc::{AllocError, Global};
 use tenant_store::{PutFault, TenantStore};
 
@@ -29,34 +32,85 @@ pub(crate) struct Incoming<'a> {
     pub(crate) close: bool,
 }
 
-/// The reply to a request over a tenant's world, its bytes, which say whether the connection closes, and
-/// what was spent. The bytes are made before the world changes. No other tenant's world changes.
+/// A turn of a request over a tenant's world. Without an answer, what is under way for the request is the tenant's job.
+/// With one there is no job any more, and the world is the one after it. The answer's bytes say whether the connection
+/// closes, and are made before the world changes. No other tenant's world changes.
+///
 /// It fails if the store of the files or that of the index fails, or if memory runs out; then the world has
-/// not changed. Whatever happens, the tenant's keeper is right about the world.
-pub(crate) fn reply_to(
+/// not changed, and there is no job. Whatever happens, the tenant's keeper is right about the world.
+pub(crate) fn take_turn(
     alloc: Global,
     store: &mut TenantStore,
-    keeper: &mut Keeper<IndexStore>,
+    tenant: &mut Tenant,
+    cache: &mut EvalCache,
+    number: u32,
+    incoming: &Incoming,
+) -> Result<Worked, FilesFault>
+    requires tenant { IsTenantOf (world_in store.old number) tenant.old }
+    requires for_request { IsForRequest incoming.now.request.now (job_of tenant.old) }
+    ensures works { IfOk result (WorksOn (world_in store.old number) (world_in store.new number)
+        incoming.now (job_of tenant.old) (job_of tenant.new)) }
+    ensures silent { IfOk result (λ worked. IfNone worked.reply (store.new ≡ store.old)) }
+    ensures others { OnOk result (KeepsOtherWorlds number store.old store.new) }
+    ensures err { OnErr result (store.new ≡ store.old) }
+    ensures dropped { OnErr result (job_of tenant.new ≡ None) }
+    ensures tenant { IsTenantOf (world_in store.new number) tenant.new }
+{
+    questions_have_the_answers();
+    let (asked, under_way) = Job::parts(tenant.job.take());
+    let settings = store.settings(alloc, number)?;
+    let call = call_of(incoming.plain, &settings, incoming.request);
+    let keeper = &mut tenant.keeper;
+    match turn_over(alloc, store, keeper, cache, number, &call, under_way)? {
+        CallTurned::More(under_way, spent) => {
+            tenant.job = Some(Job::going_on(alloc, asked, incoming.request, under_way)?);
+            Ok(Worked { reply: None, spent })
+        }
+        CallTurned::Done(prepared, spent) => {
+            let keeper = &mut tenant.keeper;
+            let answer = settle(alloc, store, keeper, number, prepared, incoming.close)?;
+            let reply = Some(answer);
+            Ok(Worked { reply, spent })
+        }
+    }
+}
+
+/// A turn of a call over a tenant's files, and over the index that its keeper has. Nothing is changed yet, but rows
+/// of the index may be renewed.
+fn turn_over<'x>(
+    alloc: Global,
+    store: &mut TenantStore,
+    keeper: &'x mut Keeper<IndexStore>,
     cache: &mut EvalCache,
     tenant: u32,
-    incoming: &Incoming,
-) -> Result<(Reply, Vec<u8>, Spent), FilesFault>
-    requires { IsKept stored_by (world_in store.old tenant) keeper.old }
-    ensures reply { IfOk result (λ r.
-        plain_answer (world_in store.old tenant) incoming.now.request.now
-        ≡ (r.0, world_in store.new tenant)) }
-    ensures spent { IfOk result (λ r. SpendsOnRequest (world_in store.old tenant)
-        (refresh_of stored_by keeper.old) (plain_request_of incoming.now.request.now) r.2) }
-    ensures others { OnOk result (KeepsOtherWorlds tenant store.old store.new) }
-    ensures bytes { IfOk result (λ r. r.1.items ≡ reply_text r.0 incoming.now.close) }
-    ensures err { OnErr result (store.new ≡ store.old) }
-    ensures kept { IsKept stored_by (world_in store.new tenant) keeper.new }
+    call: &'x PlainCall<'x>,
+    under_way: Option<UnderWay>,
+) -> Result<CallTurned, FilesFault>
+    requires kept { IsKept stored_by
+        ((world_in store.old tenant).0, call.now.settings.now) keeper.old }
+    requires pending { IfSome under_way (IsPendingFor
+        ((world_in store.old tenant).0, call.now.settings.now)
+        (refresh_of stored_by keeper.old) (request_of call.now)) }
+    ensures turned { IfOk result (TurnsRequest
+        ((world_in store.old tenant).0, call.now.settings.now)
+        (refresh_of stored_by keeper.new) (request_of call.now) (spent_before under_way)) }
+    ensures kept { IsKept stored_by
+        ((world_in store.old tenant).0, call.now.settings.now) keeper.new }
+    ensures same { store.new ≡ store.old }
 {
-    let settings = store.settings(alloc, tenant)?;
-    let call = call_of(incoming.plain, &settings, incoming.request);
-    let (prepared, spent) = prepare(alloc, store, keeper, cache, tenant, &call)?;
-    let (reply, bytes) = settle(alloc, store, keeper, tenant, prepared, incoming.close)?;
-    Ok((reply, bytes, spent))
+    let mut turn = Turn {
+        under_way,
+        turned: Err(FilesFault::Memory),
+    };
+    let mut asking = Asking {
+        alloc,
+        call: *call,
+        cache,
+        keeper,
+        turn: &mut turn,
+    };
+    asking.ask_tenant(store, tenant);
+    turn.turned
 }
 
 /// The call by which the plain service is asked a request over a world with these settings.
@@ -73,37 +127,6 @@ fn call_of<'x>(plain: &'x Plain, settings: &'x Settings, request: &'x Request) -
     }
 }
 
-/// What is prepared for a request over a tenant's files, and what was spent. Nothing is changed yet, but rows
-/// of the index may be renewed.
-fn prepare<'x>(
-    alloc: Global,
-    store: &mut TenantStore,
-    keeper: &'x mut Keeper<IndexStore>,
-    cache: &'x mut EvalCache,
-    tenant: u32,
-    call: &'x PlainCall<'x>,
-) -> Result<(Prepared, Spent), FilesFault>
-    requires { IsKept stored_by ((world_in store.old tenant).0, call.now.settings.now) keeper.old }
-    ensures ok { IfOk result (IsPrepared ((world_in store.old tenant).0, call.now.settings.now)
-        (refresh_of stored_by keeper.old) (request_of call.now)) }
-    ensures same { store.new ≡ store.old }
-    ensures kept { IsKept stored_by
-        ((world_in store.old tenant).0, call.now.settings.now) keeper.new }
-{
-    let mut answered = Answered {
-        prepared: Err(FilesFault::Memory),
-    };
-    let mut asking = Asking {
-        alloc,
-        call: *call,
-        cache,
-        keeper,
-        answered: &mut answered,
-    };
-    asking.ask_tenant(store, tenant);
-    answered.prepared
-}
-
 /// Carries out what a request changes, and gives its reply with its bytes. If a file isn't stored since the
 /// tenant would have more than it may, the reply is 409. It fails if the store fails, or if memory runs
 /// out; then nothing has changed.
@@ -114,37 +137,36 @@ fn settle(
     tenant: u32,
     prepared: Prepared,
     close: bool,
-) -> Result<(Reply, Vec<u8>), FilesFault>
+) -> Result<Answer, FilesFault>
     requires { IsKept stored_by (world_in store.old tenant) keeper.old }
-    ensures settle_change { IfOk result (λ r. settle_change
+    ensures settle_change { IfOk result (λ answer. settle_change
         (world_in store.old tenant) prepared.reply prepared.change
-        ≡ (r.0, world_in store.new tenant)) }
+        ≡ (answer.reply, world_in store.new tenant)) }
     ensures others { OnOk result (KeepsOtherWorlds tenant store.old store.new) }
-    ensures bytes { IfOk result (λ r. r.1.items ≡ reply_text r.0 close) }
+    ensures bytes { IfOk result (λ answer. AreBytesOf answer.reply close answer.bytes) }
     ensures err { OnErr result (store.new ≡ store.old) }
     ensures kept { IsKept stored_by (world_in store.new tenant) keeper.new }
 {
     let Prepared { reply, change } = prepared;
-    let bytes = write_reply(alloc, &reply, close)?;
+    let answer = answer_with_bytes(alloc, reply, close)?;
     let Some(change) = change else {
-        return Ok((reply, bytes));
+        return Ok(answer);
     };
     match carry_out(alloc, store, keeper, tenant, change) {
-        Ok(()) => Ok((reply, bytes)),
-        Err(PutFault::Full) => Ok(full_with_bytes(alloc, close)?),
+        Ok(()) => Ok(answer),
+        Err(PutFault::Full) => Ok(answer_with_bytes(alloc, full(alloc)?, close)?),
         Err(PutFault::Store) => Err(FilesFault::Store),
         Err(PutFault::Memory) => Err(FilesFault::Memory),
     }
 }
 
-/// The reply that a file isn't stored, and its bytes.
-fn full_with_bytes(alloc: Global, close: bool) -> Result<(Reply, Vec<u8>), AllocError>
-    ensures reply { IfOk result (λ r. r.0 ≡ full_reply) }
-    ensures bytes { IfOk result (λ r. r.1.items ≡ reply_text r.0 close) }
+/// A reply with its bytes. It fails only if memory runs out.
+fn answer_with_bytes(alloc: Global, reply: Reply, close: bool) -> Result<Answer, AllocError>
+    ensures reply { IfOk result (λ answer. answer.reply ≡ reply) }
+    ensures bytes { IfOk result (λ answer. AreBytesOf answer.reply close answer.bytes) }
 {
-    let reply = full(alloc)?;
-    let bytes = write_reply(alloc, &reply, close)?;
-    Ok((reply, bytes))
+    let bytes = Some(write_reply(alloc, &reply, close)?);
+    Ok(Answer { reply, bytes })
 }
 
 /// Carries out a change of a tenant's world. The tenant's keeper is told first what is about to change, so

@@ -5,12 +5,14 @@
 #![tactic(auto)]
 
 mod loopback;
+mod orders;
 mod quiet;
 mod served;
 mod service;
 mod streams;
 mod subjects;
 mod trickle;
+mod turns;
 
 use case_lines::{Bench, Cases};
 use ports_host::words_given;

@@ -1,8 +1,9 @@
 //! The service over its store: requests in a row, each on a connection of its own.
 use crate::service::{StoredService, reply_answer};
+use crate::turns::{self, Counted, Limit, take_turns};
 use case_lines::{Answer, Trouble, as_number, as_text};
 use http::StatusCode;
-use ports_core::{Config, Event, Service, Tell, Told};
+use ports_core::{Config, Event, Service, Told};
 use ports_http::{Method, Reply};
 use std::alloc::Global;
 use store_cases::{MOST_LIMITS, filled, stops_answer};
@@ -12,15 +13,15 @@ const KEYS: [&str; 2] = ["alpha", "beta"];
 
 /// What a tenant asks.
 #[derive(Clone, Copy)]
-struct CaseRequest<'a> {
-    tenant: usize,
+pub struct CaseRequest<'a> {
+    pub tenant: usize,
     method: Method,
     target: &'a str,
     body: &'a [u8],
 }
 
 impl<'a> CaseRequest<'a> {
-    fn read(
+    pub fn read(
         method: Method,
         tenant: &[u8],
         target: &'a [u8],
@@ -40,17 +41,21 @@ const SIZES: (u32, u32) = (256, 1024);
 
 /// `new service`, `new service PARSES EVALS`: for the tenants 0 and 1, with a cache of these sizes.
 pub fn new(alloc: Global, given: &[Vec<u8>]) -> Result<StoredService, Trouble> {
+    Service::new(alloc, config(alloc, given)?).map_err(|_| Trouble::NoCase)
+}
+
+/// The config of the tenants 0 and 1, with a cache of these sizes.
+pub fn config(alloc: Global, given: &[Vec<u8>]) -> Result<Config, Trouble> {
     let mut keys = Vec::new(alloc);
     for key in KEYS {
         keys.push(String::from_str(alloc, key)?)?;
     }
     let (parses, evals) = sizes(given)?;
-    let config = Config {
+    Ok(Config {
         keys,
         parses,
         evals,
-    };
-    Service::new(alloc, config).map_err(|_| Trouble::NoCase)
+    })
 }
 
 fn sizes(given: &[Vec<u8>]) -> Result<(u32, u32), Trouble> {
@@ -81,10 +86,14 @@ pub fn answer(
         "PUT" => asked_answer(alloc, service, Method::Put, given),
         "DELETE" => asked_answer(alloc, service, Method::Delete, given),
         "units" => units_answer(alloc, service, given),
+        "turns" | "turns stopped in" => turns::turns_answer(alloc, service, given),
         "fill" => fill(alloc, service, given),
         "PUT stopped by" => stopped(alloc, service, Method::Put, given),
         "DELETE stopped by" => stopped(alloc, service, Method::Delete, given),
         "GET stopped by" => stopped(alloc, service, Method::Get, given),
+        "GET stopped at each turn after PUT" | "GET stopped at each turn after GET" => {
+            turns::stopped_at_each(alloc, service, given)
+        }
         _ => Err(Trouble::NoCase),
     }
 }
@@ -108,7 +117,8 @@ fn asked_answer(
     Ok(reply_answer(alloc, &reply))
 }
 
-/// `service units TENANT TARGET`: the status of a GET, and how many units and checked answers its turn tells.
+/// `service units TENANT TARGET`: the status of a GET, and how many units and checked answers all its turns
+/// tell.
 fn units_answer(
     alloc: Global,
     service: &mut StoredService,
@@ -118,58 +128,41 @@ fn units_answer(
         return Err(Trouble::NoCase);
     };
     let request = CaseRequest::read(Method::Get, tenant, target, &[])?;
-    let told = ask_counted(alloc, service, request)?;
+    let told = ask_within(alloc, service, request, Limit::Never)?;
     let mut answer = Answer::of_word(alloc, told.reply.status.as_str());
-    answer.number(told.units);
-    answer.number(told.checks);
+    answer.number(told.units());
+    answer.number(told.checks());
     Ok(answer)
 }
 
 /// The reply to a request on a new connection, which is lost after the request.
-fn ask(
+pub fn ask(
     alloc: Global,
     service: &mut StoredService,
     request: CaseRequest<'_>,
 ) -> Result<Reply, Trouble> {
-    let told = ask_counted(alloc, service, request)?;
+    let told = ask_within(alloc, service, request, Limit::Never)?;
     Ok(told.reply)
 }
 
-/// A reply, and how many units and checked answers its turn tells.
-#[derive(Drop)]
-struct Counted {
-    reply: Reply,
-    units: u64,
-    checks: u64,
-}
-
-/// The same, with what its turn tells as spent.
-fn ask_counted(
+/// The same, with what each of its turns tells as spent. In some turns the store's steps are limited.
+pub fn ask_within(
     alloc: Global,
     service: &mut StoredService,
     request: CaseRequest<'_>,
+    limit: Limit,
 ) -> Result<Counted, Trouble> {
     let conn = service.next_conn();
     let piece = Event::Piece(conn, stream_of(alloc, request)?);
     let _opened = happen(service, &Event::Open(conn))?;
     let _came = happen(service, &piece)?;
-    let Told {
-        reply,
-        units,
-        checks,
-        ..
-    } = happen(service, &Event::Turn(request.tenant))?;
+    let counted = take_turns(alloc, service, request.tenant, limit)?;
     let _lost = happen(service, &Event::Fault(conn))?;
-    let Tell { reply, .. } = reply.ok_or(Trouble::NoCase)?;
-    Ok(Counted {
-        reply,
-        units,
-        checks,
-    })
+    Ok(counted)
 }
 
 /// What an event tells.
-fn happen(service: &mut StoredService, event: &Event) -> Result<Told, Trouble> {
+pub fn happen(service: &mut StoredService, event: &Event) -> Result<Told, Trouble> {
     if !service.allows(event) {
         return Err(Trouble::NoCase);
     }
@@ -240,15 +233,13 @@ fn stopped_by(
 ) -> Result<Answer, Trouble> {
     let was = ask(alloc, service, probe)?;
     let mut is_kept = true;
-    for limit in 1..MOST_LIMITS {
-        service.limit_steps(Some(limit));
-        let told = ask_counted(alloc, service, request)?;
-        service.limit_steps(None);
+    for steps in 1..MOST_LIMITS {
+        let told = ask_within(alloc, service, request, Limit::InAll(steps))?;
         if told.reply.status != StatusCode::SERVICE_UNAVAILABLE {
-            return Ok(stops_answer(alloc, limit, is_kept, told.reply.status.as_str()));
+            return Ok(stops_answer(alloc, steps, is_kept, told.reply.status.as_str()));
         }
-        let spends_nothing = told.units == 0 && told.checks == 0;
-        is_kept = is_kept && spends_nothing && ask(alloc, service, probe)?.body() == was.body();
+        let is_same = ask(alloc, service, probe)?.body() == was.body();
+        is_kept = is_kept && told.is_free_at_last() && is_same;
     }
     Err(Trouble::NoCase)
 }

@@ -1,6 +1,6 @@
 //! The things that lines of a case set up and ask, and which call each line means.
 use crate::service::StoredService;
-use crate::{loopback, served, service, streams, trickle};
+use crate::{loopback, orders, served, service, streams, trickle};
 use case_lines::{Answer, Bench, Ran, Trouble};
 use make_cases::Setup;
 use ports_http::Method;
@@ -92,6 +92,7 @@ impl<N: Net> Bench for Subjects<'_, N> {
             "print" => streams::printed_steps(alloc, given),
             "open and end" => service::open_and_end(alloc, given),
             "after at" => service::after(alloc, given),
+            "any order of with" => orders::any_order(alloc, given),
             "loopback" => loopback::answered(alloc, self.net, given),
             _ => self.answer_of_other(call, given),
         }

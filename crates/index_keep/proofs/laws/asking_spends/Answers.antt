@@ -1,5 +1,5 @@
-use Rattle.index_keep.proofs.MadeLemmas.{SpendsOnOne-asked}
+use Rattle.index_keep.proofs.MadeLemmas.{SpendsOnOne-answer}
 use Rattle.index_keep.proofs.laws.asking_spends.Goals as goal
 
 pub returns : goal.returns
-returns c = SpendsOnOne-asked
+returns c = SpendsOnOne-answer

@@ -1,5 +1,5 @@
 -- Each turn leaves one path fewer, and as many units fewer as that path costs.
-use Rattle.std.proofs.Common.{◌≡◌, subst, sym, arith, None}
+use Rattle.std.proofs.Common.{◌≡◌, ◌≤◌, ◌+◌, ◌-◌, ◌^◌, ap, subst, sym, arith, None}
 use Rattle.mk_paths.specs.FilesView.{world_of}
 use Rattle.mk_paths.specs.World.{World, FileMap}
 use Rattle.ports_index.specs.Efforts.{cost_over, evaluations_at, evaluations_over}
@@ -9,10 +9,10 @@ use Rattle.ports_index.specs.Pairs.{pair_at}
 use Rattle.ports_index.specs.declared.spending.Spent.{Spent}
 use Rattle.read_trace.specs.Recording.{view_of}
 use Rattle.index_keep.specs.declared.keeper.Turned.{Turned}
-use Rattle.index_keep.specs.declared.keeper.Turned.TheVariants.{Done}
-use Rattle.index_keep.specs.Turns.{RefreshView, EndsTurn, RenewsOne, KnowsAtEnd, paths_left, spent_in_all}
+use Rattle.index_keep.specs.declared.keeper.Turned.TheVariants.{More, Done}
+use Rattle.index_keep.specs.Turns.{RefreshView, EndsTurn, GoesOn, RenewsOne, KnowsAtEnd, paths_left, spent_in_all}
 use Rattle.index_keep.specs.Keeping.{refresh_of, IsKept}
-use Rattle.index_keep.proofs.KeepLemmas.{left_less}
+use Rattle.index_keep.proofs.KeepLemmas.{IsKept-same, begun-few, left_less}
 use Rattle.index_keep.proofs.SpendLemmas.{SoFar, SoFar-more, SpendsOnRows-all, evaluations-path}
 use Rattle.index_keep.proofs.WalkLemmas.{LeavesFiles-on}
 use Rattle.index_keep.proofs.keeper.Keeper.refresh.Goals as goal
@@ -58,6 +58,31 @@ loop-more-preserved g c =
           (sym c.and-spent.ensures)
           (subst (λ (b : Spent). SoFar (cost_over world paths) (evaluations_over world paths) first.begun b (spent_together c.loop-more.spent more) (cost_over world (paths_left world new.rows)) (evaluations_over world (paths_left world new.rows))) (sym turn.1) far);
     }
+
+-- a turn that spends all units that a number can count
+never : (world : World) (old new : RefreshView) (spent : Spent) → GoesOn world (2 ^ 64 - 1) old new spent → (new.begun.units ≤ 50000) × (new.begun.checks ≤ 1028) → ⊥
+never world old new spent goes few =
+    let units : new.begun.units ≡ old.begun.units + spent.units = ap (λ (s : Spent). s.units) goes.begun in
+    let checks : new.begun.checks ≡ old.begun.checks + spent.checks = ap (λ (s : Spent). s.checks) goes.begun in
+    omega (arith, units, checks, goes.enough, few.0, few.1)
+
+pub unreachable-requires : goal.unreachable-requires
+unreachable-requires g c =
+    let entries = g.R.PathRows.entries in
+    let world : World = world_of (view_of g.F.Names.view c.args.files.now) c.args.settings.now in
+    let old = refresh_of entries c.loop-more.self in
+    let new = refresh_of entries c.turn.new.self in
+    let spent = c.in-More.field-0 in
+    let goes = in_world world _ c.loop-more.invariant.files.files _ old new _ (More spent) c.in_ok-more.ensures.turn c.in-More.is in
+    never world old new spent goes (begun-few _ _ c.turn.new.self.progress c.in_ok-more.ensures.kept.progress)
+
+pub returns-in_err-fresh_rows-in-Done-None-clause-kept : goal.returns-in_err-fresh_rows-in-Done-None-clause-kept
+returns-in_err-fresh_rows-in-Done-None-clause-kept g c =
+    let entries = g.R.PathRows.entries in
+    let world : World = world_of (view_of g.F.Names.view c.args.files.now) c.args.settings.now in
+    let keeper = c.turn.new.self in
+    IsKept-same entries world keeper.rows c.fresh_rows.new.rows keeper.progress c.fresh_rows.ensures.same
+    (subst (λ (files : FileMap). let w : World = (files, c.args.settings.now) in IsKept entries w keeper) c.loop-more.invariant.files.files c.in_ok-more.ensures.kept)
 
 pub returns-in-Done-Some-clause-known : goal.returns-in-Done-Some-clause-known
 returns-in-Done-Some-clause-known g c =

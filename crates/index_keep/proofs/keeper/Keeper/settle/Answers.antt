@@ -1,8 +1,11 @@
 -- The row that is written is the path's, and the walk knows of it.
-use Rattle.std.proofs.Common.{subst, refl}
+use Rattle.std.proofs.Common.{◌≤◌, ◌∙◌, subst, refl}
+use Rattle.ports_index.specs.PathOutcomes.{cost_at}
+use Rattle.ports_index.specs.declared.spending.Spent.{Spent}
 use Rattle.index_keep.specs.Paths.{TurnsPath}
 use Rattle.index_keep.specs.Shown.{shown, no_name}
 use Rattle.index_keep.specs.Turns.{spent_in_all}
+use Rattle.index_keep.proofs.LeftLemmas.{goes-on}
 use Rattle.index_keep.proofs.WalkLemmas.{kept-made, more-made, renews-made}
 use Rattle.index_keep.proofs.keeper.Keeper.settle.Goals as goal
 
@@ -22,3 +25,11 @@ returns-in_ok-walk-in-Made-clause-kept g c = λ world path units ready turns.
       rows = kept-made world old new c.args.walk path ready c.in-Made.made made.0 c.in_ok-walk-in-Made.ensures.rows;
       progress = c.in_ok-walk-in-Made.ensures.walk world old new ready.far (more-made world old new c.args.walk path ready c.in-Made.made made.0 c.in_ok-walk-in-Made.ensures.rows);
     }
+
+pub returns-in-More-clause-settles : goal.returns-in-More-clause-settles
+returns-in-More-clause-settles g c = λ world path units ready turns.
+    let old = shown no_name (g.R.PathRows.entries c.args.self.now.rows) in
+    let more = subst (TurnsPath world path units c.args.before) c.in-More.is turns in
+    goes-on world old path units c.args.before c.spent_since-spent.result c.in-More.ask ready.lacking more.0 more.1
+    (subst (λ (spent : Spent). spent.units ≤ cost_at world path) c.spent.ensures.is (c.spent.ensures.within world path more.0))
+    (c.spent_since-spent.ensures ∙ c.spent.ensures.is)

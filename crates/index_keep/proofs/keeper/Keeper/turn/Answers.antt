@@ -78,7 +78,7 @@ ask_on-requires g c =
     let rows = entries c.args.self.now.rows in
     let is : c.args.self.now.progress ≡ Asking c.in-Asking.walk c.in-Asking.ask = sym c.replace.ensures.value ∙ c.in-Asking.is in
     let asking = subst (λ (p : Progress). IsProgress world (shown (changed_in p) rows) p) is c.requires.progress in
-    asking.2.under
+    record { key = _; come = asking.2.come }
 
 pub returns-in-Asking-clause-turn : goal.returns-in-Asking-clause-turn
 returns-in-Asking-clause-turn g c =

@@ -3,7 +3,7 @@ use Rattle.tenant_worlds.proofs.asking.Asking.ask_tenant.Goals as goal
 
 pub returns : goal.returns
 returns c = record {
-  prepared = c.ask.ensures.answered.prepared;
+  turned = c.ask.ensures.answered.turned;
   kept = c.ask.ensures.answered.kept;
   same_keeper = c.ask.ensures.answered.keeper;
   same_place = c.ask.ensures.answered.place;

@@ -1,28 +1,26 @@
--- A store that holds nothing has so many worlds as each begins.
-use Rattle.std.proofs.Common.{◌≡◌, ap, ◌∙◌, arith, length, Option, None}
+-- A store that holds nothing has so many worlds as each begins, and no tenant has a job.
+use Rattle.std.proofs.Common.{ap, ◌∙◌, arith, length, Option, None}
 use Rattle.std.specs.Prelude.{replicate}
 use Rattle.mk_paths.specs.World.{opening_world}
 use Rattle.ports_core.specs.Jobs.{Job}
 use Rattle.tenant_worlds.specs.Stored.{world_in, worlds_in}
-use Rattle.tenant_worlds.proofs.WorldLemmas.{opening_worlds, few_keys, length-worlds_in}
+use Rattle.tenant_worlds.proofs.WorldLemmas.{opening_worlds, few_keys}
 use Rattle.tenant_worlds.proofs.worlds.StoredTenantsTenants.new.Goals as goal
 
 pub returns-clause-worlds : goal.returns-clause-worlds
 returns-clause-worlds c =
-    let count = length c.in_ok-keepers.keepers.items in
-    ap (λ held. worlds_in held count) c.in_ok-store.ensures ∙ opening_worlds count ∙ ap (λ n. replicate n opening_world) (omega (arith, c.in_ok-keepers.ensures.count))
+    let count = length c.in_ok-tenants.tenants.items in
+    ap (λ held. worlds_in held count) c.in_ok-store.ensures ∙ opening_worlds count ∙ ap (λ n. replicate n opening_world) (omega (arith, c.in_ok-tenants.ensures.count))
 
 pub returns-clause-jobs : goal.returns-clause-jobs
 returns-clause-jobs c =
-    let count = length c.in_ok-keepers.keepers.items in
     let no_job : Option Job = None in
-    let keys : count ≡ length c.args.config.now.keys.items = omega (arith, c.in_ok-keepers.ensures.count) in
-    ap (λ n. replicate n no_job) (length-worlds_in c.in_ok-store.store count ∙ keys)
+    c.in_ok-tenants.ensures.jobs ∙ ap (λ n. replicate n no_job) (omega (arith, c.in_ok-tenants.ensures.count))
 
 pub invariant_of-result : goal.invariant_of-result
 invariant_of-result c =
     let few = few_keys c.args.config.now c.requires in
     record {
-      few = omega (arith, few, c.in_ok-keepers.ensures.count);
-      each = c.in_ok-keepers.ensures.kept (world_in c.in_ok-store.store);
+      few = omega (arith, few, c.in_ok-tenants.ensures.count);
+      each = c.in_ok-tenants.ensures.right (world_in c.in_ok-store.store);
     }

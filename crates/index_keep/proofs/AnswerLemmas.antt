@@ -1,0 +1,73 @@
+-- What an evaluation that is asked for has come to.
+use Rattle.std.proofs.Common.{◌≡◌, ◌≤◌, arith, refl, if◌then◌else◌, ℕ, zero, suc, Bool, true, false, None, Result, Ok, Err}
+use Rattle.mk_paths.specs.World.{FileMap}
+use Rattle.mk_base.specs.FaultAt.{FaultAt}
+use Rattle.mk_base.specs.Meter.{full}
+use Rattle.mk_base.specs.Outcome.{left}
+use Rattle.mk_files.specs.Asking.{Account}
+use Rattle.mk_eval.specs.Meaning.{evaluated, evaluation, fresh}
+use Rattle.mk_base.specs.FaultAt.{FaultAt}
+use Rattle.mk_base.specs.Meter.{full}
+use Rattle.mk_base.specs.Outcome.{left}
+use Rattle.mk_files.specs.Asking.{Account}
+use Rattle.mk_eval.specs.Meaning.{evaluated, evaluation, fresh}
+use Rattle.mk_eval.specs.Sharing.{cost_of}
+use Rattle.mk_eval.specs.declared.state.EvalState.{EvalState}
+use Rattle.mk_eval.proofs.SharedEvaluation.{shared-evaluation}
+use Rattle.mk_step.proofs.Coming.{spends}
+use Rattle.mk_eval.specs.declared.state.EvalState.{EvalState}
+use Rattle.mk_eval.proofs.SharedEvaluation.{shared-evaluation}
+use Rattle.mk_step.proofs.Coming.{spends}
+use Rattle.eval_cache.specs.Cache.{CacheValue}
+use Rattle.eval_cache.specs.Keys.{Key}
+use Rattle.eval_cache.specs.Right.{evaluation_of}
+use Rattle.index_keep.specs.Asking.{is_held, spent_in, CanGoOn, HasComeTo, IsAnswerTo, IsAskedOf}
+use Rattle.index_keep.specs.declared.asking.Asked.{Asked}
+use Rattle.index_keep.specs.declared.asking.AskTurned.{AskTurned}
+use Rattle.index_keep.specs.declared.asking.AskTurned.TheVariants as ask
+
+whole_if : (held : Bool) (units cost : ℕ) → units ≡ (if held then 0 else cost) → 1 ≤ units → units ≡ cost
+whole_if true units cost is some = absurd (omega (arith, is, some))
+whole_if false units cost is some = is
+
+unchecked_if : (held : Bool) (units cost checks : ℕ) → units ≡ (if held then 0 else cost) → (held ≡ true → 1 ≤ checks) → checks ≡ 0 → units ≡ cost
+unchecked_if true units cost checks is some none = absurd (omega (arith, some refl, none))
+unchecked_if false units cost checks is some none = is
+
+-- it was asked for at once
+pub IsAnswerTo-asked : (files : FileMap) (cache : CacheValue) (key : Key) (asked : Asked) → IsAskedOf files cache key asked → IsAnswerTo files key asked
+IsAnswerTo-asked files cache key asked is = record {
+  evaluation = is.evaluation;
+  answered = is.answered;
+  few = is.few;
+  whole = whole_if (is_held files cache key) asked.units (cost_of (evaluation_of files key).outcome) is.units;
+  unchecked = unchecked_if (is_held files cache key) asked.units (cost_of (evaluation_of files key).outcome) asked.checks is.units is.some;
+}
+
+-- what was spent is no more than the evaluation costs
+pub within-answer : (files : FileMap) (key : Key) (asked : Asked) → IsAnswerTo files key asked → asked.units ≤ cost_of (evaluation_of files key).outcome
+within-answer files key asked is = within_by (cost_of (evaluation_of files key).outcome) asked.units is.whole
+  where
+    within_by : (cost units : ℕ) → (1 ≤ units → units ≡ cost) → units ≤ cost
+    within_by cost zero all = omega arith
+    within_by cost (suc units) all = omega (arith, all (omega arith))
+
+cost_left : (end : Result (EvalState × Account) (FaultAt × Account)) → cost_of (evaluated end) ≡ (left end).meter.spent
+cost_left (Ok end) = refl
+cost_left (Err end) = refl
+
+-- an evaluation costs at most 50,000 units
+pub cost-within : (files : FileMap) (key : Key) → cost_of (evaluation_of files key).outcome ≤ 50000
+cost-within files key =
+    let end : Result (EvalState × Account) (FaultAt × Account) = evaluation (files, key.settings) key.name key.flavors (fresh 50000 None) in
+    let shared = shared-evaluation files files key.settings key.name key.flavors in
+    omega (arith, cost_left end, spends shared (full 50000) None end refl, shared.steady.within (full 50000) (omega arith))
+
+pub can-go-on : (files : FileMap) (key : Key) (turned : AskTurned) → HasComeTo files key turned → CanGoOn files turned
+can-go-on files key (ask.More new) come = come.1
+can-go-on files key (ask.Done asked) come = tt
+
+-- little is spent on an evaluation
+pub few-come : (files : FileMap) (key : Key) (turned : AskTurned) → HasComeTo files key turned → ((spent_in turned).units ≤ 50000) × ((spent_in turned).checks ≤ 1028)
+few-come files key (ask.More new) come = (come.1.under.within, come.1.few)
+few-come files key (ask.Done asked) come = (omega (arith, within-answer files key asked come, cost-within files key), come.few)

@@ -1,0 +1,96 @@
+-- What a path that is left costs, and what is left.
+use Rattle.std.proofs.Common.{◌≡◌, ◌≤◌, ◌⊎◌, ◌∙◌, inl, inr, sym, ap, subst, refl, arith, ℕ, ◌+◌, ◌-◌, ◌*◌, Bool, true, false, ◌||◌, if◌then◌else◌, List, [], ◌∷◌, is_none}
+use Rattle.std.proofs.lemmas.Bool.{false≢true}
+use Rattle.std.proofs.lemmas.List.Sums.{sum_by-cons}
+use Rattle.std.proofs.lemmas.Slice.Eq.{bytes_eq-Decides}
+use Rattle.std.specs.List.{filter, sum_by}
+use Rattle.std.specs.Str.{bytes_eq}
+use Rattle.text_parts.specs.Order.{in_order}
+use Rattle.text_parts.specs.Ordered.{among-in_order}
+use Rattle.mk_paths.specs.World.{World}
+use Rattle.ports_index.specs.Efforts.{evaluations_at}
+use Rattle.ports_index.specs.Filling.{is_one_of}
+use Rattle.ports_index.specs.Index.{needed_paths}
+use Rattle.ports_index.specs.PathLaws.{MakefilesAreEvaluated}
+use Rattle.ports_index.specs.PathOutcomes.{cost_at}
+use Rattle.ports_index.specs.RowLaws.{OneRowMoreLeavesLess}
+use Rattle.ports_index.specs.Spending.{ChecksFew}
+use Rattle.ports_index.specs.declared.spending.Spent.{Spent}
+use Rattle.index_keep.specs.Asking.{IsUpBy, spent_in}
+use Rattle.index_keep.specs.Paths.{IsPathAsk}
+use Rattle.index_keep.specs.Shown.{ShownRows, fresh}
+use Rattle.index_keep.specs.Turns.{GoesOn, RefreshingPays, evaluations_left, paths_left, refresh_at, spent_in_all}
+use Rattle.index_keep.specs.Walking.{IsLacking}
+use Rattle.index_keep.specs.declared.evaluating.PathAsk.{PathAsk}
+use Rattle.index_keep.proofs.AnswerLemmas.{few-come}
+use Rattle.index_keep.proofs.KeepLemmas.{HaveFresh-current, lacking-none, left_less}
+use Rattle.index_keep.proofs.MadeLemmas.{one-evaluation}
+use Rattle.index_keep.proofs.SpendLemmas.{evaluations-path}
+
+-- what is counted for one path of a list that passes a test is no more than for all that pass it
+module _ (weight : List ℕ → ℕ) (test : List ℕ → Bool) (path : List ℕ) (passes : test path ≡ true) where
+  weight-by : (one : List ℕ) (paths : List (List ℕ)) (same passed : Bool) → bytes_eq one path ≡ same → test one ≡ passed
+      → (is_one_of path paths ≡ true → weight path ≤ sum_by weight (filter test paths)) → (same || is_one_of path paths) ≡ true
+      → weight path ≤ sum_by weight (if passed then one ∷ filter test paths else filter test paths)
+  weight-by one paths true true same passed more there =
+      let e : weight one ≡ weight path = ap weight ((bytes_eq-Decides one path).0 same) in
+      let low : weight path ≤ sum_by weight (one ∷ filter test paths) = omega (arith, e, sum_by-cons weight one (filter test paths)) in
+      low
+  weight-by one paths true false same passed more there = absurd (false≢true (sym passed ∙ ap test ((bytes_eq-Decides one path).0 same) ∙ passes))
+  weight-by one paths false true same passed more there =
+      let low : weight path ≤ sum_by weight (one ∷ filter test paths) = omega (arith, more there, sum_by-cons weight one (filter test paths)) in
+      low
+  weight-by one paths false false same passed more there = more there
+
+  weight-in : (paths : List (List ℕ)) → is_one_of path paths ≡ true → weight path ≤ sum_by weight (filter test paths)
+  weight-in [] there = absurd (false≢true there)
+  weight-in (one ∷ paths) there = weight-by one paths (bytes_eq one path) (test one) refl refl (weight-in paths) there
+
+left-in : (weight : List ℕ → ℕ) (world : World) (rows : ShownRows) (path : List ℕ) → IsLacking world rows path → weight path ≤ sum_by weight (paths_left world rows)
+left-in weight world rows path is =
+    weight-in weight (λ other. is_none (fresh rows other)) path (ap is_none is.lacking) (in_order (needed_paths world))
+    (among-in_order (λ one. bytes_eq one path) (needed_paths world) ∙ is.needed)
+
+enough_by : (units old_units old_checks more_units more_checks new_units new_checks : ℕ) → old_units + more_units ≡ new_units → old_checks + more_checks ≡ new_checks
+    → (old_units + old_checks) + units ≤ new_units + new_checks → units ≤ more_units + more_checks
+enough_by units old_units old_checks more_units more_checks new_units new_checks e f up = omega (arith, e, f, up)
+
+few_by : (checks evaluations : ℕ) → checks ≤ 1028 → 1 ≤ evaluations → checks ≤ 1028 * evaluations
+few_by checks evaluations few some = omega (arith, few, some)
+
+-- the evaluation of a path that is left isn't at its end
+pub goes-on : (world : World) (rows : ShownRows) (path : List ℕ) (units : ℕ) (before spent : Spent) (ask : PathAsk) → IsLacking world rows path → IsPathAsk world path ask
+    → IsUpBy units before (spent_in ask.ask) → (spent_in ask.ask).units ≤ cost_at world path → spent_in_all before spent ≡ spent_in ask.ask
+    → GoesOn world units (refresh_at rows before) (refresh_at rows (spent_in ask.ask)) spent
+goes-on world rows path units before spent ask lacking is up low all = record {
+  rows = λ other. refl;
+  begun = sym all;
+  enough = enough_by units before.units before.checks spent.units spent.checks _ _ (ap (λ (s : Spent). s.units) all) (ap (λ (s : Spent). s.checks) all) up.1;
+  within = record {
+    units = omega (arith, low, left-in (cost_at world) world rows path lacking);
+    checks = few_by (spent_in ask.ask).checks (evaluations_left world rows) (few-come _ _ ask.ask is.come).1
+        (let some = left-in (evaluations_at world) world rows path lacking in omega (arith, some, one-evaluation world path ask is));
+  };
+}
+
+paid_less : (units cost evaluation checks after all : ℕ) → (units ≡ cost) ⊎ ((1 ≤ checks) × (units ≡ cost - evaluation)) → cost + after ≡ all → units + after ≤ all
+paid_less units cost evaluation checks after all paid sum =
+    elim paid [ inl full ↦ omega (arith, full, sum) | inr saved ↦ omega (arith, saved.1, sum) ]
+
+few_less : (checks one after all : ℕ) → checks ≤ 1028 * one → one + after ≡ all → checks + 1028 * after ≤ 1028 * all
+few_less checks one after all few sum = omega (arith, few, sum)
+
+pub RefreshingPays-all : OneRowMoreLeavesLess → MakefilesAreEvaluated → RefreshingPays
+RefreshingPays-all law evaluated = record {
+  renews = λ world old new spent renewed.
+      let all : Spent = spent_in_all old.begun spent in
+      let renews = renewed.0 in
+      let cost_less = left_less law world old.rows new.rows all renews (cost_at world) in
+      let count_less = left_less law world old.rows new.rows all renews (evaluations_at world) in
+      let few = subst (λ n. ChecksFew n all.checks) (sym (evaluations-path evaluated world renews.path)) renews.spent.few in (
+        paid_less all.units (cost_at world renews.path) _ all.checks _ _ renews.spent.paid cost_less,
+        few_less all.checks (evaluations_at world renews.path) _ _ few count_less,
+      );
+  fewer = λ world old new spent renewed. left_less law world old.rows new.rows (spent_in_all old.begun spent) renewed.0 (λ path. 1);
+  ends = λ world rows current. lacking-none world rows (HaveFresh-current world rows current);
+}

@@ -1,0 +1,54 @@
+-- The row is made of an evaluation that is at its end, if fewer units were spent than there are.
+use Rattle.std.proofs.Common.{◌∙◌, subst, sym, refl, string_bytes}
+use Rattle.eval_cache.specs.Keys.{key_for}
+use Rattle.read_trace.specs.Recording.{view_of}
+use Rattle.index_keep.specs.Asking.{HasComeTo, IsUpFrom, spent_in}
+use Rattle.index_keep.specs.Paths.{flavors_of}
+use Rattle.index_keep.specs.declared.asking.AskTurned.{AskTurned}
+use Rattle.index_keep.specs.declared.asking.AskTurned.TheVariants.{Done}
+use Rattle.index_keep.proofs.AnswerLemmas.{can-go-on}
+use Rattle.index_keep.proofs.MadeLemmas.{IsUpFrom-on, all-spent, made-row, made-up}
+use Rattle.index_keep.proofs.evaluating.PathAsk.go_on.Goals as goal
+
+pub left_of-requires : goal.left_of-requires
+left_of-requires g c =
+    subst (IsUpFrom c.args.before) (sym c.spent-2.ensures.is)
+    (IsUpFrom-on c.args.before (spent_in c.args.self.ask) (spent_in c.in_ok-ask.ask) c.requires.up c.in_ok-ask.ensures.up)
+
+pub turn-requires : goal.turn-requires
+turn-requires g c = can-go-on (view_of g.F.Names.view c.args.files.now).files c.requires.begun.key c.args.self.ask c.requires.begun.come
+
+pub returns-then-left_of-eq0-clause-turns : goal.returns-then-left_of-eq0-clause-turns
+returns-then-left_of-eq0-clause-turns g c = λ settings is. (
+  record { at = is.at; found = is.found; come = c.in_ok-ask.ensures.comes (key_for settings c.args.self.found.makefile (flavors_of c.args.self.found.named)) is.come },
+  all-spent c.args.units c.args.before (spent_in c.in_ok-ask.ask) c.spent-2.result c.spent-2.ensures.is
+      (IsUpFrom-on c.args.before (spent_in c.args.self.ask) (spent_in c.in_ok-ask.ask) c.requires.up c.in_ok-ask.ensures.up) (sym c.left_of.ensures ∙ c.if-left_of-eq0.true),
+)
+
+pub returns-clause-turns : goal.returns-clause-turns
+returns-clause-turns g c = λ settings is.
+    let files = (view_of g.F.Names.view c.args.files.now).files in
+    let found = c.args.self.found in
+    let key = key_for settings found.makefile (flavors_of found.named) in
+    let asked = c.in-Done.asked in
+    let come = subst (HasComeTo files key) c.in-Done.is (c.in_ok-ask.ensures.comes key is.come) in
+    let up = subst (λ (turned : AskTurned). IsUpFrom c.args.before (spent_in turned)) c.in-Done.is
+    (IsUpFrom-on c.args.before (spent_in c.args.self.ask) (spent_in c.in_ok-ask.ask) c.requires.up c.in_ok-ask.ensures.up) in
+    let made = c.in_ok-made-in-Done.ensures in
+    let row = c.in_ok-made-in-Done.field-0 in (
+      made-row files found asked row made.path made.row made.spent settings (string_bytes found.path) refl is.found come,
+      IsUpFrom-on c.args.before (spent_in (Done asked)) row.spent up (made-up files found asked row made.path made.row made.spent key come),
+    )
+
+pub returns-clause-up : goal.returns-clause-up
+returns-clause-up g c =
+    let files = (view_of g.F.Names.view c.args.files.now).files in
+    let found = c.args.self.found in
+    let key = c.requires.begun.key in
+    let asked = c.in-Done.asked in
+    let come = subst (HasComeTo files key) c.in-Done.is (c.in_ok-ask.ensures.comes key c.requires.begun.come) in
+    let up = subst (λ (turned : AskTurned). IsUpFrom c.args.before (spent_in turned)) c.in-Done.is
+    (IsUpFrom-on c.args.before (spent_in c.args.self.ask) (spent_in c.in_ok-ask.ask) c.requires.up c.in_ok-ask.ensures.up) in
+    let made = c.in_ok-made-in-Done.ensures in
+    let row = c.in_ok-made-in-Done.field-0 in
+    IsUpFrom-on c.args.before (spent_in (Done asked)) row.spent up (made-up files found asked row made.path made.row made.spent key come)

@@ -1,0 +1,178 @@
+-- What is taken from the evaluation of a port's makefile.
+use Rattle.std.proofs.Common.{◌≡◌, ◌≤◌, ◌∙◌, ℕ, zero, suc, ◌+◌, ◌-◌, ◌*◌, ◌^◌, min, List, length, Option, Some, None, Result, Ok, Err, refl, sym, ap, subst, arith, inl, inr}
+use Rattle.std.specs.Prelude.{option_map, option_to_list}
+use Rattle.mk_paths.specs.Place.{place}
+use Rattle.mk_paths.specs.World.{World, FileMap, files_in}
+use Rattle.mk_eval.specs.Meaning.{means}
+use Rattle.mk_eval.specs.Sharing.{cost_of}
+use Rattle.mk_eval.specs.declared.outcome.Evaluated.{Evaluated}
+use Rattle.mk_eval.specs.declared.outcome.Failed.{Failed}
+use Rattle.mk_eval.specs.declared.outcome.Kind.{Kind}
+use Rattle.mk_eval.specs.declared.outcome.Kind.TheVariants as kinds
+use Rattle.read_trace.specs.declared.evaluating.Evaluation.{Evaluation}
+use Rattle.eval_cache.specs.Keys.{Key, key_for}
+use Rattle.eval_cache.specs.Right.{evaluation_of}
+use Rattle.pkg_path.specs.Paths.{PathValue}
+use Rattle.ports_index.specs.Pairs.{Pair}
+use Rattle.ports_index.specs.PathOutcomes.{counted}
+use Rattle.ports_index.specs.Spending.{no_spending, spent_together, evaluation_cost, evaluations_of, ChecksFew, SpendsOnOne}
+use Rattle.ports_index.specs.declared.spending.Spent.{Spent}
+use Rattle.ports_plain.specs.Answers.{answer_to}
+use Rattle.ports_plain.specs.Plain.{Answer, reply_alone, variable_at, port_at}
+use Rattle.ports_plain.specs.Replies.{no_port}
+use Rattle.ports_plain.specs.Resting.{need_of, cost_if_there, value_cost_of, record_cost_of, record_cost_by}
+use Rattle.ports_plain.specs.Spending.{SpendsFor}
+use Rattle.ports_plain.specs.declared.changing.Prepared.{Prepared}
+use Rattle.index_keep.specs.Asking.{HasComeTo, IsAnswerTo, IsUpFrom, AskingSpends, spent_in, spent_on}
+use Rattle.index_keep.specs.Turns.{RefreshView}
+use Rattle.index_keep.specs.declared.asking.AskTurned.{AskTurned}
+use Rattle.index_keep.specs.declared.asking.AskTurned.TheVariants.{More, Done}
+use Rattle.index_keep.specs.declared.asking.Asked.{Asked}
+use Rattle.kept_ports.specs.declared.evaluating.PortAsk.{PortAsk}
+use Rattle.kept_ports.specs.declared.pending.Stage.TheVariants.{Evaluating}
+use Rattle.kept_ports.specs.declared.sought.Sought.{Sought}
+use Rattle.kept_ports.specs.declared.sought.Sought.TheVariants.{Value, Record}
+use Rattle.kept_ports.specs.Evaluating.{path_sought, question_sought, reply_sought, cost_sought, IsPortAsk}
+use Rattle.kept_ports.specs.Pending.{Answers, IsForQuestion, LeavesOpen, StaysWithin}
+
+abbrev pair_with : PathValue → List ℕ → Pair
+pair_with path makefile = record { makefile = makefile; flavors = path.flavors }
+
+-- the reply to what is sought, after an evaluation of the makefile that is there
+pub answered : (world : World) (sought : Sought) (makefile : List ℕ) → place world (path_sought sought).directory ≡ Some makefile
+    → ◌≡◌ {A = Answer} (reply_alone (reply_sought sought makefile (means world makefile (path_sought sought).flavors))) (answer_to world (question_sought sought))
+answered world (Value asked) makefile placed = sym (ap (λ p. reply_alone (variable_at world asked.name asked.path.flavors p)) placed)
+answered world (Record path) makefile placed = sym (ap (λ p. reply_alone (port_at world path p)) placed)
+
+-- and if none is there
+pub unanswered : (world : World) (sought : Sought) → place world (path_sought sought).directory ≡ None
+    → ◌≡◌ {A = Answer} (reply_alone no_port) (answer_to world (question_sought sought))
+unanswered world (Value asked) none = sym (ap (λ p. reply_alone (variable_at world asked.name asked.path.flavors p)) none)
+unanswered world (Record path) none = sym (ap (λ p. reply_alone (port_at world path p)) none)
+
+-- what is spent on the evaluation of the makefile that is there, and on what is sought
+pub spends : (world : World) (sought : Sought) (makefile : List ℕ) (spent : Spent) → place world (path_sought sought).directory ≡ Some makefile
+    → SpendsOnOne (cost_sought sought makefile (means world makefile (path_sought sought).flavors)) (cost_of (means world makefile (path_sought sought).flavors)) 1 spent
+    → SpendsFor world (need_of (question_sought sought)) spent
+spends world (Value asked) makefile spent placed is =
+    subst (λ p. SpendsOnOne (cost_if_there (option_map (value_cost_of world asked) p)) (evaluation_cost world (option_map (pair_with asked.path) p))
+    (evaluations_of (option_map (pair_with asked.path) p)) spent) (sym placed) is
+spends world (Record path) makefile spent placed is =
+    subst (λ p. SpendsOnOne (cost_if_there (option_map (record_cost_of world path) p)) (evaluation_cost world (option_map (pair_with path) p))
+    (evaluations_of (option_map (pair_with path) p)) spent) (sym placed) is
+
+no_cost : SpendsOnOne 0 0 0 no_spending
+no_cost = record { few = omega arith; paid = inl refl }
+
+-- nothing, if none is there
+pub spends-none : (world : World) (sought : Sought) → place world (path_sought sought).directory ≡ None → SpendsFor world (need_of (question_sought sought)) no_spending
+spends-none world (Value asked) none =
+    subst (λ p. SpendsOnOne (cost_if_there (option_map (value_cost_of world asked) p)) (evaluation_cost world (option_map (pair_with asked.path) p))
+    (evaluations_of (option_map (pair_with asked.path) p)) no_spending) (sym none) no_cost
+spends-none world (Record path) none =
+    subst (λ p. SpendsOnOne (cost_if_there (option_map (record_cost_of world path) p)) (evaluation_cost world (option_map (pair_with path) p))
+    (evaluations_of (option_map (pair_with path) p)) no_spending) (sym none) no_cost
+
+with_more : (most units cost more : ℕ) → units ≤ most → units ≤ cost → units ≤ min (cost + more) most
+with_more most units cost more small less = omega (arith, small, less)
+
+kind_covers : (kind : Kind) (units cost more : ℕ) → units ≤ 2 ^ 64 - 1 → units ≤ cost → units ≤ record_cost_by kind cost more
+kind_covers kinds.Port units cost more small less = with_more (2 ^ 64 - 1) units cost more small less
+kind_covers kinds.List units cost more small less = less
+kind_covers kinds.Other units cost more small less = less
+
+-- the evaluation costs no more than what is sought costs with it
+pub covers : (sought : Sought) (makefile : List ℕ) (outcome : Result Evaluated Failed) (units : ℕ) → units ≤ 2 ^ 64 - 1 → units ≤ cost_of outcome
+    → units ≤ cost_sought sought makefile outcome
+covers (Value asked) makefile (Ok evaluated) units small less = with_more (2 ^ 64 - 1) units evaluated.cost _ small less
+covers (Value asked) makefile (Err failed) units small less = less
+covers (Record path) makefile (Ok evaluated) units small less = kind_covers evaluated.kind units evaluated.cost _ small less
+covers (Record path) makefile (Err failed) units small less = less
+
+one_few : (checks : ℕ) → checks ≤ 1028 → checks ≤ 1028 * 1
+one_few checks few = omega (arith, few)
+
+-- so what is spent on the evaluation stays within what is sought costs
+pub stays : (world : World) (sought : Sought) (makefile : List ℕ) (spent : Spent) → place world (path_sought sought).directory ≡ Some makefile
+    → spent.units ≤ cost_sought sought makefile (means world makefile (path_sought sought).flavors) → spent.checks ≤ 1028
+    → StaysWithin world (question_sought sought) spent
+stays world (Value asked) makefile spent placed less few = record {
+  units = subst (λ p. spent.units ≤ cost_if_there (option_map (value_cost_of world asked) p)) (sym placed) less;
+  checks = subst (λ p. ChecksFew (length (option_to_list (option_map (pair_with asked.path) p))) spent.checks) (sym placed) (one_few spent.checks few);
+}
+stays world (Record path) makefile spent placed less few = record {
+  units = subst (λ p. spent.units ≤ cost_if_there (option_map (record_cost_of world path) p)) (sym placed) less;
+  checks = subst (λ p. ChecksFew (length (option_to_list (option_map (pair_with path) p))) spent.checks) (sym placed) (one_few spent.checks few);
+}
+
+-- few answers were checked before an evaluation began
+pub few_in : (files : FileMap) (key : Key) (came : AskTurned) → HasComeTo files key came → (spent_in came).checks ≤ 1028
+few_in files key (More ask) is = is.1.few
+few_in files key (Done asked) is = is.few
+
+-- an evaluation of the makefile that is sought is for the question
+pub for_sought : (world : World) (sought : Sought) (ask : PortAsk) → IsPortAsk world (path_sought sought) ask → IsForQuestion world (question_sought sought) ask
+for_sought world (Value asked) ask is = is
+for_sought world (Record path) ask is = is
+
+-- an evaluation that isn't at its end, or waits for the next turn
+pub goes_on : (world : World) (refresh : RefreshView) (sought : Sought) (ask : PortAsk) (before evaluated spent : Spent) → IsPortAsk world (path_sought sought) ask
+    → evaluated ≡ spent_in ask.came → evaluated.units ≤ 2 ^ 64 - 1
+    → evaluated.units ≤ cost_of (evaluation_of (files_in world) (key_for world.1 ask.makefile (path_sought sought).flavors)).outcome
+    → spent_together before spent ≡ evaluated
+    → LeavesOpen world refresh (question_sought sought) before (record { stage = Evaluating ask; spent = evaluated }) spent
+goes_on world refresh sought ask before evaluated spent is so_far small within sum = record {
+  pending = (for_sought world sought ask is, so_far);
+  sum = sym sum;
+  within = stays world sought ask.makefile evaluated is.placed (covers sought ask.makefile (means world ask.makefile (path_sought sought).flavors) evaluated.units small within)
+      (subst (λ (s : Spent). s.checks ≤ 1028) (sym so_far) (few_in (files_in world) _ ask.came is.came));
+}
+
+saved_less : (before units evaluation cost : ℕ) → before ≤ units → (1 ≤ units → units ≡ evaluation) → units ≤ cost → before ≤ cost - (evaluation - units)
+saved_less before zero evaluation cost less whole fits = omega (arith, less)
+saved_less before (suc units) evaluation cost less whole fits =
+    let all : suc units ≡ evaluation = whole (omega arith) in
+    omega (arith, less, fits, all)
+
+-- the reply was made of an evaluation at its end
+module _ (world : World) (sought : Sought) (makefile : List ℕ) (asked : Asked) (placed : place world (path_sought sought).directory ≡ Some makefile)
+    (is : IsAnswerTo (files_in world) (key_for world.1 makefile (path_sought sought).flavors) asked) where
+  outcome_is : asked.evaluation.value.outcome ≡ means world makefile (path_sought sought).flavors
+  outcome_is = ap (λ (e : Evaluation). e.outcome) is.evaluation
+
+  module _ (cost : ℕ) (cost_is : cost ≡ cost_sought sought makefile asked.evaluation.value.outcome) where
+    cost_all : cost ≡ cost_sought sought makefile (means world makefile (path_sought sought).flavors)
+    cost_all = cost_is ∙ ap (cost_sought sought makefile) outcome_is
+
+    pub made-answers : (prepared : Prepared) → prepared ≡ record { reply = reply_sought sought makefile asked.evaluation.value.outcome; change = None }
+        → Answers world (question_sought sought) prepared
+    made-answers prepared made =
+        ap (λ (p : Prepared). let answer : Answer = (p.reply, p.change) in answer) made
+        ∙ ap (λ outcome. reply_alone (reply_sought sought makefile outcome)) outcome_is ∙ answered world sought makefile placed
+
+    pub made-spends : AskingSpends → SpendsFor world (need_of (question_sought sought)) (spent_on asked cost)
+    made-spends law =
+        spends world sought makefile (spent_on asked cost) placed
+        (subst (λ n. SpendsOnOne n (cost_of (means world makefile (path_sought sought).flavors)) 1 (spent_on asked cost)) cost_all (law (files_in world) _ asked cost is))
+
+    pub made-up : (before : Spent) → asked.units ≤ 2 ^ 64 - 1 → IsUpFrom before (spent_in (Done asked)) → IsUpFrom before (spent_on asked cost)
+    made-up before small up = record {
+      units = saved_less before.units asked.units (cost_of asked.evaluation.value.outcome) cost up.units
+          (λ some. is.whole some ∙ ap cost_of (sym outcome_is))
+          (subst (λ n. asked.units ≤ n) (sym cost_is) (covers_asked asked.units refl));
+      checks = up.checks;
+    }
+      where
+        covers_asked : (units : ℕ) → units ≡ asked.units → asked.units ≤ cost_sought sought makefile asked.evaluation.value.outcome
+        covers_asked zero none = omega (arith, none)
+        covers_asked (suc units) some =
+            let all = is.whole (omega (arith, some)) in
+            covers sought makefile asked.evaluation.value.outcome asked.units small (omega (arith, all, ap cost_of outcome_is))
+
+    less_cost : (evaluation units : ℕ) → cost - (evaluation - units) ≤ cost
+    less_cost evaluation units = omega arith
+
+    pub made-within : StaysWithin world (question_sought sought) (spent_on asked cost)
+    made-within =
+        stays world sought makefile (spent_on asked cost) placed
+        (subst (λ n. (spent_on asked cost).units ≤ n) cost_all (less_cost (cost_of asked.evaluation.value.outcome) asked.units)) is.few

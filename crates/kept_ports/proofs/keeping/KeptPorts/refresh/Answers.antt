@@ -1,0 +1,56 @@
+-- Each turn of the refresh leaves one path fewer, or ends the loop.
+use Rattle.std.proofs.Common.{◌∙◌}
+use Rattle.index_keep.specs.Keeping.{refresh_of}
+use Rattle.index_keep.specs.declared.keeper.Refreshed.TheVariants.{Evaluated, More, Done}
+use Rattle.kept_ports.specs.Leaving.{world_at}
+use Rattle.kept_ports.proofs.SpendingLemmas.{ends, renews, renews_freely, goes_on, fewer, turn_in}
+use Rattle.kept_ports.proofs.keeping.KeptPorts.refresh.Goals as goal
+
+pub returns-in-Done-clause-refreshes : goal.returns-in-Done-clause-refreshes
+returns-in-Done-clause-refreshes g c = λ before is.
+    let world = world_at g.F.Names.view c.args.self.now in
+    let old = refresh_of g.R.PathRows.entries c.loop-spent.self.keeper.now in
+    let new = refresh_of g.R.PathRows.entries c.refresh_once.new.self.keeper.now in
+    ends c.refreshing_pays.ensures world old new before
+    (turn_in world _ 1000 old new _ Done c.loop-spent.invariant.leaves.world c.in-Done.is c.in_ok-refresh_once.ensures.turn) (c.loop-spent.invariant.spent before is)
+
+pub returns-in-More-clause-refreshes : goal.returns-in-More-clause-refreshes
+returns-in-More-clause-refreshes g c = λ before is.
+    let world = world_at g.F.Names.view c.args.self.now in
+    let old = refresh_of g.R.PathRows.entries c.loop-spent.self.keeper.now in
+    let new = refresh_of g.R.PathRows.entries c.refresh_once.new.self.keeper.now in
+    goes_on world 1000 old new before c.in-More.spent
+    (turn_in world _ 1000 old new _ (More c.in-More.spent) c.loop-spent.invariant.leaves.world c.in-More.is c.in_ok-refresh_once.ensures.turn) (c.loop-spent.invariant.spent before is)
+
+pub loop-spent-smaller : goal.loop-spent-smaller
+loop-spent-smaller g c =
+    let world = world_at g.F.Names.view c.args.self.now in
+    let old = refresh_of g.R.PathRows.entries c.loop-spent.self.keeper.now in
+    let new = refresh_of g.R.PathRows.entries c.refresh_once.new.self.keeper.now in
+    fewer c.refreshing_pays.ensures world old new c.in-Evaluated.spent
+    (turn_in world _ 1000 old new _ (Evaluated c.in-Evaluated.spent) c.loop-spent.invariant.leaves.world c.in-Evaluated.is c.in_ok-refresh_once.ensures.turn)
+
+pub loop-spent-preserved : goal.loop-spent-preserved
+loop-spent-preserved g c =
+    let world = world_at g.F.Names.view c.args.self.now in
+    let old = refresh_of g.R.PathRows.entries c.loop-spent.self.keeper.now in
+    let new = refresh_of g.R.PathRows.entries c.refresh_once.new.self.keeper.now in
+    record {
+      leaves = record {
+        world = c.in_ok-refresh_once.ensures.leaves.world ∙ c.loop-spent.invariant.leaves.world;
+        keeper = c.in_ok-refresh_once.ensures.leaves.keeper ∙ c.loop-spent.invariant.leaves.keeper;
+      };
+      spent = λ before is.
+          renews_freely c.refreshing_pays.ensures world old new before c.in-Evaluated.spent (c.is_nothing.ensures c.if-not-is_nothing.false)
+          (turn_in world _ 1000 old new _ (Evaluated c.in-Evaluated.spent) c.loop-spent.invariant.leaves.world c.in-Evaluated.is c.in_ok-refresh_once.ensures.turn)
+          (c.loop-spent.invariant.spent before is);
+    }
+
+pub returns-then-not-is_nothing-clause-refreshes : goal.returns-then-not-is_nothing-clause-refreshes
+returns-then-not-is_nothing-clause-refreshes g c = λ before is.
+    let world = world_at g.F.Names.view c.args.self.now in
+    let old = refresh_of g.R.PathRows.entries c.loop-spent.self.keeper.now in
+    let new = refresh_of g.R.PathRows.entries c.refresh_once.new.self.keeper.now in
+    renews c.refreshing_pays.ensures world old new before c.in-Evaluated.spent
+    (turn_in world _ 1000 old new _ (Evaluated c.in-Evaluated.spent) c.loop-spent.invariant.leaves.world c.in-Evaluated.is c.in_ok-refresh_once.ensures.turn)
+    (c.loop-spent.invariant.spent before is)

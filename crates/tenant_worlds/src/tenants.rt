@@ -1,0 +1,89 @@
+//! The tenants, by their numbers.
+ghost use Rattle.std.specs.Prelude.{◌≡◌, ◌≢◌, ◌<◌, ◌≤◌, ℕ, [], ◌∷◌, ◌++◌, None, length, slice_get};
+ghost use Rattle.std.specs.Prelude.{IfOk, IfNone, OnOk, OnErr};
+ghost use Rattle.mk_paths.specs.World.{World};
+ghost use Rattle.ports_core.specs.Jobs.{IsForRequest};
+ghost use Rattle.tenant_worlds.specs.Stored.{world_in, KeepsOtherWorlds};
+ghost use Rattle.tenant_worlds.specs.Kept.{AreTenantsOf, HaveNoJob, KeepJobs, job_at};
+ghost use Rattle.tenant_worlds.specs.Turning.{WorksOn};
+
+use crate::tenant::Tenant;
+use crate::world::{Incoming, take_turn};
+use eval_cache::EvalCache;
+use index_keep::Keeper;
+use index_store::IndexStore;
+use mk_paths::FilesFault;
+use ports_core::Worked;
+use std::alloc::{AllocError, Global};
+use tenant_store::TenantStore;
+
+/// So many tenants, whose indexes have no row yet, without a job. Each index has a database in memory of its own.
+///
+/// It fails if one isn't opened, or if memory runs out.
+pub(crate) fn open_tenants(alloc: Global, count: usize) -> Result<Vec<Tenant>, FilesFault>
+    ensures count { IfOk result (λ tenants. length tenants.items ≡ count) }
+    ensures right { IfOk result (λ tenants.
+        (worlds : ℕ → World) → AreTenantsOf worlds tenants.items) }
+    ensures jobs { IfOk result (λ tenants. HaveNoJob tenants.items) }
+{
+    let mut tenants = Vec::with_capacity(alloc, count)?;
+    for _ in 0..count {
+        let keeper = Keeper::new(alloc, IndexStore::open_in_memory(alloc)?);
+        add_tenant(&mut tenants, Tenant { keeper, job: None })?;
+    }
+    Ok(tenants)
+}
+
+/// Adds a tenant after the others. It fails only if memory runs out.
+fn add_tenant(tenants: &mut Vec<Tenant>, tenant: Tenant) -> Result<(), AllocError>
+    ensures { OnOk result (tenants.new.items ≡ tenants.old.items ++ tenant ∷ []) }
+{
+    tenants.push(tenant)?;
+    Ok(())
+}
+
+/// Limits the steps of each later statement of all indexes, or removes the limit. No job changes.
+pub(crate) fn limit_tenants(tenants: &mut [Tenant], limit: Option<u64>)
+    ensures count { length tenants.new ≡ length tenants.old }
+    ensures right { (worlds : ℕ → World)
+        → AreTenantsOf worlds tenants.old → AreTenantsOf worlds tenants.new }
+    ensures jobs { KeepJobs tenants.old tenants.new }
+{
+    for tenant in tenants.iter_mut() {
+        tenant.keeper.limit_steps(limit);
+    }
+}
+
+/// A turn of a request of the tenant with this number, as `take_turn` takes it. No other tenant changes.
+pub(crate) fn turn_at(
+    alloc: Global,
+    store: &mut TenantStore,
+    tenants: &mut [Tenant],
+    cache: &mut EvalCache,
+    number: usize,
+    incoming: &Incoming,
+) -> Result<Worked, FilesFault>
+    requires there { number < length tenants.old }
+    requires few { length tenants.old ≤ 64 }
+    requires right { AreTenantsOf (world_in store.old) tenants.old }
+    requires for_request { IsForRequest incoming.now.request.now (job_at number tenants.old) }
+    ensures works { IfOk result (WorksOn (world_in store.old number) (world_in store.new number)
+        incoming.now (job_at number tenants.old) (job_at number tenants.new)) }
+    ensures silent { IfOk result (λ worked. IfNone worked.reply (store.new ≡ store.old)) }
+    ensures others { OnOk result (KeepsOtherWorlds number store.old store.new) }
+    ensures err { OnErr result (store.new ≡ store.old) }
+    ensures dropped { OnErr result (job_at number tenants.new ≡ None) }
+    ensures count { length tenants.new ≡ length tenants.old }
+    ensures right { AreTenantsOf (world_in store.new) tenants.new }
+    ensures same { (other : ℕ) → other ≢ number
+        → slice_get tenants.new other ≡ slice_get tenants.old other }
+{
+    take_turn(
+        alloc,
+        store,
+        &mut tenants[number],
+        cache,
+        number as u32,
+        incoming,
+    )
+}
