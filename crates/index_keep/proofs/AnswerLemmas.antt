@@ -1,27 +1,23 @@
 -- What an evaluation that is asked for has come to.
-use Rattle.std.proofs.Common.{◌≡◌, ◌≤◌, arith, refl, if◌then◌else◌, ℕ, zero, suc, Bool, true, false, None, Result, Ok, Err}
+use Rattle.std.proofs.Common.{◌≡◌, ◌≤◌, ◌<◌, ◌+◌, ap, arith, refl, if◌then◌else◌, ℕ, zero, suc, Bool, true, false, None, Result, Ok, Err}
 use Rattle.mk_paths.specs.World.{FileMap}
-use Rattle.mk_base.specs.FaultAt.{FaultAt}
-use Rattle.mk_base.specs.Meter.{full}
-use Rattle.mk_base.specs.Outcome.{left}
-use Rattle.mk_files.specs.Asking.{Account}
-use Rattle.mk_eval.specs.Meaning.{evaluated, evaluation, fresh}
-use Rattle.mk_base.specs.FaultAt.{FaultAt}
-use Rattle.mk_base.specs.Meter.{full}
-use Rattle.mk_base.specs.Outcome.{left}
-use Rattle.mk_files.specs.Asking.{Account}
-use Rattle.mk_eval.specs.Meaning.{evaluated, evaluation, fresh}
 use Rattle.mk_eval.specs.Sharing.{cost_of}
-use Rattle.mk_eval.specs.declared.state.EvalState.{EvalState}
-use Rattle.mk_eval.proofs.SharedEvaluation.{shared-evaluation}
-use Rattle.mk_step.proofs.Coming.{spends}
+use Rattle.mk_base.specs.FaultAt.{FaultAt}
+use Rattle.mk_base.specs.Meter.{full}
+use Rattle.mk_base.specs.Outcome.{left}
+use Rattle.mk_files.specs.Asking.{Account}
+use Rattle.mk_eval.specs.Meaning.{evaluated, evaluation, fresh}
 use Rattle.mk_eval.specs.declared.state.EvalState.{EvalState}
 use Rattle.mk_eval.proofs.SharedEvaluation.{shared-evaluation}
 use Rattle.mk_step.proofs.Coming.{spends}
 use Rattle.eval_cache.specs.Cache.{CacheValue}
 use Rattle.eval_cache.specs.Keys.{Key}
 use Rattle.eval_cache.specs.Right.{evaluation_of}
-use Rattle.index_keep.specs.Asking.{is_held, spent_in, CanGoOn, HasComeTo, IsAnswerTo, IsAskedOf}
+use Rattle.ports_index.specs.declared.spending.Spent.{Spent}
+use Rattle.index_keep.specs.Asking.{is_held, key_in, spent_in, spent_so_far, total_of, CanGoOn, HasComeTo, IsAnswerTo, IsAskedOf}
+use Rattle.index_keep.specs.Asking.{IsShortTurn, TurnsAsk}
+use Rattle.index_keep.specs.declared.asking.Ask.{Ask}
+use Rattle.index_keep.specs.declared.asking.Looked.{Looked}
 use Rattle.index_keep.specs.declared.asking.Asked.{Asked}
 use Rattle.index_keep.specs.declared.asking.AskTurned.{AskTurned}
 use Rattle.index_keep.specs.declared.asking.AskTurned.TheVariants as ask
@@ -71,3 +67,17 @@ can-go-on files key (ask.Done asked) come = tt
 pub few-come : (files : FileMap) (key : Key) (turned : AskTurned) → HasComeTo files key turned → ((spent_in turned).units ≤ 50000) × ((spent_in turned).checks ≤ 1028)
 few-come files key (ask.More new) come = (come.1.under.within, come.1.few)
 few-come files key (ask.Done asked) come = (omega (arith, within-answer files key asked come, cost-within files key), come.few)
+
+-- a turn of an evaluation spends no more than all of it costs
+pub short-ask : (files : FileMap) (units : ℕ) (old : Ask) (came : AskTurned) → TurnsAsk files units old came
+    → total_of (spent_in came) ≤ total_of (spent_so_far old) + 50000
+short-ask files units old (ask.More new) turns =
+    omega (arith, ap (λ (looked : Looked). looked.checks) turns.0, turns.1.under.within)
+short-ask files units old (ask.Done asked) turns = omega (arith, turns.0.units, turns.0.checks, cost-within files (key_in old))
+
+pub short-turn : (files : FileMap) (units : ℕ) (old : Ask) (came : AskTurned) → 0 < units → TurnsAsk files units old came
+    → IsShortTurn units (spent_so_far old) (spent_in came)
+short-turn files units old came some turns = record { none = λ zero. absurd (omega (arith, zero, some)); few = short-ask files units old came turns }
+
+pub short-same : (units : ℕ) (before : Spent) → IsShortTurn units before before
+short-same units before = record { none = λ zero. omega arith; few = omega arith }

@@ -1,5 +1,5 @@
 -- What a path that is left costs, and what is left.
-use Rattle.std.proofs.Common.{◌≡◌, ◌≤◌, ◌⊎◌, ◌∙◌, inl, inr, sym, ap, subst, refl, arith, ℕ, ◌+◌, ◌-◌, ◌*◌, Bool, true, false, ◌||◌, if◌then◌else◌, List, [], ◌∷◌, is_none}
+use Rattle.std.proofs.Common.{◌≡◌, ◌≤◌, ◌⊎◌, ◌∙◌, inl, inr, sym, ap, subst, refl, arith, ℕ, zero, suc, ◌+◌, ◌-◌, ◌*◌, Bool, true, false, ◌||◌, if◌then◌else◌, List, [], ◌∷◌, is_none}
 use Rattle.std.proofs.lemmas.Bool.{false≢true}
 use Rattle.std.proofs.lemmas.List.Sums.{sum_by-cons}
 use Rattle.std.proofs.lemmas.Slice.Eq.{bytes_eq-Decides}
@@ -8,11 +8,11 @@ use Rattle.std.specs.Str.{bytes_eq}
 use Rattle.text_parts.specs.Order.{in_order}
 use Rattle.text_parts.specs.Ordered.{among-in_order}
 use Rattle.mk_paths.specs.World.{World}
-use Rattle.ports_index.specs.Efforts.{evaluations_at}
+use Rattle.ports_index.specs.Efforts.{evaluations_at, is_there}
 use Rattle.ports_index.specs.Filling.{is_one_of}
 use Rattle.ports_index.specs.Index.{needed_paths}
 use Rattle.ports_index.specs.PathLaws.{MakefilesAreEvaluated}
-use Rattle.ports_index.specs.PathOutcomes.{cost_at}
+use Rattle.ports_index.specs.PathOutcomes.{cost_at, outcome_at}
 use Rattle.ports_index.specs.RowLaws.{OneRowMoreLeavesLess}
 use Rattle.ports_index.specs.Spending.{ChecksFew}
 use Rattle.ports_index.specs.declared.spending.Spent.{Spent}
@@ -24,7 +24,7 @@ use Rattle.index_keep.specs.Walking.{IsLacking}
 use Rattle.index_keep.specs.declared.evaluating.PathAsk.{PathAsk}
 use Rattle.index_keep.proofs.AnswerLemmas.{few-come}
 use Rattle.index_keep.proofs.KeepLemmas.{HaveFresh-current, lacking-none, left_less}
-use Rattle.index_keep.proofs.MadeLemmas.{one-evaluation}
+use Rattle.index_keep.proofs.MadeLemmas.{none-at, one-evaluation}
 use Rattle.index_keep.proofs.SpendLemmas.{evaluations-path}
 
 -- what is counted for one path of a list that passes a test is no more than for all that pass it
@@ -80,6 +80,18 @@ paid_less units cost evaluation checks after all paid sum =
 few_less : (checks one after all : ℕ) → checks ≤ 1028 * one → one + after ≡ all → checks + 1028 * after ≤ 1028 * all
 few_less checks one after all few sum = omega (arith, few, sum)
 
+one_at_most : (test : Bool) → (if test then 1 else 0) ≤ 1
+one_at_most true = omega arith
+one_at_most false = omega arith
+
+-- a path on which anything was spent has a makefile
+some_evaluated : (evaluations cost evaluation units checks : ℕ) → evaluations ≤ 1 → (evaluations ≡ 0 → cost ≡ 0) → checks ≤ 1028 * evaluations
+    → (units ≡ cost) ⊎ ((1 ≤ checks) × (units ≡ cost - evaluation)) → 1 ≤ units + checks → evaluations ≡ 1
+some_evaluated zero cost evaluation units checks most none few paid some =
+    let free = none refl in
+    absurd (elim paid [ inl full ↦ omega (arith, full, free, few, some) | inr saved ↦ omega (arith, saved.0, few) ])
+some_evaluated (suc evaluations) cost evaluation units checks most none few paid some = omega (arith, most)
+
 pub RefreshingPays-all : OneRowMoreLeavesLess → MakefilesAreEvaluated → RefreshingPays
 RefreshingPays-all law evaluated = record {
   renews = λ world old new spent renewed.
@@ -92,5 +104,14 @@ RefreshingPays-all law evaluated = record {
         few_less all.checks (evaluations_at world renews.path) _ _ few count_less,
       );
   fewer = λ world old new spent renewed. left_less law world old.rows new.rows (spent_in_all old.begun spent) renewed.0 (λ path. 1);
+  evaluated = λ world old new spent renewed some.
+      let all : Spent = spent_in_all old.begun spent in
+      let renews = renewed.0 in
+      let path = renews.path in
+      let less = left_less law world old.rows new.rows all renews (evaluations_at world) in
+      let few = subst (λ n. ChecksFew n all.checks) (sym (evaluations-path evaluated world path)) renews.spent.few in
+      let one = some_evaluated (evaluations_at world path) (cost_at world path) _ all.units all.checks (one_at_most (is_there (outcome_at world path)))
+      (none-at world path) few renews.spent.paid some in
+      omega (arith, less, one);
   ends = λ world rows current. lacking-none world rows (HaveFresh-current world rows current);
 }

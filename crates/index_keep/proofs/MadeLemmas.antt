@@ -1,18 +1,19 @@
 -- The row of a path, made of what was found and asked.
-use Rattle.std.proofs.Common.{Result, Ok, Err, codes, append-nil, ◌≡◌, ◌≤◌, ◌⊎◌, ◌∙◌, sym, ap, ap₂, subst, refl, inl, inr, arith, ℕ, zero, suc, ◌+◌, ◌-◌, Bool, false, if◌then◌else◌, List, [], ◌∷◌, ◌++◌, Option, Some, None, option_map, option_and_then, string_bytes}
+use Rattle.std.proofs.Common.{Result, Ok, Err, codes, append-nil, ◌≡◌, ◌≤◌, ◌⊎◌, ◌∙◌, sym, ap, ap₂, subst, refl, inl, inr, arith, ℕ, zero, suc, ◌+◌, ◌-◌, Bool, true, false, if◌then◌else◌, List, [], ◌∷◌, ◌++◌, Option, Some, None, option_map, option_and_then, string_bytes}
 use Rattle.std.proofs.lemmas.Slice.Eq.{bytes_eq-Decides}
 use Rattle.std.specs.Str.{bytes_eq}
 use Rattle.mk_paths.specs.World.{World, FileMap, files_in, search_path_of}
 use Rattle.mk_paths.specs.FilesView.{FilesView, Question, noted}
 use Rattle.mk_paths.specs.Place.{place, places_asked, AsksPlaces}
 use Rattle.mk_paths.specs.declared.search_path.Settings.{Settings}
+use Rattle.mk_eval.specs.Costs.{CostFew, value_units}
 use Rattle.mk_eval.specs.Expanded.{Expanded}
 use Rattle.mk_eval.specs.Meaning.{means, value_of}
 use Rattle.mk_eval.specs.declared.outcome.Evaluated.{Evaluated}
 use Rattle.mk_eval.specs.declared.outcome.Failed.{Failed}
 use Rattle.mk_eval.specs.declared.outcome.Kind.{Kind}
 use Rattle.mk_eval.specs.declared.outcome.Kind.TheVariants as kinds
-use Rattle.port_rules.specs.Records.{record_of}
+use Rattle.port_rules.specs.Records.{RecordsCostFew, record_of, record_units}
 use Rattle.port_rules.specs.declared.recording.Recorded.{Recorded}
 use Rattle.mk_eval.specs.Sharing.{Agrees, cost_of, questions_of}
 use Rattle.eval_cache.specs.Keys.{Key, key_for}
@@ -23,13 +24,13 @@ use Rattle.read_trace.specs.declared.evaluating.Evaluation.{Evaluation}
 use Rattle.ports_index.specs.Efforts.{evaluations_at, evaluations_for}
 use Rattle.ports_index.specs.NamedPaths.{finding-own, finding-named, finding-none, questions-own, questions-named, questions-none}
 use Rattle.ports_index.specs.Pairs.{Pair, pair_in, pair_named, pair_at}
-use Rattle.ports_index.specs.PathOutcomes.{port_finding, list_finding, finding_by, Finding, finding_at, cost_at, finding_in, finding_of, finding_of_evaluation, nothing_found, own_directory}
+use Rattle.ports_index.specs.PathOutcomes.{port_finding, list_finding, finding_by, Finding, finding_at, cost_at, finding_in, finding_named, finding_of, finding_of_evaluation, nothing_found, own_directory}
 use Rattle.ports_index.specs.PathQuestions.{questions_in, questions_after, questions_at}
 use Rattle.ports_index.specs.Spending.{SpendsOnOne, SpendsOn, SpendsOnPath, no_spending}
 use Rattle.ports_index.specs.declared.spending.Spent.{Spent}
 use Rattle.row_text.specs.Rows.{RowValue}
 use Rattle.row_text.specs.Seen.{row_seen}
-use Rattle.index_keep.specs.Asking.{HasComeTo, IsAnswerTo, IsUpBy, IsUpFrom, spent_in, spent_on}
+use Rattle.index_keep.specs.Asking.{HasComeTo, IsAnswerTo, IsShortTurn, IsUpBy, IsUpFrom, spent_in, spent_on, total_of}
 use Rattle.index_keep.specs.Paths.{directory_of, flavors_of, absent_row, row_made, IsNamed, IsFoundAt, IsPathAsk, IsMade}
 use Rattle.index_keep.specs.Right.{names_in, row_with, IsRightRow}
 use Rattle.index_keep.specs.declared.asking.Asked.{Asked}
@@ -274,3 +275,62 @@ all-spent units before after now same up none =
     let units_same : now.units ≡ after.units = ap (λ (s : Spent). s.units) same in
     let checks_same : now.checks ≡ after.checks = ap (λ (s : Spent). s.checks) same in
     (up, omega (arith, units_same, checks_same, up.units, up.checks, none))
+
+-- ---- what is spent in a turn
+
+-- what is given is what is left of the turn's units; if that is nothing, nothing more is spent
+pub short-on : (units given : ℕ) (before middle after : Spent) → IsUpFrom before middle
+    → given ≡ units - ((middle.units - before.units) + (middle.checks - before.checks)) → total_of middle ≤ total_of before + 50000
+    → IsShortTurn given middle after → total_of after ≤ total_of before + (units + 50000)
+short-on units zero before middle after up is few short = omega (arith, few, short.none refl)
+short-on units (suc given) before middle after up is few short = omega (arith, is, up.units, up.checks, short.few)
+
+-- a row that is made while some units are left
+pub short-made : (units left : ℕ) (before middle made : Spent) → IsUpFrom before middle → (left ≡ 0 → ⊥)
+    → left ≡ units - ((middle.units - before.units) + (middle.checks - before.checks)) → total_of made ≤ total_of middle + 50000
+    → total_of made ≤ total_of before + (units + 50000)
+short-made units zero before middle made up some is few = absurd (some refl)
+short-made units (suc left) before middle made up some is few = omega (arith, is, up.units, up.checks, few)
+
+most_port : (spent : ℕ) (recorded : Result Recorded Failed) → record_units recorded ≤ 50000 → (port_finding spent recorded).cost ≤ spent + 50000
+most_port spent (Ok recorded) few = omega (arith, few)
+most_port spent (Err failed) few = omega (arith, few)
+
+most_list : (spent : ℕ) (value : Result (Option Expanded) Failed) → value_units value ≤ 50000 → (list_finding spent value).cost ≤ spent + 50000
+most_list spent (Ok value) few = omega (arith, few)
+most_list spent (Err failed) few = omega (arith, few)
+
+most_after : CostFew → RecordsCostFew → (makefile : List ℕ) (flavors : Option (List (List ℕ))) (evaluated : Evaluated) (kind : Kind)
+    → (finding_by makefile flavors evaluated kind).cost ≤ evaluated.cost + 50000
+most_after few records makefile flavors evaluated kinds.Port = most_port evaluated.cost (record_of evaluated.env makefile) (records evaluated.env makefile)
+most_after few records makefile (Some flavors) evaluated kinds.List = omega arith
+most_after few records makefile None evaluated kinds.List =
+    most_list evaluated.cost (value_of evaluated.env makefile (codes "SUBDIR")) (few.values evaluated.env makefile (codes "SUBDIR"))
+most_after few records makefile flavors evaluated kinds.Other = omega arith
+
+-- what a makefile describes costs at most 50,000 units more than its evaluation
+pub most-found : CostFew → RecordsCostFew → (makefile : List ℕ) (flavors : Option (List (List ℕ))) (outcome : Result Evaluated Failed)
+    → (finding_of_evaluation makefile flavors outcome).cost ≤ cost_of outcome + 50000
+most-found few records makefile flavors (Ok evaluated) = most_after few records makefile flavors evaluated evaluated.kind
+most-found few records makefile flavors (Err failed) = omega arith
+
+-- ---- a path without a makefile costs nothing
+
+none_found : (world : World) (flavors : Option (List (List ℕ))) (makefile : Option (List ℕ)) → evaluations_for (finding_of world flavors makefile).outcome ≡ 0
+    → (finding_of world flavors makefile).cost ≡ 0
+none_found world flavors (Some makefile) none = absurd (omega (arith, there makefile flavors (means world makefile flavors), none))
+none_found world flavors None none = refl
+
+none_named : (world : World) (path : Option PathValue) → evaluations_for (finding_named world path).outcome ≡ 0 → (finding_named world path).cost ≡ 0
+none_named world (Some path) none = none_found world path.flavors (place world path.directory) none
+none_named world None none = refl
+
+none_by : (world : World) (path : List ℕ) (own : Bool)
+    → evaluations_for (if own then finding_in world path None else finding_named world (path_if_one path)).outcome ≡ 0
+    → (if own then finding_in world path None else finding_named world (path_if_one path)).cost ≡ 0
+none_by world path true none = none_found world None (place world path) none
+none_by world path false none = none_named world (path_if_one path) none
+
+pub none-at : (world : World) (path : List ℕ) → evaluations_at world path ≡ 0 → cost_at world path ≡ 0
+unfolding finding_at
+none-at world path none = none_by world path (bytes_eq path own_directory) none

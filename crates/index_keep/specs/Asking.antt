@@ -103,6 +103,20 @@ abbrev pub spent_in : AskTurned → Spent
 spent_in (More ask) = spent_so_far ask
 spent_in (Done asked) = record { units = asked.units; checks = asked.checks }
 
+-- units and checks together
+abbrev pub total_of : Spent → ℕ
+total_of spent = spent.units + spent.checks
+
+-- An evaluation was asked for, and no line is done in any turn: no unit is spent, and at most 1,028 answers are checked.
+pub record HasOnlyLooked (came : AskTurned) : Type 0 where
+  pub units : (spent_in came).units ≡ 0
+  pub checks : (spent_in came).checks ≤ 1028
+
+-- A turn that is given no units spends nothing. Another one spends at most 50,000, as many as an evaluation may cost.
+pub record IsShortTurn (units : ℕ) (before after : Spent) : Type 0 where
+  pub none : units ≡ 0 → total_of after ≤ total_of before
+  pub few : total_of after ≤ total_of before + 50000
+
 -- nothing of what was spent is taken back
 pub record IsUpFrom (before after : Spent) : Type 0 where
   pub units : before.units ≤ after.units

@@ -1,5 +1,5 @@
 -- The row of a path, while it is made.
-use Rattle.std.specs.Prelude.{◌≡◌, ℕ, ◌++◌, true, false, List, Option, Some, None, string_bytes}
+use Rattle.std.specs.Prelude.{◌≡◌, ◌≤◌, ◌+◌, ℕ, ◌++◌, true, false, List, Option, Some, None, string_bytes}
 use Rattle.std.specs.Str.{bytes_eq}
 use Rattle.mk_paths.specs.World.{World, files_in}
 use Rattle.mk_eval.specs.Meaning.{means}
@@ -13,7 +13,7 @@ use Rattle.ports_index.specs.Spending.{SpendsOnPath}
 use Rattle.ports_index.specs.declared.spending.Spent.{Spent}
 use Rattle.row_text.specs.Rows.{RowValue, make_row}
 use Rattle.row_text.specs.Seen.{row_seen}
-use Rattle.index_keep.specs.Asking.{HasComeTo, IsUpBy, IsUpFrom, spent_in}
+use Rattle.index_keep.specs.Asking.{HasComeTo, IsUpBy, IsUpFrom, spent_in, total_of}
 use Rattle.index_keep.specs.Right.{IsRightRow, row_with}
 use Rattle.index_keep.specs.declared.asking.Asked.{Asked}
 use Rattle.index_keep.specs.declared.evaluating.FoundPath.{FoundPath}
@@ -79,7 +79,15 @@ TurnsPath world path units before (Made made) = IsMade world path made × IsUpFr
 TurnsPath world path units before (More ask) =
     IsPathAsk world path ask × IsUpBy units before (spent_in ask.ask)
 
+-- what was spent on the row of a path so far
+abbrev pub spent_on_row : PathTurned → Spent
+spent_on_row (Made made) = made.spent
+spent_on_row (More ask) = spent_in ask.ask
+
 -- nothing is taken back of what was spent before on the row of a path
 abbrev pub IsUpTo : Spent → PathTurned → Type 0
-IsUpTo before (Made made) = IsUpFrom before made.spent
-IsUpTo before (More ask) = IsUpFrom before (spent_in ask.ask)
+IsUpTo before turned = IsUpFrom before (spent_on_row turned)
+
+-- a turn for the row of a path spends at most 50,000 more than it was given: before the last thing it had spent fewer
+abbrev pub IsShortOnRow : ℕ → Spent → PathTurned → Type 0
+IsShortOnRow units before turned = total_of (spent_on_row turned) ≤ total_of before + (units + 50000)

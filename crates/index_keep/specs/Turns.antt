@@ -12,6 +12,7 @@ use Rattle.index_keep.specs.declared.keeper.Refreshed.{Refreshed}
 use Rattle.index_keep.specs.declared.keeper.Refreshed.TheVariants.{Evaluated, More, Done}
 use Rattle.index_keep.specs.declared.keeper.Turned.{Turned}
 use Rattle.index_keep.specs.declared.keeper.Turned.TheVariants as turned
+use Rattle.index_keep.specs.Asking.{total_of}
 use Rattle.index_keep.specs.Shown.{ShownRows, ShowsSame, fresh}
 use Rattle.index_keep.specs.Right.{HaveFresh, AreCurrent, RenewsRow}
 pub use Rattle.index_keep.specs.Walking.{KnowsNeeded}
@@ -79,6 +80,17 @@ TakesTurn world units old new (Evaluated spent) = RenewsOne world old new spent
 TakesTurn world units old new (More spent) = GoesOn world units old new spent
 TakesTurn world units old new Done = EndsRefresh world old new
 
+-- A turn that is given some units spends at most 50,000 more: before the last thing that it did, it had spent fewer than
+-- it was given.
+abbrev pub IsShort : ℕ → Spent → Type 0
+IsShort units spent = total_of spent ≤ units + 50000
+
+-- what a turn spends is that little
+abbrev pub StaysShort : ℕ → Refreshed → Type 0
+StaysShort units (Evaluated spent) = IsShort units spent
+StaysShort units (More spent) = IsShort units spent
+StaysShort units Done = Unit {0}
+
 -- a turn that failed: all rows are as they were, and nothing is under way
 pub record DropsTurn (old new : RefreshView) : Type 0 where
   pub rows : ShowsSame old.rows new.rows
@@ -93,6 +105,11 @@ abbrev pub EndsTurn : World → ℕ → RefreshView → RefreshView → Turned �
 EndsTurn world units old new (turned.Evaluated spent) = TakesTurn world units old new (Evaluated spent)
 EndsTurn world units old new (turned.More spent) = TakesTurn world units old new (More spent)
 EndsTurn world units old new (turned.Done known) = TakesTurn world units old new Done × KnowsAtEnd world known
+
+abbrev pub EndsShort : ℕ → Turned → Type 0
+EndsShort units (turned.Evaluated spent) = IsShort units spent
+EndsShort units (turned.More spent) = IsShort units spent
+EndsShort units (turned.Done known) = Unit {0}
 
 -- What is spent to make all rows fresh. For each makefile that is left to be evaluated few answers are checked. No more
 -- units are spent than the paths cost that are left. With what was spent before on a path that was evaluated, all of
@@ -113,5 +130,9 @@ pub record RefreshingPays : Type 0 where
   -- and one path fewer
   pub fewer : (world : World) (old new : RefreshView) (spent : Spent) → RenewsOne world old new spent
       → 1 + count_left world new.rows ≡ count_left world old.rows
+  -- and one evaluation fewer, if anything was spent on it
+  pub evaluated : (world : World) (old new : RefreshView) (spent : Spent) → RenewsOne world old new spent
+      → 1 ≤ total_of (spent_in_all old.begun spent)
+      → 1 + evaluations_left world new.rows ≡ evaluations_left world old.rows
   -- rows that are those of the index leave nothing to be done
   pub ends : (world : World) (rows : ShownRows) → AreCurrent world rows → paths_left world rows ≡ []

@@ -8,7 +8,8 @@ ghost use Rattle.eval_cache.specs.Keys.{Key, key_for, key_of};
 ghost use Rattle.eval_cache.specs.Right.{IsRight, evaluation_of};
 ghost use Rattle.read_trace.specs.Recording.{view_of, LeavesMap, MayFail};
 ghost use Rattle.index_keep.specs.Asking.{IsAskedOf, IsAskIn, BeginsAsk, TurnsAsk, EndsAsk, EndsRight, ComesTo};
-ghost use Rattle.index_keep.specs.Asking.{IsAnswerTo, HasComeTo, CanGoOn, IsUpFrom, SpendsTurn};
+ghost use Rattle.index_keep.specs.Asking.{IsAnswerTo, HasComeTo, CanGoOn, HasOnlyLooked};
+ghost use Rattle.index_keep.specs.Asking.{IsUpFrom, IsShortTurn, SpendsTurn};
 ghost use Rattle.index_keep.specs.Asking.{evals_after, key_in, spent_in, spent_on, spent_so_far};
 
 use eval_cache::{EvalCache, EvalKey, Look};
@@ -96,6 +97,7 @@ impl Ask {
             (key_for settings.now name.now (flavors_in flavors.entry))) }
         ensures comes { IfOk result (HasComeTo (view_of F.view files.old).files
             (key_for settings.now name.now (flavors_in flavors.entry))) }
+        ensures looked { IfOk result HasOnlyLooked }
         ensures counted { IfOk result (λ turned. cache.new.counts.evals
             ≡ evals_after (view_of F.view files.old).files cache.old
             (key_for settings.now name.now (flavors_in flavors.entry))) }
@@ -186,8 +188,8 @@ impl Ask {
 }
 
 impl AskTurned {
-    /// Goes on until so many units more are spent, or the evaluation is at its end. If it is at its end already,
-    /// nothing is done.
+    /// Goes on until so many units more are spent, or the evaluation is at its end. If it is at its end already, or
+    /// no units are given, nothing is done.
     ///
     /// # Errors
     ///
@@ -204,13 +206,14 @@ impl AskTurned {
             → IfOk result (HasComeTo (view_of F.view files.old).files key) }
         ensures up { IfOk result (λ came. IsUpFrom (spent_in self) (spent_in came)) }
         ensures enough { IfOk result (SpendsTurn units (spent_in self)) }
+        ensures short { IfOk result (λ came. IsShortTurn units (spent_in self) (spent_in came)) }
         ensures counted { cache.new.counts.evals ≡ cache.old.counts.evals }
         ensures kind { IfErr result (MayFail F.fails_with) }
         ensures leaves { LeavesMap (result_err result) (view_of F.view files.old) (view_of F.view files.new) }
     {
         match self {
-            AskTurned::More(ask) => Ok(ask.turn(alloc, cache, files, units)?),
-            AskTurned::Done(asked) => Ok(AskTurned::Done(asked)),
+            AskTurned::More(ask) if units > 0 => Ok(ask.turn(alloc, cache, files, units)?),
+            came => Ok(came),
         }
     }
 

@@ -1,5 +1,5 @@
 //! The row of a path, made by evaluating its makefile turn by turn, with what was asked for it.
-ghost use Rattle.std.specs.Prelude.{◌≡◌, ◌≤◌, ◌++◌, ℕ, List, map, option_map, string_bytes, IfOk, OnOk};
+ghost use Rattle.std.specs.Prelude.{◌≡◌, ◌≤◌, ◌+◌, ◌++◌, ℕ, List, map, option_map, string_bytes, IfOk, OnOk};
 ghost use Rattle.std.specs.Result.{result_err};
 ghost use Rattle.mk_paths.specs.FilesView.{world_of};
 ghost use Rattle.mk_paths.specs.World.{World};
@@ -10,17 +10,19 @@ ghost use Rattle.ports_index.specs.PathOutcomes.{cost_at};
 ghost use Rattle.ports_index.specs.Spending.{no_spending};
 ghost use Rattle.read_trace.specs.Recording.{view_of};
 ghost use Rattle.row_text.specs.Seen.{row_seen};
-ghost use Rattle.index_keep.specs.Asking.{HasBegun, IsUpFrom, spent_in, spent_on};
+ghost use Rattle.index_keep.specs.Asking.{HasBegun, IsUpFrom, spent_in, spent_on, total_of};
 ghost use Rattle.index_keep.specs.Paths as paths;
-ghost use Rattle.index_keep.specs.Paths.{IsNamed, IsPathAsk, IsUpTo, TurnsPath};
+ghost use Rattle.index_keep.specs.Paths.{IsNamed, IsPathAsk, IsUpTo, IsShortOnRow, TurnsPath};
 ghost use Rattle.index_keep.specs.Right.{LeavesFiles, names_in};
 
 use crate::asking::{Ask, AskTurned, Asked};
 use crate::spending::left_of;
 use eval_cache::EvalCache;
+use mk_eval::evaluations_cost_few;
 use mk_files::Files;
 use mk_paths::{FilesFault, Name, Settings, find};
 use pkg_path::PkgPath;
+use port_rules::records_cost_few;
 use ports_index::{Finding, Spent, finding_of};
 use read_trace::{Question, Recorder, Trace};
 use row_text::KeptRow;
@@ -84,6 +86,7 @@ impl PathAsk {
         ensures turns { IfOk result (TurnsPath (world_of (view_of F.view files.old) settings.now)
             (string_bytes path) units no_spending) }
         ensures up { IfOk result (IsUpTo no_spending) }
+        ensures short { IfOk result (IsShortOnRow units no_spending) }
         ensures leaves { LeavesFiles (result_err result) (view_of F.view files.old) (view_of F.view files.new) }
     {
         let Some(named) = NamedDirectory::read(alloc, path.as_str())? else {
@@ -119,6 +122,7 @@ impl PathAsk {
             → IfOk result (TurnsPath ((view_of F.view files.old).files, settings)
             (string_bytes self.found.path) units (spent_in self.ask)) }
         ensures up { IfOk result (IsUpTo (spent_in self.ask)) }
+        ensures short { IfOk result (IsShortOnRow units (spent_in self.ask)) }
         ensures leaves { LeavesFiles (result_err result) (view_of F.view files.old) (view_of F.view files.new) }
     {
         let before = self.spent();
@@ -136,11 +140,13 @@ impl PathAsk {
     ) -> Result<PathTurned, FilesFault>
         requires begun { HasBegun (view_of F.view files.old).files self.ask }
         requires up { IsUpFrom before (spent_in self.ask) }
+        requires few { total_of (spent_in self.ask) ≤ total_of before + 50000 }
         ensures turns { (settings : Settings)
             → IsPathAsk ((view_of F.view files.old).files, settings) (string_bytes self.found.path) self
             → IfOk result (TurnsPath ((view_of F.view files.old).files, settings)
             (string_bytes self.found.path) units before) }
         ensures up { IfOk result (IsUpTo before) }
+        ensures short { IfOk result (IsShortOnRow units before) }
         ensures leaves { LeavesFiles (result_err result) (view_of F.view files.old) (view_of F.view files.new) }
     {
         let PathAsk { found, ask } = self;
@@ -206,7 +212,10 @@ impl FoundPath {
         ensures path { IfOk result (λ made. string_bytes made.path ≡ string_bytes self.path) }
         ensures row { IfOk result (λ made. row_seen made.row ≡ paths.row_made self asked.now) }
         ensures spent { IfOk result (λ made. made.spent ≡ spent_on asked.now (row_seen made.row).cost) }
+        ensures few { IfOk result (λ made. total_of made.spent ≤ (asked.now.units + asked.now.checks) + 50000) }
     {
+        evaluations_cost_few();
+        records_cost_few();
         let FoundPath {
             path,
             named,

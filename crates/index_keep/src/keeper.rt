@@ -11,7 +11,7 @@ ghost use Rattle.mk_paths.specs.declared.search_path.Settings.{Settings};
 ghost use Rattle.ports_index.specs.Spending.{no_spending};
 ghost use Rattle.index_keep.specs.Shown.{ShowsSame, made_stale, stale_if_asked};
 ghost use Rattle.index_keep.specs.Right.{DifferAt, LeavesFiles};
-ghost use Rattle.index_keep.specs.Turns.{TakesTurn, DropsTurn, SpendsOnRows};
+ghost use Rattle.index_keep.specs.Turns.{TakesTurn, StaysShort, DropsTurn, SpendsOnRows};
 ghost use Rattle.index_keep.specs.Walking.{KnowsNeeded};
 ghost use Rattle.index_keep.specs.Keeping.{rows_of, refresh_of, begun_in, changed_in, IsKept, IsDone};
 ghost use Rattle.index_keep.specs.Keeping.{IsDropped, HasForgotten, Halts, Stops};
@@ -134,7 +134,8 @@ impl<R: PathRows + Drop> Keeper<R> {
     /// these files under these settings, until so many units are spent. Each answer that is checked counts as one
     /// of them. The evaluation is one that the cache keeps, if the files agree with it. If it is at its end and fewer
     /// units are spent in this turn, the path's row is made and written; otherwise the next turn goes on there. Once
-    /// each path has its row, the rows that nothing needs are taken out, and the refresh is done.
+    /// each path has its row, the rows that nothing needs are taken out, and the refresh is done. A turn spends at
+    /// most 50,000 more than its units, since it had spent fewer before the last thing that it did.
     ///
     /// # Errors
     ///
@@ -151,6 +152,7 @@ impl<R: PathRows + Drop> Keeper<R> {
         requires { IsKept R.entries (world_of (view_of F.view files.old) settings.now) self.old }
         ensures turn { IfOk result (TakesTurn (world_of (view_of F.view files.old) settings.now) units
             (refresh_of R.entries self.old) (refresh_of R.entries self.new)) }
+        ensures short { IfOk result (StaysShort units) }
         ensures done { result ≡ Ok Refreshed.Done → IsDone self.new }
         ensures err { OnErr result (DropsTurn (refresh_of R.entries self.old) (refresh_of R.entries self.new)) }
         ensures kept { IsKept R.entries (world_of (view_of F.view files.old) settings.now) self.new }

@@ -14,8 +14,8 @@ ghost use Rattle.row_text.specs.Seen.{row_seen};
 ghost use Rattle.index_keep.specs.Asking.{HasBegun, spent_in};
 ghost use Rattle.index_keep.specs.Shown.{ShownRows, shown, no_name, ShowsSame};
 ghost use Rattle.index_keep.specs.Right.{LeavesFiles};
-ghost use Rattle.index_keep.specs.Paths.{IsUpTo, TurnsPath};
-ghost use Rattle.index_keep.specs.Turns.{EndsTurn, DropsTurn, refresh_at};
+ghost use Rattle.index_keep.specs.Paths.{IsUpTo, IsShortOnRow, TurnsPath};
+ghost use Rattle.index_keep.specs.Turns.{EndsTurn, EndsShort, DropsTurn, refresh_at};
 ghost use Rattle.index_keep.specs.Walking.{IsWalk, IsOnTheWay, HasRowMore};
 ghost use Rattle.index_keep.specs.Keeping.{refresh_of, IsKept, IsDoneAfter};
 ghost use Rattle.index_keep.specs.Keeping.{IsAskOnTheWay, IsReadyFor, IsAtEnd};
@@ -49,6 +49,7 @@ impl<R: PathRows + Drop> Keeper<R> {
         requires { IsKept R.entries (world_of (view_of F.view files.old) settings.now) self.old }
         ensures turn { IfOk result (EndsTurn (world_of (view_of F.view files.old) settings.now) units
             (refresh_of R.entries self.old) (refresh_of R.entries self.new)) }
+        ensures short { IfOk result (EndsShort units) }
         ensures done { IfOk result (IsDoneAfter self.new) }
         ensures err { OnErr result (DropsTurn (refresh_of R.entries self.old) (refresh_of R.entries self.new)) }
         ensures kept { IsKept R.entries (world_of (view_of F.view files.old) settings.now) self.new }
@@ -83,6 +84,7 @@ impl<R: PathRows + Drop> Keeper<R> {
         ensures turn { IfOk result (EndsTurn (world_of (view_of F.view files.old) settings.now) units
             (refresh_at (shown no_name (R.entries self.old.rows)) no_spending)
             (refresh_of R.entries self.new)) }
+        ensures short { IfOk result (EndsShort units) }
         ensures done { IfOk result (IsDoneAfter self.new) }
         ensures kept { OnOk result (IsKept R.entries (world_of (view_of F.view files.old) settings.now) self.new) }
         ensures err { OnErr result (SameRows (R.entries self.old.rows) (R.entries self.new.rows)
@@ -115,6 +117,7 @@ impl<R: PathRows + Drop> Keeper<R> {
             → IfOk result (EndsTurn ((view_of F.view files.old).files, settings) units
             (refresh_at (shown no_name (R.entries self.old.rows)) (spent_in ask.ask))
             (refresh_of R.entries self.new)) }
+        ensures short { IfOk result (EndsShort units) }
         ensures kept { (settings : Settings)
             → IsAskOnTheWay ((view_of F.view files.old).files, settings)
             (shown no_name (R.entries self.old.rows)) walk ask
@@ -144,6 +147,7 @@ impl<R: PathRows + Drop> Keeper<R> {
             → TurnsPath world path units before turned
             → IfOk result (EndsTurn world units
             (refresh_at (shown no_name (R.entries self.old.rows)) before) (refresh_of R.entries self.new)) }
+        ensures short { (units : ℕ) → IsShortOnRow units before turned → IfOk result (EndsShort units) }
         ensures kept { (world : World) (path : List ℕ) (units : ℕ)
             → IsReadyFor world (shown no_name (R.entries self.old.rows)) walk path
             → TurnsPath world path units before turned → OnOk result (IsKept R.entries world self.new) }
@@ -172,6 +176,7 @@ impl<R: PathRows + Drop> Keeper<R> {
             → IfOk result (EndsTurn world units
             (refresh_at (shown no_name (R.entries self.old.rows)) no_spending)
             (refresh_of R.entries self.new)) }
+        ensures short { (units : ℕ) → IfOk result (EndsShort units) }
         ensures kept { (world : World) → IsAtEnd world (shown no_name (R.entries self.old.rows)) last
             → OnOk result (IsKept R.entries world self.new) }
         ensures done { IfOk result (IsDoneAfter self.new) }

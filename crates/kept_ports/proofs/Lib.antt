@@ -1,2 +1,3 @@
 pub mod SpendingLemmas
 pub mod PortLemmas
+mod TurnsLemmas

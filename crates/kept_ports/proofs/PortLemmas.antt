@@ -1,5 +1,5 @@
 -- What is taken from the evaluation of a port's makefile.
-use Rattle.std.proofs.Common.{◌≡◌, ◌≤◌, ◌∙◌, ℕ, zero, suc, ◌+◌, ◌-◌, ◌*◌, ◌^◌, min, List, length, Option, Some, None, Result, Ok, Err, refl, sym, ap, subst, arith, inl, inr}
+use Rattle.std.proofs.Common.{◌≡◌, ◌≤◌, ◌∙◌, ℕ, zero, suc, ◌+◌, ◌-◌, ◌*◌, ◌^◌, min, List, length, Some, None, Result, Ok, Err, refl, sym, ap, subst, arith, inl}
 use Rattle.std.specs.Prelude.{option_map, option_to_list}
 use Rattle.mk_paths.specs.Place.{place}
 use Rattle.mk_paths.specs.World.{World, FileMap, files_in}
@@ -14,7 +14,6 @@ use Rattle.eval_cache.specs.Keys.{Key, key_for}
 use Rattle.eval_cache.specs.Right.{evaluation_of}
 use Rattle.pkg_path.specs.Paths.{PathValue}
 use Rattle.ports_index.specs.Pairs.{Pair}
-use Rattle.ports_index.specs.PathOutcomes.{counted}
 use Rattle.ports_index.specs.Spending.{no_spending, spent_together, evaluation_cost, evaluations_of, ChecksFew, SpendsOnOne}
 use Rattle.ports_index.specs.declared.spending.Spent.{Spent}
 use Rattle.ports_plain.specs.Answers.{answer_to}
@@ -35,7 +34,7 @@ use Rattle.kept_ports.specs.declared.sought.Sought.TheVariants.{Value, Record}
 use Rattle.kept_ports.specs.Evaluating.{path_sought, question_sought, reply_sought, cost_sought, IsPortAsk}
 use Rattle.kept_ports.specs.Pending.{Answers, IsForQuestion, LeavesOpen, StaysWithin}
 
-abbrev pair_with : PathValue → List ℕ → Pair
+abbrev pub pair_with : PathValue → List ℕ → Pair
 pair_with path makefile = record { makefile = makefile; flavors = path.flavors }
 
 -- the reply to what is sought, after an evaluation of the makefile that is there

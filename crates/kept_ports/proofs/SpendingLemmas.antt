@@ -55,13 +55,13 @@ module _ (weight : List ℕ → ℕ) where
   picked test [] = omega arith
   picked test (text ∷ texts) = picked_by test text texts (test text) (picked test texts)
 
-left_costs_no_more : (world : World) (rows : ShownRows) → cost_left world rows ≤ cost_over world (needed_paths world)
+pub left_costs_no_more : (world : World) (rows : ShownRows) → cost_left world rows ≤ cost_over world (needed_paths world)
 left_costs_no_more world rows =
     let paths = needed_paths world in
     let few = picked (cost_at world) (λ path. is_none (fresh rows path)) (in_order paths) in
     omega (arith, few, ordered (cost_at world) paths)
 
-left_takes_no_more : (world : World) (rows : ShownRows) → evaluations_left world rows ≤ evaluations_over world (needed_paths world)
+pub left_takes_no_more : (world : World) (rows : ShownRows) → evaluations_left world rows ≤ evaluations_over world (needed_paths world)
 left_takes_no_more world rows =
     let paths = needed_paths world in
     let few = picked (evaluations_at world) (λ path. is_none (fresh rows path)) (in_order paths) in
@@ -143,7 +143,7 @@ nothing_left before left all begun is none = omega (arith, is, none)
 
 -- the refresh ends
 pub ends : RefreshingPays → (world : World) (old new : RefreshView) (before : Spent) → EndsRefresh world old new → IsSpentOnIndex world old before
-    → IsSpentOnIndex world new before × (new.begun ≡ no_spending)
+    → IsSpentOnIndex world new before × (new.begun ≡ no_spending) × (paths_left world new.rows ≡ [])
 ends law world old new before ended is =
     let none : paths_left world new.rows ≡ [] = law.ends world new.rows ended.current in
     let so_far : IsSpentOnIndex world (refresh_at new.rows no_spending) before = record {
@@ -154,7 +154,7 @@ ends law world old new before ended is =
           (ap (λ (s : Spent). s.checks) ended.nothing_begun));
       begun = within_nothing world (refresh_at new.rows no_spending) refl;
     } in
-    (subst (λ begun. IsSpentOnIndex world (refresh_at new.rows begun) before) (sym ended.nothing_left) so_far, ended.nothing_left)
+    (subst (λ begun. IsSpentOnIndex world (refresh_at new.rows begun) before) (sym ended.nothing_left) so_far, ended.nothing_left, none)
 
 at_most_all : (before left all begun : ℕ) → before + left ≤ all + begun → begun ≤ left → before ≤ all
 at_most_all before left all begun is within = omega (arith, is, within)

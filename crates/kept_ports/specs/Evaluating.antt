@@ -1,5 +1,5 @@
 -- The evaluation of a port's makefile, and what a request takes from it.
-use Rattle.std.specs.Prelude.{◌≡◌, ℕ, List, Option, Some, None, Result}
+use Rattle.std.specs.Prelude.{◌≡◌, ◌≤◌, ◌+◌, ℕ, Bool, true, false, List, Option, Some, None, Result}
 use Rattle.mk_paths.specs.Place.{place}
 use Rattle.mk_paths.specs.World.{World, files_in}
 use Rattle.mk_eval.specs.declared.outcome.Evaluated.{Evaluated}
@@ -7,11 +7,14 @@ use Rattle.mk_eval.specs.declared.outcome.Failed.{Failed}
 use Rattle.pkg_path.specs.Paths.{PathValue}
 use Rattle.eval_cache.specs.Keys.{key_for}
 use Rattle.ports_http.specs.Messages.{ReplyMessage}
+use Rattle.ports_index.specs.declared.spending.Spent.{Spent}
 use Rattle.ports_plain.specs.Plain.{value_reply, value_after, port_reply, record_after}
+use Rattle.ports_plain.specs.Resting.{Need, NoNeed, ValueNeed, RecordNeed, RootsNeed, IndexNeed}
 use Rattle.ports_plain.specs.Resting.{value_cost_after, record_cost_after}
 use Rattle.ports_plain.specs.declared.questions.Question.{Question}
 use Rattle.ports_plain.specs.declared.questions.Question.TheVariants as questions
-use Rattle.index_keep.specs.Asking.{HasComeTo}
+use Rattle.index_keep.specs.Asking.{HasComeTo, spent_in}
+use Rattle.index_keep.specs.declared.asking.AskTurned.{AskTurned}
 use Rattle.kept_ports.specs.declared.evaluating.PortAsk.{PortAsk}
 use Rattle.kept_ports.specs.declared.sought.Sought.{Sought}
 use Rattle.kept_ports.specs.declared.sought.Sought.TheVariants.{Value, Record}
@@ -41,7 +44,20 @@ pub record IsPortAsk (world : World) (path : PathValue) (ask : PortAsk) : Type 0
   pub placed : place world path.directory ≡ Some ask.makefile
   pub came : HasComeTo (files_in world) (key_for world.1 ask.makefile path.flavors) ask.came
 
+-- An evaluation of which no more was done in a turn than a look at what is kept: it had spent these units before.
+pub record HasLooked (before : Spent) (came : AskTurned) : Type 0 where
+  pub units : (spent_in came).units ≡ before.units
+  pub checks : (spent_in came).checks ≤ before.checks + 1028
+
 -- it begins, if the makefile is there
 abbrev pub BeginsPortAsk : World → PathValue → Option PortAsk → Type 0
 BeginsPortAsk world path None = place world path.directory ≡ None
 BeginsPortAsk world path (Some ask) = IsPortAsk world path ask
+
+-- the makefile of one port is needed
+abbrev pub is_of_port : Need → Bool
+is_of_port NoNeed = false
+is_of_port (ValueNeed asked) = true
+is_of_port (RecordNeed path) = true
+is_of_port RootsNeed = false
+is_of_port IndexNeed = false

@@ -3,3 +3,4 @@ pub mod Leaving
 pub mod Calls
 pub mod Evaluating
 pub mod Pending
+pub mod TurnsLeft

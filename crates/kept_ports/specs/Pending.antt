@@ -1,5 +1,5 @@
 -- What is under way for a question, and what a turn makes of it.
-use Rattle.std.specs.Prelude.{◌≡◌, ◌≤◌, ◌+◌, ◌*◌, length, true, Option, Some, None}
+use Rattle.std.specs.Prelude.{◌≡◌, ◌≤◌, ◌+◌, ◌*◌, length, true, [], Option, Some, None}
 use Rattle.mk_paths.specs.World.{World}
 use Rattle.ports_index.specs.Efforts.{cost_over, evaluations_over}
 use Rattle.ports_index.specs.Index.{needed_paths}
@@ -14,7 +14,7 @@ use Rattle.ports_plain.specs.Questions.{question_of}
 use Rattle.ports_plain.specs.Resting.{need_of, cost_for, rests_for}
 use Rattle.ports_plain.specs.Spending.{SpendsFor, is_of_index}
 use Rattle.index_keep.specs.Asking.{spent_in}
-use Rattle.index_keep.specs.Turns.{RefreshView, IsWithinLeft, cost_left, evaluations_left}
+use Rattle.index_keep.specs.Turns.{RefreshView, IsWithinLeft, cost_left, evaluations_left, paths_left}
 use Rattle.kept_ports.specs.declared.evaluating.PortAsk.{PortAsk}
 use Rattle.kept_ports.specs.declared.pending.CallTurned.{CallTurned}
 use Rattle.kept_ports.specs.declared.pending.CallTurned.TheVariants.{More, Done}
@@ -98,5 +98,6 @@ TurnsRequest world refresh request = TurnsQuestion world refresh (question_of re
 
 -- A part of a turn went on with the refresh of the index: it is done, or so much was spent.
 abbrev pub RefreshesOn : World → RefreshView → Spent → Option Spent → Type 0
-RefreshesOn world refresh before None = IsSpentOnIndex world refresh before × (refresh.begun ≡ no_spending)
+RefreshesOn world refresh before None =
+    IsSpentOnIndex world refresh before × (refresh.begun ≡ no_spending) × (paths_left world refresh.rows ≡ [])
 RefreshesOn world refresh before (Some spent) = IsSpentOnIndex world refresh (spent_together before spent)

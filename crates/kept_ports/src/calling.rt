@@ -33,6 +33,7 @@ pub struct PlainCall<'a> {
 impl PlainCall<'_> {
     ghost use Rattle.kept_ports.specs.Calls.{request_of};
     ghost use Rattle.kept_ports.specs.Pending.{IsPendingFor, TurnsRequest, spent_before};
+    ghost use Rattle.kept_ports.specs.TurnsLeft.{LeavesFewerFor, SpendsFew};
 
     /// A turn of the request over these files, for which this is under way. A turn acts while it has spent fewer than
     /// 1,000 units and checked answers together. It ends once an evaluation and the record of it are made, or with
@@ -40,6 +41,9 @@ impl PlainCall<'_> {
     ///
     /// A request that needs the index refreshes the rows that the keeper has of it first. An evaluation is one that
     /// the cache keeps, if the files agree with it, and else a new one. Nothing of the world is changed yet.
+    ///
+    /// A turn without an answer leaves fewer turns to come that have none. No turn spends more than 51,000 units and
+    /// checked answers.
     ///
     /// It fails if the files or the rows fail, or if memory runs out. The keeper stays right about the world.
     pub fn turn<F: Listing + Drop, R: PathRows + Drop>(
@@ -55,6 +59,10 @@ impl PlainCall<'_> {
             (refresh_of R.entries keeper.old) (request_of self.now)) }
         ensures turns { IfOk result (TurnsRequest (world_of (F.view files) self.now.settings.now)
             (refresh_of R.entries keeper.new) (request_of self.now) (spent_before under_way)) }
+        ensures fewer { IfOk result (LeavesFewerFor (world_of (F.view files) self.now.settings.now)
+            (refresh_of R.entries keeper.old) (refresh_of R.entries keeper.new)
+            (request_of self.now) under_way) }
+        ensures short { IfOk result SpendsFew }
         ensures kept { IsKept R.entries (world_of (F.view files) self.now.settings.now) keeper.new }
     {
         let mut files = Recorder::new(alloc, files, Trace::new(alloc));

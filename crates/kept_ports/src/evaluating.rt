@@ -1,5 +1,5 @@
 //! The evaluation of a port's makefile, which may take several turns.
-ghost use Rattle.std.specs.Prelude.{◌≡◌, ◌≤◌, IfOk};
+ghost use Rattle.std.specs.Prelude.{◌≡◌, ◌≤◌, IfOk, IfSome};
 ghost use Rattle.std.specs.Result.{result_err};
 ghost use Rattle.mk_paths.specs.FilesView.{world_of};
 ghost use Rattle.mk_paths.specs.World.{FileMap};
@@ -9,8 +9,9 @@ ghost use Rattle.pkg_path.specs.Paths.{PathValue};
 ghost use Rattle.read_trace.specs.Recording.{view_of, LeavesMap};
 ghost use Rattle.eval_cache.specs.Keys.{Key};
 ghost use Rattle.eval_cache.specs.Right.{evaluation_of};
-ghost use Rattle.index_keep.specs.Asking.{spent_in, CanGoOn, HasComeTo, IsUpFrom};
-ghost use Rattle.kept_ports.specs.Evaluating.{IsPortAsk, BeginsPortAsk};
+ghost use Rattle.ports_index.specs.Spending.{no_spending};
+ghost use Rattle.index_keep.specs.Asking.{spent_in, CanGoOn, HasComeTo, IsUpFrom, IsShortTurn, SpendsTurn};
+ghost use Rattle.kept_ports.specs.Evaluating.{IsPortAsk, BeginsPortAsk, HasLooked};
 
 use eval_cache::EvalCache;
 use index_keep::{Ask, AskTurned};
@@ -41,6 +42,7 @@ impl PortAsk {
     ) -> Result<Option<PortAsk>, FilesFault>
         ensures begins { IfOk result
             (BeginsPortAsk (world_of (view_of F.view files.old) settings.now) path.now) }
+        ensures looked { IfOk result (λ ask. IfSome ask (λ begun. HasLooked no_spending begun.came)) }
         ensures leaves { LeavesMap (result_err result) (view_of F.view files.old) (view_of F.view files.new) }
     {
         let Some(makefile) = find(alloc, files, &settings.path, path.directory())? else {
@@ -64,6 +66,8 @@ impl PortAsk {
             → IsPortAsk ((view_of F.view files.old).files, settings) path self
             → IfOk result (IsPortAsk ((view_of F.view files.old).files, settings) path) }
         ensures up { IfOk result (λ ask. IsUpFrom (spent_in self.came) (spent_in ask.came)) }
+        ensures enough { IfOk result (λ ask. SpendsTurn units (spent_in self.came) ask.came) }
+        ensures short { IfOk result (λ ask. IsShortTurn units (spent_in self.came) (spent_in ask.came)) }
         ensures leaves { LeavesMap (result_err result) (view_of F.view files.old) (view_of F.view files.new) }
     {
         let PortAsk { makefile, came } = self;

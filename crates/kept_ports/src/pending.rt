@@ -2,6 +2,7 @@
 ghost use Rattle.std.specs.Prelude.{◌≡◌};
 ghost use Rattle.ports_index.specs.Spending.{spent_together};
 ghost use Rattle.index_keep.specs.Asking.{IsUpFrom};
+ghost use Rattle.kept_ports.specs.Spending.{spent_between};
 
 use crate::evaluating::PortAsk;
 use ports_index::Spent;
@@ -37,7 +38,8 @@ pub enum CallTurned {
 
 /// What was spent in a turn, before which and after which so much was spent.
 pub(crate) fn spent_in_turn(before: Spent, after: Spent) -> Spent
-    ensures { IsUpFrom before after → spent_together before result ≡ after }
+    ensures sum { IsUpFrom before after → spent_together before result ≡ after }
+    ensures is { result ≡ spent_between before after }
 {
     Spent {
         units: after.units.saturating_sub(before.units),

@@ -1,16 +1,18 @@
 //! The turns of a request over ports whose index is kept.
-ghost use Rattle.std.specs.Prelude.{◌≡◌, IfOk, IfSome, None, true};
+ghost use Rattle.std.specs.Prelude.{◌≡◌, ◌≤◌, ◌<◌, ◌+◌, ◌↔◌, IfOk, IfSome, IsTrue, None, true, false};
 ghost use Rattle.index_keep.specs.Keeping.{refresh_of};
 ghost use Rattle.mk_paths.specs.World.{World};
 ghost use Rattle.ports_index.specs.Spending.{no_spending};
 ghost use Rattle.ports_plain.specs.Resting.{need_of};
 ghost use Rattle.ports_plain.specs.Spending.{is_of_index};
-ghost use Rattle.index_keep.specs.Turns.{RefreshView, TakesTurn};
-ghost use Rattle.index_keep.specs.Asking.{spent_in, IsUpFrom};
-ghost use Rattle.kept_ports.specs.Evaluating.{IsPortAsk, path_sought, question_sought};
+ghost use Rattle.index_keep.specs.Turns.{RefreshView, TakesTurn, StaysShort};
+ghost use Rattle.index_keep.specs.Asking.{spent_in, total_of, IsUpFrom, SpendsTurn};
+ghost use Rattle.kept_ports.specs.Evaluating.{IsPortAsk, HasLooked, is_of_port, path_sought, question_sought};
 ghost use Rattle.kept_ports.specs.Leaving.{world_at, LeavesPorts};
 ghost use Rattle.kept_ports.specs.Pending.{IsPending, IsStage, IsForQuestion, IsSpentOnIndex};
 ghost use Rattle.kept_ports.specs.Pending.{TurnsQuestion, RefreshesOn, spent_before};
+ghost use Rattle.kept_ports.specs.TurnsLeft.{LeavesFewer, RefreshesFewer, SpendsFew};
+ghost use Rattle.kept_ports.specs.TurnsLeft.{turns_after, turns_at, turns_before, turns_of_refresh};
 
 use crate::evaluating::PortAsk;
 use crate::keeping::KeptPorts;
@@ -18,8 +20,10 @@ use crate::pending::{CallTurned, Stage, UnderWay, spent_in_turn};
 use crate::sought::Sought;
 use index_keep::{AskTurned, Refreshed, asking_spends, refreshing_pays};
 use index_store::PathRows;
+use mk_eval::evaluations_cost_few;
 use mk_files::Listing;
 use mk_paths::FilesFault;
+use port_rules::records_cost_few;
 use ports_http::Reply;
 use ports_index::{Spent, makefiles_are_evaluated};
 use ports_plain::{Prepared, Question, answer_question};
@@ -40,6 +44,11 @@ impl<F: Listing + Drop, R: PathRows + Drop> KeptPorts<'_, F, R> {
             (refresh_of R.entries self.old.keeper.now) question) }
         ensures turns { IfOk result (TurnsQuestion (world_at F.view self.old)
             (refresh_of R.entries self.new.keeper.now) question (spent_before under_way)) }
+        ensures fewer { IfOk result (LeavesFewer (world_at F.view self.old)
+            (refresh_of R.entries self.new.keeper.now) question
+            (turns_before (world_at F.view self.old) (refresh_of R.entries self.old.keeper.now)
+            question under_way)) }
+        ensures short { IfOk result SpendsFew }
         ensures leaves { LeavesPorts F.view self.old self.new }
     {
         match under_way {
@@ -60,6 +69,11 @@ impl<F: Listing + Drop, R: PathRows + Drop> KeptPorts<'_, F, R> {
             question before stage }
         ensures turns { IfOk result (TurnsQuestion (world_at F.view self.old)
             (refresh_of R.entries self.new.keeper.now) question before) }
+        ensures fewer { IfOk result (LeavesFewer (world_at F.view self.old)
+            (refresh_of R.entries self.new.keeper.now) question
+            (turns_at (world_at F.view self.old) (refresh_of R.entries self.old.keeper.now)
+            question before stage)) }
+        ensures short { IfOk result SpendsFew }
         ensures leaves { LeavesPorts F.view self.old self.new }
     {
         match stage {
@@ -73,6 +87,10 @@ impl<F: Listing + Drop, R: PathRows + Drop> KeptPorts<'_, F, R> {
     fn begin(&mut self, alloc: Global, question: Question) -> Result<CallTurned, FilesFault>
         ensures turns { IfOk result (TurnsQuestion (world_at F.view self.old)
             (refresh_of R.entries self.new.keeper.now) question no_spending) }
+        ensures fewer { IfOk result (LeavesFewer (world_at F.view self.old)
+            (refresh_of R.entries self.new.keeper.now) question
+            (turns_after (world_at F.view self.old) question 0)) }
+        ensures short { IfOk result SpendsFew }
         ensures leaves { LeavesPorts F.view self.old self.new }
     {
         match question {
@@ -84,10 +102,16 @@ impl<F: Listing + Drop, R: PathRows + Drop> KeptPorts<'_, F, R> {
 
     // The first turn for a question that no evaluation of a single makefile answers.
     fn begin_other(&mut self, alloc: Global, question: Question) -> Result<CallTurned, FilesFault>
+        requires { is_of_port (need_of question) ≡ false }
         ensures turns { IfOk result (TurnsQuestion (world_at F.view self.old)
             (refresh_of R.entries self.new.keeper.now) question no_spending) }
+        ensures fewer { IfOk result (LeavesFewer (world_at F.view self.old)
+            (refresh_of R.entries self.new.keeper.now) question
+            (turns_after (world_at F.view self.old) question 0)) }
+        ensures short { IfOk result SpendsFew }
         ensures leaves { LeavesPorts F.view self.old self.new }
     {
+        makefiles_are_evaluated();
         if needs_index(&question) {
             self.keeper.stop(alloc); // what was left of a request that failed
             return self.refresh_on(alloc, question, Spent::nothing());
@@ -100,6 +124,10 @@ impl<F: Listing + Drop, R: PathRows + Drop> KeptPorts<'_, F, R> {
     fn begin_port(&mut self, alloc: Global, sought: &Sought) -> Result<CallTurned, FilesFault>
         ensures turns { (refresh : RefreshView) → IfOk result (TurnsQuestion
             (world_at F.view self.old) refresh (question_sought sought.now) no_spending) }
+        ensures fewer { (refresh : RefreshView) → IfOk result (LeavesFewer
+            (world_at F.view self.old) refresh (question_sought sought.now)
+            (turns_after (world_at F.view self.old) (question_sought sought.now) 0)) }
+        ensures short { IfOk result SpendsFew }
         ensures leaves { LeavesPorts F.view self.old self.new }
     {
         let path = sought.path();
@@ -119,6 +147,10 @@ impl<F: Listing + Drop, R: PathRows + Drop> KeptPorts<'_, F, R> {
         requires { IsForQuestion (world_at F.view self.old) question ask }
         ensures turns { (refresh : RefreshView) → IfOk result (TurnsQuestion
             (world_at F.view self.old) refresh question (spent_in ask.came)) }
+        ensures fewer { (refresh : RefreshView) → IfOk result (LeavesFewer
+            (world_at F.view self.old) refresh question
+            (turns_after (world_at F.view self.old) question (total_of (spent_in ask.came)))) }
+        ensures short { IfOk result SpendsFew }
         ensures leaves { LeavesPorts F.view self.old self.new }
     {
         let before = ask.spent();
@@ -144,8 +176,13 @@ impl<F: Listing + Drop, R: PathRows + Drop> KeptPorts<'_, F, R> {
     ) -> Result<CallTurned, FilesFault>
         requires ask { IsPortAsk (world_at F.view self.old) (path_sought sought.now) ask }
         requires up { IsUpFrom before (spent_in ask.came) }
+        requires looked { HasLooked before ask.came }
         ensures turns { (refresh : RefreshView) → IfOk result (TurnsQuestion
             (world_at F.view self.old) refresh (question_sought sought.now) before) }
+        ensures fewer { (refresh : RefreshView) → IfOk result (LeavesFewer
+            (world_at F.view self.old) refresh (question_sought sought.now)
+            (turns_after (world_at F.view self.old) (question_sought sought.now) (total_of before))) }
+        ensures short { IfOk result SpendsFew }
         ensures leaves { LeavesPorts F.view self.old self.new }
     {
         let checked = spent_in_turn(before, ask.spent()).checks;
@@ -167,6 +204,10 @@ impl<F: Listing + Drop, R: PathRows + Drop> KeptPorts<'_, F, R> {
             (refresh_of R.entries self.old.keeper.now) before }
         ensures turns { IfOk result (TurnsQuestion (world_at F.view self.old)
             (refresh_of R.entries self.new.keeper.now) question before) }
+        ensures fewer { IfOk result (LeavesFewer (world_at F.view self.old)
+            (refresh_of R.entries self.new.keeper.now) question
+            (turns_of_refresh (world_at F.view self.old) (refresh_of R.entries self.old.keeper.now))) }
+        ensures short { IfOk result SpendsFew }
         ensures leaves { LeavesPorts F.view self.old self.new }
     {
         makefiles_are_evaluated();
@@ -192,6 +233,10 @@ impl<F: Listing + Drop, R: PathRows + Drop> KeptPorts<'_, F, R> {
             (refresh_of R.entries self.old.keeper.now) before
             → IfOk result (RefreshesOn (world_at F.view self.old)
             (refresh_of R.entries self.new.keeper.now) before) }
+        ensures fewer { IfOk result (RefreshesFewer (world_at F.view self.old)
+            (refresh_of R.entries self.old.keeper.now)
+            (refresh_of R.entries self.new.keeper.now)) }
+        ensures short { IfOk result (λ spent. IfSome spent (λ some. total_of some ≤ 51000)) }
         ensures leaves { LeavesPorts F.view self.old self.new }
     {
         refreshing_pays();
@@ -213,6 +258,7 @@ impl<F: Listing + Drop, R: PathRows + Drop> KeptPorts<'_, F, R> {
         ensures turn { IfOk result (TakesTurn (world_at F.view self.old) 1000
             (refresh_of R.entries self.old.keeper.now)
             (refresh_of R.entries self.new.keeper.now)) }
+        ensures short { IfOk result (StaysShort 1000) }
         ensures leaves { LeavesPorts F.view self.old self.new }
     {
         self.keeper
@@ -221,50 +267,61 @@ impl<F: Listing + Drop, R: PathRows + Drop> KeptPorts<'_, F, R> {
 }
 
 impl PortAsk {
-    // Ends a turn that went on with the evaluation. If it is at its end, and the turn may still act, the reply is made
-    // of it. A turn ends once a record is made.
+    // Ends a turn that went on with the evaluation, before which so much was spent. If the turn may still act, the
+    // evaluation is at its end, and the reply is made of it. A turn ends once a record is made.
     fn end_turn(
         self,
         alloc: Global,
         sought: &Sought,
         before: Spent,
     ) -> Result<CallTurned, AllocError>
+        requires up { IsUpFrom before (spent_in self.came) }
+        requires enough { SpendsTurn 1000 before self.came }
+        requires few { total_of (spent_in self.came) ≤ total_of before + 51000 }
         ensures turns { (world : World) (refresh : RefreshView)
-            → IsPortAsk world (path_sought sought.now) self → IsUpFrom before (spent_in self.came)
+            → IsPortAsk world (path_sought sought.now) self
             → IfOk result (TurnsQuestion world refresh (question_sought sought.now) before) }
+        ensures fewer { (world : World) (refresh : RefreshView)
+            → IsPortAsk world (path_sought sought.now) self
+            → IfOk result (LeavesFewer world refresh (question_sought sought.now)
+            (turns_after world (question_sought sought.now) (total_of before))) }
+        ensures short { IfOk result SpendsFew }
     {
         asking_spends();
+        evaluations_cost_few();
+        records_cost_few();
         let evaluated = self.spent();
         let spent = spent_in_turn(before, evaluated);
-        let PortAsk { makefile, came } = self;
-        match came {
-            AskTurned::Done(asked) if may_act(spent) => {
-                let (reply, cost) = sought.reply(alloc, &asked.evaluation.outcome, &makefile)?;
-                let in_all = asked.spent_on(cost);
-                let spent = spent_in_turn(before, in_all);
-                let answer = answer_alone(reply);
-                if may_act(spent) && !sought.is_record() {
-                    return Ok(CallTurned::Done(answer, spent));
-                }
-                let under_way = UnderWay {
-                    stage: Stage::Ready(answer),
-                    spent: in_all,
-                };
-                Ok(CallTurned::More(under_way, spent))
-            }
-            came => {
-                let under_way = UnderWay {
-                    stage: Stage::Evaluating(PortAsk { makefile, came }),
-                    spent: evaluated,
-                };
-                Ok(CallTurned::More(under_way, spent))
-            }
+        if !may_act(spent) {
+            let under_way = UnderWay {
+                stage: Stage::Evaluating(self),
+                spent: evaluated,
+            };
+            return Ok(CallTurned::More(under_way, spent));
         }
+        let PortAsk { makefile, came } = self;
+        let AskTurned::Done(asked) = came else {
+            unreachable!() // its turn has spent its units
+        };
+        let (reply, cost) = sought.reply(alloc, &asked.evaluation.outcome, &makefile)?;
+        let in_all = asked.spent_on(cost);
+        let spent = spent_in_turn(before, in_all);
+        let answer = answer_alone(reply);
+        if may_act(spent) && !sought.is_record() {
+            return Ok(CallTurned::Done(answer, spent));
+        }
+        let under_way = UnderWay {
+            stage: Stage::Ready(answer),
+            spent: in_all,
+        };
+        Ok(CallTurned::More(under_way, spent))
     }
 }
 
 // Whether a turn that has spent so much still acts.
-fn may_act(spent: Spent) -> bool {
+fn may_act(spent: Spent) -> bool
+    ensures { IsTrue result ↔ (total_of spent < 1000) }
+{
     spent.units.saturating_add(spent.checks) < TURN_UNITS
 }
 
@@ -285,7 +342,8 @@ fn needs_index(question: &Question) -> bool
 
 // Whether nothing was spent.
 fn is_nothing(spent: Spent) -> bool
-    ensures { result ≡ true → spent ≡ no_spending }
+    ensures nothing { result ≡ true → spent ≡ no_spending }
+    ensures some { result ≡ false → 1 ≤ total_of spent }
 {
     spent.units == 0 && spent.checks == 0
 }

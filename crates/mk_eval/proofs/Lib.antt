@@ -1,4 +1,5 @@
 mod Blaming
+mod Costs
 mod Joining
 pub mod Logged
 pub mod Shared
@@ -6,5 +7,5 @@ pub mod SharedConditions
 pub mod SharedEvaluation
 pub mod Steady
 pub mod SteadyLoops
-mod SteadyTexts
+pub mod SteadyTexts
 pub mod Stepping

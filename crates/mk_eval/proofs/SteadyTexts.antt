@@ -9,7 +9,7 @@ use Rattle.mk_text.specs.declared.limits.TheConstants.{TEXT_LIMIT}
 use Rattle.mk_mods.specs.Actions.{Symbol, Byte, Whole, Reference, Action, Match, Exclude, Substitute, Change}
 use Rattle.mk_mods.specs.Grammar.{modifiers_of}
 use Rattle.mk_env.specs.Texts.{Variables}
-use Rattle.mk_env.specs.Expansion.{References, bounded, piece_meaning, where_whole, text_meaning, symbol_meaning, symbols_meaning, made, modified, actions_of, readable, value_meaning, is_among, named, is_kept, by_name, reference, expand, expand_now, by_inside, inside, modified_by}
+use Rattle.mk_env.specs.Expansion.{References, bounded, piece_meaning, where_whole, text_meaning, symbol_meaning, symbols_meaning, made, modified, actions_of, readable, value_meaning, is_among, named, is_kept, by_name, reference, expand, expand_now, by_inside, inside, modified_by, variable}
 use Rattle.mk_eval.proofs.Steady.{Steady, steady-give, steady-fail, steady-choice, steady-pay, bind, either, over}
 
 -- references that are all so
@@ -94,3 +94,6 @@ steady-inside variables text = steady-by_inside _ (are-steady _ 32 variables [])
 pub steady-modified_by : (variables : Variables) (modifiers text : List ℕ) → Steady (modified_by variables modifiers text)
 steady-modified_by variables modifiers text =
     bind (steady-readable (modifiers_of modifiers)) (λ actions. over (steady-modified _ (are-steady _ 31 variables [])) text actions)
+
+pub steady-variable : (variables : Variables) (name : List ℕ) → Steady (variable variables name)
+steady-variable variables name = bind steady-pay (λ _. steady-named _ (are-steady _ 31 variables) variables [] name None)

@@ -11,3 +11,4 @@ pub mod FormViews
 pub mod Trees
 pub mod Running
 pub mod Sharing
+pub mod Costs

@@ -19,7 +19,7 @@ mod turns;
 pub use evaluation::value;
 pub use executing::perform;
 pub use including::{ExecutedFile, Included};
-pub use laws::same_where_answered;
+pub use laws::{evaluations_cost_few, same_where_answered};
 pub use outcome::{Evaluated, Failed, Kind, Valued, with_units};
 pub use parses::{Anew, Parses};
 pub use requests::Request;

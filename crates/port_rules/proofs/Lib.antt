@@ -2,3 +2,4 @@ pub mod Exits
 pub mod Everywhere
 pub mod Doubles
 pub mod FlavorTests
+pub mod Costs

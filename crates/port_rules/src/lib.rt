@@ -4,6 +4,7 @@
 
 mod depends;
 mod flavors;
+mod laws;
 mod names;
 mod packages;
 mod port;
@@ -13,6 +14,7 @@ mod values;
 
 pub use depends::{Depend, DependKind};
 pub use flavors::PortFlavors;
+pub use laws::records_cost_few;
 pub use packages::Package;
 pub use port::PortRecord;
 pub use recording::{Recorded, record};

@@ -36,7 +36,7 @@ slice_parts (Some world) None slice e = absurd (none_some e)
 slice_parts (Some world) (Some queue) slice e = (ap (λ (s : Slice). Some s.0) (some_same e), ap (λ (s : Slice). Some s.1) (some_same e))
 
 -- no slice changes where no world and no queue does
-same_slice : (t : ℕ) (old new : State) → world_at t new ≡ world_at t old → queue_at t new ≡ queue_at t old → slice_of t new ≡ slice_of t old
+pub same_slice : (t : ℕ) (old new : State) → world_at t new ≡ world_at t old → queue_at t new ≡ queue_at t old → slice_of t new ≡ slice_of t old
 same_slice t old new world queue = ap (λ w. sliced w (queue_at t new)) world ∙ ap (sliced (world_at t old)) queue
 
 -- what is told at once is told to no tenant

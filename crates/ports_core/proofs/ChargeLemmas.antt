@@ -1,5 +1,5 @@
 -- What is told as spent in a turn.
-use Rattle.std.proofs.Common.{◌≡◌, ◌<◌, ◌∙◌, ℕ, Bool, true, false, List, [], ◌∷◌, length, get_or, Option, Some, None, sym, ap, subst}
+use Rattle.std.proofs.Common.{◌≡◌, ◌<◌, ◌∙◌, ℕ, Bool, true, false, List, [], ◌∷◌, length, get_or, Option, Some, None, sym, ap, subst, arith}
 use Rattle.std.specs.Prelude.{MatchBool, MatchOption, slice_get}
 use Rattle.std.proofs.lemmas.Option.{slice_get-get_or}
 use Rattle.mk_paths.specs.World.{World, opening_world}
@@ -9,20 +9,27 @@ use Rattle.ports_http.specs.Messages.{ReplyMessage}
 use Rattle.ports_core.specs.declared.event.Tell.{Tell}
 use Rattle.ports_core.specs.declared.event.Told.{Told}
 use Rattle.ports_core.specs.declared.queue.QueuedRequest.{QueuedRequest}
-use Rattle.ports_core.specs.Charging.{Spends, SpendsWithin, Charges, ChargesFor, GoesOn, TurnSpends}
-use Rattle.ports_core.specs.Jobs.{Job, spent_on}
+use Rattle.ports_core.specs.Charging.{Spends, MayHaveHad, Charges, ChargesFor, FitsTurn, GoesOn, TurnSpends}
+use Rattle.ports_core.specs.Jobs.{TenantJob, had_by, spent_on, one_turn_more}
 use Rattle.ports_core.specs.Slices.{Slice, Queue, sliced}
 use Rattle.ports_core.specs.Telling.{in_turn, is_failure, spent_in, CountsNone}
 
 counts_none : (told : Told) → spent_in told ≡ no_spending → CountsNone told
 counts_none told none = (ap (λ (s : Spent). s.units) none, ap (λ (s : Spent). s.checks) none)
 
+-- what is told fits a turn if it is what was spent in one, or nothing
+pub short_told : (told : Told) (spent : Spent) → spent_in told ≡ spent → FitsTurn spent → FitsTurn (spent_in told)
+short_told told spent is short = subst FitsTurn (sym is) short
+
+pub short_none : (told : Told) → CountsNone told → FitsTurn (spent_in told)
+short_none told none = omega (arith, none.0, none.1)
+
 -- a tenant with a world has a slice whose first request is the one that waits first
 slice_there : (t : ℕ) (worlds : List World) (queues : List Queue) (queue rest : Queue) (first : QueuedRequest) (world : World) → slice_get worlds t ≡ Some world → slice_get queues t ≡ Some queue → queue ≡ first ∷ rest
     → sliced (slice_get worlds t) (slice_get queues t) ≡ Some (world, first ∷ rest)
 slice_there t worlds queues queue rest first world there was waited = ap (λ w. sliced w (slice_get queues t)) there ∙ ap (sliced (Some world)) (was ∙ ap Some waited)
 
-module _ (t : ℕ) (told : Told) (worlds : List World) (queues : List Queue) (job : Option Job) (queue rest : Queue) (first : QueuedRequest) (reply : ReplyMessage) (spent : Spent) (world : World)
+module _ (t : ℕ) (told : Told) (worlds : List World) (queues : List Queue) (job : Option TenantJob) (queue rest : Queue) (first : QueuedRequest) (reply : ReplyMessage) (spent : Spent) (world : World)
     (there : slice_get worlds t ≡ Some world) (was : slice_get queues t ≡ Some queue) (waited : queue ≡ first ∷ rest)
     (charges : ChargesFor t first.request reply (spent_on job) spent worlds)
     (tells : told.reply ≡ Some (in_turn t first.conn reply)) (tells_spent : spent_in told ≡ spent) where
@@ -33,7 +40,7 @@ module _ (t : ℕ) (told : Told) (worlds : List World) (queues : List Queue) (jo
   pub turn_spends : TurnSpends (sliced (slice_get worlds t) (slice_get queues t)) job told
   turn_spends =
       subst (λ (s : Option Slice). TurnSpends s job told) (sym (slice_there t worlds queues queue rest first world there was waited))
-      (subst (λ (r : Option Tell). MatchOption r (SpendsWithin world first.request (spent_together (spent_on job) (spent_in told))) (λ (tell : Tell). Charges world first.request tell.reply (spent_on job) (spent_in told))) (sym tells) charged)
+      (subst (λ (r : Option Tell). MatchOption r (MayHaveHad world first.request (one_turn_more (had_by job) (spent_in told))) (λ (tell : Tell). Charges world first.request tell.reply (spent_on job) (spent_in told))) (sym tells) charged)
 
   none_with_503 : (failed : Bool) → MatchBool failed (spent_in told ≡ no_spending) (Spends world first.request (spent_together (spent_on job) (spent_in told))) → failed ≡ true → CountsNone told
   none_with_503 true none is = counts_none told none
@@ -46,7 +53,7 @@ module _ (t : ℕ) (told : Told) (worlds : List World) (queues : List Queue) (jo
       (none_with_503 (is_failure reply.status) charged)
 
 -- nothing waits
-pub idle_spends : (t : ℕ) (told : Told) (worlds : List World) (queues : List Queue) (job : Option Job) (queue : Queue) → slice_get queues t ≡ Some queue → queue ≡ [] → CountsNone told
+pub idle_spends : (t : ℕ) (told : Told) (worlds : List World) (queues : List Queue) (job : Option TenantJob) (queue : Queue) → slice_get queues t ≡ Some queue → queue ≡ [] → CountsNone told
     → TurnSpends (sliced (slice_get worlds t) (slice_get queues t)) job told
 idle_spends t told worlds queues job queue was empty none =
     subst (λ (q : Option Queue). TurnSpends (sliced (slice_get worlds t) q) job told) (sym (was ∙ ap Some empty)) (in_world (slice_get worlds t))
@@ -56,13 +63,13 @@ idle_spends t told worlds queues job queue was empty none =
     in_world (Some world) = none
 
 -- the first request isn't answered yet
-pub pending_spends : (t : ℕ) (told : Told) (worlds worlds_after : List World) (queues : List Queue) (job : Option Job) (queue rest : Queue) (first : QueuedRequest) (spent : Spent)
-    → t < length worlds → slice_get queues t ≡ Some queue → queue ≡ first ∷ rest → GoesOn t first.request (spent_on job) spent worlds worlds_after
+pub pending_spends : (t : ℕ) (told : Told) (worlds worlds_after : List World) (queues : List Queue) (job : Option TenantJob) (queue rest : Queue) (first : QueuedRequest) (spent : Spent)
+    → t < length worlds → slice_get queues t ≡ Some queue → queue ≡ first ∷ rest → GoesOn t first.request (had_by job) spent worlds worlds_after
     → told.reply ≡ None → spent_in told ≡ spent → TurnSpends (sliced (slice_get worlds t) (slice_get queues t)) job told
 pending_spends t told worlds worlds_after queues job queue rest first spent within was waited goes_on silent tells_spent =
     let world : World = get_or worlds t opening_world in
     let there : slice_get worlds t ≡ Some world = slice_get-get_or worlds t opening_world within in
-    let spends : SpendsWithin world first.request (spent_together (spent_on job) (spent_in told)) =
-    subst (λ (s : Spent). SpendsWithin world first.request (spent_together (spent_on job) s)) (sym tells_spent) (goes_on.within world there) in
+    let spends : MayHaveHad world first.request (one_turn_more (had_by job) (spent_in told)) =
+    subst (λ (s : Spent). MayHaveHad world first.request (one_turn_more (had_by job) s)) (sym tells_spent) (goes_on.within world there) in
     subst (λ (s : Option Slice). TurnSpends s job told) (sym (slice_there t worlds queues queue rest first world there was waited))
-    (subst (λ (r : Option Tell). MatchOption r (SpendsWithin world first.request (spent_together (spent_on job) (spent_in told))) (λ (tell : Tell). Charges world first.request tell.reply (spent_on job) (spent_in told))) (sym silent) spends)
+    (subst (λ (r : Option Tell). MatchOption r (MayHaveHad world first.request (one_turn_more (had_by job) (spent_in told))) (λ (tell : Tell). Charges world first.request tell.reply (spent_on job) (spent_in told))) (sym silent) spends)

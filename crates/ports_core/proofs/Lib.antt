@@ -14,6 +14,7 @@ mod StepsServe
 mod RunsServe
 mod AlikeLemmas
 mod IsolationLemmas
+mod InTimeLemmas
 mod TalkLemmas
 mod ConversesLemmas
 mod PlaceLemmas

@@ -1,8 +1,8 @@
 -- Each connection in a whole run.
 use Rattle.std.proofs.Common.{◌≡◌, ℕ, zero, suc, Bool, true, false, List, [], ◌∷◌, ◌++◌, refl, sym, ap, subst, ◌∙◌, inl, inr, append_assoc, append-nil, ⊎_elim, Option, Some, None}
-use Rattle.std.specs.Prelude.{◌||◌, not, map, MatchBool, option_map, unwrap_or, slice_get}
+use Rattle.std.specs.Prelude.{◌||◌, map, MatchBool, option_map, unwrap_or, slice_get}
 use Rattle.std.specs.List.{flat_map}
-use Rattle.std.proofs.lemmas.Bool.{cases_eq, false≢true, and_parts}
+use Rattle.std.proofs.lemmas.Bool.{cases_eq, false≢true}
 use Rattle.std.proofs.Math.Bool.{or-false, or_assoc}
 use Rattle.ports_http.specs.Messages.{RequestMessage, ReplyMessage}
 use Rattle.ports_http.specs.Streams as streams

@@ -11,7 +11,7 @@ use Rattle.ports_core.specs.declared.queue.QueuedRequest.{QueuedRequest}
 use Rattle.mk_paths.specs.World.{World, opening_world}
 use Rattle.ports_core.specs.Answering.{AnswersFor}
 use Rattle.ports_core.specs.Slices.{Queue}
-use Rattle.ports_core.specs.Jobs.{Job, first_of}
+use Rattle.ports_core.specs.Jobs.{TenantJob, first_of}
 use Rattle.ports_core.specs.Connections.{new_connection, answered, kept, closing}
 use Rattle.ports_core.specs.Telling.{in_turn}
 use Rattle.ports_core.specs.Taking.{Taken, Joins}
@@ -37,7 +37,7 @@ slice_get-set_kept (z ∷ xs) zero x y at same (suc j) = refl
 slice_get-set_kept (z ∷ xs) (suc i) x y at same zero = refl
 slice_get-set_kept (z ∷ xs) (suc i) x y at same (suc j) = slice_get-set_kept xs i x y at same j
 
-module _ (keys : List (List ℕ)) (next : ℕ) (jobs : List (Option Job)) where
+module _ (keys : List (List ℕ)) (next : ℕ) (jobs : List (Option TenantJob)) where
   pub opened : (told : Told) (worlds : List World) (queues : List Queue) (connections connections_after : List (ℕ × Connection)) (connection : Connection)
       → length connections < 16 → next < 2 ^ 64 - 1 → told.reply ≡ None → told.refused ≡ None → told.closed ≡ None → connection ≡ new_connection
       → connection_in next connections_after ≡ Some connection → ((d : ℕ) → d ≢ next → connection_in d connections_after ≡ connection_in d connections)
@@ -89,7 +89,7 @@ module _ (keys : List (List ℕ)) (next : ℕ) (jobs : List (Option Job)) where
   }
 
   -- what waits goes on
-  pub pending_in_turn : (t : ℕ) (told : Told) (worlds worlds_after : List World) (queues : List Queue) (queue after : Queue) (first : QueuedRequest) (connections : List (ℕ × Connection)) (jobs_after : List (Option Job))
+  pub pending_in_turn : (t : ℕ) (told : Told) (worlds worlds_after : List World) (queues : List Queue) (queue after : Queue) (first : QueuedRequest) (connections : List (ℕ × Connection)) (jobs_after : List (Option TenantJob))
       → slice_get queues t ≡ Some queue → Some first ≡ first_of queue → after ≡ queue → worlds_after ≡ worlds → told.reply ≡ None → told.refused ≡ None → told.closed ≡ None
       → IsPending t told (keys, worlds, queues, connections, next, jobs) (keys, worlds_after, set queues t after, connections, next, jobs_after)
   pending_in_turn t told worlds worlds_after queues queue after first connections jobs_after was first_is same same_worlds reply refused closed = record {
@@ -107,7 +107,7 @@ module _ (keys : List (List ℕ)) (next : ℕ) (jobs : List (Option Job)) where
     };
   }
 
-  pub answered_in_turn : (t : ℕ) (told : Told) (worlds worlds_after : List World) (queues : List Queue) (queue rest : Queue) (first : QueuedRequest) (reply : ReplyMessage) (closed : Option ℕ) (connections mid connections_after : List (ℕ × Connection)) (jobs_after : List (Option Job))
+  pub answered_in_turn : (t : ℕ) (told : Told) (worlds worlds_after : List World) (queues : List Queue) (queue rest : Queue) (first : QueuedRequest) (reply : ReplyMessage) (closed : Option ℕ) (connections mid connections_after : List (ℕ × Connection)) (jobs_after : List (Option TenantJob))
       → t < length queues → slice_get queues t ≡ Some queue → queue ≡ first ∷ rest
       → AnswersFor t first.request reply worlds worlds_after
       → connection_in first.conn mid ≡ option_map (answered reply) (connection_in first.conn connections) → ((d : ℕ) → d ≢ first.conn → connection_in d mid ≡ connection_in d connections)
@@ -134,23 +134,23 @@ module _ (keys : List (List ℕ)) (next : ℕ) (jobs : List (Option Job)) where
   }
 
 -- a tenant with a key has a world and a queue
-pub within_keys : {Z X : Type 0} (t : ℕ) (now : State) (keys : List (String Z)) (worlds : List World) (queues : List Queue) (connections : List (ℕ × Connection)) (next : ℕ) (jobs : List (Option Job)) (xs : List X)
+pub within_keys : {Z X : Type 0} (t : ℕ) (now : State) (keys : List (String Z)) (worlds : List World) (queues : List Queue) (connections : List (ℕ × Connection)) (next : ℕ) (jobs : List (Option TenantJob)) (xs : List X)
     → (key_texts keys, worlds, queues, connections, next, jobs) ≡ now → length xs ≡ length keys → t < length (keys_of now) → t < length xs
 within_keys t now keys worlds queues connections next jobs xs is same lt =
     let h : t < length (key_texts keys) = subst (λ (s : State). t < length (keys_of s)) (sym is) lt in
     omega (arith, length_texts keys, same, h)
 
 -- a service that has just begun
-pub new_state_is : {Z : Type 0} (keys : List (String Z)) (worlds : List World) (queues : List Queue) (jobs : List (Option Job)) (n : ℕ) (connections : List (ℕ × Connection)) → worlds ≡ replicate n opening_world → queues ≡ replicate n [] → jobs ≡ replicate n None → n ≡ length keys → connections ≡ []
+pub new_state_is : {Z : Type 0} (keys : List (String Z)) (worlds : List World) (queues : List Queue) (jobs : List (Option TenantJob)) (n : ℕ) (connections : List (ℕ × Connection)) → worlds ≡ replicate n opening_world → queues ≡ replicate n [] → jobs ≡ replicate n None → n ≡ length keys → connections ≡ []
     → ◌≡◌ {A = State} (key_texts keys, worlds, queues, connections, 0, jobs) (new_state (key_texts keys))
 new_state_is keys worlds queues jobs n connections worlds_are queues_are jobs_are n_is none =
     let count : n ≡ length (key_texts keys) = n_is ∙ sym (length_texts keys) in
     let same_worlds : worlds ≡ map (λ (key : List ℕ). opening_world) (key_texts keys) = worlds_are ∙ ap (λ k. replicate k opening_world) count ∙ sym (map-same opening_world (key_texts keys)) in
     let empty : Queue = [] in
     let same_queues : queues ≡ map (λ (key : List ℕ). empty) (key_texts keys) = queues_are ∙ ap (λ k. replicate k empty) count ∙ sym (map-same empty (key_texts keys)) in
-    let no_job : Option Job = None in
+    let no_job : Option TenantJob = None in
     let same_jobs : jobs ≡ map (λ (key : List ℕ). no_job) (key_texts keys) = jobs_are ∙ ap (λ k. replicate k no_job) count ∙ sym (map-same no_job (key_texts keys)) in
     ap (λ (ws : List World). let s : State = (key_texts keys, ws, queues, connections, 0, jobs) in s) same_worlds
     ∙ ap (λ (qs : List Queue). let s : State = (key_texts keys, map (λ (key : List ℕ). opening_world) (key_texts keys), qs, connections, 0, jobs) in s) same_queues
     ∙ ap (λ (ls : List (ℕ × Connection)). let s : State = (key_texts keys, map (λ (key : List ℕ). opening_world) (key_texts keys), map (λ (key : List ℕ). empty) (key_texts keys), ls, 0, jobs) in s) none
-    ∙ ap (λ (js : List (Option Job)). let s : State = (key_texts keys, map (λ (key : List ℕ). opening_world) (key_texts keys), map (λ (key : List ℕ). empty) (key_texts keys), [], 0, js) in s) same_jobs
+    ∙ ap (λ (js : List (Option TenantJob)). let s : State = (key_texts keys, map (λ (key : List ℕ). opening_world) (key_texts keys), map (λ (key : List ℕ). empty) (key_texts keys), [], 0, js) in s) same_jobs

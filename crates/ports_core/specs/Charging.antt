@@ -1,11 +1,11 @@
 -- What is told as spent on a request, in the turn that answers it and in the turns before.
-use Rattle.std.specs.Prelude.{◌≡◌, ℕ, ◌≤◌, MatchBool, MatchOption, List, [], ◌∷◌, slice_get, Option, Some, None}
+use Rattle.std.specs.Prelude.{◌≡◌, ℕ, ◌+◌, ◌<◌, ◌≤◌, MatchBool, MatchOption, List, [], ◌∷◌, slice_get, Option, Some, None}
 use Rattle.mk_paths.specs.World.{World}
 use Rattle.ports_index.specs.declared.spending.Spent.{Spent}
 use Rattle.ports_index.specs.Spending.{no_spending, spent_together, ChecksFew}
 use Rattle.ports_http.specs.Messages.{RequestMessage, ReplyMessage}
 use Rattle.ports_plain.specs.Questions.{question_of}
-use Rattle.ports_plain.specs.Resting.{need_of, evaluations, cost}
+use Rattle.ports_plain.specs.Resting.{need_of, evaluations, cost, most_turns}
 use Rattle.ports_plain.specs.Spending.{SpendsFor}
 use Rattle.ports_core.specs.declared.event.Event.{Event}
 use Rattle.ports_core.specs.declared.event.Event.TheVariants.{Open, Piece, End, Fault, Wrote, Turn}
@@ -13,7 +13,8 @@ use Rattle.ports_core.specs.declared.event.Told.{Told}
 use Rattle.ports_core.specs.declared.event.Tell.{Tell}
 use Rattle.ports_core.specs.Answering.{plain_request_of}
 use Rattle.ports_core.specs.Slices.{Slice}
-use Rattle.ports_core.specs.Jobs.{Job, spent_on}
+use Rattle.ports_core.specs.declared.job.Job.{Job}
+use Rattle.ports_core.specs.Jobs.{TenantJob, had_by, spent_on, one_turn_more}
 use Rattle.ports_core.specs.State.{State, slice_of, job_at}
 use Rattle.ports_core.specs.Telling.{is_failure, spent_in, CountsNone}
 
@@ -21,11 +22,17 @@ use Rattle.ports_core.specs.Telling.{is_failure, spent_in, CountsNone}
 abbrev pub Spends : World → RequestMessage → Spent → Type 0
 Spends world request spent = SpendsFor world (need_of (question_of (plain_request_of request))) spent
 
--- What may be spent on a request over a world, in all turns together: no more units than it costs, and few checks for
--- each makefile on which its answer rests.
-pub record SpendsWithin (world : World) (request : RequestMessage) (spent : Spent) : Type 0 where
-  pub units : spent.units ≤ cost world (plain_request_of request)
-  pub checks : ChecksFew (evaluations world (plain_request_of request)) spent.checks
+-- What a request over a world may have had, in all turns together, while it isn't answered. Its turns are fewer than
+-- the most that its answer may take. Its units are no more than it costs, and its checks are few for each makefile on
+-- which its answer rests.
+pub record MayHaveHad (world : World) (request : RequestMessage) (had : Job) : Type 0 where
+  pub turns : had.turns < most_turns world (plain_request_of request)
+  pub units : had.units ≤ cost world (plain_request_of request)
+  pub checks : ChecksFew (evaluations world (plain_request_of request)) had.checks
+
+-- what one turn may spend: at most 51,000 units and checks together
+abbrev pub FitsTurn : Spent → Type 0
+FitsTurn spent = spent.units + spent.checks ≤ 51000
 
 -- What is told as spent with a reply, if so much was spent before: nothing with 503. Else it is, with that together,
 -- what is spent on the request.
@@ -38,19 +45,18 @@ abbrev pub ChargesFor : ℕ → RequestMessage → ReplyMessage → Spent → Sp
 ChargesFor t request reply before spent worlds =
     (world : World) → slice_get worlds t ≡ Some world → Charges world request reply before spent
 
--- A request of this tenant isn't answered yet: no world changes, and with what was spent before no more is spent than
--- may be.
-pub record GoesOn (t : ℕ) (request : RequestMessage) (before spent : Spent) (old new : List World) : Type 0 where
+-- A request of this tenant isn't answered yet: no world changes, and with this turn it has had no more than it may.
+pub record GoesOn (t : ℕ) (request : RequestMessage) (before : Job) (spent : Spent) (old new : List World) : Type 0 where
   pub worlds : new ≡ old
-  pub within : (world : World) → slice_get old t ≡ Some world → SpendsWithin world request (spent_together before spent)
+  pub within : (world : World) → slice_get old t ≡ Some world → MayHaveHad world request (one_turn_more before spent)
 
 -- What is told as spent in a turn of a tenant with this slice and this job, if there is such a tenant. If no reply is
--- told, it is with what the job had no more than may be spent.
-abbrev pub TurnSpends : Option Slice → Option Job → Told → Type 0
+-- told, the first request has had, with this turn, no more than it may.
+abbrev pub TurnSpends : Option Slice → Option TenantJob → Told → Type 0
 TurnSpends None job told = CountsNone told
 TurnSpends (Some (world, [])) job told = CountsNone told
 TurnSpends (Some (world, first ∷ rest)) job told =
-    MatchOption told.reply (SpendsWithin world first.request (spent_together (spent_on job) (spent_in told)))
+    MatchOption told.reply (MayHaveHad world first.request (one_turn_more (had_by job) (spent_in told)))
     (λ (tell : Tell). Charges world first.request tell.reply (spent_on job) (spent_in told))
 
 -- what is told as spent in an event: only a turn spends

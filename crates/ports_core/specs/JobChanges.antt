@@ -4,7 +4,7 @@ use Rattle.ports_core.specs.declared.event.Event.{Event}
 use Rattle.ports_core.specs.declared.event.Event.TheVariants.{Open, Piece, End, Fault, Wrote, Turn}
 use Rattle.ports_core.specs.declared.event.Told.{Told}
 use Rattle.ports_core.specs.declared.queue.QueuedRequest.{QueuedRequest}
-use Rattle.ports_core.specs.Jobs.{Job, first_of, job_after, BecomesJob}
+use Rattle.ports_core.specs.Jobs.{TenantJob, first_of, job_after, BecomesJob}
 use Rattle.ports_core.specs.Telling.{spent_in}
 use Rattle.ports_core.specs.State.{State, queue_at, jobs_of, job_at}
 
@@ -13,7 +13,7 @@ abbrev pub KeepsJobs : State → State → Type 0
 KeepsJobs old new = (t : ℕ) → job_at t new ≡ job_at t old
 
 -- The job of a tenant after its turn, if this request waited longest. If none waits, there is no job.
-abbrev pub job_after_turn : Option QueuedRequest → Told → Option Job → Option Job
+abbrev pub job_after_turn : Option QueuedRequest → Told → Option TenantJob → Option TenantJob
 job_after_turn None told job = None
 job_after_turn (Some first) told job = job_after first.request told.reply (spent_in told) job
 

@@ -4,8 +4,8 @@ use Rattle.ports_core.specs.declared.event.Event.{Event}
 use Rattle.ports_core.specs.declared.event.Event.TheVariants.{Wrote}
 use Rattle.ports_core.specs.Effects.{Effect}
 use Rattle.ports_core.specs.Connections.{count_off}
-use Rattle.ports_core.specs.Telling.{CountsTurns}
-use Rattle.ports_core.specs.Charging.{EventSpends}
+use Rattle.ports_core.specs.Telling.{spent_in, CountsTurns}
+use Rattle.ports_core.specs.Charging.{EventSpends, FitsTurn}
 use Rattle.ports_core.specs.State.{State, IsAllowed, pending_at}
 use Rattle.ports_core.specs.Steps.{Does}
 use Rattle.ports_core.specs.JobChanges.{ChangesJobs}
@@ -22,6 +22,7 @@ pub record Happens (event : Event) (step : Effect) (old new : State) : Type 0 wh
   pub does : Does event step.told old new
   pub counts : CountsTurns event step.told
   pub spends : EventSpends event step.told old
+  pub short : FitsTurn (spent_in step.told)
   pub jobs : ChangesJobs event step.told old new
 
 -- these events happen one after another, with these steps

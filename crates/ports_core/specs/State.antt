@@ -6,14 +6,15 @@ use Rattle.ports_core.specs.declared.event.Event.{Event}
 use Rattle.ports_core.specs.declared.event.Event.TheVariants.{Open, Piece, End, Fault, Wrote, Turn}
 use Rattle.mk_paths.specs.World.{World, opening_world}
 use Rattle.ports_core.specs.Slices.{Slice, Queue, sliced}
-use Rattle.ports_core.specs.Jobs.{Job, job_in}
+use Rattle.ports_core.specs.declared.job.Job.{Job}
+use Rattle.ports_core.specs.Jobs.{TenantJob, job_in, had_by}
 use Rattle.ports_core.specs.Connections.{Fits, room_on}
 use Rattle.ports_core.specs.Opened.{Book, connection_in, OpenAnd}
 
 -- the tenants' keys, worlds and queues, in the order of the tenants' numbers; the open connections by their
 -- numbers; the number of the next one; and the tenants' jobs
 abbrev pub State : Type 0
-State = List (List ℕ) × List World × List Queue × List (ℕ × Connection) × ℕ × List (Option Job)
+State = List (List ℕ) × List World × List Queue × List (ℕ × Connection) × ℕ × List (Option TenantJob)
 
 abbrev pub keys_of : State → List (List ℕ)
 keys_of state = state.0
@@ -35,12 +36,16 @@ queue_at t state = slice_get (queues_of state) t
 abbrev pub slice_of : ℕ → State → Option Slice
 slice_of t state = sliced (world_at t state) (queue_at t state)
 
-abbrev pub jobs_of : State → List (Option Job)
+abbrev pub jobs_of : State → List (Option TenantJob)
 jobs_of state = state.5
 
 -- the job of a tenant, if there is one
-abbrev pub job_at : ℕ → State → Option Job
+abbrev pub job_at : ℕ → State → Option TenantJob
 job_at t state = job_in t (jobs_of state)
+
+-- what the tenant's first request has had so far: nothing, if there is no such tenant or no job
+abbrev pub had_at : ℕ → State → Job
+had_at t state = had_by (job_at t state)
 
 -- the numbers of the open connections, in rising order
 abbrev pub connections_of : State → List ℕ

@@ -10,6 +10,7 @@ ghost use Rattle.ports_core.specs.Plainly.{IsToldPlainly};
 ghost use Rattle.ports_core.specs.Alike.{own_requests, AreToldAlike};
 ghost use Rattle.ports_core.specs.Conversations.{EachConnectionConverses};
 ghost use Rattle.ports_core.specs.Isolation.{EachRunServesPlainly, EqualSlicesAreToldAlike};
+ghost use Rattle.ports_core.specs.InTime.{EachRequestIsToldInTime, EachFirstHasTurnsLeft};
 
 /// What an event does to the tenants' worlds and waiting requests. The opening or the loss of a connection
 /// changes nothing. Bytes that come or are written, or an end, add at most one request at the end of one
@@ -70,4 +71,17 @@ pub fn each_run_serves_plainly()
 /// worlds. What else the services hold changes nothing.
 pub fn equal_slices_are_told_alike()
     ensures { EqualSlicesAreToldAlike }
+{}
+
+/// Each request is told its reply within a number of its tenant's own turns. That number is 1, and one for each
+/// makefile on which the reply rests, and one for each 1,000 of the units that it costs and of the checks that may
+/// come, 1,028 for each makefile. The world is the one over which the request is answered.
+///
+/// Take a run from any state in which the first request of a tenant has had fewer turns. If no reply is told to
+/// the tenant, these turns and the tenant's own turns in the run are fewer together. This holds whatever else happens,
+/// as long as that sum is below 2^64. In each state that a run reaches from the beginning, the first request of each
+/// tenant has had fewer turns.
+pub fn each_request_is_told_in_time()
+    ensures told { EachRequestIsToldInTime }
+    ensures begun { EachFirstHasTurnsLeft }
 {}

@@ -11,6 +11,7 @@ mod connections;
 mod event;
 mod history;
 mod intake;
+mod job;
 mod keys;
 mod laws;
 mod outbox;
@@ -20,11 +21,12 @@ mod tenants;
 
 pub use event::{Event, Refused, Tell, Told};
 pub use history::{ReplayFault, Step, Transcript, replay};
+pub use job::Job;
 pub use keys::Config;
 pub use laws::{
-    each_connection_converses, each_event_changes_so_much, each_run_serves_plainly,
-    each_tenant_is_told_plainly, equal_requests_are_told_alike, equal_slices_are_told_alike,
-    one_list_is_taken,
+    each_connection_converses, each_event_changes_so_much, each_request_is_told_in_time,
+    each_run_serves_plainly, each_tenant_is_told_plainly, equal_requests_are_told_alike,
+    equal_slices_are_told_alike, one_list_is_taken,
 };
 pub use service::{NewFault, Service};
 pub use tenants::{Answer, Tenants, Worked};

@@ -8,6 +8,7 @@ use crate::connections::{
     Connections, MOST_CONNECTIONS, answer_connection, close_done, closes, hear_connection, may_hear,
 };
 use crate::event::{Event, Refused, Tell, Told};
+use crate::job::Job;
 use crate::keys::Config;
 use crate::queue::Queue;
 use crate::tenants::{Answer, Tenants, Worked};
@@ -88,11 +89,11 @@ impl<K: Tenants> Model for Service<K> {
 impl<K: Tenants> Service<K> {
     ghost use Rattle.ports_core.specs.Keys.{is_fit, key_texts};
     ghost use Rattle.ports_core.specs.Opened.{OpenAnd};
-    ghost use Rattle.ports_core.specs.State.{new_state, keys_of, slice_of, job_at, next_of, connections_of, connection_of, room_at};
-    ghost use Rattle.ports_core.specs.State.{pending_at, waiting_at, IsAllowed};
+    ghost use Rattle.ports_core.specs.State.{new_state, keys_of, slice_of, job_at, had_at, next_of, connections_of, connection_of};
+    ghost use Rattle.ports_core.specs.State.{room_at, pending_at, waiting_at, IsAllowed};
     ghost use Rattle.ports_core.specs.Connections.{Fits};
-    ghost use Rattle.ports_core.specs.Telling.{CountsNone, CountsTurns};
-    ghost use Rattle.ports_core.specs.Charging.{EventSpends, TurnSpends};
+    ghost use Rattle.ports_core.specs.Telling.{spent_in, CountsNone, CountsTurns};
+    ghost use Rattle.ports_core.specs.Charging.{EventSpends, FitsTurn, TurnSpends};
     ghost use Rattle.ports_core.specs.JobChanges.{ChangesJobs, KeepsJobs, TurnsJob};
     ghost use Rattle.ports_core.specs.Steps.{Does, Opens, Hears, Turns};
 
@@ -185,6 +186,13 @@ impl<K: Tenants> Service<K> {
         }
     }
 
+    /// What a tenant's first request has had so far; nothing if none waits or there is no such tenant.
+    pub fn job(&self, tenant: usize) -> Job
+        ensures { result ≡ had_at tenant self.now }
+    {
+        self.worlds.job(tenant)
+    }
+
     /// Whether an event may happen now.
     pub fn allows(&self, event: &Event) -> bool
         ensures { IsTrue result ↔ IsAllowed event.now self.now }
@@ -199,12 +207,14 @@ impl<K: Tenants> Service<K> {
         }
     }
 
-    /// Carries out an event that is allowed now, and gives what it tells.
+    /// Carries out an event that is allowed now, and gives what it tells. The units and checks that it tells are at
+    /// most 51,000 together.
     pub fn step(&mut self, event: &Event) -> Told
         requires { IsAllowed event.now self.old }
         ensures does { Does event.now result self.old self.new }
         ensures counts { CountsTurns event.now result }
         ensures spends { EventSpends event.now result self.old }
+        ensures short { FitsTurn (spent_in result) }
         ensures jobs { ChangesJobs event.now result self.old self.new }
     {
         match event {
@@ -257,6 +267,7 @@ impl<K: Tenants> Service<K> {
         ensures turns { Turns tenant result self.old self.new }
         ensures counts { CountsTurns (Event.Turn tenant) result }
         ensures spends { TurnSpends (slice_of tenant self.old) (job_at tenant self.old) result }
+        ensures short { FitsTurn (spent_in result) }
         ensures jobs { TurnsJob tenant result self.old self.new }
     {
         let queue = &mut self.queues[tenant];

@@ -2,10 +2,11 @@
 ghost use Rattle.std.specs.Prelude.{◌≡◌, ◌<◌, true, List, Option, None, length, replicate, IfOk, IfSome, IfNone};
 ghost use Rattle.mk_paths.specs.World.{World, opening_world};
 ghost use Rattle.ports_core.specs.Answering.{AnswersFor, AreBytesOf};
-ghost use Rattle.ports_core.specs.Charging.{ChargesFor, GoesOn};
-ghost use Rattle.ports_core.specs.Jobs.{Job, job_in, spent_on, job_after, IsForRequest, BecomesJob};
+ghost use Rattle.ports_core.specs.Charging.{ChargesFor, FitsTurn, GoesOn};
+ghost use Rattle.ports_core.specs.Jobs.{TenantJob, job_in, had_by, spent_on, job_after, IsForRequest, BecomesJob};
 ghost use Rattle.ports_core.specs.Keys.{is_fit};
 
+use crate::job::Job;
 use crate::keys::Config;
 use mk_paths::FilesFault;
 use ports_http::{Reply, Request};
@@ -28,17 +29,17 @@ pub struct Worked {
     /// The answer; `None` if what was begun for the request isn't at its end.
     pub reply: Option<Answer>,
     /// What was spent in this turn: units on lines, records and values, and answers checked of evaluations that
-    /// were kept. Nothing with 503.
+    /// were kept. Nothing with 503. It is at most 51,000 units and checks together.
     pub spent: Spent,
 }
 
 /// The world of each tenant, by the tenants' numbers, wherever these worlds are kept, and the plain service
 /// over one of them. `worlds` is the list of the worlds. `jobs` has for each tenant what is under way, if
-/// anything is: for which request, and what was spent on it so far.
+/// anything is: for which request, and what this has had so far, in turns, units and checks.
 pub trait Tenants: Sized + Drop {
     ghost worlds: { Self → List World };
 
-    ghost jobs: { Self → List (Option Job) };
+    ghost jobs: { Self → List (Option TenantJob) };
 
     /// The worlds of the tenants whose keys a config has, as each begins, with nothing under way.
     ///
@@ -55,7 +56,9 @@ pub trait Tenants: Sized + Drop {
     ///
     /// Without an answer the request's work goes on in later turns. No world changes, and the tenant's job is for
     /// this request. What was spent on it so far is no more units than the request costs, and at most 1,028 checks
-    /// for each makefile on which the reply rests.
+    /// for each makefile on which the reply rests. The turns that it has had stay below 1, and one for each of these
+    /// makefiles, and one for each 1,000 of the units that it costs and of the checks that may come. So many turns
+    /// are the most for a request, up to its answer.
     ///
     /// With an answer nothing is under way any more. Its bytes are made before the world changes. If what keeps the
     /// worlds fails, or there is no memory, the world is unchanged. Then the reply is the fixed one that says so,
@@ -64,6 +67,8 @@ pub trait Tenants: Sized + Drop {
     /// In all turns together a request that asks for the index spends at most the units that it costs. Any other
     /// spends just these. Or the one evaluation that it needs was kept: then at least one answer is checked, and the
     /// evaluation's units aren't spent. At most 1,028 answers are checked for each makefile on which the reply rests.
+    ///
+    /// No turn spends more than 51,000 units and checks together.
     fn work(&mut self, alloc: Global, tenant: usize, request: &Request, close: bool) -> Worked
         requires there { tenant < length (worlds self.old) }
         requires for_request { IsForRequest request.now (job_in tenant (jobs self.old)) }
@@ -73,12 +78,17 @@ pub trait Tenants: Sized + Drop {
             (spent_on (job_in tenant (jobs self.old))) result.spent (worlds self.old)) }
         ensures bytes { IfSome result.reply (λ answer. AreBytesOf answer.reply close answer.bytes) }
         ensures goes_on { IfNone result.reply (GoesOn tenant request.now
-            (spent_on (job_in tenant (jobs self.old))) result.spent
+            (had_by (job_in tenant (jobs self.old))) result.spent
             (worlds self.old) (worlds self.new)) }
+        ensures short { FitsTurn result.spent }
         ensures job { BecomesJob tenant (job_after request.now result.reply result.spent
             (job_in tenant (jobs self.old))) (jobs self.old) (jobs self.new) }
         ensures count { length (worlds self.new) ≡ length (worlds self.old) }
         ensures job_count { length (jobs self.new) ≡ length (jobs self.old) };
+
+    /// What a tenant's job has had so far: nothing, if nothing is under way, or if there is no such tenant.
+    fn job(&self, tenant: usize) -> Job
+        ensures { result ≡ had_by (job_in tenant (jobs self.now)) };
 
     /// Limits the steps of each later statement of what keeps the worlds, or removes the limit. A request
     /// whose statement would take more is answered 503. It changes no world and no job.

@@ -1,16 +1,16 @@
 -- What the answer to a request rests on: which makefiles are evaluated for it, and what that costs.
-use Rattle.std.specs.Prelude.{ℕ, List, [], length, Option, Some, None, option_map, option_to_list, Result, Ok, Err}
+use Rattle.std.specs.Prelude.{ℕ, ◌+◌, ◌*◌, ◌/◌, List, [], length, Option, Some, None, option_map, option_to_list, Result, Ok, Err}
 use Rattle.mk_paths.specs.Place.{place}
 use Rattle.mk_paths.specs.World.{World}
+pub use Rattle.mk_eval.specs.Costs.{value_units}
 use Rattle.mk_eval.specs.Meaning.{means, value_of}
-use Rattle.mk_eval.specs.Expanded.{Expanded, value_cost}
 use Rattle.mk_eval.specs.declared.outcome.Evaluated.{Evaluated}
 use Rattle.mk_eval.specs.declared.outcome.Failed.{Failed}
 use Rattle.mk_eval.specs.declared.outcome.Kind.{Kind}
 use Rattle.mk_eval.specs.declared.outcome.Kind.TheVariants as kinds
 use Rattle.pkg_path.specs.Paths.{PathValue}
+pub use Rattle.port_rules.specs.Records.{record_units}
 use Rattle.port_rules.specs.Records.{record_of}
-use Rattle.port_rules.specs.declared.recording.Recorded.{Recorded}
 use Rattle.ports_index.specs.PathOutcomes.{with_cost}
 use Rattle.ports_index.specs.Efforts.{cost_over}
 use Rattle.ports_index.specs.Index.{needed_paths}
@@ -53,16 +53,6 @@ rests_for world (ValueNeed asked) = option_to_list (pair_of world asked.path)
 rests_for world (RecordNeed path) = option_to_list (pair_of world path)
 rests_for world RootsNeed = pairs_at world (needed_paths world)
 rests_for world IndexNeed = pairs_at world (needed_paths world)
-
--- the units of a value, up to its fault if it has one
-abbrev pub value_units : Result (Option Expanded) Failed → ℕ
-value_units (Ok value) = value_cost value
-value_units (Err failed) = failed.cost
-
--- the units of a record, up to its fault if it has one
-abbrev pub record_units : Result Recorded Failed → ℕ
-record_units (Ok recorded) = recorded.cost
-record_units (Err failed) = failed.cost
 
 -- the units of an evaluation, and then those of a variable's value
 abbrev pub value_cost_after : List ℕ → List ℕ → Result Evaluated Failed → ℕ
@@ -118,3 +108,13 @@ evaluations world request = length (rests world request)
 
 abbrev pub cost : World → PlainRequest → ℕ
 cost world request = cost_for world (need_of (question_of request))
+
+-- Within so many of its tenant's own turns a request that needs this is told its reply: one for that, one for each
+-- makefile that is evaluated, and one for each 1,000 of the units that it costs and the answers that may be checked.
+abbrev pub turns_for : World → Need → ℕ
+turns_for world need =
+    1 + length (rests_for world need) + (cost_for world need + 1028 * length (rests_for world need)) / 1000
+
+-- the same of what a request needs
+abbrev pub most_turns : World → PlainRequest → ℕ
+most_turns world request = turns_for world (need_of (question_of request))

@@ -18,13 +18,12 @@ use Rattle.index_keep.specs.Right.{DifferAt}
 use Rattle.index_keep.specs.Keeping.{IsKept, rows_of, begun_in, refresh_of}
 use Rattle.index_keep.specs.Shown.{ShowsSame}
 use Rattle.index_keep.specs.Turns.{RefreshView, refresh_at}
-use Rattle.kept_ports.specs.Pending.{IsPendingFor}
 use Rattle.index_store.specs.PortTable.{stored_by}
 use Rattle.tenant_store.specs.Holdings.{Holdings, files_of, path_of, ChangesFiles}
 use Rattle.index_store.specs.PortTable.{Entry}
 use Rattle.index_keep.specs.declared.keeper.Keeper.{Keeper}
 use Rattle.tenant_worlds.specs.declared.tenant.Tenant.{Tenant}
-use Rattle.tenant_worlds.specs.Kept.{IsTenantOf, AreTenantsOf, asked_by}
+use Rattle.tenant_worlds.specs.Kept.{IsJobOver, IsTenantOf, AreTenantsOf}
 use Rattle.tenant_worlds.specs.Stored.{world_in, KeepsOtherWorlds}
 
 pub get-set_same : {A : Type 0} (items : List A) (t : ℕ) (item : A) → t < length items → slice_get (slice_set items t item) t ≡ Some item
@@ -100,7 +99,7 @@ limited world tenant keeper rows begun kept is =
     let same : refresh_of stored_by keeper ≡ refresh_of stored_by tenant.keeper = λ i. refresh_at (λ path. rows path i) (begun i) in
     record {
       keeper = kept is.keeper;
-      pending = subst (λ (refresh : RefreshView). IfSome tenant.job (λ job. IsPendingFor world refresh (asked_by job.asked) job.under_way)) (sym same) is.pending;
+      pending = subst (λ (refresh : RefreshView). IfSome tenant.job (IsJobOver world refresh)) (sym same) is.pending;
     }
 
 apart_from : (name file : List ℕ) → bytes_eq name file ≡ false → eq_by_cmp (slice_cmp nat_cmp) file name ≡ false

@@ -15,7 +15,8 @@ use Rattle.ports_plain.specs.Changing.{settle_change}
 use Rattle.ports_plain.specs.Plain.{PlainRequest, Served, plain, answer}
 use Rattle.tenant_store.specs.Holdings.{Holdings, nothing, files_of, path_of}
 use Rattle.ports_core.specs.Answering.{Answers, AnswersFor, plain_request_of, plain_answer}
-use Rattle.ports_core.specs.Charging.{Spends, SpendsWithin, Charges, ChargesFor, GoesOn}
+use Rattle.ports_core.specs.Charging.{Spends, MayHaveHad, Charges, ChargesFor, GoesOn}
+use Rattle.ports_core.specs.Jobs.{TenantJob, had_by, one_turn_more, spent_on}
 use Rattle.ports_core.specs.declared.tenants.Answer.{Answer}
 use Rattle.ports_core.specs.Keys.{is_size, is_key, are_apart, key_texts, is_fit}
 use Rattle.ports_core.specs.Telling.{is_failure}
@@ -67,10 +68,10 @@ world_there held count t within =
     slice_get-map (world_in held) (range_with_len 0 count) t
     ∙ ap (option_map (world_in held)) (slice_get-get_or (range_with_len 0 count) t 0 inside ∙ ap Some (get_or-range_with_len 0 count t 0 within ∙ zero_plus t))
 
-within_is : (u count : ℕ) → nat_lt u count ≡ true → u < count
+pub within_is : (u count : ℕ) → nat_lt u count ≡ true → u < count
 within_is u count is = grind (arith, nat_tests)
 
-past_is : (u count : ℕ) → nat_lt u count ≡ false → count ≤ u
+pub past_is : (u count : ℕ) → nat_lt u count ≡ false → count ≤ u
 past_is u count is = grind (arith, nat_tests)
 
 world_kept : (old new : Holdings) (count t u : ℕ) → KeepsOtherWorlds t old new → u ≢ t → slice_get (worlds_in new count) u ≡ slice_get (worlds_in old count) u
@@ -117,26 +118,26 @@ charges world after request reply before spent never is spends =
     subst (λ failed. MatchBool failed (spent ≡ no_spending) (Spends world request (spent_together before spent))) (sym fine) spends
 
 -- what was spent with an answer is what is told
-pub work_charges : (held : Holdings) (after : World) (count t : ℕ) (request : RequestMessage) (reply : Option Answer) (before spent : Spent) → t < count
+pub work_charges : (held : Holdings) (after : World) (count t : ℕ) (request : RequestMessage) (reply : Option Answer) (job : Option TenantJob) (spent : Spent) → t < count
     → ((world : World) (request : PlainRequest) → ((plain world request).0.status == 503) ≡ false)
     → AnswersOver (world_in held t) after request reply
-    → ChargesOver (world_in held t) request before reply spent
-    → IfSome reply (λ answer. ChargesFor t request answer.reply before spent (worlds_in held count))
-work_charges held after count t request None before spent within never answers charged = tt
-work_charges held after count t request (Some answer) before spent within never answers charged = λ world there.
-    subst (λ (w : World). Charges w request answer.reply before spent) (this_world held count t world within there)
-    (charges (world_in held t) after request answer.reply before spent never answers charged)
+    → ChargesOver (world_in held t) request job reply spent
+    → IfSome reply (λ answer. ChargesFor t request answer.reply (spent_on job) spent (worlds_in held count))
+work_charges held after count t request None job spent within never answers charged = tt
+work_charges held after count t request (Some answer) job spent within never answers charged = λ world there.
+    subst (λ (w : World). Charges w request answer.reply (spent_on job) spent) (this_world held count t world within there)
+    (charges (world_in held t) after request answer.reply (spent_on job) spent never answers charged)
 
--- without an answer no world changes, and no more is spent than may be
-pub work_goes_on : (old new : Holdings) (count count_after t : ℕ) (request : RequestMessage) (reply : Option Answer) (before spent : Spent) → t < count → count_after ≡ count
+-- without an answer no world changes, and the request has had no more than it may
+pub work_goes_on : (old new : Holdings) (count count_after t : ℕ) (request : RequestMessage) (reply : Option Answer) (job : Option TenantJob) (spent : Spent) → t < count → count_after ≡ count
     → IfNone reply (new ≡ old)
-    → ChargesOver (world_in old t) request before reply spent
-    → IfNone reply (GoesOn t request before spent (worlds_in old count) (worlds_in new count_after))
-work_goes_on old new count count_after t request None before spent within same silent charged = record {
+    → ChargesOver (world_in old t) request job reply spent
+    → IfNone reply (GoesOn t request (had_by job) spent (worlds_in old count) (worlds_in new count_after))
+work_goes_on old new count count_after t request None job spent within same silent charged = record {
   worlds = ap (λ held. worlds_in held count_after) silent ∙ ap (worlds_in old) same;
-  within = λ world there. subst (λ (w : World). SpendsWithin w request (spent_together before spent)) (this_world old count t world within there) charged;
+  within = λ world there. subst (λ (w : World). MayHaveHad w request (one_turn_more (had_by job) spent)) (this_world old count t world within there) charged;
 }
-work_goes_on old new count count_after t request (Some answer) before spent within same silent charged = tt
+work_goes_on old new count count_after t request (Some answer) job spent within same silent charged = tt
 
 few_of : (parses evals all apart : Bool) (n : ℕ) → (parses && evals && (nat_le 1 n && nat_le n 64 && all && apart)) ≡ true → n ≤ 64
 few_of true true true true n fit = grind (arith, nat_tests)

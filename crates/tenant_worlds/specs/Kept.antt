@@ -1,17 +1,22 @@
 -- The tenants: the indexes of their worlds, as their keepers have them, and what is under way for their requests.
-use Rattle.std.specs.Prelude.{◌≡◌, ℕ, ◌≤◌, List, length, map, replicate, slice_get, string_bytes, Option, Some, None, option_map, IfSome}
+use Rattle.std.specs.Prelude.{◌≡◌, ℕ, ◌≤◌, ◌<◌, ◌+◌, List, length, map, replicate, slice_get, string_bytes}
+use Rattle.std.specs.Prelude.{Option, Some, None, option_map, IfSome}
 use Rattle.mk_paths.specs.World.{World}
 use Rattle.ports_plain.specs.Plain.{PlainRequest, plain_request}
+use Rattle.ports_plain.specs.Questions.{question_of}
+use Rattle.ports_plain.specs.Resting.{most_turns}
 use Rattle.ports_http.specs.Messages.{RequestMessage}
 use Rattle.ports_core.specs.Answering.{plain_request_of}
 use Rattle.ports_core.specs.Jobs as jobs
 use Rattle.ports_core.specs.Jobs.{job_in}
 use Rattle.index_store.specs.PortTable.{stored_by}
 use Rattle.index_keep.specs.Keeping.{IsKept, refresh_of}
+use Rattle.index_keep.specs.Turns.{RefreshView}
 use Rattle.tenant_store.specs.Holdings.{Holdings}
 use Rattle.kept_ports.specs.Pending.{IsPendingFor}
+use Rattle.kept_ports.specs.TurnsLeft.{turns_left}
 use Rattle.tenant_worlds.specs.declared.tenant.AskedRequest.{AskedRequest}
-use Rattle.tenant_worlds.specs.declared.tenant.Job.{Job}
+use Rattle.tenant_worlds.specs.declared.tenant.TenantJob.{TenantJob}
 use Rattle.tenant_worlds.specs.declared.tenant.Tenant.{Tenant}
 use Rattle.tenant_worlds.specs.Stored.{world_in}
 
@@ -21,7 +26,7 @@ asked_by asked = plain_request asked.method (string_bytes asked.target) asked.bo
 
 -- a job as it is kept
 abbrev pub KeptJob : Type 0
-KeptJob = Job
+KeptJob = TenantJob
 
 -- what a request asks, by its copy if there is one
 abbrev pub asked_or : Option AskedRequest → RequestMessage → PlainRequest
@@ -29,29 +34,43 @@ asked_or None request = plain_request_of request
 asked_or (Some asked) request = asked_by asked
 
 -- what a contract sees of a job
-abbrev pub seen_job : Job → jobs.Job
-seen_job job = record { request = asked_by job.asked; spent = job.under_way.spent }
+abbrev pub seen_job : TenantJob → jobs.TenantJob
+seen_job job = record {
+  request = asked_by job.asked;
+  had = record { turns = job.turns; units = job.under_way.spent.units; checks = job.under_way.spent.checks };
+}
 
 -- what is under way for a tenant, if anything is
-abbrev pub job_of : Tenant → Option jobs.Job
+abbrev pub job_of : Tenant → Option jobs.TenantJob
 job_of tenant = option_map seen_job tenant.job
 
--- The keeper is right about the tenant's world. What is under way is for the job's request, over this world.
+-- the turns that the request of a job has had; none, if there is no job
+abbrev pub turns_had : Option TenantJob → ℕ
+turns_had None = 0
+turns_had (Some job) = job.turns
+
+-- What is under way is for the job's request, by how far the refresh of the index is. With the turns that it has had, the
+-- turns that may follow without an answer are fewer than those within which it is told its reply.
+pub record IsJobOver (world : World) (refresh : RefreshView) (job : TenantJob) : Type 0 where
+  pub pending : IsPendingFor world refresh (asked_by job.asked) job.under_way
+  pub in_time : job.turns + turns_left world refresh (question_of (asked_by job.asked)) job.under_way
+      < most_turns world (asked_by job.asked)
+
+-- The keeper is right about the tenant's world, and the job is one over this world.
 pub record IsTenantOf (world : World) (tenant : Tenant) : Type 0 where
   pub keeper : IsKept stored_by world tenant.keeper
-  pub pending : IfSome tenant.job (λ job.
-      IsPendingFor world (refresh_of stored_by tenant.keeper) (asked_by job.asked) job.under_way)
+  pub pending : IfSome tenant.job (IsJobOver world (refresh_of stored_by tenant.keeper))
 
 -- each tenant is the one of its world
 abbrev pub AreTenantsOf : (ℕ → World) → List Tenant → Type 0
 AreTenantsOf worlds tenants = (t : ℕ) (tenant : Tenant) → slice_get tenants t ≡ Some tenant → IsTenantOf (worlds t) tenant
 
 -- the jobs of the tenants, by the tenants' numbers
-abbrev pub jobs_of : List Tenant → List (Option jobs.Job)
+abbrev pub jobs_of : List Tenant → List (Option jobs.TenantJob)
 jobs_of tenants = map job_of tenants
 
 -- the job of the tenant with this number
-abbrev pub job_at : ℕ → List Tenant → Option jobs.Job
+abbrev pub job_at : ℕ → List Tenant → Option jobs.TenantJob
 job_at number tenants = job_in number (jobs_of tenants)
 
 -- no tenant has a job

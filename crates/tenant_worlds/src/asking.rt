@@ -31,6 +31,7 @@ impl Asking<'_> {
     ghost use Rattle.index_store.specs.PortTable.{stored_by};
     ghost use Rattle.kept_ports.specs.Calls.{request_of};
     ghost use Rattle.kept_ports.specs.Pending.{TurnsRequest, spent_before};
+    ghost use Rattle.kept_ports.specs.TurnsLeft.{LeavesFewerFor, SpendsFew};
     ghost use Rattle.tenant_store.specs.Holdings.{files_of};
     ghost use Rattle.tenant_worlds.specs.Prepared.{world_asked, IsReady};
 
@@ -41,6 +42,11 @@ impl Asking<'_> {
             (TurnsRequest (world_asked (files_of tenant store.old) self.old)
             (refresh_of stored_by self.new.keeper.now) (request_of self.old.call)
             (spent_before self.old.turn.now.under_way)) }
+        ensures fewer { IfOk self.new.turn.now.turned
+            (LeavesFewerFor (world_asked (files_of tenant store.old) self.old)
+            (refresh_of stored_by self.old.keeper.now) (refresh_of stored_by self.new.keeper.now)
+            (request_of self.old.call) self.old.turn.now.under_way) }
+        ensures short { IfOk self.new.turn.now.turned SpendsFew }
         ensures kept { IsKept stored_by (world_asked (files_of tenant store.old) self.old)
             self.new.keeper.now }
         ensures same_keeper { self.new.keeper.ghost_name ≡ self.old.keeper.ghost_name }

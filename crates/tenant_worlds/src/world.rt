@@ -7,12 +7,13 @@ ghost use Rattle.index_store.specs.PortTable.{stored_by};
 ghost use Rattle.index_keep.specs.Keeping.{IsKept, refresh_of};
 ghost use Rattle.kept_ports.specs.Calls.{request_of};
 ghost use Rattle.kept_ports.specs.Pending.{IsPendingFor, TurnsRequest, spent_before};
+ghost use Rattle.kept_ports.specs.TurnsLeft.{LeavesFewerFor, SpendsFew};
 ghost use Rattle.tenant_worlds.specs.Kept.{IsTenantOf, job_of};
 ghost use Rattle.tenant_worlds.specs.Turning.{WorksOn};
 ghost use Rattle.tenant_worlds.specs.Stored.{world_in, KeepsOtherWorlds};
 
 use crate::asking::{Asking, Turn};
-use crate::tenant::{Job, Tenant};
+use crate::tenant::{Tenant, TenantJob};
 use eval_cache::EvalCache;
 use index_keep::Keeper;
 use index_store::IndexStore;
@@ -57,13 +58,14 @@ pub(crate) fn take_turn(
     ensures tenant { IsTenantOf (world_in store.new number) tenant.new }
 {
     questions_have_the_answers();
-    let (asked, under_way) = Job::parts(tenant.job.take());
+    let (asked, turns, under_way) = TenantJob::parts(tenant.job.take());
     let settings = store.settings(alloc, number)?;
     let call = call_of(incoming.plain, &settings, incoming.request);
     let keeper = &mut tenant.keeper;
     match turn_over(alloc, store, keeper, cache, number, &call, under_way)? {
         CallTurned::More(under_way, spent) => {
-            tenant.job = Some(Job::going_on(alloc, asked, incoming.request, under_way)?);
+            let request = incoming.request;
+            tenant.job = Some(TenantJob::going_on(alloc, asked, turns, request, under_way)?);
             Ok(Worked { reply: None, spent })
         }
         CallTurned::Done(prepared, spent) => {
@@ -94,6 +96,11 @@ fn turn_over<'x>(
     ensures turned { IfOk result (TurnsRequest
         ((world_in store.old tenant).0, call.now.settings.now)
         (refresh_of stored_by keeper.new) (request_of call.now) (spent_before under_way)) }
+    ensures fewer { IfOk result (LeavesFewerFor
+        ((world_in store.old tenant).0, call.now.settings.now)
+        (refresh_of stored_by keeper.old) (refresh_of stored_by keeper.new)
+        (request_of call.now) under_way) }
+    ensures short { IfOk result SpendsFew }
     ensures kept { IsKept stored_by
         ((world_in store.old tenant).0, call.now.settings.now) keeper.new }
     ensures same { store.new ≡ store.old }

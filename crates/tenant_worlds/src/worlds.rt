@@ -4,7 +4,7 @@ use crate::tenants::{limit_tenants, open_tenants, turn_at};
 use crate::world::Incoming;
 use eval_cache::EvalCache;
 use mk_paths::FilesFault;
-use ports_core::{Answer, Config, Tenants, Worked};
+use ports_core::{Answer, Config, Job, Tenants, Worked};
 use ports_http::{Reply, Request};
 use ports_index::Spent;
 use ports_plain::{Plain, never_answers_503};
@@ -27,11 +27,11 @@ pub struct StoredTenants {
 impl Model for StoredTenants {
     ghost use Rattle.std.specs.Prelude.{List, Option, length, map};
     ghost use Rattle.mk_paths.specs.World.{World};
-    ghost use Rattle.ports_core.specs.Jobs.{Job};
+    ghost use Rattle.ports_core.specs.Jobs.{TenantJob};
     ghost use Rattle.tenant_worlds.specs.Stored.{worlds_in};
     ghost use Rattle.tenant_worlds.specs.Kept.{IsKeptBy, job_of};
 
-    ghost Value = { List World × List (Option Job) };
+    ghost Value = { List World × List (Option TenantJob) };
 
     ghost use Rattle.std.specs.Coded.{coded×, coded_list};
     ghost use Rattle.tenant_worlds.specs.Codes.{jobs_code};
@@ -85,6 +85,13 @@ impl Tenants for StoredTenants {
                 }),
                 spent: Spent::nothing(),
             },
+        }
+    }
+
+    fn job(&self, tenant: usize) -> Job {
+        match self.tenants.get(tenant) {
+            Some(tenant) => tenant.had(),
+            None => Job::nothing(),
         }
     }
 

@@ -87,6 +87,8 @@ pub fn answer(
         "DELETE" => asked_answer(alloc, service, Method::Delete, given),
         "units" => units_answer(alloc, service, given),
         "turns" | "turns stopped in" => turns::turns_answer(alloc, service, given),
+        "jobs" => turns::jobs_answer(alloc, service, given),
+        "job while" => turns::job_while_answer(alloc, service, given),
         "fill" => fill(alloc, service, given),
         "PUT stopped by" => stopped(alloc, service, Method::Put, given),
         "DELETE stopped by" => stopped(alloc, service, Method::Delete, given),
@@ -152,13 +154,23 @@ pub fn ask_within(
     request: CaseRequest<'_>,
     limit: Limit,
 ) -> Result<Counted, Trouble> {
+    let conn = send(alloc, service, request)?;
+    let counted = take_turns(alloc, service, request.tenant, limit)?;
+    let _lost = happen(service, &Event::Fault(conn))?;
+    Ok(counted)
+}
+
+/// Sends a request on a new connection, whose number it gives.
+pub fn send(
+    alloc: Global,
+    service: &mut StoredService,
+    request: CaseRequest<'_>,
+) -> Result<u64, Trouble> {
     let conn = service.next_conn();
     let piece = Event::Piece(conn, stream_of(alloc, request)?);
     let _opened = happen(service, &Event::Open(conn))?;
     let _came = happen(service, &piece)?;
-    let counted = take_turns(alloc, service, request.tenant, limit)?;
-    let _lost = happen(service, &Event::Fault(conn))?;
-    Ok(counted)
+    Ok(conn)
 }
 
 /// What an event tells.

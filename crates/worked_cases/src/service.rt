@@ -17,6 +17,12 @@ use std::alloc::{AllocError, Global};
 use std::fmt::Write;
 use tenant_worlds::StoredTenants;
 
+/// A turn acts while it has spent fewer than so many units and checked answers.
+const TURN_UNITS: u64 = 1_000;
+
+/// The most answers that are checked for one makefile.
+const MOST_CHECKS: u64 = 1_028;
+
 /// The service over worlds in one store.
 pub type StoredService = Service<StoredTenants>;
 
@@ -165,6 +171,19 @@ pub fn rests(alloc: Global, world: &mut World, given: &[Vec<u8>]) -> Result<Answ
     let mut answer = Answer::new(alloc);
     answer.number(effort.evaluations);
     answer.number(effort.units);
+    Ok(answer)
+}
+
+/// `bound TARGET`: within how many of its tenant's own turns a GET over the world is told its reply. That is one turn, one
+/// for each makefile on which it rests, and one for each 1,000 of its units and of the checks that may come.
+pub fn bound(alloc: Global, world: &mut World, given: &[Vec<u8>]) -> Result<Answer, Trouble> {
+    let plain = Plain::new(alloc)?;
+    let question = plain.question(alloc, Method::Get, one_text(given)?, &[])?;
+    let effort = effort_for(alloc, &mut world.files, &world.settings, &question)?;
+    let checks = effort.evaluations.saturating_mul(MOST_CHECKS);
+    let turns = effort.units.saturating_add(checks) / TURN_UNITS;
+    let mut answer = Answer::new(alloc);
+    answer.number(turns.saturating_add(effort.evaluations).saturating_add(1));
     Ok(answer)
 }
 

@@ -77,6 +77,7 @@ impl<N: Net> Bench for Subjects<'_, N> {
             "PUT" => service::request(alloc, &mut self.setup.world, Method::Put, given),
             "DELETE" => service::request(alloc, &mut self.setup.world, Method::Delete, given),
             "rests" => service::rests(alloc, &mut self.setup.world, given),
+            "bound" => service::bound(alloc, &mut self.setup.world, given),
             "stream" => service::stream(alloc, given),
             "stream by bytes" => service::stream_by_bytes(alloc, given),
             "reply file" => service::file_reply(alloc, given),

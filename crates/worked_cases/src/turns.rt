@@ -1,9 +1,9 @@
 //! The turns that a request takes: what each tells, with the store's steps limited in some of them.
-use crate::served::{CaseRequest, ask, ask_within, happen};
+use crate::served::{CaseRequest, ask, ask_within, happen, send};
 use crate::service::StoredService;
 use case_lines::{Answer, Trouble, as_number};
 use http::StatusCode;
-use ports_core::{Event, Tell};
+use ports_core::{Event, Job, Tell};
 use ports_http::{Method, Reply};
 use std::alloc::Global;
 use store_cases::MOST_LIMITS;
@@ -31,11 +31,12 @@ impl Limit {
     }
 }
 
-/// What a turn tells as spent.
+/// What a turn tells as spent, and what the tenant's first request has had after it.
 #[derive(Clone, Copy)]
 pub struct TurnCost {
     units: u64,
     checks: u64,
+    had: Job,
 }
 
 /// A reply, and what each turn of its request tells as spent.
@@ -88,6 +89,7 @@ pub fn take_turns(
         turns.push(TurnCost {
             units: told.units,
             checks: told.checks,
+            had: service.job(tenant),
         })?;
         if let Some(Tell { reply, .. }) = told.reply {
             return Ok(Counted { reply, turns });
@@ -117,6 +119,58 @@ pub fn turns_answer(
         answer.number(turn.checks);
     }
     Ok(answer)
+}
+
+/// `service jobs TENANT TARGET`: the status of a GET, and after each of its turns what the tenant's first request has
+/// had: turns, units and checked answers.
+pub fn jobs_answer(
+    alloc: Global,
+    service: &mut StoredService,
+    given: &[Vec<u8>],
+) -> Result<Answer, Trouble> {
+    let [tenant, target] = given else {
+        return Err(Trouble::NoCase);
+    };
+    let request = CaseRequest::read(Method::Get, tenant, target, &[])?;
+    let told = ask_within(alloc, service, request, Limit::Never)?;
+    let mut answer = Answer::of_word(alloc, told.reply.status.as_str());
+    for turn in told.turns.iter() {
+        add_job(&mut answer, turn.had);
+    }
+    Ok(answer)
+}
+
+/// `service job TENANT TARGET while TENANT TARGET`: a GET that has had one turn, while another one is asked and told.
+/// It gives `kept`, if the second GET changed nothing of what the first has had, and else `changed`; what the first has
+/// had after its first turn; how many turns the second took, and how many more the first.
+pub fn job_while_answer(
+    alloc: Global,
+    service: &mut StoredService,
+    given: &[Vec<u8>],
+) -> Result<Answer, Trouble> {
+    let [tenant, target, other_tenant, other_target] = given else {
+        return Err(Trouble::NoCase);
+    };
+    let first = CaseRequest::read(Method::Get, tenant, target, &[])?;
+    let other = CaseRequest::read(Method::Get, other_tenant, other_target, &[])?;
+    let _conn = send(alloc, service, first)?;
+    let _told = happen(service, &Event::Turn(first.tenant))?;
+    let had = service.job(first.tenant);
+    let between = ask_within(alloc, service, other, Limit::Never)?;
+    let is_kept = service.job(first.tenant) == had;
+    let rest = take_turns(alloc, service, first.tenant, Limit::Never)?;
+    let mut answer = Answer::of_word(alloc, if is_kept { "kept" } else { "changed" });
+    add_job(&mut answer, had);
+    answer.number(between.turns.len() as u64);
+    answer.number(rest.turns.len() as u64);
+    Ok(answer)
+}
+
+/// Adds the three counts of a job to an answer.
+fn add_job(answer: &mut Answer, had: Job) {
+    answer.number(had.turns);
+    answer.number(had.units);
+    answer.number(had.checks);
 }
 
 /// The place of a turn whose number counts from 1.

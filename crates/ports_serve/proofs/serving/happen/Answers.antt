@@ -5,5 +5,13 @@ use Rattle.ports_serve.proofs.serving.happen.Goals as goal
 pub returns : goal.returns
 returns g c =
     happens_on g.W.Wire.after c.args.wire.now c.shut_unopened.new.wire c.shut_closed.new.wire c.args.service.now c.step-told.new.self c.args.event.now c.step-told.result
-    (record { allowed = c.requires; sent = refl; does = c.step-told.ensures.does; counts = c.step-told.ensures.counts; spends = c.step-told.ensures.spends; jobs = c.step-told.ensures.jobs })
+    (record {
+      allowed = c.requires;
+      sent = refl;
+      does = c.step-told.ensures.does;
+      counts = c.step-told.ensures.counts;
+      spends = c.step-told.ensures.spends;
+      short = c.step-told.ensures.short;
+      jobs = c.step-told.ensures.jobs;
+    })
     c.shut_unopened.ensures c.shut_closed.ensures

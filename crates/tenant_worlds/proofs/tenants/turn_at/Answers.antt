@@ -1,6 +1,6 @@
 -- The tenant with this number is the one that changes.
 use Rattle.std.proofs.Common.{◌∙◌, subst, sym, get_or, Option}
-use Rattle.ports_core.specs.Jobs.{Job, IsForRequest}
+use Rattle.ports_core.specs.Jobs.{TenantJob, IsForRequest}
 use Rattle.std.specs.Prelude.{slice_set}
 use Rattle.tenant_worlds.specs.Kept.{job_of, job_at}
 use Rattle.tenant_worlds.specs.Stored.{world_in}
@@ -23,9 +23,9 @@ returns-clause-works c =
     let new = world_in c.take_turn.new.store c.args.number in
     if_ok c.take_turn.result
     (λ worked works.
-    subst (λ (job : Option Job). WorksOn old new c.args.incoming.now job (job_at c.args.number (slice_set c.args.tenants.now c.args.number c.take_turn.new.tenant)) worked)
+    subst (λ (job : Option TenantJob). WorksOn old new c.args.incoming.now job (job_at c.args.number (slice_set c.args.tenants.now c.args.number c.take_turn.new.tenant)) worked)
     (sym (job_there c.args.tenants.now c.args.number c.index-tenants-number.result c.requires.there))
-    (subst (λ (job : Option Job). WorksOn old new c.args.incoming.now (job_of (get_or c.args.tenants.now c.args.number c.index-tenants-number.result)) job worked)
+    (subst (λ (job : Option TenantJob). WorksOn old new c.args.incoming.now (job_of (get_or c.args.tenants.now c.args.number c.index-tenants-number.result)) job worked)
     (sym (job_set c.args.tenants.now c.args.number c.take_turn.new.tenant c.requires.there)) works))
     c.take_turn.ensures.works
 

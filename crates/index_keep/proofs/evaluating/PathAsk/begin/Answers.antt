@@ -1,17 +1,25 @@
 -- The makefile is found where the path says, and its evaluation is asked for in the same files.
-use Rattle.std.proofs.Common.{◌≡◌, ◌∙◌, ap, refl, subst, sym, arith, IfOk, Bor, map, option_map, string_bytes, List, String, Global}
+use Rattle.std.proofs.Common.{◌≡◌, ◌≤◌, ◌+◌, ◌∙◌, ℕ, ap, refl, subst, sym, arith, IfOk, Bor, map, option_map, string_bytes, List, String, Global}
 use Rattle.mk_paths.specs.Place.{place, places_asked}
 use Rattle.mk_paths.specs.World.{World, FileMap}
 use Rattle.eval_cache.specs.Keys.{key_for}
 use Rattle.ports_index.specs.declared.spending.Spent.{Spent}
 use Rattle.read_trace.specs.Recording.{view_of}
-use Rattle.index_keep.specs.Asking.{HasComeTo, IsUpFrom, spent_in}
-use Rattle.index_keep.specs.Paths.{IsNamed, IsFoundAt, IsPathAsk, TurnsPath, absent_row}
+use Rattle.ports_index.specs.Spending.{no_spending}
+use Rattle.index_keep.specs.Asking.{HasComeTo, HasOnlyLooked, IsUpFrom, spent_in, total_of}
+use Rattle.index_keep.specs.declared.asking.AskTurned.{AskTurned}
+use Rattle.index_keep.specs.Paths.{IsNamed, IsFoundAt, IsPathAsk, IsShortOnRow, TurnsPath, absent_row}
 use Rattle.index_keep.specs.Right.{names_in}
 use Rattle.index_keep.specs.declared.evaluating.FoundPath.{FoundPath}
 use Rattle.index_keep.specs.declared.evaluating.PathAsk.{PathAsk}
 use Rattle.index_keep.proofs.MadeLemmas.{IsMade-none, IsMade-absent, IsFoundAt-placed}
 use Rattle.index_keep.proofs.evaluating.PathAsk.begin.Goals as goal
+
+few_looked : (came : AskTurned) (before : Spent) → before ≡ no_spending → HasOnlyLooked came → total_of (spent_in came) ≤ total_of before + 50000
+few_looked came before none looked = omega (arith, looked.units, looked.checks)
+
+short_absent : (units : ℕ) (spent : Spent) → spent ≡ no_spending → total_of spent ≤ total_of no_spending + (units + 50000)
+short_absent units spent none = omega (arith, ap (λ (s : Spent). s.units) none, ap (λ (s : Spent). s.checks) none)
 
 pub returns-in_default-clause-turns : goal.returns-in_default-clause-turns
 returns-in_default-clause-turns g c =
@@ -41,6 +49,7 @@ go_on-requires g c =
     record {
       begun = record { key = key; come = subst (λ (f : FileMap). HasComeTo f key c.in_ok-ask.ask) (sym c.in_ok-ask.ensures.leaves.0) c.in_ok-ask.ensures.comes };
       up = subst (λ (before : Spent). IsUpFrom before (spent_in c.in_ok-ask.ask)) (sym c.nothing.ensures) (record { units = omega arith; checks = omega arith });
+      few = few_looked c.in_ok-ask.ask c.nothing.result c.nothing.ensures c.in_ok-ask.ensures.looked;
     }
 
 pub returns-clause-turns : goal.returns-clause-turns
@@ -69,3 +78,12 @@ returns-clause-turns g c =
     let same : (seen c.begin.new.files).files ≡ files = c.in_ok-ask.ensures.leaves.0 ∙ c.in_ok-makefile.ensures.leaves.files in
     let turns = subst (λ (f : FileMap). IsPathAsk (f, settings) path self → IfOk c.go_on.result (TurnsPath (f, settings) path c.args.units c.nothing.result)) same (c.go_on.ensures.turns settings) under in
     subst (λ (before : Spent). IfOk c.go_on.result (TurnsPath world path c.args.units before)) c.nothing.ensures turns
+
+pub returns-in_default-clause-short : goal.returns-in_default-clause-short
+returns-in_default-clause-short g c = short_absent c.args.units c.absent.result.spent c.absent.ensures.spent
+
+pub returns-in_default-makefile-clause-short : goal.returns-in_default-makefile-clause-short
+returns-in_default-makefile-clause-short g c = short_absent c.args.units c.absent-in_default-makefile.result.spent c.absent-in_default-makefile.ensures.spent
+
+pub returns-clause-short : goal.returns-clause-short
+returns-clause-short g c = subst (λ (before : Spent). IfOk c.go_on.result (IsShortOnRow c.args.units before)) c.nothing.ensures c.go_on.ensures.short

@@ -1,13 +1,14 @@
 -- The row is made of an evaluation that is at its end, if fewer units were spent than there are.
-use Rattle.std.proofs.Common.{◌∙◌, subst, sym, refl, string_bytes}
+use Rattle.std.proofs.Common.{◌≡◌, ◌≤◌, ◌+◌, ◌-◌, ◌∙◌, subst, sym, refl, string_bytes}
 use Rattle.eval_cache.specs.Keys.{key_for}
 use Rattle.read_trace.specs.Recording.{view_of}
-use Rattle.index_keep.specs.Asking.{HasComeTo, IsUpFrom, spent_in}
+use Rattle.ports_index.specs.declared.spending.Spent.{Spent}
+use Rattle.index_keep.specs.Asking.{HasComeTo, IsUpFrom, spent_in, total_of}
 use Rattle.index_keep.specs.Paths.{flavors_of}
 use Rattle.index_keep.specs.declared.asking.AskTurned.{AskTurned}
 use Rattle.index_keep.specs.declared.asking.AskTurned.TheVariants.{Done}
 use Rattle.index_keep.proofs.AnswerLemmas.{can-go-on}
-use Rattle.index_keep.proofs.MadeLemmas.{IsUpFrom-on, all-spent, made-row, made-up}
+use Rattle.index_keep.proofs.MadeLemmas.{IsUpFrom-on, all-spent, made-row, made-up, short-made, short-on}
 use Rattle.index_keep.proofs.evaluating.PathAsk.go_on.Goals as goal
 
 pub left_of-requires : goal.left_of-requires
@@ -52,3 +53,18 @@ returns-clause-up g c =
     let made = c.in_ok-made-in-Done.ensures in
     let row = c.in_ok-made-in-Done.field-0 in
     IsUpFrom-on c.args.before (spent_in (Done asked)) row.spent up (made-up files found asked row made.path made.row made.spent key come)
+
+pub returns-then-left_of-eq0-clause-short : goal.returns-then-left_of-eq0-clause-short
+returns-then-left_of-eq0-clause-short g c =
+    short-on c.args.units c.left_of-given.result c.args.before (spent_in c.args.self.ask) (spent_in c.in_ok-ask.ask) c.requires.up
+    (subst (λ (now : Spent). c.left_of-given.result ≡ c.args.units - ((now.units - c.args.before.units) + (now.checks - c.args.before.checks))) c.spent.ensures.is c.left_of-given.ensures)
+    c.requires.few c.in_ok-ask.ensures.short
+
+pub returns-clause-short : goal.returns-clause-short
+returns-clause-short g c =
+    let row = c.in_ok-made-in-Done.field-0 in
+    let done : c.in_ok-ask.ask ≡ Done c.in-Done.asked = c.in-Done.is in
+    let few = subst (λ (turned : AskTurned). total_of row.spent ≤ total_of (spent_in turned) + 50000) (sym done) c.in_ok-made-in-Done.ensures.few in
+    short-made c.args.units c.left_of.result c.args.before (spent_in c.in_ok-ask.ask) row.spent
+    (IsUpFrom-on c.args.before (spent_in c.args.self.ask) (spent_in c.in_ok-ask.ask) c.requires.up c.in_ok-ask.ensures.up) c.if-left_of-eq0.false
+    (subst (λ (now : Spent). c.left_of.result ≡ c.args.units - ((now.units - c.args.before.units) + (now.checks - c.args.before.checks))) c.spent-2.ensures.is c.left_of.ensures) few

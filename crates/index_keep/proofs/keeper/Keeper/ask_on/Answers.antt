@@ -4,7 +4,7 @@ use Rattle.mk_paths.specs.World.{World}
 use Rattle.ports_index.specs.declared.spending.Spent.{Spent}
 use Rattle.read_trace.specs.Recording.{view_of}
 use Rattle.index_keep.specs.Keeping.{path_in, refresh_of}
-use Rattle.index_keep.specs.Paths.{IsUpTo, TurnsPath}
+use Rattle.index_keep.specs.Paths.{IsShortOnRow, IsUpTo, TurnsPath}
 use Rattle.index_keep.specs.Shown.{shown, no_name}
 use Rattle.index_keep.specs.Turns.{EndsTurn, refresh_at}
 use Rattle.index_keep.proofs.keeper.Keeper.ask_on.Goals as goal
@@ -27,3 +27,8 @@ returns-clause-kept g c = λ settings way.
     let path = path_in c.args.ask in
     let turns = subst (λ (before : Spent). TurnsPath world path c.args.units before c.in_ok-turned.turned) (sym c.spent-before.ensures.is) (c.in_ok-turned.ensures.turns settings way.under) in
     c.settle.ensures.kept world path c.args.units way.ready turns
+
+pub returns-clause-short : goal.returns-clause-short
+returns-clause-short g c =
+    c.settle.ensures.short c.args.units
+    (subst (λ (before : Spent). IsShortOnRow c.args.units before c.in_ok-turned.turned) (sym c.spent-before.ensures.is) c.in_ok-turned.ensures.short)

@@ -5,7 +5,7 @@ use Rattle.mk_paths.specs.World.{World}
 use Rattle.ports_index.specs.declared.spending.Spent.{Spent}
 use Rattle.read_trace.specs.Recording.{view_of}
 use Rattle.index_keep.specs.Keeping.{IsReadyFor, refresh_of}
-use Rattle.index_keep.specs.Paths.{TurnsPath}
+use Rattle.index_keep.specs.Paths.{IsShortOnRow, TurnsPath}
 use Rattle.index_keep.specs.Shown.{shown, no_name}
 use Rattle.index_keep.specs.Turns.{EndsTurn, refresh_at}
 use Rattle.index_keep.specs.Walking.{IsNext}
@@ -38,3 +38,11 @@ returns-in-All-clause-turn g c =
     let old = shown no_name (g.R.PathRows.entries c.args.self.now.rows) in
     let next = subst (IsNext world old) c.in-All.is (c.in_ok-walk.ensures world old c.requires) in
     c.end.ensures.ends world c.args.units (record { kept = c.requires.kept; far = next.0; fresh = next.1 })
+
+pub returns-in_ok-turned-in-Lacks-clause-short : goal.returns-in_ok-turned-in-Lacks-clause-short
+returns-in_ok-turned-in-Lacks-clause-short g c =
+    c.settle.ensures.short c.args.units
+    (subst (λ (before : Spent). IsShortOnRow c.args.units before c.in_ok-turned-in-Lacks.turned) (sym c.nothing.ensures) c.in_ok-turned-in-Lacks.ensures.short)
+
+pub returns-in-All-clause-short : goal.returns-in-All-clause-short
+returns-in-All-clause-short g c = c.end.ensures.short c.args.units

@@ -1,9 +1,11 @@
 -- The world stays. What was spent before stays right, by how far the refresh is.
+use Rattle.std.specs.Prelude.{◌≤◌}
 use Rattle.index_keep.specs.Keeping.{refresh_of}
 use Rattle.index_keep.specs.Turns.{count_left}
 use Rattle.ports_index.specs.declared.spending.Spent.{Spent}
 use Rattle.kept_ports.specs.Leaving.{world_at, LeavesPorts}
 use Rattle.kept_ports.specs.Pending.{IsSpentOnIndex}
+use Rattle.kept_ports.specs.TurnsLeft.{turns_of_refresh}
 use Rattle.kept_ports.proofs.keeping.KeptPorts.refresh.Given as goal
 
 abbrev pub invariant-loop-spent : goal.invariant-loop-spent
@@ -13,6 +15,8 @@ invariant-loop-spent g l =
       leaves : LeavesPorts g.F.Names.view l.initial.self l.self;
       spent : (before : Spent) → IsSpentOnIndex world (refresh_of g.R.PathRows.entries l.initial.self.keeper.now) before
           → IsSpentOnIndex world (refresh_of g.R.PathRows.entries l.self.keeper.now) before;
+      few : turns_of_refresh world (refresh_of g.R.PathRows.entries l.self.keeper.now)
+          ≤ turns_of_refresh world (refresh_of g.R.PathRows.entries l.initial.self.keeper.now);
     }
 
 abbrev pub decreases-loop-spent : goal.decreases-loop-spent

@@ -6,7 +6,7 @@ use Rattle.std.specs.Prelude.{option_and_then}
 use Rattle.ports_core.specs.Keys.{key_texts}
 use Rattle.ports_core.specs.Connections.{kept}
 use Rattle.ports_core.specs.Jobs.{job_in}
-use Rattle.ports_core.proofs.ChargeLemmas.{turn_counts, turn_spends, idle_spends, pending_spends}
+use Rattle.ports_core.proofs.ChargeLemmas.{turn_counts, turn_spends, idle_spends, pending_spends, short_told, short_none}
 use Rattle.ports_core.proofs.JobLemmas.{none_waits, first_rest, taken_out, for_request, idle_job, turn_job, pending_job, answered_job, pending_first, answered_first}
 use Rattle.ports_core.proofs.Lists.{on_none, on_some}
 use Rattle.ports_core.proofs.PlaceLemmas.{answered_fresh, answered_seats, same_seats}
@@ -153,3 +153,13 @@ returns-clause-spends g c =
     rw (← c.self.view_is)
     (turn_spends c.args.tenant c.answer.result (g.K.Tenants.worlds c.self.inside.worlds) c.self.inside.queues.items (job_in c.args.tenant (g.K.Tenants.jobs c.self.inside.worlds)) c.index_mut-queue.result.now c.next-answered.new.self c.in-Some.first.now c.in-Some-reply.field-0.reply c.work-reply.result.spent answers.world
     answers.was was first_is (on_some _ c.work-reply.result.reply c.in-Some-reply.field-0 c.in-Some-reply.is c.work-reply.ensures.charges) c.answer.ensures.reply c.answer.ensures.spent)
+
+-- no turn spends more than fits
+pub returns-in_default-clause-short : goal.returns-in_default-clause-short
+returns-in_default-clause-short g c = short_none c.nothing.result c.nothing.ensures.counts
+
+pub returns-in_default-reply-clause-short : goal.returns-in_default-reply-clause-short
+returns-in_default-reply-clause-short g c = short_told c.spending.result c.work-reply.result.spent c.spending.ensures.spent c.work-reply.ensures.short
+
+pub returns-clause-short : goal.returns-clause-short
+returns-clause-short g c = short_told c.answer.result c.work-reply.result.spent c.answer.ensures.spent c.work-reply.ensures.short

@@ -2,7 +2,7 @@
 use Rattle.std.proofs.Common.{ap, ◌∙◌, arith, length, Option, None}
 use Rattle.std.specs.Prelude.{replicate}
 use Rattle.mk_paths.specs.World.{opening_world}
-use Rattle.ports_core.specs.Jobs.{Job}
+use Rattle.ports_core.specs.Jobs.{TenantJob}
 use Rattle.tenant_worlds.specs.Stored.{world_in, worlds_in}
 use Rattle.tenant_worlds.proofs.WorldLemmas.{opening_worlds, few_keys}
 use Rattle.tenant_worlds.proofs.worlds.StoredTenantsTenants.new.Goals as goal
@@ -14,7 +14,7 @@ returns-clause-worlds c =
 
 pub returns-clause-jobs : goal.returns-clause-jobs
 returns-clause-jobs c =
-    let no_job : Option Job = None in
+    let no_job : Option TenantJob = None in
     c.in_ok-tenants.ensures.jobs ∙ ap (λ n. replicate n no_job) (omega (arith, c.in_ok-tenants.ensures.count))
 
 pub invariant_of-result : goal.invariant_of-result

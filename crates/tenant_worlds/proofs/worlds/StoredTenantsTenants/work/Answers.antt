@@ -4,9 +4,9 @@ use Rattle.std.specs.Prelude.{IfSome, IfNone, slice_get}
 use Rattle.std.proofs.lemmas.List.{length-map}
 use Rattle.mk_paths.specs.World.{World}
 use Rattle.ports_http.specs.Messages.{ReplyMessage}
-use Rattle.ports_core.specs.Charging.{Charges, ChargesFor, GoesOn}
+use Rattle.ports_core.specs.Charging.{Charges, ChargesFor, FitsTurn, GoesOn}
 use Rattle.ports_core.specs.Answering.{AnswersFor}
-use Rattle.ports_core.specs.Jobs.{Job, IsForRequest, job_in, job_after, spent_on, BecomesJob}
+use Rattle.ports_core.specs.Jobs.{TenantJob, IsForRequest, job_in, job_after, spent_on, BecomesJob}
 use Rattle.ports_core.specs.declared.tenants.Answer.{Answer}
 use Rattle.ports_core.specs.declared.tenants.Worked.{Worked}
 use Rattle.tenant_store.specs.Holdings.{Holdings}
@@ -24,7 +24,7 @@ pub turn_at-requires-clause-there : goal.turn_at-requires-clause-there
 turn_at-requires-clause-there c =
     let items = c.self.inside.tenants.items in
     let within : c.args.tenant < length items =
-    subst (λ n. c.args.tenant < n) (length-worlds_in c.self.inside.store (length items)) (subst (λ (v : List World × List (Option Job)). c.args.tenant < length v.0) (sym c.self.view_is) c.requires.there)
+    subst (λ n. c.args.tenant < n) (length-worlds_in c.self.inside.store (length items)) (subst (λ (v : List World × List (Option TenantJob)). c.args.tenant < length v.0) (sym c.self.view_is) c.requires.there)
     in
     subst (λ n. c.args.tenant < n) (sym (ap length c.deref_mut.ensures.value)) within
 
@@ -34,7 +34,7 @@ turn_at-requires-clause-right c = subst (AreTenantsOf (world_in c.self.inside.st
 pub turn_at-requires-clause-for_request : goal.turn_at-requires-clause-for_request
 turn_at-requires-clause-for_request c =
     subst (λ (tenants : List Tenant). IsForRequest c.args.request.now (job_at c.args.tenant tenants)) (sym c.deref_mut.ensures.value)
-    (subst (λ (v : List World × List (Option Job)). IsForRequest c.args.request.now (job_in c.args.tenant v.1)) (sym c.self.view_is) c.requires.for_request)
+    (subst (λ (v : List World × List (Option TenantJob)). IsForRequest c.args.request.now (job_in c.args.tenant v.1)) (sym c.self.view_is) c.requires.for_request)
 
 pub returns-clause-answers : goal.returns-clause-answers
 returns-clause-answers c =
@@ -42,7 +42,7 @@ returns-clause-answers c =
     let old = c.self.inside.store in
     let new = c.turn_at.new.store in
     let within : c.args.tenant < length items =
-    subst (λ n. c.args.tenant < n) (length-worlds_in old (length items)) (subst (λ (v : List World × List (Option Job)). c.args.tenant < length v.0) (sym c.self.view_is) c.requires.there)
+    subst (λ n. c.args.tenant < n) (length-worlds_in old (length items)) (subst (λ (v : List World × List (Option TenantJob)). c.args.tenant < length v.0) (sym c.self.view_is) c.requires.there)
     in
     let lent = c.turn_at.ensures.count ∙ ap length c.deref_mut.ensures.value in
     let count = ap length (refill_same c.self.inside.tenants.len items c.turn_at.new.tenants lent (omega (arith, c.self.inside.tenants.ok))) ∙ lent in
@@ -59,14 +59,14 @@ returns-clause-charges c =
     let old = c.self.inside.store in
     let new = c.turn_at.new.store in
     let within : c.args.tenant < length items =
-    subst (λ n. c.args.tenant < n) (length-worlds_in old (length items)) (subst (λ (v : List World × List (Option Job)). c.args.tenant < length v.0) (sym c.self.view_is) c.requires.there)
+    subst (λ n. c.args.tenant < n) (length-worlds_in old (length items)) (subst (λ (v : List World × List (Option TenantJob)). c.args.tenant < length v.0) (sym c.self.view_is) c.requires.there)
     in
     rw (← c.self.view_is)
     (elim c.match-turn_at.branch [
       | in-Ok w ↦ rw w.result-is
-          (let charges = subst (λ (ts : List Tenant). ChargesOver (world_in old c.args.tenant) c.args.request.now (spent_on (job_at c.args.tenant ts)) w.in-Ok.worked.reply w.in-Ok.worked.spent)
+          (let charges = subst (λ (ts : List Tenant). ChargesOver (world_in old c.args.tenant) c.args.request.now (job_at c.args.tenant ts) w.in-Ok.worked.reply w.in-Ok.worked.spent)
           c.deref_mut.ensures.value w.in-Ok.ensures.works.charges in
-          work_charges old (world_in new c.args.tenant) (length items) c.args.tenant c.args.request.now w.in-Ok.worked.reply (spent_on (job_at c.args.tenant items)) w.in-Ok.worked.spent within c.never_answers_503.ensures w.in-Ok.ensures.works.answers charges)
+          work_charges old (world_in new c.args.tenant) (length items) c.args.tenant c.args.request.now w.in-Ok.worked.reply (job_at c.args.tenant items) w.in-Ok.worked.spent within c.never_answers_503.ensures w.in-Ok.ensures.works.answers charges)
       | in-Err w ↦ rw w.result-is (λ world there. subst (λ (reply : ReplyMessage). Charges world c.args.request.now reply (spent_on (job_at c.args.tenant items)) w.nothing.result) (sym w.store_failed.ensures.value) w.nothing.ensures)
     ])
 
@@ -76,16 +76,16 @@ returns-clause-goes_on c =
     let old = c.self.inside.store in
     let new = c.turn_at.new.store in
     let within : c.args.tenant < length items =
-    subst (λ n. c.args.tenant < n) (length-worlds_in old (length items)) (subst (λ (v : List World × List (Option Job)). c.args.tenant < length v.0) (sym c.self.view_is) c.requires.there)
+    subst (λ n. c.args.tenant < n) (length-worlds_in old (length items)) (subst (λ (v : List World × List (Option TenantJob)). c.args.tenant < length v.0) (sym c.self.view_is) c.requires.there)
     in
     let lent = c.turn_at.ensures.count ∙ ap length c.deref_mut.ensures.value in
     let count = ap length (refill_same c.self.inside.tenants.len items c.turn_at.new.tenants lent (omega (arith, c.self.inside.tenants.ok))) ∙ lent in
     rw (← c.self.view_is)
     (elim c.match-turn_at.branch [
       | in-Ok w ↦ rw w.result-is
-          (let charges = subst (λ (ts : List Tenant). ChargesOver (world_in old c.args.tenant) c.args.request.now (spent_on (job_at c.args.tenant ts)) w.in-Ok.worked.reply w.in-Ok.worked.spent)
+          (let charges = subst (λ (ts : List Tenant). ChargesOver (world_in old c.args.tenant) c.args.request.now (job_at c.args.tenant ts) w.in-Ok.worked.reply w.in-Ok.worked.spent)
           c.deref_mut.ensures.value w.in-Ok.ensures.works.charges in
-          work_goes_on old new (length items) _ c.args.tenant c.args.request.now w.in-Ok.worked.reply (spent_on (job_at c.args.tenant items)) w.in-Ok.worked.spent within count w.in-Ok.ensures.silent charges)
+          work_goes_on old new (length items) _ c.args.tenant c.args.request.now w.in-Ok.worked.reply (job_at c.args.tenant items) w.in-Ok.worked.spent within count w.in-Ok.ensures.silent charges)
       | in-Err w ↦ rw w.result-is tt
     ])
 
@@ -119,3 +119,10 @@ invariant_of-self c =
       each = c.turn_at.ensures.right;
     } in
     subst (λ (tenants : List Tenant). IsKeptBy c.turn_at.new.store tenants) (sym (refill_same c.self.inside.tenants.len items new lent (omega (arith, c.self.inside.tenants.ok)))) kept
+
+pub returns-clause-short : goal.returns-clause-short
+returns-clause-short c =
+    elim c.match-turn_at.branch [
+      | in-Ok w ↦ rw w.result-is w.in-Ok.ensures.works.short
+      | in-Err w ↦ rw w.result-is (subst FitsTurn (sym w.nothing.ensures) (omega arith))
+    ]
