@@ -1,0 +1,7 @@
+#!/usr/bin/env bash
+# Uploads hostile texts and asks portsd for what they mean, and prints for each the statuses, the seconds and the
+# peak memory of the run.
+set -euo pipefail
+top=$(cd "$(dirname "$0")/.." && pwd)
+[ -n "${PORTSD:-}" ] || "$top/run" --help >/dev/null
+exec python3 -B "$top/bench/hostile.py" "${PORTSD:-$top/crates/portsd/out/portsd}" "$@"
