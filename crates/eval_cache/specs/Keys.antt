@@ -1,8 +1,9 @@
 -- Which evaluation is meant.
-use Rattle.std.specs.Prelude.{ℕ, ◌&&◌, Bool, List, map, Option, option_map, string_bytes}
+use Rattle.std.specs.Prelude.{ℕ, ◌==◌, ◌&&◌, Bool, List, map, Option, option_map, string_bytes}
 use Rattle.std.specs.Cmp.Lexicographic.{pointwise}
 use Rattle.std.specs.Option.{option_eq}
 use Rattle.std.specs.Str.{bytes_eq}
+use Rattle.mk_text.specs.Profiles.{profile_number}
 use Rattle.mk_paths.specs.declared.search_path.Settings.{Settings}
 use Rattle.eval_cache.specs.declared.key.EvalKey.{EvalKey}
 
@@ -18,11 +19,12 @@ key_for settings name flavors = record { settings = settings; name = name; flavo
 -- the key that the code has
 abbrev pub key_of : EvalKey → Key
 key_of key =
-    key_for (record { path = map string_bytes key.trees.items }) (string_bytes key.name)
+    key_for (record { path = map string_bytes key.trees.items; profile = key.profile }) (string_bytes key.name)
     (option_map (λ flavors. map string_bytes flavors.items) key.flavors)
 
--- two keys with the same texts
+-- two keys with the same profile and the same texts
 abbrev pub same_key : Key → Key → Bool
 same_key one other =
-    pointwise bytes_eq one.settings.path other.settings.path
-    && (bytes_eq one.name other.name && option_eq (pointwise bytes_eq) one.flavors other.flavors)
+    (profile_number one.settings.profile == profile_number other.settings.profile)
+    && (pointwise bytes_eq one.settings.path other.settings.path
+    && (bytes_eq one.name other.name && option_eq (pointwise bytes_eq) one.flavors other.flavors))

@@ -4,6 +4,7 @@ ghost use Rattle.mk_eval.specs.Views.{flavors_in};
 ghost use Rattle.eval_cache.specs.Keys.{key_of, key_for};
 
 use mk_paths::{Name, Settings};
+use mk_text::Profile;
 use std::alloc::{AllocError, Global};
 
 /// Which evaluation is meant: that of the makefile of this name under these settings, with these flavors
@@ -11,6 +12,7 @@ use std::alloc::{AllocError, Global};
 /// another key.
 #[derive(Debug, Drop, PartialEq, Eq, Hash)]
 pub struct EvalKey {
+    profile: Profile,
     trees: Vec<String>,
     name: String,
     flavors: Option<Vec<String>>,
@@ -28,6 +30,7 @@ impl EvalKey {
             ≡ key_for settings.now name.now (flavors_in flavors.entry)) }
     {
         Ok(EvalKey {
+            profile: settings.profile,
             trees: copies_of(alloc, settings.path.trees())?,
             name: String::from_str(alloc, name.as_str())?,
             flavors: copy_flavors(alloc, flavors)?,

@@ -1,12 +1,13 @@
 //! Makefiles evaluated, and values of their variables.
+use crate::failing::{Asking, FailingFiles, failing_answer};
 use crate::files::given_name;
 use crate::variables::{fault_answer, text_of_variable};
 use crate::world::World;
 use case_lines::{Answer, Trouble, as_number, as_text, one_text};
 use mk_base::{PureStop, Stop, UNITS};
 use mk_eval::{Anew, Evaluated, Failed, Kind, value};
-use mk_files::MemoryFiles;
-use mk_paths::{Name, Settings};
+use mk_files::Files;
+use mk_paths::{FilesFault, Name, Settings};
 use mk_step::{Machine, Turned, evaluate};
 use read_trace::{Question, Recorder, Reply, Trace};
 use std::alloc::Global;
@@ -97,7 +98,12 @@ fn is_same_reply(one: &Reply, other: &Reply) -> bool {
 
 /// `cost`: what the makefile costs, or its fault with what it cost up to there.
 fn cost(alloc: Global, world: &mut World) -> Result<Answer, Trouble> {
-    match evaluated(alloc, world)? {
+    let outcome = evaluated(alloc, world)?;
+    cost_answer(alloc, outcome)
+}
+
+fn cost_answer(alloc: Global, outcome: Result<Evaluated, Failed>) -> Result<Answer, Trouble> {
+    match outcome {
         Ok(evaluated) => {
             let mut answer = Answer::new(alloc);
             answer.number(evaluated.cost);
@@ -220,15 +226,79 @@ fn evaluated_file(
 ) -> Result<Result<Evaluated, Failed>, Trouble> {
     let settings = &world.settings;
     let mut files = Recorder::new(alloc, &mut world.files, Trace::new(alloc));
-    let outcome = match world.way {
-        Way::Whole => at_once(alloc, &mut files, settings, name, flavors),
-        Way::Turns(units) => {
-            let (outcome, _turns) = by_turns(alloc, &mut files, settings, name, flavors, units)?;
-            Ok(outcome)
-        }
-    };
+    let outcome = outcome_by(alloc, &mut files, settings, name, flavors, world.way)?;
     world.asked = files.into_trace();
-    outcome
+    outcome.ok_or(Trouble::NoCase)
+}
+
+/// What an evaluation leaves, or its fault. `None` if its turns have no end.
+fn outcome_by<F: Files + Drop>(
+    alloc: Global,
+    files: &mut Recorder<F>,
+    settings: &Settings,
+    name: &Name,
+    flavors: Option<&[String]>,
+    way: Way,
+) -> Result<Option<Result<Evaluated, Failed>>, FilesFault> {
+    match way {
+        Way::Whole => match evaluate(alloc, files, settings, name, flavors) {
+            Ok(evaluated) => Ok(Some(Ok(evaluated))),
+            Err(Stop::Fault(failed)) => Ok(Some(Err(failed))),
+            Err(Stop::Store) => Err(FilesFault::Store),
+            Err(Stop::Memory) => Err(FilesFault::Memory),
+        },
+        Way::Turns(units) => {
+            let ended = by_turns(alloc, files, settings, name, flavors, units)?;
+            Ok(ended.map(|(outcome, _turns)| outcome))
+        }
+    }
+}
+
+/// `cost failing`: what the makefile costs in files that fail at each call in turn, at once and by turns of one unit:
+/// how many calls there are, and the cost or the fault.
+pub fn cost_failing(alloc: Global, world: &mut World) -> Result<Answer, Trouble> {
+    let name = makefile(alloc)?;
+    let World {
+        files,
+        settings,
+        ..
+    } = world;
+    let mut evaluating = Evaluating {
+        settings,
+        name: &name,
+        way: Way::Whole,
+    };
+    let mut answer = failing_answer(alloc, files, &mut evaluating)?;
+    evaluating.way = Way::Turns(1);
+    let by_turns = failing_answer(alloc, files, &mut evaluating)?;
+    if !answer.is_same(&by_turns)? {
+        answer.word("by turns");
+        answer.word(by_turns.whole()?);
+    }
+    Ok(answer)
+}
+
+/// A makefile that is evaluated.
+#[derive(Drop)]
+struct Evaluating<'a> {
+    settings: &'a Settings,
+    name: &'a Name,
+    way: Way,
+}
+
+impl Asking for Evaluating<'_> {
+    fn ask(
+        &mut self,
+        alloc: Global,
+        files: &mut FailingFiles<'_>,
+    ) -> Result<Result<Answer, Trouble>, FilesFault> {
+        let mut files = Recorder::new(alloc, files, Trace::new(alloc));
+        let outcome = outcome_by(alloc, &mut files, self.settings, self.name, None, self.way)?;
+        Ok(match outcome {
+            Some(outcome) => cost_answer(alloc, outcome),
+            None => Err(Trouble::NoCase),
+        })
+    }
 }
 
 /// `turns UNITS`: how many turns of so many units it takes to evaluate the makefile.
@@ -240,45 +310,32 @@ pub fn turns(alloc: Global, world: &mut World, given: &[Vec<u8>]) -> Result<Answ
     let settings = &world.settings;
     let mut files = Recorder::new(alloc, &mut world.files, Trace::new(alloc));
     let units = as_number(units)?;
-    let (_outcome, turns) = by_turns(alloc, &mut files, settings, &name, None, units)?;
+    let ended = by_turns(alloc, &mut files, settings, &name, None, units)?;
+    let (_outcome, turns) = ended.ok_or(Trouble::NoCase)?;
     let mut answer = Answer::new(alloc);
     answer.number(turns);
     Ok(answer)
 }
 
-fn at_once(
-    alloc: Global,
-    files: &mut Recorder<&mut MemoryFiles>,
-    settings: &Settings,
-    name: &Name,
-    flavors: Option<&[String]>,
-) -> Result<Result<Evaluated, Failed>, Trouble> {
-    match evaluate(alloc, files, settings, name, flavors) {
-        Ok(evaluated) => Ok(Ok(evaluated)),
-        Err(Stop::Fault(failed)) => Ok(Err(failed)),
-        Err(_) => Err(Trouble::Memory),
-    }
-}
-
 /// An evaluation by turns of so many units, and how many there are. Each turn spends a unit, and the last one
-/// ends it.
-fn by_turns(
+/// ends it. `None` if it has no end.
+fn by_turns<F: Files + Drop>(
     alloc: Global,
-    files: &mut Recorder<&mut MemoryFiles>,
+    files: &mut Recorder<F>,
     settings: &Settings,
     name: &Name,
     flavors: Option<&[String]>,
     units: u64,
-) -> Result<(Result<Evaluated, Failed>, u64), Trouble> {
+) -> Result<Option<(Result<Evaluated, Failed>, u64)>, FilesFault> {
     let mut parses = Anew::new(alloc);
     let mut turned = Machine::start(alloc, settings, name, flavors, &mut parses, files)?;
     for turns in 0..UNITS + 2 {
         match turned {
-            Turned::Done(outcome) => return Ok((outcome, turns)),
+            Turned::Done(outcome) => return Ok(Some((outcome, turns))),
             Turned::More(machine) => turned = machine.turn(alloc, &mut parses, files, units)?,
         }
     }
-    Err(Trouble::NoCase)
+    Ok(None)
 }
 
 /// A fault, with what was spent up to there.

@@ -2,7 +2,7 @@
 use case_lines::{Answer, Trouble, as_number, as_text, one_text};
 use mk_base::{Budget, FaultKind, UNITS};
 use mk_files::{Content, Files, Listing, MemoryFiles, ask_has, ask_read, look_has, look_read};
-use mk_paths::{Name, NameFault, Names, PathFault, SearchPath, Settings, find};
+use mk_paths::{Name, NameFault, Names, PathFault, SearchPath, find};
 use std::alloc::Global;
 use text_cases::add_texts;
 
@@ -49,10 +49,7 @@ pub fn trees_of(alloc: Global, given: &[Vec<u8>]) -> Result<Answer, Trouble> {
 
 /// `standard search path`
 pub fn standard_trees(alloc: Global) -> Result<Answer, Trouble> {
-    let settings = Settings {
-        path: SearchPath::standard(alloc)?,
-    };
-    Ok(trees_answer(alloc, &settings.path))
+    Ok(trees_answer(alloc, &SearchPath::standard(alloc)?))
 }
 
 /// The trees of a search path.

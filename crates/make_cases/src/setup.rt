@@ -2,9 +2,10 @@
 use crate::truth::truth_answer;
 use crate::world::World;
 use crate::{evaluation, files, loops, variables};
-use case_lines::{Answer, Trouble, as_text};
+use case_lines::{Answer, Trouble, as_number, as_text};
 use mk_env::Env;
 use mk_files::Content;
+use mk_text::Profile;
 use std::alloc::{AllocError, Global};
 
 /// What lines without `=>` set up for the lines after them.
@@ -18,13 +19,13 @@ pub struct Setup {
 }
 
 impl Setup {
-    /// No variable and no file.
+    /// No variable and no file, in the first profile.
     pub fn new(alloc: Global) -> Result<Setup, AllocError> {
         Ok(Setup {
             alloc,
-            variables: Env::new(alloc),
-            copy: Env::new(alloc),
-            world: World::new(alloc)?,
+            variables: Env::new(alloc, Profile::One),
+            copy: Env::new(alloc, Profile::One),
+            world: World::new(alloc, Profile::One)?,
         })
     }
 
@@ -32,13 +33,25 @@ impl Setup {
     /// and `Memory` if memory runs out.
     pub fn set_up(&mut self, call: &str, given: &[Vec<u8>]) -> Result<(), Trouble> {
         match call {
-            "no variables" => self.variables = Env::new(self.alloc),
+            "profile" => self.set_profile(given)?,
+            "no variables" => self.variables = Env::new(self.alloc, self.world.settings.profile),
             "copy" => self.copy = self.variables.copy()?,
-            "no files" => self.world = World::new(self.alloc)?,
+            "no files" => self.world = World::new(self.alloc, self.world.settings.profile)?,
             "put" => files::put(self.alloc, &mut self.world.files, given)?,
             "makefile" => self.put_makefile(given)?,
             _ => self.change_variables(call, given)?,
         }
+        Ok(())
+    }
+
+    /// `profile N`: from now on the files are read in this profile, and there is no variable.
+    fn set_profile(&mut self, given: &[Vec<u8>]) -> Result<(), Trouble> {
+        let [number] = given else {
+            return Err(Trouble::NoCase);
+        };
+        let profile = given_profile(number)?;
+        self.world.settings.profile = profile;
+        self.variables = Env::new(self.alloc, profile);
         Ok(())
     }
 
@@ -128,7 +141,17 @@ impl Setup {
                 evaluation::answer_each_way(alloc, world, call, given)
             }
             "turns" => evaluation::turns(alloc, world, given),
+            "cost failing" => evaluation::cost_failing(alloc, world),
             _ => text_cases::answer(alloc, call, given),
         }
+    }
+}
+
+/// A profile that a case gives by its number.
+fn given_profile(number: &[u8]) -> Result<Profile, Trouble> {
+    match as_number(number)? {
+        1 => Ok(Profile::One),
+        2 => Ok(Profile::Two),
+        _ => Err(Trouble::NoCase),
     }
 }

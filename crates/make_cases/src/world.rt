@@ -2,6 +2,7 @@
 use crate::evaluation::Way;
 use mk_files::MemoryFiles;
 use mk_paths::{SearchPath, Settings};
+use mk_text::Profile;
 use read_trace::Trace;
 use std::alloc::{AllocError, Global};
 
@@ -16,12 +17,13 @@ pub struct World {
 }
 
 impl World {
-    /// No file, and the standard search path.
-    pub fn new(alloc: Global) -> Result<World, AllocError> {
+    /// No file, and the standard search path, in this profile.
+    pub fn new(alloc: Global, profile: Profile) -> Result<World, AllocError> {
         Ok(World {
             files: MemoryFiles::new(alloc),
             settings: Settings {
                 path: SearchPath::standard(alloc)?,
+                profile,
             },
             way: Way::Whole,
             asked: Trace::new(alloc),

@@ -5,7 +5,6 @@ use Rattle.std.specs.Prelude.{ℕ, ℤ, pos, ◌==◌, Bool, true, false, not, i
 use Rattle.std.specs.Prelude.{Option, Some, None, Result, Ok, Err}
 use Rattle.std.specs.List.{list_any}
 use Rattle.std.specs.Str.{bytes_eq}
-use Rattle.std.specs.FinMap as finite
 use Rattle.mk_base.specs.declared.faults.FaultKind.{FaultKind}
 use Rattle.mk_base.specs.declared.faults.FaultKind.TheVariants as kinds
 use Rattle.mk_base.specs.Meter.{Meter}
@@ -15,7 +14,7 @@ use Rattle.mk_ref.specs.declared.cutting.Piece.{Piece}
 use Rattle.mk_ref.specs.declared.cutting.Piece.TheVariants as pieces
 use Rattle.mk_ref.specs.Units.{units_of, left_of}
 use Rattle.mk_ref.specs.Pieces.{TextPiece, LiteralPiece, EscapedDollarPiece, ReferencePiece, pieces_of}
-use Rattle.mk_env.specs.Texts.{Variables}
+use Rattle.mk_env.specs.Texts.{Variables, text_in}
 use Rattle.mk_env.specs.Expansion.{expand, inside}
 use Rattle.mk_paths.specs.declared.file_name.NameFault.{NameFault}
 use Rattle.mk_paths.specs.FileName.{name_under, directory_of, resolved}
@@ -52,7 +51,7 @@ among setting files =
 
 -- `defined(N)`: N, expanded, is the name of a variable
 abbrev pub is_defined : Variables → List ℕ → Work Meter FaultKind Bool
-is_defined variables argument = expand variables argument >>= λ name. give (is_some (finite.get variables name))
+is_defined variables argument = expand variables argument >>= λ name. give (is_some (text_in variables name))
 
 -- `empty(N:M)`: what a reference to N with these modifiers means has no word
 abbrev pub is_empty : Variables → List ℕ → Work Meter FaultKind Bool

@@ -13,7 +13,8 @@ use Rattle.std.specs.Str.{bytes_eq}
 use Rattle.std.proofs.lemmas.Map.Text.{btree_map_updates_text, is_eq-slice_cmp}
 use Rattle.general_facts.specs.Maps.{same_map}
 use Rattle.general_facts.specs.Texts.{bytes_eq-sym}
-use Rattle.mk_env.specs.Texts.{Variables, bytes_of, texts_of, appended}
+use Rattle.mk_text.specs.declared.profile.Profile.{Profile}
+use Rattle.mk_env.specs.Texts.{Variables, TextMap, bytes_of, texts_of, appended}
 
 -- the text that a key in the order of bytes has among these entries
 abbrev pub text_at : List (String Global × String Global) → List ℕ → Option (List ℕ)
@@ -53,12 +54,12 @@ pub texts_of-insert : (old new : tree.BTreeMap (String Global) (String Global)) 
 texts_of-insert old new name text updates = texts_of-put old new (string_bytes name) text updates
 
 -- the same where one name was taken away
-pub texts_of_removed : (old new : tree.BTreeMap (String Global) (String Global)) (view : Variables) (name : List ℕ) → texts_of old.entries ≡ view → tree.UpdatesBy string_cmp (λ key. slice_cmp nat_cmp name (string_bytes key)) old new None → texts_of new.entries ≡ finite.remove view name
+pub texts_of_removed : (old new : tree.BTreeMap (String Global) (String Global)) (view : TextMap) (name : List ℕ) → texts_of old.entries ≡ view → tree.UpdatesBy string_cmp (λ key. slice_cmp nat_cmp name (string_bytes key)) old new None → texts_of new.entries ≡ finite.remove view name
 texts_of_removed old new view name is updates =
     same_map _ _ (λ q. get-changed old new name None updates q ∙ sym (finite.get-remove nat_list_cmp_total (texts_of old.entries) name q)) ∙ ap (λ held. finite.remove held name) is
 
 -- to give a name the text that it has changes nothing
-pub insert-held : (m : Variables) (name text : List ℕ) → finite.get m name ≡ Some text → finite.insert m name text ≡ m
+pub insert-held : (m : TextMap) (name text : List ℕ) → finite.get m name ≡ Some text → finite.insert m name text ≡ m
 insert-held m name text held =
     same_map _ _ (λ q.
     finite.get-insert nat_list_cmp_total m name text q ∙
@@ -79,18 +80,18 @@ pub texts_of-clones : (entries clones : List (String Global × String Global)) �
 texts_of-clones entries clones same = ap (λ pairs. finite.from_entries pairs) (bytes_of-clones entries clones same)
 
 -- what stands for a map of texts answers as it does
-pub get-view : (m : tree.BTreeMap (String Global) (String Global)) (view : Variables) (q : List ℕ) → texts_of m.entries ≡ view → option_map string_bytes (tree.get_by_text m q) ≡ finite.get view q
+pub get-view : (m : tree.BTreeMap (String Global) (String Global)) (view : TextMap) (q : List ℕ) → texts_of m.entries ≡ view → option_map string_bytes (tree.get_by_text m q) ≡ finite.get view q
 get-view m view q is = sym (get-texts_of m.entries q) ∙ ap (λ v. finite.get v q) is
 
 is_some-option_map : (o : Option (String Global)) → is_some o ≡ is_some (option_map string_bytes o)
 is_some-option_map None = refl
 is_some-option_map (Some x) = refl
 
-pub is_some-view : (m : tree.BTreeMap (String Global) (String Global)) (view : Variables) (q : List ℕ) → texts_of m.entries ≡ view → is_some (tree.get_by_text m q) ≡ is_some (finite.get view q)
+pub is_some-view : (m : tree.BTreeMap (String Global) (String Global)) (view : TextMap) (q : List ℕ) → texts_of m.entries ≡ view → is_some (tree.get_by_text m q) ≡ is_some (finite.get view q)
 is_some-view m view q is = is_some-option_map (tree.get_by_text m q) ∙ ap is_some (get-view m view q is)
 
 -- a variable whose text was written through what the map lent
-module _ (old new : tree.BTreeMap (String Global) (String Global)) (view : Variables) (name : List ℕ) (before after : String Global) (is : texts_of old.entries ≡ view) (held : Some before ≡ tree.get_by_text old name) (updates : tree.UpdatesBy string_cmp (λ key. slice_cmp nat_cmp name (string_bytes key)) old new (Some after)) where
+module _ (old new : tree.BTreeMap (String Global) (String Global)) (view : TextMap) (name : List ℕ) (before after : String Global) (is : texts_of old.entries ≡ view) (held : Some before ≡ tree.get_by_text old name) (updates : tree.UpdatesBy string_cmp (λ key. slice_cmp nat_cmp name (string_bytes key)) old new (Some after)) where
   held_text : finite.get view name ≡ Some (string_bytes before)
   held_text = sym (ap (option_map string_bytes) held ∙ get-view old view name is)
 
@@ -104,6 +105,10 @@ module _ (old new : tree.BTreeMap (String Global) (String Global)) (view : Varia
   -- it has the text that it had
   pub texts_of-kept : string_bytes after ≡ string_bytes before → texts_of new.entries ≡ view
   texts_of-kept same = written ∙ ap (finite.insert view name) same ∙ insert-held view name (string_bytes before) held_text
+
+-- variables whose profile and whose texts are known
+pub with-parts : (profile profile' : Profile) (texts texts' : TextMap) → profile ≡ profile' → texts ≡ texts' → ◌≡◌ {A = Variables} (profile, texts) (profile', texts')
+with-parts profile profile' texts texts' one other = λ i. (one i, other i)
 
 -- an equation by cases on a result, where the result is known
 pub OnOk-by_cases : {T E P : Type 0} (r : Result T E) (bytes more less : List ℕ) → bytes ≡ (if is_ok r then more else less) → (bytes ≡ more → P) → OnOk r P

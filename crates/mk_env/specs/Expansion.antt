@@ -4,7 +4,6 @@ use Rattle.std.specs.Prelude.{ℕ, suc, zero, Bool, false, true, if◌then◌els
 use Rattle.std.specs.Prelude.{Option, Some, None, option_map}
 use Rattle.std.specs.List.{list_any}
 use Rattle.std.specs.Str.{bytes_eq}
-use Rattle.std.specs.FinMap as finite
 use Rattle.mk_base.specs.declared.faults.FaultKind.{FaultKind}
 use Rattle.mk_base.specs.declared.faults.FaultKind.TheVariants as kinds
 use Rattle.mk_base.specs.Meter.{Meter, pay}
@@ -13,14 +12,15 @@ use Rattle.mk_text.specs.Words.{words_of}
 use Rattle.mk_ref.specs.Units.{TextUnit, sources, before_colon, following_colon, units_of, left_of}
 use Rattle.mk_ref.specs.Pieces.{TextPiece, LiteralPiece, EscapedDollarPiece, ReferencePiece, pieces_of}
 use Rattle.mk_text.specs.declared.limits.TheConstants.{TEXT_LIMIT}
-use Rattle.mk_mods.specs.Actions.{Symbol, Byte, Whole, Reference, Action, Match, Exclude, Substitute, Change}
+use Rattle.mk_mods.specs.Actions.{Symbol, Byte, Whole, Reference, Action, Match, Exclude, Substitute, Change, Suffix}
 use Rattle.mk_mods.specs.Grammar.{modifiers_of}
 use Rattle.mk_mods.specs.Joined.{joined, within_limit}
 use Rattle.mk_mods.specs.Applied.{applied}
 use Rattle.mk_mods.specs.Substituted.{substituted}
 use Rattle.mk_env.specs.declared.scope.Undefined.{Undefined}
 use Rattle.mk_env.specs.declared.scope.Undefined.TheVariants as kept
-use Rattle.mk_env.specs.Texts.{Variables}
+use Rattle.mk_text.specs.declared.profile.Profile.{Profile}
+use Rattle.mk_env.specs.Texts.{Variables, language_of, text_in}
 
 -- what a text means
 abbrev pub Meaning : Type 0
@@ -78,7 +78,7 @@ made None = fail kinds.Length
 made (Some text) = give text
 
 -- What a modifier makes of a value: the references in it are expanded, and then it is applied. A pattern is
--- expanded before it is read as a pattern. The old text of `:S` is expanded before the new one.
+-- expanded before it is read as a pattern. The old text of `:S`, or of `old=new`, is expanded before the new one.
 abbrev pub modified : References → List ℕ → Action → Work Meter FaultKind (List ℕ)
 modified references value (Match pattern) = text_meaning references pattern >>= λ found. made (applied (Match found) value)
 modified references value (Exclude pattern) = text_meaning references pattern >>= λ found. made (applied (Exclude found) value)
@@ -86,11 +86,13 @@ modified references value (Substitute s) =
     symbols_meaning references [] s.old >>= λ old. symbols_meaning references old s.new
     >>= λ new. made (within_limit (joined (substituted s old new (words_of value))))
 modified references value (Change word_map) = made (applied (Change word_map) value)
+modified references value (Suffix old new) =
+    text_meaning references old >>= λ old. text_meaning references new >>= λ new. made (applied (Suffix old new) value)
 
--- the modifiers of a reference; None if they can't be read
-abbrev pub actions_of : Option (List ℕ) → Option (List Action)
-actions_of None = Some []
-actions_of (Some text) = modifiers_of text
+-- the modifiers of a reference in this profile; None if they can't be read
+abbrev pub actions_of : Profile → Option (List ℕ) → Option (List Action)
+actions_of profile None = Some []
+actions_of profile (Some text) = modifiers_of profile text
 
 -- the modifiers that were read; if they couldn't be read, that is a fault
 abbrev pub readable : Option (List Action) → Work Meter FaultKind (List Action)
@@ -107,15 +109,17 @@ abbrev pub is_among : List ℕ → List (List ℕ) → Bool
 is_among name names = list_any (bytes_eq name) names
 
 -- the modifiers of a reference to this name; it is a fault if the value of the name is being expanded
-abbrev pub modifiers_for : List (List ℕ) → List ℕ → Option (List ℕ) → Work Meter FaultKind (List Action)
-modifiers_for active name modifiers = if is_among name active then fail kinds.Recursive else readable (actions_of modifiers)
+abbrev pub modifiers_for : Profile → List (List ℕ) → List ℕ → Option (List ℕ) → Work Meter FaultKind (List Action)
+modifiers_for profile active name modifiers =
+    if is_among name active then fail kinds.Recursive else readable (actions_of profile modifiers)
 
 -- What a reference means once its name is known. `references` says what others mean while the values of some
 -- names are being expanded. The modifiers are read, the value is expanded, and the modifiers are applied
 -- from left to right.
 abbrev pub named : (List (List ℕ) → References) → Variables → List (List ℕ) → List ℕ → Option (List ℕ) → Work Meter FaultKind (List ℕ)
 named references variables active name modifiers =
-    modifiers_for active name modifiers >>= λ actions. value_meaning (references (name ∷ active)) (finite.get variables name)
+    modifiers_for (language_of variables) active name modifiers
+    >>= λ actions. value_meaning (references (name ∷ active)) (text_in variables name)
     >>= λ value. each (modified (references active)) value actions
 
 -- whether a reference to a variable with this text, or with none, is kept as it is written
@@ -128,7 +132,7 @@ is_kept kept.Kept (Some text) = false
 abbrev pub by_name : Undefined → (List (List ℕ) → References) → Variables → List (List ℕ) → List ℕ → Option (List ℕ)
     → List ℕ → Work Meter FaultKind (List ℕ)
 by_name undefined_gives references variables active written modifiers name =
-    if is_kept undefined_gives (finite.get variables name) then give written else named references variables active name modifiers
+    if is_kept undefined_gives (text_in variables name) then give written else named references variables active name modifiers
 
 -- The beginning of a reference, if this many references may be nested, itself included. Its unit is paid
 -- before anything else is looked at. Then it is a fault if the reference is nested too deep.
@@ -174,5 +178,5 @@ inside variables text = by_inside (reference kept.Empty 32 variables []) text (u
 -- reference. That reference is already paid for, and the references in the modifiers count as inside it.
 abbrev pub modified_by : Variables → List ℕ → List ℕ → Work Meter FaultKind (List ℕ)
 modified_by variables modifiers text =
-    readable (modifiers_of modifiers)
+    readable (modifiers_of (language_of variables) modifiers)
     >>= λ actions. each (modified (reference kept.Empty 31 variables [])) text actions

@@ -3,17 +3,42 @@ use Rattle.std.specs.Ordering.{nat_cmp}
 use Rattle.std.specs.Cmp.Lexicographic.{slice_cmp}
 use Rattle.std.specs.declared.alloc.Global.{Global}
 use Rattle.std.specs.FinMap as finite
+use Rattle.mk_text.specs.declared.profile.Profile.{Profile}
 
--- the variables of a makefile: a map from each name that is defined to its text
+-- the texts of variables, by their names: a name that isn't there isn't defined
+abbrev pub TextMap : Type 0
+TextMap = finite.FinMap (slice_cmp nat_cmp) (List ℕ)
+
+-- the variables of a makefile: the profile of the language in which references to them are read, and their texts
 abbrev pub Variables : Type 0
-Variables = finite.FinMap (slice_cmp nat_cmp) (List ℕ)
+Variables = Profile × TextMap
+
+-- the profile in which references to variables are read
+abbrev pub language_of : Variables → Profile
+language_of variables = variables.0
+
+-- the text of the variable of this name, if it is defined
+abbrev pub text_in : Variables → List ℕ → Option (List ℕ)
+text_in variables name = finite.get variables.1 name
+
+-- no variable, in this profile
+abbrev pub no_variables : Profile → Variables
+no_variables profile = (profile, finite.empty)
+
+-- the variables with this text in the one of this name
+abbrev pub with_text : Variables → List ℕ → List ℕ → Variables
+with_text variables name text = (variables.0, finite.insert variables.1 name text)
+
+-- the variables without the one of this name
+abbrev pub without_text : Variables → List ℕ → Variables
+without_text variables name = (variables.0, finite.remove variables.1 name)
 
 -- the bytes of a name and of its text
 abbrev pub bytes_of : String Global × String Global → List ℕ × List ℕ
 bytes_of entry = (string_bytes entry.0, string_bytes entry.1)
 
 -- the map of these entries, by their bytes
-abbrev pub texts_of : List (String Global × String Global) → Variables
+abbrev pub texts_of : List (String Global × String Global) → TextMap
 texts_of entries = finite.from_entries (map bytes_of entries)
 
 -- what `+=` leaves in a variable: its text, a space and the added text, or the added text alone if the
@@ -24,4 +49,4 @@ appended (Some before) text = before ++ 32 ∷ text
 
 -- what `?=` leaves: a name that is defined keeps its text, and one that isn't gets this text
 abbrev pub defaulted : Variables → List ℕ → List ℕ → Variables
-defaulted variables name text = if is_some (finite.get variables name) then variables else finite.insert variables name text
+defaulted variables name text = if is_some (text_in variables name) then variables else with_text variables name text

@@ -139,7 +139,7 @@ pub fn modify(
     ensures gives { GivesPurely string_bytes result budget.new
         (meaning.modified_by variables.now modifiers.now text.now budget.old) }
 {
-    let modifiers = read_modifiers(alloc, Some(modifiers))?;
+    let modifiers = read_modifiers(alloc, Some(modifiers), variables.profile())?;
     let text = String::from_str(alloc, text)?;
     let scope = ExpansionScope {
         variables,

@@ -14,7 +14,7 @@ ghost use Rattle.mk_env.specs.Refusals.{IsUncut, IsUnread, IsUnmade};
 use mk_base::{FaultKind, PureStop};
 use mk_mods::{Modifier, Mods, ModsFault, Substitution, apply, substitute};
 use mk_ref::{Piece, PiecesFault, Reference, pieces};
-use mk_text::TextFault;
+use mk_text::{Profile, TextFault};
 use std::alloc::{AllocError, Global};
 
 /// A reference by its texts.
@@ -69,20 +69,22 @@ pub(crate) fn cut(alloc: Global, text: &str) -> Result<Vec<Piece>, PureStop<Faul
     }
 }
 
-/// The modifiers that follow the colon of a reference, or no modifier if it has no colon. It is a fault
+/// The modifiers that follow the colon of a reference in this profile, or no modifier if it has no colon. It is a fault
 /// if they can't be read.
 pub(crate) fn read_modifiers(
     alloc: Global,
     text: Option<&str>,
+    profile: Profile,
 ) -> Result<Vec<Modifier>, PureStop<FaultKind>>
-    ensures ok { IfOk result (λ found. actions_of (option_map (λ t. t.now) text.entry)
+    ensures ok { IfOk result (λ found. actions_of profile (option_map (λ t. t.now) text.entry)
         ≡ Some (map action_of found.items)) }
-    ensures err { IfErr result (IsUnread (actions_of (option_map (λ t. t.now) text.entry))) }
+    ensures err { IfErr result
+        (IsUnread (actions_of profile (option_map (λ t. t.now) text.entry))) }
 {
     let Some(text) = text else {
         return Ok(Vec::new(alloc));
     };
-    match Mods::read(alloc, text) {
+    match Mods::read(alloc, text, profile) {
         Ok(mods) => Ok(mods.modifiers),
         Err(ModsFault::BadMod) => Err(PureStop::Fault(FaultKind::Modifier)),
         Err(ModsFault::Memory) => Err(PureStop::Memory),

@@ -1,13 +1,13 @@
 //! What references mean, and the texts and modifiers that they are in.
 ghost use Rattle.std.specs.Prelude.{◌≡◌, ◌≢◌, ◌≤◌, ◌-◌, ◌∷◌, map, string_bytes, length, option_map, IfOk};
 ghost use Rattle.std.specs.List.{flat_map};
-ghost use Rattle.std.specs.FinMap as finite;
 ghost use Rattle.mk_base.specs.Outcome.{each};
 ghost use Rattle.mk_base.specs.Meter.{Meter, IsLater};
 ghost use Rattle.mk_base.specs.Stopping.{GivesPurely};
 ghost use Rattle.mk_ref.specs.Places.{shown, IsPieceIn};
 ghost use Rattle.mk_mods.specs.Actions.{action_of, symbols_of};
 ghost use Rattle.mk_env.specs.declared.scope.Undefined.TheVariants as kept;
+ghost use Rattle.mk_env.specs.Texts.{language_of, text_in};
 ghost use Rattle.mk_env.specs.Expansion as meaning;
 ghost use Rattle.mk_env.specs.ActiveNames.{references_in, names_of};
 
@@ -167,13 +167,14 @@ fn modifiers_for(
 ) -> Result<Vec<Modifier>, PureStop<FaultKind>>
     ensures gives { (m : Meter)
         → GivesPurely (λ found. map action_of found.items) result m
-        (meaning.modifiers_for (names_of scope.entry.active) name.now
+        (meaning.modifiers_for (language_of scope.entry.variables.now)
+        (names_of scope.entry.active) name.now
         (option_map (λ t. t.now) modifiers.entry) m) }
 {
     if scope.active.contains(name) {
         return Err(PureStop::Fault(FaultKind::Recursive));
     }
-    read_modifiers(alloc, modifiers)
+    read_modifiers(alloc, modifiers, scope.variables.profile())
 }
 
 /// What the value of a variable means.
@@ -190,7 +191,7 @@ fn expand_value(
         (meaning.value_meaning
         (meaning.reference kept.Empty scope.entry.levels scope.entry.variables.now
         (name.now ∷ names_of scope.entry.active))
-        (finite.get scope.entry.variables.now name.now) budget.old) }
+        (text_in scope.entry.variables.now name.now) budget.old) }
 {
     match scope.variables.get(name) {
         None => Ok(String::new(alloc)),
@@ -254,6 +255,11 @@ fn apply_modifier(
             apply_substitution(alloc, substitution, old.as_str(), new.as_str(), value)
         }
         Modifier::Change(_) => apply_expanded(alloc, modifier, value),
+        Modifier::Suffix { old, new } => {
+            let old = expand_text(alloc, scope, old.as_str(), budget)?;
+            let new = expand_text(alloc, scope, new.as_str(), budget)?;
+            apply_expanded(alloc, &Modifier::Suffix { old, new }, value)
+        }
     }
 }
 

@@ -1,7 +1,7 @@
 //! What the references of a text are expanded with.
 ghost use Rattle.std.specs.Prelude.{◌≡◌, ◌-◌, ◌≢◌};
-ghost use Rattle.std.specs.FinMap as finite;
 ghost use Rattle.mk_env.specs.declared.scope.Undefined.TheVariants as kept;
+ghost use Rattle.mk_env.specs.Texts.{text_in};
 ghost use Rattle.mk_env.specs.Expansion as meaning;
 ghost use Rattle.mk_env.specs.ActiveNames.{names_of};
 
@@ -64,7 +64,7 @@ impl<'a> ExpansionScope<'a> {
     /// Whether a reference to the variable of this name is kept as it is written.
     pub(crate) fn keeps(&self, name: &str) -> bool
         ensures { result
-            ≡ meaning.is_kept self.now.undefined (finite.get self.now.variables.now name.now) }
+            ≡ meaning.is_kept self.now.undefined (text_in self.now.variables.now name.now) }
     {
         match self.undefined {
             Undefined::Empty => false,

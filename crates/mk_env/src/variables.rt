@@ -1,40 +1,44 @@
 ghost use Rattle.std.specs.Prelude.{◌≡◌, ◌∷◌, OnOk, OnErr, ◌↔◌, IsTrue, option_map, is_some, IfOk};
 ghost use Rattle.std.specs.Option.{option_copied};
-ghost use Rattle.std.specs.FinMap as finite;
-ghost use Rattle.mk_env.specs.Texts.{appended, defaulted};
+ghost use Rattle.mk_env.specs.Texts.{appended, defaulted, language_of, no_variables, text_in};
+ghost use Rattle.mk_env.specs.Texts.{with_text, without_text};
 
+use mk_text::Profile;
 use std::alloc::{AllocError, Global};
 use std::collections::BTreeMap;
 use std::marker::Model;
 
 /// The variables of a makefile: a map from each name that is defined to its text. The text is kept as it
-/// was assigned, and expanded where it is used.
+/// was assigned, and expanded where it is used. The profile says in which language references are read.
 #[derive(Drop)]
 pub struct Env {
     alloc: Global,
+    profile: Profile,
     variables: BTreeMap<String, String>,
 }
 
 impl Model for Env {
     ghost use Rattle.std.specs.Prelude.{List, ℕ};
-    ghost use Rattle.std.specs.Coded.{coded_ℕ, coded_list};
+    ghost use Rattle.std.specs.Coded.{coded_ℕ, coded_list, coded×};
+    ghost use Rattle.mk_text.specs.Profiles.{profile_code};
     ghost use Rattle.std.specs.FinMap as finite;
     ghost use Rattle.mk_env.specs.Texts.{Variables, texts_of};
 
     ghost Value = { Variables };
 
-    ghost coded = { finite.code (coded_list coded_ℕ) (coded_list coded_ℕ) };
+    ghost coded = { coded× profile_code (finite.code (coded_list coded_ℕ) (coded_list coded_ℕ)) };
 
-    ghost view = { λ e. texts_of e.variables.entries };
+    ghost view = { λ e. (e.profile, texts_of e.variables.entries) };
 }
 
 impl Env {
-    /// No variable at all. It takes no memory.
-    pub fn new(alloc: Global) -> Env
-        ensures { result ≡ finite.empty }
+    /// No variable at all, in this profile. It takes no memory.
+    pub fn new(alloc: Global, profile: Profile) -> Env
+        ensures { result ≡ no_variables profile }
     {
         Env {
             alloc,
+            profile,
             variables: BTreeMap::new(alloc),
         }
     }
@@ -42,7 +46,7 @@ impl Env {
     /// Gives the variable this text, whatever text it had. It fails only if memory runs out, and then
     /// nothing changes.
     pub fn set(&mut self, name: &str, text: &str) -> Result<(), AllocError>
-        ensures ok { OnOk result (self.new ≡ finite.insert self.old name.now text.now) }
+        ensures ok { OnOk result (self.new ≡ with_text self.old name.now text.now) }
         ensures err { OnErr result (self.new ≡ self.old) }
     {
         let name = String::from_str(self.alloc, name)?;
@@ -56,7 +60,7 @@ impl Env {
     /// however long the variable's text is. It fails only if memory runs out, and then nothing changes.
     pub fn append(&mut self, name: &str, text: &str) -> Result<(), AllocError>
         ensures ok { OnOk result (self.new
-            ≡ finite.insert self.old name.now (appended (finite.get self.old name.now) text.now)) }
+            ≡ with_text self.old name.now (appended (text_in self.old name.now) text.now)) }
         ensures err { OnErr result (self.new ≡ self.old) }
     {
         match self.variables.get_mut(name) {
@@ -82,11 +86,17 @@ impl Env {
     }
 
     /// Removes the variable, if it is defined (`.undef` of make(1)). It takes no memory.
-    #[tactic(auto, using(crate::proofs::TextMap::texts_of_removed))]
     pub fn undef(&mut self, name: &str)
-        ensures { self.new ≡ finite.remove self.old name.now }
+        ensures { self.new ≡ without_text self.old name.now }
     {
         self.variables.remove(name);
+    }
+
+    /// The profile in which references to the variables are read.
+    pub fn profile(&self) -> Profile
+        ensures { result ≡ language_of self.now }
+    {
+        self.profile
     }
 
     /// Another map with the same variables. It fails only if memory runs out; this map stays as it is.
@@ -96,13 +106,14 @@ impl Env {
         let variables = self.variables.clone()?;
         Ok(Env {
             alloc: self.alloc,
+            profile: self.profile,
             variables,
         })
     }
 
     /// The variable's text as it was assigned; `None` if it isn't defined.
     pub fn get(&self, name: &str) -> Option<&str>
-        ensures { option_copied result ≡ finite.get self.now name.now }
+        ensures { option_copied result ≡ text_in self.now name.now }
     {
         match self.variables.get(name) {
             Some(text) => Some(text.as_str()),
@@ -112,7 +123,7 @@ impl Env {
 
     /// Whether the variable is defined.
     pub fn defined(&self, name: &str) -> bool
-        ensures { result ≡ is_some (finite.get self.now name.now) }
+        ensures { result ≡ is_some (text_in self.now name.now) }
     {
         self.variables.contains_key(name)
     }

@@ -1,13 +1,12 @@
 -- Evaluations and values cost no more than their budgets.
-use Rattle.std.proofs.Common.{◌≡◌, ◌≤◌, ◌∙◌, ℕ, Bool, true, false, if◌then◌else◌, List, Option, None, Result, Ok, Err, refl, sym, ap, subst, arith}
-use Rattle.std.specs.FinMap as finite
+use Rattle.std.proofs.Common.{◌≡◌, ◌≤◌, ◌∙◌, ℕ, Bool, true, false, if◌then◌else◌, List, Option, None, is_some, Result, Ok, Err, refl, sym, ap, subst, arith}
 use Rattle.mk_base.specs.declared.faults.FaultKind.{FaultKind}
 use Rattle.mk_base.specs.declared.metering.TheConstants.{UNITS}
 use Rattle.mk_base.specs.FaultAt.{FaultAt}
 use Rattle.mk_base.specs.Meter.{Meter, full}
 use Rattle.mk_base.specs.Outcome.{left, tell}
 use Rattle.mk_env.specs.Expansion.{variable}
-use Rattle.mk_env.specs.Texts.{Variables}
+use Rattle.mk_env.specs.Texts.{Variables, text_in}
 use Rattle.mk_files.specs.Asking.{beside}
 use Rattle.mk_paths.specs.World.{World}
 use Rattle.mk_eval.specs.Costs.{CostFew, value_units}
@@ -43,7 +42,7 @@ module _ (variables : Variables) (makefile name : List ℕ) where
   by-there false = omega arith
 
 values-few : (variables : Variables) (makefile name : List ℕ) → value_units (value_of variables makefile name) ≤ UNITS
-values-few variables makefile name = by-there variables makefile name (finite.contains_key variables name)
+values-few variables makefile name = by-there variables makefile name (is_some (text_in variables name))
 
 pub cost-few : CostFew
 cost-few = record { evaluations = evaluations-few; values = values-few }

@@ -1,6 +1,5 @@
 -- What becomes of lines in loops, and what lines do to variables, is the same under a lower limit that isn't reached.
 use Rattle.std.proofs.Common.{◌%◌, ◌==◌, is_some, ℕ, suc, zero, List, [], ◌∷◌, length, Option, Some, None}
-use Rattle.std.specs.FinMap as finite
 use Rattle.mk_base.specs.declared.faults.FaultKind.TheVariants as kinds
 use Rattle.mk_text.specs.Words.{words_of, word_spans}
 use Rattle.mk_ast.specs.declared.kinds.Directive.{Directive}
@@ -9,7 +8,7 @@ use Rattle.mk_ast.specs.declared.kinds.Operator.{Operator}
 use Rattle.mk_ast.specs.declared.kinds.Operator.TheVariants as operators
 use Rattle.mk_ast.specs.Kinds.{TextLineKind, CommandLine, BlankLine, DirectiveLine, AssignmentLine, DependencyLine, BadLine, is_word, line_kind}
 use Rattle.mk_ref.specs.Units.{TextUnit, Byte, EscapedDollar, Reference, units_of, left_of}
-use Rattle.mk_env.specs.Texts.{Variables, appended}
+use Rattle.mk_env.specs.Texts.{Variables, appended, text_in}
 use Rattle.mk_loop.specs.LoopWords.{LoopWords, word_named}
 use Rattle.mk_loop.specs.Putting.{SoFar, Puts, nothing, with_word, finished, changed, put_reference, put_unit, put_by, put, where_closed, put_words}
 use Rattle.mk_loop.specs.Header.{header_parts, formed, header}
@@ -75,8 +74,8 @@ steady-store variables name text = bind (steady-bounded text) (λ stored. steady
 
 steady-assign : (variables : Variables) (operator : Operator) (name text : List ℕ) → Steady (assign variables operator name text)
 steady-assign variables operators.Set name text = steady-store variables name text
-steady-assign variables operators.Default name text = either (is_some (finite.get variables name)) (steady-give variables) (steady-store variables name text)
-steady-assign variables operators.Append name text = steady-store variables name (appended (finite.get variables name) text)
+steady-assign variables operators.Default name text = either (is_some (text_in variables name)) (steady-give variables) (steady-store variables name text)
+steady-assign variables operators.Append name text = steady-store variables name (appended (text_in variables name) text)
 steady-assign variables operators.Expand name text = bind (steady-expand_now variables text) (λ found. steady-store variables name found)
 steady-assign variables operators.Shell name text = steady-fail kinds.Shell
 

@@ -1,14 +1,13 @@
 -- What texts mean among variables is the same under a lower limit that isn't reached.
 use Rattle.std.proofs.Common.{◌++◌, ℕ, suc, zero, nat_lt, List, [], ◌∷◌, length, Option, Some, None}
-use Rattle.std.specs.FinMap as finite
 use Rattle.mk_base.specs.declared.faults.FaultKind.TheVariants as kinds
 use Rattle.mk_base.specs.Outcome.{give, fail}
 use Rattle.mk_ref.specs.Units.{units_of, left_of, TextUnit}
 use Rattle.mk_ref.specs.Pieces.{TextPiece, LiteralPiece, EscapedDollarPiece, ReferencePiece, pieces_of}
 use Rattle.mk_text.specs.declared.limits.TheConstants.{TEXT_LIMIT}
-use Rattle.mk_mods.specs.Actions.{Symbol, Byte, Whole, Reference, Action, Match, Exclude, Substitute, Change}
+use Rattle.mk_mods.specs.Actions.{Symbol, Byte, Whole, Reference, Action, Match, Exclude, Substitute, Change, Suffix}
 use Rattle.mk_mods.specs.Grammar.{modifiers_of}
-use Rattle.mk_env.specs.Texts.{Variables}
+use Rattle.mk_env.specs.Texts.{Variables, language_of, text_in}
 use Rattle.mk_env.specs.Expansion.{References, bounded, piece_meaning, where_whole, text_meaning, symbol_meaning, symbols_meaning, made, modified, actions_of, readable, value_meaning, is_among, named, is_kept, by_name, reference, expand, expand_now, by_inside, inside, modified_by, variable}
 use Rattle.mk_eval.proofs.Steady.{Steady, steady-give, steady-fail, steady-choice, steady-pay, bind, either, over}
 
@@ -54,6 +53,7 @@ module _ (references : References) (are : AreSteady references) where
   steady-modified value (Exclude pattern) = bind (steady-text pattern) (λ found. steady-made _)
   steady-modified value (Substitute s) = bind (steady-symbols [] s.old) (λ old. bind (steady-symbols old s.new) (λ new. steady-made _))
   steady-modified value (Change word_map) = steady-made _
+  steady-modified value (Suffix old new) = bind (steady-text old) (λ old. bind (steady-text new) (λ new. steady-made _))
 
   pub steady-value : (value : Option (List ℕ)) → Steady (value_meaning references value)
   steady-value None = steady-give []
@@ -66,13 +66,13 @@ module _ (references : References) (are : AreSteady references) where
 module _ (references : List (List ℕ) → References) (are : (active : List (List ℕ)) → AreSteady (references active)) (variables : Variables) (active : List (List ℕ)) where
   pub steady-named : (name : List ℕ) (modifiers : Option (List ℕ)) → Steady (named references variables active name modifiers)
   steady-named name modifiers =
-      bind (either (is_among name active) (steady-fail kinds.Recursive) (steady-readable (actions_of modifiers)))
-      (λ actions. bind (steady-value (references (name ∷ active)) (are (name ∷ active)) (finite.get variables name))
+      bind (either (is_among name active) (steady-fail kinds.Recursive) (steady-readable (actions_of (language_of variables) modifiers)))
+      (λ actions. bind (steady-value (references (name ∷ active)) (are (name ∷ active)) (text_in variables name))
       (λ value. over (steady-modified (references active) (are active)) value actions))
 
   pub steady-by_name : (undefined_gives : _) (written : List ℕ) (modifiers : Option (List ℕ)) (name : List ℕ) → Steady (by_name undefined_gives references variables active written modifiers name)
   steady-by_name undefined_gives written modifiers name =
-      either (is_kept undefined_gives (finite.get variables name)) (steady-give written) (steady-named name modifiers)
+      either (is_kept undefined_gives (text_in variables name)) (steady-give written) (steady-named name modifiers)
 
 pub are-steady : (undefined_gives : _) (levels : ℕ) (variables : Variables) (active : List (List ℕ)) → AreSteady (reference undefined_gives levels variables active)
 unfolding reference
@@ -93,7 +93,7 @@ steady-inside variables text = steady-by_inside _ (are-steady _ 32 variables [])
 
 pub steady-modified_by : (variables : Variables) (modifiers text : List ℕ) → Steady (modified_by variables modifiers text)
 steady-modified_by variables modifiers text =
-    bind (steady-readable (modifiers_of modifiers)) (λ actions. over (steady-modified _ (are-steady _ 31 variables [])) text actions)
+    bind (steady-readable (modifiers_of (language_of variables) modifiers)) (λ actions. over (steady-modified _ (are-steady _ 31 variables [])) text actions)
 
 pub steady-variable : (variables : Variables) (name : List ℕ) → Steady (variable variables name)
 steady-variable variables name = bind steady-pay (λ _. steady-named _ (are-steady _ 31 variables) variables [] name None)

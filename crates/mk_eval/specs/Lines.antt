@@ -2,7 +2,6 @@
 -- "VARIABLES"). The cost, the limits, and that an assignment of a command's output is a fault, are this
 -- project's choice.
 use Rattle.std.specs.Prelude.{ℕ, is_some, Bool, true, false, if◌then◌else◌, List, [], ◌∷◌, ◌++◌, Option, Some, None, unwrap_or}
-use Rattle.std.specs.FinMap as finite
 use Rattle.mk_base.specs.declared.faults.FaultKind.{FaultKind}
 use Rattle.mk_base.specs.declared.faults.FaultKind.TheVariants as kinds
 use Rattle.mk_base.specs.Meter.{Meter, pay}
@@ -14,21 +13,21 @@ use Rattle.mk_ast.specs.declared.kinds.Operator.{Operator}
 use Rattle.mk_ast.specs.declared.kinds.Operator.TheVariants as operators
 use Rattle.mk_ast.specs.Kinds.{TextLineKind, CommandLine, BlankLine, DirectiveLine, AssignmentLine, DependencyLine}
 use Rattle.mk_ast.specs.Kinds.{BadLine, is_word, line_kind, plain_kind}
-use Rattle.mk_env.specs.Texts.{Variables, appended}
+use Rattle.mk_env.specs.Texts.{Variables, appended, text_in, with_text, without_text}
 use Rattle.mk_env.specs.Expansion.{bounded, expand, expand_now}
 use Rattle.mk_loop.specs.LoopWords.{LoopWords}
 use Rattle.mk_loop.specs.Putting.{put_words}
 
 -- the variables with this text stored under a name; it is a fault if the text is too long
 abbrev pub store : Variables → List ℕ → List ℕ → Work Meter FaultKind Variables
-store variables name text = bounded text >>= λ stored. give (finite.insert variables name stored)
+store variables name text = bounded text >>= λ stored. give (with_text variables name stored)
 
 -- what an operator does with a name and the text after it: under `?=` a variable that is defined keeps its
 -- text, and nothing is looked at
 abbrev pub assign : Variables → Operator → List ℕ → List ℕ → Work Meter FaultKind Variables
 assign variables operators.Set name text = store variables name text
-assign variables operators.Default name text = if is_some (finite.get variables name) then give variables else store variables name text
-assign variables operators.Append name text = store variables name (appended (finite.get variables name) text)
+assign variables operators.Default name text = if is_some (text_in variables name) then give variables else store variables name text
+assign variables operators.Append name text = store variables name (appended (text_in variables name) text)
 assign variables operators.Expand name text = expand_now variables text >>= λ found. store variables name found
 assign variables operators.Shell name text = fail kinds.Shell
 
@@ -39,7 +38,7 @@ assign_to variables operator text name = if is_word name then assign variables o
 -- the variables without those of these names
 abbrev pub without : Variables → List (List ℕ) → Variables
 without variables [] = variables
-without variables (name ∷ names) = without (finite.remove variables name) names
+without variables (name ∷ names) = without (without_text variables name) names
 
 -- a file that a line asks for: the line's text, expanded, and whether the file may be missing
 pub record Request : Type 0 where

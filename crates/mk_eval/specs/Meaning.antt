@@ -1,7 +1,6 @@
 -- What a makefile means: its kind, its variables and what it costs, or the first fault with what it
 -- cost up to there.
-use Rattle.std.specs.Prelude.{ℕ, suc, zero, false, if◌then◌else◌, List, [], Option, Some, None, unwrap_or, Result, Ok, Err}
-use Rattle.std.specs.FinMap as finite
+use Rattle.std.specs.Prelude.{ℕ, suc, zero, false, if◌then◌else◌, List, [], Option, Some, None, is_some, unwrap_or, Result, Ok, Err}
 use Rattle.mk_base.specs.declared.faults.FaultKind.{FaultKind}
 use Rattle.mk_base.specs.declared.faults.FaultKind.TheVariants as kinds
 use Rattle.mk_base.specs.declared.metering.TheConstants.{UNITS}
@@ -12,9 +11,9 @@ use Rattle.mk_text.specs.Lines.{LogicalLine}
 use Rattle.mk_ast.specs.declared.parsing.ParseFault.{ParseFault}
 use Rattle.mk_ast.specs.Trees.{Block}
 use Rattle.mk_ast.specs.Parsing.{parsed}
-use Rattle.mk_env.specs.Texts.{Variables}
+use Rattle.mk_env.specs.Texts.{Variables, text_in}
 use Rattle.mk_env.specs.Expansion.{variable}
-use Rattle.mk_paths.specs.World.{FileMap, World, files_in, search_path_of}
+use Rattle.mk_paths.specs.World.{FileMap, World, files_in}
 use Rattle.mk_paths.specs.FilesView.{Question}
 use Rattle.mk_files.specs.Asking.{Account, quietly, look_read}
 use Rattle.mk_eval.specs.Expanded.{Expanded}
@@ -80,7 +79,7 @@ file_meaning files makefile (suc levels) name bytes state a =
 
 -- the state with which an evaluation begins
 abbrev pub opening : World → List ℕ → Option (List (List ℕ)) → EvalState
-opening world name flavors = record { variables = start (search_path_of world) name flavors; kind = roles.Other; shared_asked = false }
+opening world name flavors = record { variables = start world.1 name flavors; kind = roles.Other; shared_asked = false }
 
 -- what the makefile of this name does, if it is there
 abbrev pub makefile_meaning : World → List ℕ → Option (List (List ℕ)) → Option (List ℕ) → Work Account FaultAt EvalState
@@ -118,4 +117,4 @@ valued (Err end) = Err (record { fault = end.0; cost = end.1.spent })
 -- none, at no cost
 abbrev pub value_of : Variables → List ℕ → List ℕ → Result (Option Expanded) Failed
 value_of variables makefile name =
-    if finite.contains_key variables name then valued (tell (at makefile 0) (variable variables name (full UNITS))) else Ok None
+    if is_some (text_in variables name) then valued (tell (at makefile 0) (variable variables name (full UNITS))) else Ok None

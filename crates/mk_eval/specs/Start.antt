@@ -3,28 +3,29 @@
 use Rattle.std.specs.Prelude.{ℕ, List, Option, Some, None, codes}
 use Rattle.std.specs.List.{join_by}
 use Rattle.text_parts.specs.Order.{in_order}
-use Rattle.std.specs.FinMap as finite
-use Rattle.mk_env.specs.Texts.{Variables}
+use Rattle.mk_env.specs.Texts.{Variables, no_variables, with_text}
+use Rattle.mk_paths.specs.declared.search_path.Settings.{Settings}
 use Rattle.mk_paths.specs.FileName.{directory_of}
 
 -- texts one after another, with this one between each two
 abbrev pub between : List ℕ → List (List ℕ) → List ℕ
 between mark texts = join_by (λ text. text) mark texts
 
--- the variables of the makefile of this name, with these ports trees, which have colons between them
-abbrev pub unflavored_start : List (List ℕ) → List ℕ → Variables
-unflavored_start trees makefile =
-    let place = finite.insert finite.empty (codes ".CURDIR") (directory_of makefile) in
+-- the variables of the makefile of this name, in the language of the settings, with the trees of their search path, which
+-- have colons between them
+abbrev pub unflavored_start : Settings → List ℕ → Variables
+unflavored_start settings makefile =
+    let place = with_text (no_variables settings.profile) (codes ".CURDIR") (directory_of makefile) in
     let trees =
-    finite.insert (finite.insert place (codes "PORTSDIR") (codes "/ports")) (codes "PORTSDIR_PATH")
-    (between (codes ":") trees) in
-    finite.insert (finite.insert trees (codes "MACHINE_ARCH") (codes "amd64")) (codes "LOCALBASE") (codes "/usr/local")
+    with_text (with_text place (codes "PORTSDIR") (codes "/ports")) (codes "PORTSDIR_PATH")
+    (between (codes ":") settings.path) in
+    with_text (with_text trees (codes "MACHINE_ARCH") (codes "amd64")) (codes "LOCALBASE") (codes "/usr/local")
 
 -- FLAVOR has the flavors in order, with a space between each two
 abbrev pub with_flavors : Variables → List (List ℕ) → Variables
-with_flavors variables flavors = finite.insert variables (codes "FLAVOR") (between (codes " ") (in_order flavors))
+with_flavors variables flavors = with_text variables (codes "FLAVOR") (between (codes " ") (in_order flavors))
 
 -- the same with the flavors, if flavors are given
-abbrev pub start : List (List ℕ) → List ℕ → Option (List (List ℕ)) → Variables
-start trees makefile None = unflavored_start trees makefile
-start trees makefile (Some flavors) = with_flavors (unflavored_start trees makefile) flavors
+abbrev pub start : Settings → List ℕ → Option (List (List ℕ)) → Variables
+start settings makefile None = unflavored_start settings makefile
+start settings makefile (Some flavors) = with_flavors (unflavored_start settings makefile) flavors

@@ -17,7 +17,7 @@ pub fn start(
     flavors: Option<&[String]>,
 ) -> Result<Env, AllocError>
     ensures { IfOk result (λ variables. variables
-        ≡ starts.start settings.now.path makefile.now (flavors_in flavors.entry)) }
+        ≡ starts.start settings.now makefile.now (flavors_in flavors.entry)) }
 {
     let variables = unflavored_start(alloc, settings, makefile)?;
     match flavors {
@@ -29,9 +29,9 @@ pub fn start(
 /// The variables with which it begins if no flavors are given.
 fn unflavored_start(alloc: Global, settings: &Settings, makefile: &Name) -> Result<Env, AllocError>
     ensures { IfOk result (λ variables. variables
-        ≡ starts.unflavored_start settings.now.path makefile.now) }
+        ≡ starts.unflavored_start settings.now makefile.now) }
 {
-    let mut variables = Env::new(alloc);
+    let mut variables = Env::new(alloc, settings.profile);
     variables.set(".CURDIR", makefile.directory())?;
     variables.set("PORTSDIR", "/ports")?;
     let trees = trees_text(alloc, settings)?;

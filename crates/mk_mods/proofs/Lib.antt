@@ -8,3 +8,4 @@ pub mod ReadSteps
 pub mod ViewSteps
 pub mod ModifierSteps
 pub mod MarkSteps
+pub mod SuffixSteps

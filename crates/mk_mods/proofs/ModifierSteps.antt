@@ -2,6 +2,7 @@
 use Rattle.std.proofs.Common.{◌≡◌, ℕ, zero, suc, ◌<◌, ◌≤◌, ◌++◌, true, false, List, [], ◌∷◌, length, Option, Some, None, option_map, refl, sym, ap, ◌∙◌, arith, append_assoc, append-nil}
 use Rattle.std.proofs.lemmas.Bool.{cond-true, cond-false}
 use Rattle.mk_mods.specs.Actions.{Action}
+use Rattle.mk_text.specs.declared.profile.Profile.{Profile}
 use Rattle.mk_mods.specs.declared.reading.ModsFault.{ModsFault}
 use Rattle.mk_mods.specs.declared.reading.ModsFault.TheVariants as faults
 use Rattle.mk_mods.specs.Marks.{TextMark, marks_of, is_char}
@@ -14,72 +15,72 @@ abbrev pub actions_after : List Action → Option (List Action) → Option (List
 actions_after done later = option_map (λ actions. done ++ actions) later
 
 -- reading marks gave these modifiers, and then what follows them is read
-pub record ReadsOn (marks : List TextMark) (done : List Action) (behind : List TextMark) : Type 0 where
+pub record ReadsOn (profile : Profile) (marks : List TextMark) (done : List Action) (behind : List TextMark) : Type 0 where
   pub fuel : ℕ
   pub enough : length behind ≤ fuel
-  pub read : modifiers_in marks ≡ actions_after done (after_colon (modifiers_by fuel) behind)
+  pub read : modifiers_in profile marks ≡ actions_after done (after_colon (modifiers_by profile fuel) behind)
 
 one_more : (done : List Action) (action : Action) (o : Option (List Action))
     → actions_after done (option_map (λ actions. action ∷ actions) o) ≡ actions_after (done ++ action ∷ []) o
 one_more done action None = refl
 one_more done action (Some actions) = ap Some (sym (append_assoc done (action ∷ []) actions))
 
-pub reads-first : (marks behind : List TextMark) (action : Action) → first_modifier marks ≡ Some (action, behind) → length behind < length marks → ReadsOn marks (action ∷ []) behind
-reads-first [] behind action is shorter = absurd (omega arith)
-reads-first (mark ∷ marks) behind action is shorter = record {
+pub reads-first : (profile : Profile) (marks behind : List TextMark) (action : Action) → first_modifier profile marks ≡ Some (action, behind) → length behind < length marks → ReadsOn profile marks (action ∷ []) behind
+reads-first profile [] behind action is shorter = absurd (omega arith)
+reads-first profile (mark ∷ marks) behind action is shorter = record {
   fuel = length marks;
   enough = omega arith;
-  read = ap (and_later (modifiers_by (length marks))) is;
+  read = ap (and_later (modifiers_by profile (length marks))) is;
 }
 
-pub reads-none : (marks : List TextMark) → first_modifier marks ≡ None → modifiers_in marks ≡ None
-reads-none [] none = refl
-reads-none (mark ∷ marks) none = ap (and_later (modifiers_by (length marks))) none
+pub reads-none : (profile : Profile) (marks : List TextMark) → first_modifier profile marks ≡ None → modifiers_in profile marks ≡ None
+reads-none profile [] none = refl
+reads-none profile (mark ∷ marks) none = ap (and_later (modifiers_by profile (length marks))) none
 
-more-by : (marks : List TextMark) (done : List Action) (action : Action) (mark : TextMark) (later rest : List TextMark) (fuel : ℕ) → length (mark ∷ later) ≤ fuel
-    → modifiers_in marks ≡ actions_after done (after_colon (modifiers_by fuel) (mark ∷ later)) → is_char 58 mark ≡ true → first_modifier later ≡ Some (action, rest)
-    → length rest < length later → ReadsOn marks (done ++ action ∷ []) rest
-more-by marks done action mark later rest zero enough read colon is shorter = absurd (omega arith)
-more-by marks done action mark later rest (suc fuel) enough read colon is shorter = record {
+more-by : (profile : Profile) (marks : List TextMark) (done : List Action) (action : Action) (mark : TextMark) (later rest : List TextMark) (fuel : ℕ) → length (mark ∷ later) ≤ fuel
+    → modifiers_in profile marks ≡ actions_after done (after_colon (modifiers_by profile fuel) (mark ∷ later)) → is_char 58 mark ≡ true → first_modifier profile later ≡ Some (action, rest)
+    → length rest < length later → ReadsOn profile marks (done ++ action ∷ []) rest
+more-by profile marks done action mark later rest zero enough read colon is shorter = absurd (omega arith)
+more-by profile marks done action mark later rest (suc fuel) enough read colon is shorter = record {
   fuel = fuel;
   enough = omega arith;
-  read = read ∙ ap (actions_after done) (cond-true (is_char 58 mark) (modifiers_by (suc fuel) later) None colon)
-      ∙ ap (λ o. actions_after done (and_later (modifiers_by fuel) o)) is ∙ one_more done action (after_colon (modifiers_by fuel) rest);
+  read = read ∙ ap (actions_after done) (cond-true (is_char 58 mark) (modifiers_by profile (suc fuel) later) None colon)
+      ∙ ap (λ o. actions_after done (and_later (modifiers_by profile fuel) o)) is ∙ one_more done action (after_colon (modifiers_by profile fuel) rest);
 }
 
-pub reads-more : (marks : List TextMark) (done : List Action) (behind : List TextMark) (action : Action) (mark : TextMark) (later rest : List TextMark) → ReadsOn marks done behind
-    → behind ≡ mark ∷ later → is_char 58 mark ≡ true → first_modifier later ≡ Some (action, rest) → length rest < length later → ReadsOn marks (done ++ action ∷ []) rest
-reads-more marks done behind action mark later rest so_far next colon is shorter =
-    more-by marks done action mark later rest so_far.fuel (omega (arith, so_far.enough, ap length next))
-    (so_far.read ∙ ap (λ l. actions_after done (after_colon (modifiers_by so_far.fuel) l)) next) colon is shorter
+pub reads-more : (profile : Profile) (marks : List TextMark) (done : List Action) (behind : List TextMark) (action : Action) (mark : TextMark) (later rest : List TextMark) → ReadsOn profile marks done behind
+    → behind ≡ mark ∷ later → is_char 58 mark ≡ true → first_modifier profile later ≡ Some (action, rest) → length rest < length later → ReadsOn profile marks (done ++ action ∷ []) rest
+reads-more profile marks done behind action mark later rest so_far next colon is shorter =
+    more-by profile marks done action mark later rest so_far.fuel (omega (arith, so_far.enough, ap length next))
+    (so_far.read ∙ ap (λ l. actions_after done (after_colon (modifiers_by profile so_far.fuel) l)) next) colon is shorter
 
-pub reads-other : (marks : List TextMark) (done : List Action) (behind : List TextMark) (mark : TextMark) (later : List TextMark) → ReadsOn marks done behind
-    → behind ≡ mark ∷ later → is_char 58 mark ≡ false → modifiers_in marks ≡ None
-reads-other marks done behind mark later so_far next other =
-    so_far.read ∙ ap (λ l. actions_after done (after_colon (modifiers_by so_far.fuel) l)) next
-    ∙ ap (actions_after done) (cond-false (is_char 58 mark) (modifiers_by so_far.fuel later) None other)
+pub reads-other : (profile : Profile) (marks : List TextMark) (done : List Action) (behind : List TextMark) (mark : TextMark) (later : List TextMark) → ReadsOn profile marks done behind
+    → behind ≡ mark ∷ later → is_char 58 mark ≡ false → modifiers_in profile marks ≡ None
+reads-other profile marks done behind mark later so_far next other =
+    so_far.read ∙ ap (λ l. actions_after done (after_colon (modifiers_by profile so_far.fuel) l)) next
+    ∙ ap (actions_after done) (cond-false (is_char 58 mark) (modifiers_by profile so_far.fuel later) None other)
 
-by-none : (fuel : ℕ) (marks : List TextMark) → first_modifier marks ≡ None → modifiers_by fuel marks ≡ None
-by-none zero marks none = refl
-by-none (suc fuel) marks none = ap (and_later (modifiers_by fuel)) none
+by-none : (profile : Profile) (fuel : ℕ) (marks : List TextMark) → first_modifier profile marks ≡ None → modifiers_by profile fuel marks ≡ None
+by-none profile zero marks none = refl
+by-none profile (suc fuel) marks none = ap (and_later (modifiers_by profile fuel)) none
 
-pub reads-bad : (marks : List TextMark) (done : List Action) (behind : List TextMark) (mark : TextMark) (later : List TextMark) → ReadsOn marks done behind
-    → behind ≡ mark ∷ later → is_char 58 mark ≡ true → first_modifier later ≡ None → modifiers_in marks ≡ None
-reads-bad marks done behind mark later so_far next colon none =
-    so_far.read ∙ ap (λ l. actions_after done (after_colon (modifiers_by so_far.fuel) l)) next
-    ∙ ap (actions_after done) (cond-true (is_char 58 mark) (modifiers_by so_far.fuel later) None colon ∙ by-none so_far.fuel later none)
+pub reads-bad : (profile : Profile) (marks : List TextMark) (done : List Action) (behind : List TextMark) (mark : TextMark) (later : List TextMark) → ReadsOn profile marks done behind
+    → behind ≡ mark ∷ later → is_char 58 mark ≡ true → first_modifier profile later ≡ None → modifiers_in profile marks ≡ None
+reads-bad profile marks done behind mark later so_far next colon none =
+    so_far.read ∙ ap (λ l. actions_after done (after_colon (modifiers_by profile so_far.fuel) l)) next
+    ∙ ap (actions_after done) (cond-true (is_char 58 mark) (modifiers_by profile so_far.fuel later) None colon ∙ by-none profile so_far.fuel later none)
 
-pub reads-all : (marks : List TextMark) (done : List Action) (behind : List TextMark) → ReadsOn marks done behind → behind ≡ [] → modifiers_in marks ≡ Some done
-reads-all marks done behind so_far none =
-    so_far.read ∙ ap (λ l. actions_after done (after_colon (modifiers_by so_far.fuel) l)) none ∙ ap Some (append-nil done)
+pub reads-all : (profile : Profile) (marks : List TextMark) (done : List Action) (behind : List TextMark) → ReadsOn profile marks done behind → behind ≡ [] → modifiers_in profile marks ≡ Some done
+reads-all profile marks done behind so_far none =
+    so_far.read ∙ ap (λ l. actions_after done (after_colon (modifiers_by profile so_far.fuel) l)) none ∙ ap Some (append-nil done)
 
 -- a text without marks, and one whose marks aren't modifiers
-pub modifiers-unmarked : (text : List ℕ) (fault : ModsFault) → IsUnread (marks_of text) fault → IsUnread (modifiers_of text) fault
+pub modifiers-unmarked : (profile : Profile) (text : List ℕ) (fault : ModsFault) → IsUnread (marks_of text) fault → IsUnread (modifiers_of profile text) fault
 unfolding modifiers_of
-modifiers-unmarked text faults.BadMod none = ap (option_and_then modifiers_in) none
-modifiers-unmarked text faults.Memory none = tt
+modifiers-unmarked profile text faults.BadMod none = ap (option_and_then (modifiers_in profile)) none
+modifiers-unmarked profile text faults.Memory none = tt
 
-pub modifiers-unread : (text : List ℕ) (marks : List TextMark) (fault : ModsFault) → marks_of text ≡ Some marks → IsUnread (modifiers_in marks) fault → IsUnread (modifiers_of text) fault
+pub modifiers-unread : (profile : Profile) (text : List ℕ) (marks : List TextMark) (fault : ModsFault) → marks_of text ≡ Some marks → IsUnread (modifiers_in profile marks) fault → IsUnread (modifiers_of profile text) fault
 unfolding modifiers_of
-modifiers-unread text marks faults.BadMod is none = ap (option_and_then modifiers_in) is ∙ none
-modifiers-unread text marks faults.Memory is none = tt
+modifiers-unread profile text marks faults.BadMod is none = ap (option_and_then (modifiers_in profile)) is ∙ none
+modifiers-unread profile text marks faults.Memory is none = tt

@@ -8,6 +8,7 @@ use Rattle.std.proofs.lemmas.Slice.Eq.{bytes_eq-Decides}
 use Rattle.std.proofs.lemmas.Str.{IsUtf8-drop}
 use Rattle.std.proofs.lemmas.Str.Pattern.{starts_text, ends_text}
 use Rattle.mk_mods.specs.Actions.{Replacement}
+use Rattle.mk_mods.specs.WordChanges.{with_suffix}
 use Rattle.mk_mods.specs.Places.{IsNowhere, FirstCut}
 use Rattle.mk_mods.specs.Substituted.{first_replaced, all_replaced, somewhere_replaced, replaced}
 
@@ -147,6 +148,15 @@ replaced-ends s old new word None starts ends none = rw (starts, ends, ends-lack
 replaced-ends s old new word (Some front) starts ends (n, finds, is_front, len) =
     let whole : word ≡ front.now ++ old = finds.1 ∙ ap (λ l. l ++ old) (sym is_front) in
     rw (starts, ends, whole, ends-append front.now old, take_at front.now old (length (front.now ++ old) - length old) (omega (arith, length-append front.now old)))
+
+-- a word that ends in the old text, and one that doesn't
+pub suffix-some : (old new word front : List ℕ) → StripsSuffix (FindsTextSuffix old) word front → with_suffix old new word ≡ front ++ new
+suffix-some old new word front (n, finds, is_front, len) =
+    let whole : word ≡ front ++ old = finds.1 ∙ ap (λ l. l ++ old) (sym is_front) in
+    rw (whole, ends-append front old, take_at front old (length (front ++ old) - length old) (omega (arith, length-append front old)))
+
+pub suffix-none : (old new word : List ℕ) → FindsTextSuffix old word None → with_suffix old new word ≡ word
+suffix-none old new word none = rw (ends-lacks old word none)
 
 -- the last turn: what is left holds no old text
 pub all_replaced-end : (old new made rest whole : List ℕ) (r : Option (Bor (List ℕ) × Bor (List ℕ))) → r ≡ None

@@ -24,11 +24,13 @@ pub record Replacement : Type 0 where
   pub every : Bool
   pub once : Bool
 
+-- what a modifier does; `Suffix` has the text that words end in, and the text that is put there
 pub data Action : Type 0 where
   Match : List ℕ → Action
   Exclude : List ℕ → Action
   Substitute : Replacement → Action
   Change : WordMap → Action
+  Suffix : List ℕ → List ℕ → Action
 
 -- the symbols of a part: a text is a row of bytes
 abbrev pub symbols_of : Part → List Symbol
@@ -51,6 +53,7 @@ action_of (modifiers.Match pattern) = Match (string_bytes pattern)
 action_of (modifiers.Exclude pattern) = Exclude (string_bytes pattern)
 action_of (modifiers.Substitute substitution) = Substitute (replacement_of substitution)
 action_of (modifiers.Change word_map) = Change word_map
+action_of (modifiers.Suffix old new) = Suffix (string_bytes old) (string_bytes new)
 
 -- a symbol that is no reference
 abbrev pub IsPlain : Symbol → Type 0
@@ -69,3 +72,4 @@ IsExpanded (Match pattern) = Unit {0}
 IsExpanded (Exclude pattern) = Unit {0}
 IsExpanded (Substitute s) = AllPlain s.old × AllPlain s.new
 IsExpanded (Change word_map) = Unit {0}
+IsExpanded (Suffix old new) = Unit {0}

@@ -4,8 +4,8 @@ use Rattle.std.specs.Option.{option_and_then}
 use Rattle.mk_text.specs.Words.{words_of}
 use Rattle.mk_glob.specs.Matching.{fits}
 use Rattle.mk_mods.specs.Joined.{joined, within_limit}
-use Rattle.mk_mods.specs.WordChanges.{word_change}
-use Rattle.mk_mods.specs.Actions.{Action, Match, Exclude, Substitute, Change, Replacement}
+use Rattle.mk_mods.specs.WordChanges.{word_change, with_suffix}
+use Rattle.mk_mods.specs.Actions.{Action, Match, Exclude, Substitute, Change, Suffix, Replacement}
 use Rattle.mk_mods.specs.Substituted.{text_of, substituted}
 
 -- whether a word is kept, by whether it fits: `:M` keeps one that fits, and `:N` one that doesn't
@@ -25,6 +25,7 @@ words_changed (Match pattern) words = Some (filter (λ word. kept true (fits pat
 words_changed (Exclude pattern) words = Some (filter (λ word. kept false (fits pattern word)) words)
 words_changed (Substitute s) words = words_substituted s words
 words_changed (Change word_map) words = Some (map (word_change word_map) words)
+words_changed (Suffix old new) words = Some (map (with_suffix old new) words)
 
 -- what a modifier makes of a value; None if a text would be too long
 unfoldable pub applied : Action → List ℕ → Option (List ℕ)

@@ -1,11 +1,14 @@
--- The modifiers that a text reads as: one or more, with a colon between (make(1), "VARIABLES").
-use Rattle.std.specs.Prelude.{ℕ, zero, suc, Bool, true, false, not, ◌==◌, ◌&&◌, List, [], ◌∷◌, ◌++◌, length, Option}
+-- The modifiers that a text reads as: one or more, with a colon between (make(1), "VARIABLES"). The profile
+-- says whether `old=new` is one of them.
+use Rattle.std.specs.Prelude.{ℕ, zero, suc, Bool, true, false, not, ◌==◌, ◌&&◌, ◌||◌, List, [], ◌∷◌, ◌++◌, length, Option}
 use Rattle.std.specs.Prelude.{Some, None, option_map, if◌then◌else◌}
 use Rattle.std.specs.List.{flat_map}
-use Rattle.std.specs.Option.{option_and_then}
+use Rattle.std.specs.Option.{option_and_then, option_or}
+use Rattle.mk_text.specs.declared.profile.Profile.{Profile}
+use Rattle.mk_text.specs.declared.profile.Profile.TheVariants.{One, Two}
 use Rattle.mk_mods.specs.declared.modifiers.WordMap.{WordMap}
 use Rattle.mk_mods.specs.declared.modifiers.WordMap.TheVariants as maps
-use Rattle.mk_mods.specs.Actions.{Action, Match, Exclude, Substitute, Change, Replacement}
+use Rattle.mk_mods.specs.Actions.{Action, Match, Exclude, Substitute, Change, Suffix, Replacement}
 use Rattle.mk_mods.specs.Marks.{TextMark, Char, EscapedDollar, Written, marks_of, is_char, mark_source}
 use Rattle.mk_mods.specs.Signs.{TextSign, signs_before, without_start, without_end, sign_symbols}
 
@@ -86,12 +89,43 @@ modifier_at letter marks =
     else if letter == 83 then option_map (λ read. (Substitute read.0, read.1)) (substitution_from marks)
     else option_map (λ word_map. (Change word_map, marks)) (word_map_of letter)
 
+-- the first modifier, if it begins with a letter of its own, and what follows it
+abbrev pub lettered_modifier : List TextMark → Option (Action × List TextMark)
+lettered_modifier [] = None
+lettered_modifier (Char letter ∷ marks) = modifier_at letter marks
+lettered_modifier (EscapedDollar ∷ marks) = None
+lettered_modifier (Written source ∷ marks) = None
+
+-- the marks before the first that is this character, and that one with what follows it
+abbrev pub cut_before : ℕ → List TextMark → List TextMark × List TextMark
+cut_before c [] = ([], [])
+cut_before c (mark ∷ marks) = if is_char c mark then ([], mark ∷ marks) else (let cut = cut_before c marks in (mark ∷ cut.0, cut.1))
+
+-- the replacement of one end of words by another, by the marks before its `=` (61), and that sign with those after it;
+-- None if there is no such sign
+abbrev pub suffix_by : List TextMark × List TextMark → Option Action
+suffix_by (old, []) = None
+suffix_by (old, sign ∷ new) = Some (Suffix (flat_map mark_source old) (flat_map mark_source new))
+
+-- the modifier `old=new`, which ends before the first colon (58) outside references, and what follows it
+abbrev pub suffix_modifier : List TextMark → Option (Action × List TextMark)
+suffix_modifier marks = let cut = cut_before 58 marks in option_map (λ action. (action, cut.1)) (suffix_by (cut_before 61 cut.0))
+
+-- whether marks begin with M (77), N (78) or S (83), after which `=` is a character like any other
+abbrev pub takes_text : List TextMark → Bool
+takes_text [] = false
+takes_text (mark ∷ marks) = is_char 77 mark || is_char 78 mark || is_char 83 mark
+
+-- `old=new` wherever it can be, and else a modifier that begins with a letter of its own
+abbrev pub suffix_or_lettered : List TextMark → Option (Action × List TextMark)
+suffix_or_lettered marks =
+    if takes_text marks then lettered_modifier marks
+    else option_or (suffix_modifier marks) (lettered_modifier marks)
+
 -- the first modifier, and what follows it
-abbrev pub first_modifier : List TextMark → Option (Action × List TextMark)
-first_modifier [] = None
-first_modifier (Char letter ∷ marks) = modifier_at letter marks
-first_modifier (EscapedDollar ∷ marks) = None
-first_modifier (Written source ∷ marks) = None
+abbrev pub first_modifier : Profile → List TextMark → Option (Action × List TextMark)
+first_modifier One marks = lettered_modifier marks
+first_modifier Two marks = suffix_or_lettered marks
 
 -- the modifiers that `later` reads after a colon, if anything follows
 abbrev pub after_colon : (List TextMark → Option (List Action)) → List TextMark → Option (List Action)
@@ -103,15 +137,15 @@ abbrev pub and_later : (List TextMark → Option (List Action)) → Option (Acti
 and_later later None = None
 and_later later (Some read) = option_map (λ actions. read.0 ∷ actions) (after_colon later read.1)
 
--- the modifiers of marks, at most as many as the first argument says
-abbrev pub modifiers_by : ℕ → List TextMark → Option (List Action)
-modifiers_by zero marks = None
-modifiers_by (suc fuel) marks = and_later (modifiers_by fuel) (first_modifier marks)
+-- the modifiers of marks, at most as many as the number says
+abbrev pub modifiers_by : Profile → ℕ → List TextMark → Option (List Action)
+modifiers_by profile zero marks = None
+modifiers_by profile (suc fuel) marks = and_later (modifiers_by profile fuel) (first_modifier profile marks)
 
 -- all of them: there are no more than marks
-abbrev pub modifiers_in : List TextMark → Option (List Action)
-modifiers_in marks = modifiers_by (length marks) marks
+abbrev pub modifiers_in : Profile → List TextMark → Option (List Action)
+modifiers_in profile marks = modifiers_by profile (length marks) marks
 
 -- the modifiers of a text; None if it isn't one or more modifiers
-unfoldable pub modifiers_of : List ℕ → Option (List Action)
-modifiers_of text = option_and_then modifiers_in (marks_of text)
+unfoldable pub modifiers_of : Profile → List ℕ → Option (List Action)
+modifiers_of profile text = option_and_then (modifiers_in profile) (marks_of text)

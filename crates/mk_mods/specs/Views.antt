@@ -1,5 +1,8 @@
--- Marks and signs in the code, as clauses see them.
-use Rattle.std.specs.Prelude.{◌≡◌, Option, None}
+-- Marks, signs and changes of words in the code, as clauses see them.
+use Rattle.std.specs.Prelude.{◌≡◌, ℕ, List, Option, None}
+use Rattle.mk_mods.specs.declared.word_maps.WordChange.{WordChange}
+use Rattle.mk_mods.specs.declared.word_maps.WordChange.TheVariants as changes
+use Rattle.mk_mods.specs.WordChanges.{word_change, with_suffix}
 use Rattle.mk_mods.specs.declared.marks.Mark.{Mark}
 use Rattle.mk_mods.specs.declared.marks.Mark.TheVariants as marks
 use Rattle.mk_mods.specs.declared.signs.SubstitutionSign.{SubstitutionSign}
@@ -30,3 +33,8 @@ IsUnread read faults.Memory = Unit {0}
 abbrev pub unread_by : PiecesFault → ModsFault
 unread_by (pieces_faults.Unclosed at) = faults.BadMod
 unread_by pieces_faults.Memory = faults.Memory
+
+-- what a change makes of a word
+abbrev pub changed_by : WordChange → List ℕ → List ℕ
+changed_by (changes.Map word_map) word = word_change word_map word
+changed_by (changes.Suffix old new) word = with_suffix old.now new.now word

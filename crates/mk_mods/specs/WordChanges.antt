@@ -1,6 +1,7 @@
--- What the modifiers of one letter make of a word (make(1), "VARIABLES": `:R`, `:E`, `:H`, `:T`, `:L`,
--- `:U`).
-use Rattle.std.specs.Prelude.{ℕ, ◌==◌, List, [], ◌∷◌, map, Option, Some, None, if◌then◌else◌}
+-- What modifiers make of a word (make(1), "VARIABLES": `:R`, `:E`, `:H`, `:T`, `:L`, `:U`, and
+-- `:old_string=new_string`).
+use Rattle.std.specs.Prelude.{ℕ, ◌==◌, ◌-◌, nat_eq, List, [], ◌∷◌, ◌++◌, length, take, map, Option, Some, None, if◌then◌else◌}
+use Rattle.std.specs.List.{ends_with}
 use Rattle.std.specs.Option.{option_map_or}
 use Rattle.std.specs.Char.{to_ascii_lowercase, to_ascii_uppercase}
 use Rattle.mk_mods.specs.declared.modifiers.WordMap.{WordMap}
@@ -30,3 +31,7 @@ word_change maps.Head word = option_map_or (λ parts. or_slash parts.0) (around_
 word_change maps.Tail word = option_map_or (λ parts. parts.1) (around_last 47 word) word
 word_change maps.Lower word = map to_ascii_lowercase word
 word_change maps.Upper word = map to_ascii_uppercase word
+
+-- a word that ends in the old text has the new text there; each word ends in the empty text
+abbrev pub with_suffix : List ℕ → List ℕ → List ℕ → List ℕ
+with_suffix old new word = if ends_with nat_eq word old then take (length word - length old) word ++ new else word

@@ -4,14 +4,14 @@ ghost use Rattle.mk_text.specs.Words.{words_of};
 ghost use Rattle.mk_glob.specs.Matching.{fits};
 ghost use Rattle.mk_mods.specs.Joined.{joined, IsUnmade, IsMade};
 ghost use Rattle.mk_text.specs.TextLimit.{IsTooLong};
-ghost use Rattle.mk_mods.specs.WordChanges.{word_change};
+ghost use Rattle.mk_mods.specs.Views.{changed_by};
 ghost use Rattle.mk_mods.specs.Actions.{action_of, IsExpanded};
 ghost use Rattle.mk_mods.specs.Applied.{applied, kept};
 
 use crate::joining::add_word;
-use crate::modifiers::{Modifier, WordMap};
+use crate::modifiers::Modifier;
 use crate::substituting::join_substituted;
-use crate::word_maps::add_changed;
+use crate::word_maps::{WordChange, add_changed};
 use mk_glob::glob;
 use mk_text::{TextFault, words};
 use std::alloc::Global;
@@ -40,7 +40,11 @@ pub fn apply(alloc: Global, modifier: &Modifier, value: &str) -> Result<String, 
         Modifier::Match(pattern) => join_kept(alloc, pattern.as_str(), true, value),
         Modifier::Exclude(pattern) => join_kept(alloc, pattern.as_str(), false, value),
         Modifier::Substitute(substitution) => join_substituted(alloc, substitution, value),
-        Modifier::Change(map) => join_changed(alloc, *map, value),
+        Modifier::Change(map) => join_changed(alloc, WordChange::Map(*map), value),
+        Modifier::Suffix { old, new } => {
+            let suffix = WordChange::Suffix(old.as_str(), new.as_str());
+            join_changed(alloc, suffix, value)
+        }
     }
 }
 
@@ -62,14 +66,13 @@ fn join_kept(alloc: Global, pattern: &str, matching: bool, value: &str) -> Resul
 }
 
 /// What is made of each word, joined.
-fn join_changed(alloc: Global, word_map: WordMap, value: &str) -> Result<String, TextFault>
-    ensures ok { IfOk result (IsMade (joined (map (word_change word_map) (words_of value.now)))) }
-    ensures err { IfErr result (IsTooLong
-        (joined (map (word_change word_map) (words_of value.now)))) }
+fn join_changed(alloc: Global, change: WordChange<'_>, value: &str) -> Result<String, TextFault>
+    ensures ok { IfOk result (IsMade (joined (map (changed_by change.entry) (words_of value.now)))) }
+    ensures err { IfErr result (IsTooLong (joined (map (changed_by change.entry) (words_of value.now)))) }
 {
     let mut made = String::new(alloc);
     for span in &words(alloc, value)? {
-        add_changed(alloc, &mut made, word_map, span.of(value))?;
+        add_changed(alloc, &mut made, change, span.of(value))?;
     }
     Ok(made)
 }

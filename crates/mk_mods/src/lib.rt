@@ -9,6 +9,7 @@ mod modifiers;
 mod reading;
 mod signs;
 mod substituting;
+mod suffixes;
 mod word_maps;
 
 pub use applying::apply;

@@ -14,16 +14,25 @@ pub enum Modifier {
     Substitute(Substitution),
     /// `:R`, `:E`, `:H`, `:T`, `:L` and `:U`: something made of each word.
     Change(WordMap),
+    /// `old=new`: each word that ends in the old text with the new one there.
+    Suffix {
+        /// The text that words end in.
+        old: String,
+        /// The text that is put there.
+        new: String,
+    },
 }
 
 impl Modifier {
-    /// Whether no part of it is a reference, so that it can be applied. A pattern is a text: when it is
-    /// read it may hold references, and it doesn't show whether these were expanded.
+    /// Whether no part of it is a reference, so that it can be applied. A pattern is a text, and so are the
+    /// two of `old=new`. When these are read they may hold references, and they don't show whether they
+    /// were expanded.
     pub fn is_expanded(&self) -> bool
         ensures { IsTrue result ↔ IsExpanded (action_of self.now) }
     {
         match self {
-            Modifier::Match(_) | Modifier::Exclude(_) | Modifier::Change(_) => true,
+            Modifier::Match(_) | Modifier::Exclude(_) => true,
+            Modifier::Change(_) | Modifier::Suffix { .. } => true,
             Modifier::Substitute(substitution) => {
                 are_plain(&substitution.old) && are_plain(&substitution.new)
             }

@@ -1,15 +1,17 @@
 //! Modifiers read from a text.
 ghost use Rattle.std.specs.Prelude.{◌≡◌, ◌<◌, ◌≤◌, false, length, map, string_bytes, Some, IfOk, IfErr};
-ghost use Rattle.std.specs.Option.{option_map};
 ghost use Rattle.mk_mods.specs.Actions.{action_of, replacement_of};
-ghost use Rattle.mk_mods.specs.Grammar.{pattern_from, flags_of, substitution_from, word_map_of, first_modifier, modifiers_in, modifiers_of};
+ghost use Rattle.mk_mods.specs.Grammar.{pattern_from, flags_of, substitution_from, word_map_of, lettered_modifier};
+ghost use Rattle.mk_mods.specs.Grammar.{suffix_or_lettered, first_modifier, modifiers_in, modifiers_of};
 ghost use Rattle.mk_mods.specs.Views.{shown_mark, IsUnread, unread_by};
 ghost use Rattle.mk_mods.specs.declared.reading.ModsFault.TheVariants.{Memory};
 
 use crate::marks::{Mark, marks};
 use crate::modifiers::{Modifier, Substitution, WordMap};
 use crate::signs::{parts_of, signs_before, without_end, without_start};
+use crate::suffixes::{suffix_modifier, takes_text};
 use mk_ref::PiecesFault;
+use mk_text::Profile;
 use std::alloc::{AllocError, AllocFailed, Global};
 use thiserror::Error;
 
@@ -72,6 +74,8 @@ impl Mods {
     ///   else it stays. `$$` is a plain dollar. An old text may begin with the anchor `^` and end with
     ///   the anchor `$`; in the new one `&` means the old text.
     /// - One of `R`, `E`, `H`, `T`, `L` and `U`.
+    /// - In profile 2, `old=new`, if it begins with none of `M`, `N` and `S`. The old text ends before the
+    ///   first `=`, and the new one before the next colon. Backslashes stay in both.
     ///
     /// The time is linear in the length of `text`.
     ///
@@ -79,31 +83,35 @@ impl Mods {
     ///
     /// `BadMod` if the text is anything else, also if it is empty, or if a reference in it doesn't end.
     /// `Memory` if memory runs out.
-    pub fn read(alloc: Global, text: &str) -> Result<Mods, ModsFault>
-        ensures ok { IfOk result (λ mods. modifiers_of text.now
+    pub fn read(alloc: Global, text: &str, profile: Profile) -> Result<Mods, ModsFault>
+        ensures ok { IfOk result (λ mods. modifiers_of profile text.now
             ≡ Some (map action_of mods.modifiers.items)) }
-        ensures err { IfErr result (IsUnread (modifiers_of text.now)) }
+        ensures err { IfErr result (IsUnread (modifiers_of profile text.now)) }
     {
         let marks = marks(alloc, text)?;
-        let modifiers = modifiers_in(alloc, &marks)?;
+        let modifiers = modifiers_in(alloc, profile, &marks)?;
         Ok(Mods { modifiers })
     }
 }
 
 /// The modifiers that marks are, with colons between them.
-fn modifiers_in(alloc: Global, marks: &[Mark<'_>]) -> Result<Vec<Modifier>, ModsFault>
-    ensures ok { IfOk result (λ modifiers. modifiers_in (map shown_mark marks.now)
+fn modifiers_in(
+    alloc: Global,
+    profile: Profile,
+    marks: &[Mark<'_>],
+) -> Result<Vec<Modifier>, ModsFault>
+    ensures ok { IfOk result (λ modifiers. modifiers_in profile (map shown_mark marks.now)
         ≡ Some (map action_of modifiers.items)) }
-    ensures err { IfErr result (IsUnread (modifiers_in (map shown_mark marks.now))) }
+    ensures err { IfErr result (IsUnread (modifiers_in profile (map shown_mark marks.now))) }
 {
     let mut modifiers = Vec::new(alloc);
-    let (first, mut behind) = first_modifier(alloc, marks)?;
+    let (first, mut behind) = first_modifier(alloc, profile, marks)?;
     modifiers.push(first)?;
     while let Some((mark, later)) = behind.split_first() {
         if !mark.is(':') {
             return Err(ModsFault::BadMod);
         }
-        let (modifier, rest) = first_modifier(alloc, later)?;
+        let (modifier, rest) = first_modifier(alloc, profile, later)?;
         modifiers.push(modifier)?;
         behind = rest;
     }
@@ -113,11 +121,47 @@ fn modifiers_in(alloc: Global, marks: &[Mark<'_>]) -> Result<Vec<Modifier>, Mods
 /// The first modifier, and the marks after it.
 fn first_modifier<'m, 't>(
     alloc: Global,
+    profile: Profile,
     marks: &'m [Mark<'t>],
 ) -> Result<(Modifier, &'m [Mark<'t>]), ModsFault>
-    ensures ok { IfOk result (λ read. first_modifier (map shown_mark marks.now)
+    ensures ok { IfOk result (λ read. first_modifier profile (map shown_mark marks.now)
         ≡ Some (action_of read.0, map shown_mark read.1.now)) }
-    ensures err { IfErr result (IsUnread (first_modifier (map shown_mark marks.now))) }
+    ensures err { IfErr result (IsUnread (first_modifier profile (map shown_mark marks.now))) }
+    ensures shorter { IfOk result (λ read. length read.1.now < length marks.now) }
+{
+    match profile {
+        Profile::One => lettered_modifier(alloc, marks),
+        Profile::Two => suffix_or_lettered(alloc, marks),
+    }
+}
+
+/// `old=new`, or else the modifier that begins with a letter of its own, and the marks after it.
+fn suffix_or_lettered<'m, 't>(
+    alloc: Global,
+    marks: &'m [Mark<'t>],
+) -> Result<(Modifier, &'m [Mark<'t>]), ModsFault>
+    ensures ok { IfOk result (λ read. suffix_or_lettered (map shown_mark marks.now)
+        ≡ Some (action_of read.0, map shown_mark read.1.now)) }
+    ensures err { IfErr result (IsUnread (suffix_or_lettered (map shown_mark marks.now))) }
+    ensures shorter { IfOk result (λ read. length read.1.now < length marks.now) }
+{
+    if takes_text(marks) {
+        return lettered_modifier(alloc, marks);
+    }
+    match suffix_modifier(alloc, marks)? {
+        Some(read) => Ok(read),
+        None => lettered_modifier(alloc, marks),
+    }
+}
+
+/// The modifier that begins with a letter of its own, and the marks after it.
+fn lettered_modifier<'m, 't>(
+    alloc: Global,
+    marks: &'m [Mark<'t>],
+) -> Result<(Modifier, &'m [Mark<'t>]), ModsFault>
+    ensures ok { IfOk result (λ read. lettered_modifier (map shown_mark marks.now)
+        ≡ Some (action_of read.0, map shown_mark read.1.now)) }
+    ensures err { IfErr result (IsUnread (lettered_modifier (map shown_mark marks.now))) }
     ensures shorter { IfOk result (λ read. length read.1.now < length marks.now) }
 {
     let Some((Mark::Char(letter), rest)) = marks.split_first() else {

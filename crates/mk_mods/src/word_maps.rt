@@ -1,14 +1,24 @@
-//! What modifiers of one letter make of a word.
-ghost use Rattle.std.specs.Prelude.{◌≡◌, ◌≤◌, length, string_bytes, IfOk, IfErr};
+//! What modifiers make of a word.
+ghost use Rattle.std.specs.Prelude.{◌≡◌, ◌≤◌, ◌++◌, length, string_bytes, IfOk, IfErr};
 ghost use Rattle.mk_mods.specs.Joined.{with_word};
 ghost use Rattle.mk_text.specs.TextLimit.{IsTooLong};
-ghost use Rattle.mk_mods.specs.WordChanges.{word_change};
+ghost use Rattle.mk_mods.specs.WordChanges.{word_change, with_suffix};
+ghost use Rattle.mk_mods.specs.Views.{changed_by};
 ghost use Rattle.mk_mods.specs.declared.modifiers.WordMap.TheVariants as maps;
 
 use crate::joining::add_word;
 use crate::modifiers::WordMap;
-use mk_text::{TEXT_LIMIT, TextFault};
+use mk_text::{TEXT_LIMIT, TextFault, add_text};
 use std::alloc::Global;
+
+/// What is made of each word: by a modifier of one letter, or by `old=new`.
+#[derive(Debug, Clone, Copy)]
+pub(crate) enum WordChange<'t> {
+    /// What the modifier of a letter makes of it.
+    Map(WordMap),
+    /// The word with the second text in place of the first, if it ends in that one.
+    Suffix(&'t str, &'t str),
+}
 
 /// What comes before the last dot of a word; without a dot, the word.
 fn root(word: &str) -> &str
@@ -54,9 +64,53 @@ fn tail(word: &str) -> &str
 pub(crate) fn add_changed(
     alloc: Global,
     made: &mut String,
-    map: WordMap,
+    change: WordChange<'_>,
     word: &str,
 ) -> Result<(), TextFault>
+    requires { length (string_bytes made.old) ≤ TEXT_LIMIT }
+    ensures ok { IfOk result (λ _. (length (string_bytes made.new) ≤ TEXT_LIMIT)
+        × (string_bytes made.new ≡ with_word (string_bytes made.old) (changed_by change.entry word.now))) }
+    ensures err { IfErr result (IsTooLong
+        (with_word (string_bytes made.old) (changed_by change.entry word.now))) }
+{
+    match change {
+        WordChange::Map(map) => add_mapped(alloc, made, map, word),
+        WordChange::Suffix(old, new) => add_with_suffix(made, old, new, word),
+    }
+}
+
+/// Adds a word, with the new text in place of the old one if it ends in that one.
+fn add_with_suffix(made: &mut String, old: &str, new: &str, word: &str) -> Result<(), TextFault>
+    requires { length (string_bytes made.old) ≤ TEXT_LIMIT }
+    ensures ok { IfOk result (λ _. (length (string_bytes made.new) ≤ TEXT_LIMIT)
+        × (string_bytes made.new
+        ≡ with_word (string_bytes made.old) (with_suffix old.now new.now word.now))) }
+    ensures err { IfErr result (IsTooLong
+        (with_word (string_bytes made.old) (with_suffix old.now new.now word.now))) }
+{
+    match word.strip_suffix(old) {
+        Some(front) => add_two(made, front, new),
+        None => add_word(made, word),
+    }
+}
+
+/// Adds one word that two texts make.
+fn add_two(made: &mut String, front: &str, new: &str) -> Result<(), TextFault>
+    requires { length (string_bytes made.old) ≤ TEXT_LIMIT }
+    ensures ok { IfOk result (λ _. (length (string_bytes made.new) ≤ TEXT_LIMIT)
+        × (string_bytes made.new ≡ with_word (string_bytes made.old) (front.now ++ new.now))) }
+    ensures err { IfErr result (IsTooLong
+        (with_word (string_bytes made.old) (front.now ++ new.now))) }
+{
+    if front.is_empty() {
+        return add_word(made, new);
+    }
+    add_word(made, front)?;
+    add_text(made, new)
+}
+
+/// Adds what the modifier of a letter makes of a word.
+fn add_mapped(alloc: Global, made: &mut String, map: WordMap, word: &str) -> Result<(), TextFault>
     requires { length (string_bytes made.old) ≤ TEXT_LIMIT }
     ensures ok { IfOk result (λ _. (length (string_bytes made.new) ≤ TEXT_LIMIT)
         × (string_bytes made.new ≡ with_word (string_bytes made.old) (word_change map word.now))) }

@@ -7,6 +7,7 @@ ghost use Rattle.text_parts.specs.Cuts.{now_all};
 ghost use Rattle.mk_paths.specs.declared.search_path.PathFault.TheVariants.{Memory};
 
 use crate::file_name::is_plain_byte;
+use mk_text::Profile;
 use std::alloc::{AllocError, Global};
 use std::marker::Model;
 use text_parts::{copies_of, split_at};
@@ -88,11 +89,13 @@ impl SearchPath {
     }
 }
 
-/// What a world of files is read with: the search path of its ports.
+/// What a world of files is read with: the search path of its ports, and the language of its makefiles.
 #[derive(Debug, Drop)]
 pub struct Settings {
     /// The trees that are searched for a port's directory.
     pub path: SearchPath,
+    /// The make language of the makefiles.
+    pub profile: Profile,
 }
 
 // Whether the texts are one to eight trees.

@@ -1,12 +1,11 @@
 -- A record costs no more than its budget.
 use Rattle.std.proofs.Common.{◌≡◌, ◌≤◌, ℕ, List, [], ◌∷◌, Option, Some, None, is_some, Result, Ok, Err, refl, sym, subst, arith, codes}
-use Rattle.std.specs.FinMap as finite
 use Rattle.mk_base.specs.declared.faults.FaultKind.{FaultKind}
 use Rattle.mk_base.specs.declared.faults.FaultKind.TheVariants as kinds
 use Rattle.mk_base.specs.declared.metering.TheConstants.{UNITS}
 use Rattle.mk_base.specs.Meter.{Meter, full}
 use Rattle.mk_base.specs.Outcome.{Work, left}
-use Rattle.mk_env.specs.Texts.{Variables}
+use Rattle.mk_env.specs.Texts.{Variables, text_in}
 use Rattle.mk_eval.proofs.Steady.{Steady, steady-give, steady-fail, bind, either, over}
 use Rattle.mk_eval.proofs.SteadyTexts.{steady-variable}
 use Rattle.pkg_name.specs.Name.{NameParts, split_name}
@@ -21,7 +20,7 @@ use Rattle.port_rules.specs.Values.{asked_text, asked_words, lowercase_words, or
 steady-value : (variables : Variables) (name : List ℕ) → Steady (value variables name)
 unfolding value
 steady-value variables name =
-    either (is_some (finite.get variables name)) (bind (steady-variable variables name) (λ text. steady-give _)) (steady-give None)
+    either (is_some (text_in variables name)) (bind (steady-variable variables name) (λ text. steady-give _)) (steady-give None)
 
 steady-or_else : (found : Option (List ℕ)) (other : Work Meter FaultKind (Option (List ℕ))) → Steady other → Steady (or_else found other)
 steady-or_else None other steady = steady

@@ -1,18 +1,17 @@
 -- Variables that are asked for a record: their values, as make(1) expands them, over one budget.
 use Rattle.std.specs.Prelude.{ℕ, if◌then◌else◌, is_some, List, [], ◌++◌, Option, Some, None, codes}
 use Rattle.std.specs.Str.{bytes_eq, str_to_ascii_lowercase}
-use Rattle.std.specs.FinMap as finite
 use Rattle.mk_base.specs.declared.faults.FaultKind.{FaultKind}
 use Rattle.mk_base.specs.Meter.{Meter}
 use Rattle.mk_base.specs.Outcome.{Work, give, ◌>>=◌}
 use Rattle.mk_text.specs.Words.{words_of}
-use Rattle.mk_env.specs.Texts.{Variables}
+use Rattle.mk_env.specs.Texts.{Variables, text_in}
 use Rattle.mk_env.specs.Expansion.{variable}
 
 -- the value of a variable; one that isn't defined has none, and costs nothing
 unfoldable pub value : Variables → List ℕ → Work Meter FaultKind (Option (List ℕ))
 value variables name m =
-    (if is_some (finite.get variables name)
+    (if is_some (text_in variables name)
     then (variable variables name >>= λ text. give (Some text)) else give None) m
 
 -- a value, or, if there is none, what is taken instead

@@ -8,6 +8,7 @@ mod texts;
 mod trees;
 
 use case_lines::{Answer, Trouble};
+use mk_text::Profile;
 pub use packages::{add_texts, path_of};
 use std::alloc::Global;
 
@@ -23,8 +24,12 @@ pub fn answer(alloc: Global, call: &str, given: &[Vec<u8>]) -> Result<Answer, Tr
         "pieces" => texts::pieces_of(alloc, given),
         "number of pieces" => texts::number_of_pieces(alloc, given),
         "glob" => texts::fits(alloc, given),
-        "modifiers of" => texts::modified(alloc, given),
-        "modifiers as read" => texts::modifiers_as_read(alloc, given),
+        "modifiers of" => texts::modified(alloc, Profile::One, given),
+        "modifiers in second profile of" => texts::modified(alloc, Profile::Two, given),
+        "modifiers as read" => texts::modifiers_as_read(alloc, Profile::One, given),
+        "modifiers in second profile as read" => {
+            texts::modifiers_as_read(alloc, Profile::Two, given)
+        }
         "substitute in" => texts::substituted(alloc, given),
         "line" => texts::kind_of_line(alloc, given),
         "plain line" => texts::plain_kind_of_line(alloc, given),

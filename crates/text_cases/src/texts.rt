@@ -4,7 +4,7 @@ use mk_ast::{LineKind, is_word, line_kind, plain_kind};
 use mk_glob::glob;
 use mk_mods::{Modifier, Mods, ModsFault, Part, Substitution, apply, substitute};
 use mk_ref::{Piece, PiecesFault, outside, pieces};
-use mk_text::{TextFault, is_blank, logical_lines, skip_blanks, trim_blanks, words};
+use mk_text::{Profile, TextFault, is_blank, logical_lines, skip_blanks, trim_blanks, words};
 use std::alloc::{AllocError, Global};
 use std::fmt::Write;
 
@@ -130,14 +130,14 @@ pub fn fits(alloc: Global, given: &[Vec<u8>]) -> Result<Answer, Trouble> {
     Ok(Answer::of_choice(alloc, holds, "fits", "no"))
 }
 
-/// `modifiers MODIFIERS of VALUE`: what they make of it, one after another; or `BadMod`, `Length`, or
-/// `Reference` if one isn't expanded.
-pub fn modified(alloc: Global, given: &[Vec<u8>]) -> Result<Answer, Trouble> {
+/// `modifiers MODIFIERS of VALUE`: what they make of it in this profile, one after another; or `BadMod`,
+/// `Length`, or `Reference` if one isn't expanded.
+pub fn modified(alloc: Global, profile: Profile, given: &[Vec<u8>]) -> Result<Answer, Trouble> {
     let [text, value] = given else {
         return Err(Trouble::NoCase);
     };
     let value = as_text(value)?;
-    match read_modifiers(alloc, as_text(text)?)? {
+    match read_modifiers(alloc, as_text(text)?, profile)? {
         Some(mods) => applied(alloc, &mods, value),
         None => Ok(Answer::of_word(alloc, "BadMod")),
     }
@@ -159,9 +159,9 @@ fn applied(alloc: Global, mods: &Mods, value: &str) -> Result<Answer, Trouble> {
     Ok(Answer::of_text(alloc, made.as_str()))
 }
 
-/// The modifiers that a text is. `None` if it is no modifiers.
-fn read_modifiers(alloc: Global, text: &str) -> Result<Option<Mods>, Trouble> {
-    match Mods::read(alloc, text) {
+/// The modifiers that a text is in this profile. `None` if it is no modifiers.
+fn read_modifiers(alloc: Global, text: &str, profile: Profile) -> Result<Option<Mods>, Trouble> {
+    match Mods::read(alloc, text, profile) {
         Ok(mods) => Ok(Some(mods)),
         Err(ModsFault::BadMod) => Ok(None),
         Err(ModsFault::Memory) => Err(Trouble::Memory),
@@ -175,7 +175,7 @@ pub fn substituted(alloc: Global, given: &[Vec<u8>]) -> Result<Answer, Trouble> 
         return Err(Trouble::NoCase);
     };
     let (old, new, value) = (as_text(old)?, as_text(new)?, as_text(value)?);
-    let Some(mods) = read_modifiers(alloc, as_text(text)?)? else {
+    let Some(mods) = read_modifiers(alloc, as_text(text)?, Profile::One)? else {
         return Ok(Answer::of_word(alloc, "BadMod"));
     };
     let mut answer = Answer::new(alloc);
@@ -193,10 +193,14 @@ pub fn substituted(alloc: Global, given: &[Vec<u8>]) -> Result<Answer, Trouble> 
 }
 
 /// `modifiers as read MODIFIERS`: `M` and `N` with the pattern in single quotes; a `:S` with its old and
-/// new text; the others by their names. In a `:S` texts are in single quotes, the old text is `&`, and
-/// references are between `<` and `>`.
-pub fn modifiers_as_read(alloc: Global, given: &[Vec<u8>]) -> Result<Answer, Trouble> {
-    let Some(mods) = read_modifiers(alloc, one_text(given)?)? else {
+/// new text; `old=new` with both texts in single quotes; the others by their names. In a `:S` texts are in
+/// single quotes, the old text is `&`, and references are between `<` and `>`.
+pub fn modifiers_as_read(
+    alloc: Global,
+    profile: Profile,
+    given: &[Vec<u8>],
+) -> Result<Answer, Trouble> {
+    let Some(mods) = read_modifiers(alloc, one_text(given)?, profile)? else {
         return Ok(Answer::of_word(alloc, "BadMod"));
     };
     let mut answer = Answer::new(alloc);
@@ -211,6 +215,7 @@ fn shown_modifier(alloc: Global, modifier: &Modifier) -> Result<String, AllocErr
         Modifier::Match(pattern) => format!(in alloc; "M'{pattern}'"),
         Modifier::Exclude(pattern) => format!(in alloc; "N'{pattern}'"),
         Modifier::Change(map) => format!(in alloc; "{map:?}"),
+        Modifier::Suffix { old, new } => format!(in alloc; "'{old}'='{new}'"),
         Modifier::Substitute(substitution) => shown_substitution(alloc, substitution),
     }
 }

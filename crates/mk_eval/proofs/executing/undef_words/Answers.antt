@@ -1,6 +1,6 @@
 use Rattle.std.proofs.Common.{◌≡◌, ◌+◌, map, drop, sym, ap, ◌∙◌, arith}
 use Rattle.std.proofs.lemmas.List.{drop_more, drop_all}
-use Rattle.std.specs.FinMap as finite
+use Rattle.mk_env.specs.Texts.{without_text}
 use Rattle.mk_text.specs.Words.{words_of, span_text}
 use Rattle.mk_eval.specs.Lines.{without}
 use Rattle.mk_eval.proofs.executing.undef_words.Goals as goal
@@ -12,7 +12,7 @@ loop-span-preserved c =
     let later = map place (drop (c.loop-span.span-index + 1) spans) in
     c.loop-span.invariant
     ∙ ap (λ rest. without c.loop-span.variables (map place rest)) (drop_more spans c.loop-span.span-index record { start = 0; end = 0 } (omega arith))
-    ∙ ap (λ variables. without variables later) (ap (finite.remove c.loop-span.variables) (sym c.of.ensures) ∙ sym c.undef.ensures)
+    ∙ ap (λ variables. without variables later) (ap (without_text c.loop-span.variables) (sym c.of.ensures) ∙ sym c.undef.ensures)
 
 pub returns-clause-ok : goal.returns-clause-ok
 returns-clause-ok c =

@@ -52,3 +52,15 @@ unfolding applied
 returns-in-Change-clause-err c =
     subst (λ m. IfErr c.join_changed.result (IsUnmade (applied (action_of m) c.args.value.now))) (sym c.in-Change.is)
     (err-within c.join_changed.result _ c.join_changed.ensures.err)
+
+pub returns-in-Suffix-clause-ok : goal.returns-in-Suffix-clause-ok
+unfolding applied
+returns-in-Suffix-clause-ok c =
+    subst (λ m. IfOk c.join_changed-in-Suffix.result (λ made. applied (action_of m) c.args.value.now ≡ Some (string_bytes made))) (sym c.in-Suffix.is)
+    (ok-within c.join_changed-in-Suffix.result _ (rw (c.as_str-in-Suffix.ensures.value, c.as_str-in-Suffix-2.ensures.value) at c.join_changed-in-Suffix.ensures.ok))
+
+pub returns-in-Suffix-clause-err : goal.returns-in-Suffix-clause-err
+unfolding applied
+returns-in-Suffix-clause-err c =
+    subst (λ m. IfErr c.join_changed-in-Suffix.result (IsUnmade (applied (action_of m) c.args.value.now))) (sym c.in-Suffix.is)
+    (err-within c.join_changed-in-Suffix.result _ (rw (c.as_str-in-Suffix.ensures.value, c.as_str-in-Suffix-2.ensures.value) at c.join_changed-in-Suffix.ensures.err))

@@ -5,7 +5,7 @@ use Rattle.mk_mods.proofs.ModifierSteps.{ReadsOn}
 use Rattle.mk_mods.proofs.reading.modifiers_in.Given as goal
 
 abbrev pub invariant-loop-mark : goal.invariant-loop-mark
-invariant-loop-mark l = ReadsOn (map shown_mark l.marks) (map action_of l.modifiers.items) (map shown_mark l.behind)
+invariant-loop-mark l = ReadsOn l.profile (map shown_mark l.marks) (map action_of l.modifiers.items) (map shown_mark l.behind)
 
 abbrev pub decreases-loop-mark : goal.decreases-loop-mark
 decreases-loop-mark l = length l.behind

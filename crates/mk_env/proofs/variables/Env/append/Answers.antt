@@ -2,35 +2,40 @@ use Rattle.std.proofs.Common.{◌≡◌, None, String, ◌++◌, ◌∙◌, ap, 
 use Rattle.std.proofs.lemmas.Result.{on_ok_weaker, MatchResult-from_err}
 use Rattle.std.specs.declared.alloc.Global.{Global}
 use Rattle.std.specs.BTreeMap as tree
-use Rattle.std.specs.FinMap as finite
-use Rattle.mk_env.specs.Texts.{appended, texts_of}
-use Rattle.mk_env.proofs.TextMap.{texts_of-appended, texts_of-kept, OnOk-by_cases, OnErr-by_cases, get-view}
+use Rattle.mk_env.specs.Texts.{appended, texts_of, text_in, with_text}
+use Rattle.mk_env.proofs.TextMap.{texts_of-appended, texts_of-kept, OnOk-by_cases, OnErr-by_cases, get-view, with-parts}
 use Rattle.mk_env.proofs.variables.Env.append.Goals as goal
 
 pub returns-in_ok-added-in-Some-clause-ok : goal.returns-in_ok-added-in-Some-clause-ok
 returns-in_ok-added-in-Some-clause-ok c =
     OnOk-by_cases c.push_str.result _ _ _ c.push_str.ensures.bytes (λ longer.
-    texts_of-appended c.self.inside.variables (c.get_mut.follows.lender c.push_str.new.self) c.args.self.now c.args.name.now c.in-Some.before.now c.push_str.new.self c.self.view_is c.in-Some.ensures.value
+    with-parts _ _ _ _ (ap (λ view. view.0) c.self.view_is)
+    (texts_of-appended c.self.inside.variables (c.get_mut.follows.lender c.push_str.new.self) c.args.self.now.1 c.args.name.now c.in-Some.before.now c.push_str.new.self (ap (λ view. view.1) c.self.view_is)
+    c.in-Some.ensures.value
     ((c.get_mut.follows.holds c.push_str.new.self).3 (search rules)) c.args.text.now
-    (longer ∙ ap (λ added. string_bytes c.in-Some.before.now ++ added) (c.as_str.ensures.value ∙ c.in_ok-added-in-Some.ensures.ok)))
+    (longer ∙ ap (λ added. string_bytes c.in-Some.before.now ++ added) (c.as_str.ensures.value ∙ c.in_ok-added-in-Some.ensures.ok))))
 
 pub returns-in_ok-added-in-Some-clause-err : goal.returns-in_ok-added-in-Some-clause-err
 returns-in_ok-added-in-Some-clause-err c =
     OnErr-by_cases c.push_str.result _ _ _ c.push_str.ensures.bytes
-    (texts_of-kept c.self.inside.variables (c.get_mut.follows.lender c.push_str.new.self) c.args.self.now c.args.name.now c.in-Some.before.now c.push_str.new.self c.self.view_is c.in-Some.ensures.value
-    ((c.get_mut.follows.holds c.push_str.new.self).3 (search rules)))
+    (λ same. with-parts _ _ _ _ (ap (λ view. view.0) c.self.view_is)
+    (texts_of-kept c.self.inside.variables (c.get_mut.follows.lender c.push_str.new.self) c.args.self.now.1 c.args.name.now c.in-Some.before.now c.push_str.new.self (ap (λ view. view.1) c.self.view_is)
+    c.in-Some.ensures.value ((c.get_mut.follows.holds c.push_str.new.self).3 (search rules)) same))
 
 pub returns-in-None-clause-ok : goal.returns-in-None-clause-ok
 returns-in-None-clause-ok c =
-    let absent : None ≡ finite.get c.args.self.now c.args.name.now = ap (option_map string_bytes) c.in-None.ensures.value ∙ get-view c.self.inside.variables c.args.self.now c.args.name.now c.self.view_is in
-    let stays : texts_of c.get_mut.follows.lender-at-none.entries ≡ c.args.self.now = ap (λ (m : tree.BTreeMap (String Global) (String Global)). texts_of m.entries) c.get_mut.follows.holds-at-none ∙ c.self.view_is in
+    let absent : None ≡ text_in c.args.self.now c.args.name.now =
+    ap (option_map string_bytes) c.in-None.ensures.value ∙ get-view c.self.inside.variables c.args.self.now.1 c.args.name.now (ap (λ view. view.1) c.self.view_is) in
+    let stays : (c.self.inside.profile, texts_of c.get_mut.follows.lender-at-none.entries) ≡ c.args.self.now =
+    ap (λ (m : tree.BTreeMap (String Global) (String Global)). (c.self.inside.profile, texts_of m.entries)) c.get_mut.follows.holds-at-none ∙ c.self.view_is in
     on_ok_weaker c.set.result
-    (λ is. is ∙ ap (λ view. finite.insert view c.args.name.now c.args.text.now) stays
-    ∙ ap (λ had. finite.insert c.args.self.now c.args.name.now (appended had c.args.text.now)) absent)
+    (λ is. is ∙ ap (λ view. with_text view c.args.name.now c.args.text.now) stays
+    ∙ ap (λ had. with_text c.args.self.now c.args.name.now (appended had c.args.text.now)) absent)
     c.set.ensures.ok
 
 pub returns-in_err-added-in-Some-clause-err : goal.returns-in_err-added-in-Some-clause-err
 returns-in_err-added-in-Some-clause-err c =
-    let kept = texts_of-kept c.self.inside.variables (c.get_mut.follows.lender c.in-Some.before.now) c.args.self.now c.args.name.now c.in-Some.before.now c.in-Some.before.now c.self.view_is c.in-Some.ensures.value
-    ((c.get_mut.follows.holds c.in-Some.before.now).3 (search rules)) refl in
+    let kept = with-parts _ _ _ _ (ap (λ view. view.0) c.self.view_is)
+    (texts_of-kept c.self.inside.variables (c.get_mut.follows.lender c.in-Some.before.now) c.args.self.now.1 c.args.name.now c.in-Some.before.now c.in-Some.before.now (ap (λ view. view.1) c.self.view_is)
+    c.in-Some.ensures.value ((c.get_mut.follows.holds c.in-Some.before.now).3 (search rules)) refl) in
     MatchResult-from_err c.from_residual.result _ _ c.from_residual.ensures.0 (λ _. kept)

@@ -1,7 +1,9 @@
-use Rattle.std.proofs.Common.{◌∙◌}
+use Rattle.std.proofs.Common.{ap, ◌∙◌}
 use Rattle.mk_env.proofs.TextMap.{texts_of-clones}
 use Rattle.mk_env.proofs.variables.Env.copy.Goals as goal
 
 pub returns : goal.returns
 returns c =
-    texts_of-clones c.self.inside.variables.entries c.in_ok-variables.variables.entries c.in_ok-variables.ensures.cases ∙ c.self.view_is
+    ap (λ texts. (c.self.inside.profile, texts))
+    (texts_of-clones c.self.inside.variables.entries c.in_ok-variables.variables.entries c.in_ok-variables.ensures.cases)
+    ∙ c.self.view_is
