@@ -1,5 +1,7 @@
 pub mod Fixed
 pub mod Changing
 pub mod Finding
-pub mod Keeping
+pub mod Settling
+pub mod Composing
 pub mod Answering
+pub mod Keeping

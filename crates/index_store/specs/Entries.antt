@@ -3,6 +3,7 @@ use Rattle.std.specs.Prelude.{◌≡◌, ℕ, if◌then◌else◌, Bool, true, f
 use Rattle.std.specs.Prelude.{Option, None, Some, is_some, option_map, string_bytes}
 use Rattle.std.specs.List.{list_any}
 use Rattle.std.specs.Str.{bytes_eq}
+use Rattle.mk_text.specs.declared.profile.Profile.{Profile}
 use Rattle.index_store.specs.declared.path_rows.StoredRow.{StoredRow}
 
 -- what is stored for a path: whether its row is marked stale, and the row's bytes
@@ -13,6 +14,11 @@ pub record StoredValue : Type 0 where
 -- what is stored for each path; `None` where a path has no row
 abbrev pub Entries : Type 0
 Entries = List ℕ → Option StoredValue
+
+-- the profile with which each path's row was written; `None` where a path has no row, and where the release
+-- before wrote the row
+abbrev pub Profiles : Type 0
+Profiles = List ℕ → Option Profile
 
 -- a row that is handed out, as clauses see it
 pub record SeenRow : Type 0 where
@@ -75,3 +81,17 @@ MarksAll old new = (path : List ℕ) → new path ≡ option_map marked (old pat
 -- these paths have no row, and each other path has what it had
 abbrev pub TakesOut : List (List ℕ) → Entries → Entries → Type 0
 TakesOut paths old new = (path : List ℕ) → new path ≡ (if is_one_of path paths then None else old path)
+
+-- ---- the profiles of the rows
+
+-- each row was written with the profile that it had
+abbrev pub SameProfiles : Profiles → Profiles → Type 0
+SameProfiles old new = (path : List ℕ) → new path ≡ old path
+
+-- the row of this path is written with this profile, and each other with the one that it had
+abbrev pub PutsProfile : List ℕ → Option Profile → Profiles → Profiles → Type 0
+PutsProfile path profile old new = (other : List ℕ) → new other ≡ (if bytes_eq path other then profile else old other)
+
+-- these paths have no row, and each other row was written with the profile that it had
+abbrev pub TakesProfilesOut : List (List ℕ) → Profiles → Profiles → Type 0
+TakesProfilesOut paths old new = (path : List ℕ) → new path ≡ (if is_one_of path paths then None else old path)

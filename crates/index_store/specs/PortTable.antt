@@ -1,10 +1,12 @@
--- The table of the rows, and what its rows mean.
+-- The two tables of the rows, and what their rows mean.
 use Rattle.std.specs.Prelude.{◌≡◌, ℕ, ℤ, pos, ◌==◌, not, if◌then◌else◌, Bool, true, false, codes}
-use Rattle.std.specs.Prelude.{List, [], ◌∷◌, map, filter, find, option_map, refl}
+use Rattle.std.specs.Prelude.{List, [], ◌∷◌, ◌++◌, map, filter, find, Option, None, Some, is_some, option_map, unwrap_or, refl}
 use Rattle.std.specs.List.{list_all}
 use Rattle.std.specs.Str.{bytes_eq}
 use Rattle.std.specs.Ordering.{int_eq}
-use Rattle.std.specs.Coded.{Coded, code_by, coded×, coded_list, coded_ℕ}
+use Rattle.std.specs.Coded.{Coded, code_by, coded×, coded_list, coded_option, coded_ℕ}
+use Rattle.mk_text.specs.declared.profile.Profile.{Profile}
+use Rattle.mk_text.specs.Profiles.{numbered_profile}
 use Rattle.sqlite_value.specs.declared.value.Value.{Value}
 use Rattle.sqlite_value.specs.declared.value.Value.TheVariants.{Int, Text, Blob}
 use Rattle.sqlite_value.specs.Order.{Row, column}
@@ -21,18 +23,24 @@ use Rattle.sqlite.specs.State.{State}
 use Rattle.table_facts.specs.Tables.{filled, keyed, no_schema}
 use Rattle.table_facts.specs.Filled.{AreFilled, number_in, bytes_in}
 use Rattle.table_facts.specs.States.{IsSettled, state_of}
-use Rattle.index_store.specs.Entries.{StoredValue, SeenRow, Entries, is_one_of}
+use Rattle.index_store.specs.Entries.{StoredValue, SeenRow, Entries, Profiles, is_one_of}
+use Rattle.index_store.specs.declared.port_table.Part.{Part}
+use Rattle.index_store.specs.declared.port_table.Part.TheVariants.{Earlier, Current}
 
--- a row of the table: its path, the number of its mark, and its bytes
+-- a row of a table: its path, the number of its mark, its bytes, and the number of the profile with which it
+-- was written, which a row of the release before lacks
 pub record Entry : Type 0 where
   pub path : List ℕ
   pub mark : ℕ
   pub text : List ℕ
+  pub profile : Option ℕ
 
 abbrev entry_code : Coded Entry
 entry_code =
-    code_by (List ℕ × (ℕ × List ℕ)) (coded× (coded_list coded_ℕ) (coded× coded_ℕ (coded_list coded_ℕ)))
-    (λ e. (e.path, (e.mark, e.text))) (λ p. record { path = p.0; mark = p.1.0; text = p.1.1 }) (λ _. refl)
+    code_by (List ℕ × (ℕ × (List ℕ × Option ℕ)))
+    (coded× (coded_list coded_ℕ) (coded× coded_ℕ (coded× (coded_list coded_ℕ) (coded_option coded_ℕ))))
+    (λ e. (e.path, (e.mark, (e.text, e.profile))))
+    (λ p. record { path = p.0; mark = p.1.0; text = p.1.1.0; profile = p.1.1.1 }) (λ _. refl)
 
 -- the rows are stored as the list of them
 abbrev pub entries_code : Coded (List Entry)
@@ -48,60 +56,109 @@ stale_mark = 1
 abbrev pub leaving_mark : ℕ
 leaving_mark = 2
 
--- the columns after the rowid, and the key, which is the path
-abbrev pub port_table : Table
-port_table =
+-- the table of the release before: the columns after the rowid, and the key, which is the path
+abbrev pub earlier_table : Table
+earlier_table =
     keyed (codes "port")
     (filled (codes "path") kind.Text ∷ filled (codes "stale") kind.Integer ∷ filled (codes "row") kind.Blob ∷ [])
     (1 ∷ []) plain
 
--- the one table
+-- the table of the rows that are written from now on
+abbrev pub current_table : Table
+current_table =
+    keyed (codes "port2")
+    (filled (codes "path") kind.Text ∷ filled (codes "stale") kind.Integer ∷ filled (codes "row") kind.Blob
+    ∷ filled (codes "profile") kind.Integer ∷ []) (1 ∷ []) plain
+
+abbrev pub earlier_schema : Schema
+earlier_schema = created no_schema earlier_table
+
+-- both tables
 abbrev pub port_schema : Schema
-port_schema = created no_schema port_table
+port_schema = created earlier_schema current_table
 
 -- ---- what the statements say
 
-abbrev pub create_port : List ℕ
-create_port = codes "CREATE TABLE port (path TEXT NOT NULL UNIQUE, stale INTEGER NOT NULL, row BLOB NOT NULL) STRICT"
+abbrev pub create_earlier : List ℕ
+create_earlier = codes "CREATE TABLE port (path TEXT NOT NULL UNIQUE, stale INTEGER NOT NULL, row BLOB NOT NULL) STRICT"
 
-abbrev pub insert_port : List ℕ
-insert_port = codes "INSERT INTO port (path, stale, row) VALUES (?1, 0, ?2)"
+abbrev pub create_current : List ℕ
+create_current =
+    codes "CREATE TABLE port2 (path TEXT NOT NULL UNIQUE, stale INTEGER NOT NULL, row BLOB NOT NULL, profile INTEGER NOT NULL) STRICT"
 
-abbrev pub update_port : List ℕ
-update_port = codes "UPDATE port SET stale = 0, row = ?2 WHERE path = ?1"
+abbrev pub insert_earlier : List ℕ
+insert_earlier = codes "INSERT INTO port (path, stale, row) VALUES (?1, 0, ?2)"
 
-abbrev pub mark_port : List ℕ
-mark_port = codes "UPDATE port SET stale = ?2 WHERE path = ?1"
+abbrev pub insert_current : List ℕ
+insert_current = codes "INSERT INTO port2 (path, stale, row, profile) VALUES (?1, 0, ?2, ?3)"
 
-abbrev pub mark_ports : List ℕ
-mark_ports = codes "UPDATE port SET stale = 1"
+abbrev pub update_current : List ℕ
+update_current = codes "UPDATE port2 SET stale = 0, row = ?2, profile = ?3 WHERE path = ?1"
 
-abbrev pub delete_ports : List ℕ
-delete_ports = codes "DELETE FROM port WHERE stale = 2"
+abbrev pub mark_row : Part → List ℕ
+mark_row Earlier = codes "UPDATE port SET stale = ?2 WHERE path = ?1"
+mark_row Current = codes "UPDATE port2 SET stale = ?2 WHERE path = ?1"
 
-abbrev pub select_rows : List ℕ
-select_rows = codes "SELECT path, stale, row FROM port"
+abbrev pub mark_rows : Part → List ℕ
+mark_rows Earlier = codes "UPDATE port SET stale = 1"
+mark_rows Current = codes "UPDATE port2 SET stale = 1"
 
-abbrev pub select_paths : List ℕ
-select_paths = codes "SELECT path FROM port"
+abbrev pub delete_rows : Part → List ℕ
+delete_rows Earlier = codes "DELETE FROM port WHERE stale = 2"
+delete_rows Current = codes "DELETE FROM port2 WHERE stale = 2"
+
+abbrev pub select_rows : Part → List ℕ
+select_rows Earlier = codes "SELECT path, stale, row FROM port"
+select_rows Current = codes "SELECT path, stale, row FROM port2"
+
+abbrev pub select_paths : Part → List ℕ
+select_paths Earlier = codes "SELECT path FROM port"
+select_paths Current = codes "SELECT path FROM port2"
 
 -- ---- what the rows mean
 
--- the tree of the table
-abbrev pub ports_at : ℕ
-ports_at = 0
+-- the tree of a table
+abbrev pub tree_of : Part → ℕ
+tree_of Earlier = 0
+tree_of Current = 2
 
--- a row of `port`: the columns after its rowid
-abbrev pub entry_of : Row → Entry
-entry_of row = record { path = bytes_in (column row 1); mark = number_in (column row 2); text = bytes_in (column row 3) }
+-- the number of the profile in a row
+abbrev pub profile_cell : Part → Row → Option ℕ
+profile_cell Earlier row = None
+profile_cell Current row = Some (number_in (column row 4))
 
--- the rows of these trees
-abbrev pub entries_at : Trees → List Entry
-entries_at trees = map entry_of (trees ports_at)
+-- a row of a table: the columns after its rowid
+abbrev pub entry_in : Part → Row → Entry
+entry_in part row =
+    record {
+      path = bytes_in (column row 1);
+      mark = number_in (column row 2);
+      text = bytes_in (column row 3);
+      profile = profile_cell part row;
+    }
+
+-- the rows of each table
+abbrev pub Rows : Type 0
+Rows = Part → List Entry
+
+abbrev pub rows_at : Trees → Rows
+rows_at trees part = map (entry_in part) (trees (tree_of part))
+
+-- no row in any table
+abbrev pub no_rows : Rows
+no_rows part = []
+
+-- the rows of both tables
+abbrev pub all_of : Rows → List Entry
+all_of rows = rows Earlier ++ rows Current
+
+-- the rows of each table of a connection's database
+abbrev pub rows_of : Held MemStore → Rows
+rows_of connection = rows_at (state_of connection).now.trees
 
 -- the rows of a connection's database
 abbrev pub entries_of : Held MemStore → List Entry
-entries_of connection = entries_at (state_of connection).now.trees
+entries_of connection = all_of (rows_of connection)
 
 -- what a row stores for its path
 abbrev pub value_of : Entry → StoredValue
@@ -119,6 +176,19 @@ stored_by entries path = option_map value_of (find (is_at path) entries)
 abbrev pub stored_in : Held MemStore → Entries
 stored_in connection = stored_by (entries_of connection)
 
+-- the profile with which a row was written
+abbrev pub profile_of : Option Entry → Option Profile
+profile_of None = None
+profile_of (Some e) = option_map numbered_profile e.profile
+
+-- the profile with which each path's row was written
+abbrev pub profiles_by : List Entry → Profiles
+profiles_by entries path = profile_of (find (is_at path) entries)
+
+-- the same of a connection's database
+abbrev pub profiles_in : Held MemStore → Profiles
+profiles_in connection = profiles_by (entries_of connection)
+
 -- whether a value of the column `stale` says so
 abbrev pub is_set : Value → Bool
 is_set (Int n) = not (int_eq n (pos 0))
@@ -132,57 +202,74 @@ row_shown row = record { path = bytes_in (column row 0); stale = is_set (column 
 abbrev pub path_shown : Row → List ℕ
 path_shown row = bytes_in (column row 0)
 
--- the row of an entry behind a rowid
-abbrev pub row_with : Value → Entry → Row
-row_with id e = id ∷ Text e.path ∷ Int (pos e.mark) ∷ Blob e.text ∷ []
+-- the columns of an entry that one table has and the other lacks
+abbrev pub profile_cells : Part → Entry → Row
+profile_cells Earlier e = []
+profile_cells Current e = Int (pos (unwrap_or e.profile 0)) ∷ []
 
--- a row of the table, with its three columns filled
-abbrev pub IsPortRow : Row → Type 0
-IsPortRow row = (id : ℤ) × (row ≡ row_with (Int id) (entry_of row))
+-- the row of an entry behind a rowid
+abbrev pub row_with : Part → Value → Entry → Row
+row_with part id e = id ∷ Text e.path ∷ Int (pos e.mark) ∷ Blob e.text ∷ profile_cells part e
+
+-- a row of the table, with its columns filled
+abbrev pub IsRowOf : Part → Row → Type 0
+IsRowOf part row = (id : ℤ) × (row ≡ row_with part (Int id) (entry_in part row))
 
 -- the key of a row
 abbrev pub port_key : Row → List ℕ
-port_key row = (entry_of row).path
+port_key row = bytes_in (column row 1)
 
--- a database with the table, whose rows have their form
+-- a database with the tables, whose rows have their form
 pub record IsFormed (db : Database) : Type 0 where
   pub schema : db.schema ≡ port_schema
-  pub rows : AreFilled IsPortRow port_key (db.trees ports_at)
+  pub rows : (part : Part) → AreFilled (IsRowOf part) port_key (db.trees (tree_of part))
 
 -- a row that isn't about to be taken out
 abbrev pub is_staying : Entry → Bool
 is_staying e = not (e.mark == leaving_mark)
 
+-- no row is about to be taken out, and no path has a row in both tables
+pub record AreSettled (rows : Rows) : Type 0 where
+  pub staying : (part : Part) → list_all is_staying (rows part) ≡ true
+  pub apart : (path : List ℕ) → is_some (find (is_at path) (rows Earlier)) ≡ true → find (is_at path) (rows Current) ≡ None
+
 -- what holds between the calls
 pub record IsKept (s : State) : Type 0 where
   pub settled : IsSettled s
   pub formed : IsFormed s.now
-  pub staying : list_all is_staying (entries_at s.now.trees) ≡ true
+  pub rows : AreSettled (rows_at s.now.trees)
 
 -- between the calls, with these rows
-pub record Holds (s : State) (entries : List Entry) : Type 0 where
+pub record Holds (s : State) (rows : Rows) : Type 0 where
   pub kept : IsKept s
-  pub are : entries_at s.now.trees ≡ entries
+  pub are : (part : Part) → rows_at s.now.trees part ≡ rows part
 
 -- in a transaction, with these rows
-pub record HoldsInside (s : State) (entries : List Entry) : Type 0 where
+pub record HoldsInside (s : State) (rows : Rows) : Type 0 where
   pub inside : s.in_transaction ≡ true
   pub formed : IsFormed s.now
-  pub are : entries_at s.now.trees ≡ entries
+  pub are : (part : Part) → rows_at s.now.trees part ≡ rows part
 
 -- ---- what the statements make of the rows
+
+-- the rows, with these in one table
+abbrev pub with_rows : Part → List Entry → Rows → Rows
+with_rows Earlier entries rows Earlier = entries
+with_rows Earlier entries rows Current = rows Current
+with_rows Current entries rows Earlier = rows Earlier
+with_rows Current entries rows Current = entries
 
 -- an entry with this mark
 abbrev pub with_mark : ℕ → Entry → Entry
 with_mark mark e = record e { mark = mark }
 
 -- an entry that isn't stale
-abbrev pub fresh_entry : List ℕ → List ℕ → Entry
-fresh_entry path text = record { path = path; mark = fresh_mark; text = text }
+abbrev pub fresh_entry : List ℕ → Option ℕ → List ℕ → Entry
+fresh_entry path profile text = record { path = path; mark = fresh_mark; text = text; profile = profile }
 
--- the rows, with these bytes at this path
-abbrev pub replaced_at : List ℕ → List ℕ → List Entry → List Entry
-replaced_at path text entries = map (λ e. if is_at path e then fresh_entry e.path text else e) entries
+-- the rows, with these bytes and this profile at this path
+abbrev pub replaced_at : List ℕ → Option ℕ → List ℕ → List Entry → List Entry
+replaced_at path profile text entries = map (λ e. if is_at path e then fresh_entry e.path profile text else e) entries
 
 -- the rows, with this mark at this path
 abbrev pub marked_at : ℕ → List ℕ → List Entry → List Entry
@@ -195,3 +282,13 @@ marked_among mark paths entries = map (λ e. if is_one_of e.path paths then with
 -- the rows that stay
 abbrev pub staying_of : List Entry → List Entry
 staying_of entries = filter is_staying entries
+
+-- the rows without that of this path
+abbrev pub without : List ℕ → List Entry → List Entry
+without path entries = staying_of (marked_at leaving_mark path entries)
+
+-- the rows with this one, in place of the row of its path or as the last
+abbrev pub with_row : List ℕ → Option ℕ → List ℕ → List Entry → List Entry
+with_row path profile text entries =
+    if is_some (find (is_at path) entries) then replaced_at path profile text entries
+    else entries ++ fresh_entry path profile text ∷ []

@@ -1,9 +1,12 @@
 //! The rows of an index, as those that keep them ask for them.
-ghost use Rattle.std.specs.Prelude.{ℕ, List, Option, map, string_bytes, IfOk, OnOk, OnErr};
+ghost use Rattle.std.specs.Prelude.{ℕ, List, Option, Some, map, string_bytes, IfOk, OnOk, OnErr};
 ghost use Rattle.index_store.specs.Entries.{StoredValue, stored_seen, AreRowsOf, ArePathsOf};
 ghost use Rattle.index_store.specs.Entries.{SameRows, PutsRow, Marks, MarksAll, TakesOut};
+ghost use Rattle.index_store.specs.Entries.{SameProfiles, PutsProfile, TakesProfilesOut};
+ghost use Rattle.mk_text.specs.declared.profile.Profile as kinds;
 
 use mk_paths::FilesFault;
+use mk_text::Profile;
 use std::alloc::Global;
 
 /// A row as it is stored.
@@ -17,50 +20,66 @@ pub struct StoredRow {
     pub text: Vec<u8>,
 }
 
-/// The rows of an index, by their paths. Clauses see what is stored for each path.
+/// The rows of an index, by their paths. Clauses see what is stored for each path, and the profile with which
+/// its row was written; a row of the release before has none.
 ///
 /// Each call fails with `Store` if the store refuses a statement, and with `Memory` if memory runs out.
 /// After an error all rows are as they were.
 pub trait PathRows {
     ghost entries: { Self → List ℕ → Option StoredValue };
 
+    ghost profiles: { Self → List ℕ → Option kinds.Profile };
+
     /// All rows, in any order.
     fn rows(&mut self, alloc: Global) -> Result<Vec<StoredRow>, FilesFault>
         ensures rows { IfOk result (λ rows. AreRowsOf (entries self.old)
             (map stored_seen rows.items)) }
-        ensures same { SameRows (entries self.old) (entries self.new) };
+        ensures same { SameRows (entries self.old) (entries self.new) }
+        ensures profiles { SameProfiles (profiles self.old) (profiles self.new) };
 
     /// The paths of all rows, in any order, without their bytes.
     fn paths(&mut self, alloc: Global) -> Result<Vec<String>, FilesFault>
         ensures paths { IfOk result (λ paths. ArePathsOf (entries self.old)
             (map string_bytes paths.items)) }
-        ensures same { SameRows (entries self.old) (entries self.new) };
+        ensures same { SameRows (entries self.old) (entries self.new) }
+        ensures profiles { SameProfiles (profiles self.old) (profiles self.new) };
 
-    /// Gives a path this row, which isn't stale, whether or not it had one.
-    fn put(&mut self, path: &str, text: &[u8]) -> Result<(), FilesFault>
+    /// Gives a path this row, which isn't stale and is written with this profile, whether or not it had one.
+    fn put(&mut self, path: &str, profile: Profile, text: &[u8]) -> Result<(), FilesFault>
         ensures ok { OnOk result (PutsRow path.now text.now (entries self.old) (entries self.new)) }
-        ensures err { OnErr result (SameRows (entries self.old) (entries self.new)) };
+        ensures profile { OnOk result (PutsProfile path.now (Some profile)
+            (profiles self.old) (profiles self.new)) }
+        ensures err { OnErr result (SameRows (entries self.old) (entries self.new)) }
+        ensures err_profiles { OnErr result
+            (SameProfiles (profiles self.old) (profiles self.new)) };
 
     /// Marks the rows of these paths stale. A path without a row is passed over.
     fn mark(&mut self, paths: &[String]) -> Result<(), FilesFault>
         ensures ok { OnOk result (Marks (map string_bytes paths.now)
             (entries self.old) (entries self.new)) }
-        ensures err { OnErr result (SameRows (entries self.old) (entries self.new)) };
+        ensures err { OnErr result (SameRows (entries self.old) (entries self.new)) }
+        ensures profiles { SameProfiles (profiles self.old) (profiles self.new) };
 
     /// Marks all rows stale.
     fn mark_all(&mut self) -> Result<(), FilesFault>
         ensures ok { OnOk result (MarksAll (entries self.old) (entries self.new)) }
-        ensures err { OnErr result (SameRows (entries self.old) (entries self.new)) };
+        ensures err { OnErr result (SameRows (entries self.old) (entries self.new)) }
+        ensures profiles { SameProfiles (profiles self.old) (profiles self.new) };
 
     /// Takes out the rows of these paths. A path without a row is passed over.
     fn take_out(&mut self, paths: &[String]) -> Result<(), FilesFault>
         ensures ok { OnOk result (TakesOut (map string_bytes paths.now)
             (entries self.old) (entries self.new)) }
-        ensures err { OnErr result (SameRows (entries self.old) (entries self.new)) };
+        ensures profiles { OnOk result (TakesProfilesOut (map string_bytes paths.now)
+            (profiles self.old) (profiles self.new)) }
+        ensures err { OnErr result (SameRows (entries self.old) (entries self.new)) }
+        ensures err_profiles { OnErr result
+            (SameProfiles (profiles self.old) (profiles self.new)) };
 
     /// Limits the steps of each later statement; with `None` they are no longer limited. If a statement
     /// would take more steps, it is refused as `Store`. The end of a transaction takes no steps. This
     /// changes nothing that is stored.
     fn limit_steps(&mut self, limit: Option<u64>)
-        ensures same { SameRows (entries self.old) (entries self.new) };
+        ensures same { SameRows (entries self.old) (entries self.new) }
+        ensures profiles { SameProfiles (profiles self.old) (profiles self.new) };
 }

@@ -1,17 +1,81 @@
-// The statements on the table of the rows.
-ghost use Rattle.std.specs.Prelude.{◌≡◌, ◌∷◌, [], ◌++◌, None, map, find, is_some, IfOk, OnOk, OnErr, IsTrue, false};
+// The statements on the two tables of the rows.
+ghost use Rattle.std.specs.Prelude.{◌≡◌, ◌∷◌, [], ◌++◌, None, Some, map, find, is_some, IfOk, OnOk, OnErr, IsTrue, false};
+ghost use Rattle.mk_text.specs.Profiles.{profile_number};
 ghost use Rattle.sqlite.specs.State.{ExecutesInside};
 ghost use Rattle.sqlite.specs.Values.{bound};
 ghost use Rattle.table_facts.specs.Tables.{no_schema};
 ghost use Rattle.table_facts.specs.States.{KeepsCommit, Stays, state_of};
 ghost use Rattle.index_store.specs.Entries.{AreRowsOf, ArePathsOf};
-ghost use Rattle.index_store.specs.PortTable.{IsKept, IsFormed, Holds, HoldsInside, entries_of, stored_in};
-ghost use Rattle.index_store.specs.PortTable.{is_at, fresh_entry, replaced_at, marked_at, with_mark, staying_of};
-ghost use Rattle.index_store.specs.PortTable.{row_shown, path_shown, stale_mark};
+ghost use Rattle.index_store.specs.PortTable.{IsKept, IsFormed, Holds, HoldsInside, Rows, rows_of, stored_by, no_rows};
+ghost use Rattle.index_store.specs.PortTable.{is_at, fresh_entry, replaced_at, marked_at, with_mark, staying_of, with_rows};
+ghost use Rattle.index_store.specs.PortTable.{row_shown, path_shown, stale_mark, earlier_schema};
+ghost use Rattle.index_store.specs.PortTable.{select_rows, select_paths, mark_row, mark_rows, delete_rows};
 ghost use Rattle.index_store.specs.Marking.{mark_number};
 
+use mk_text::Profile;
 use sqlite::types::ValueRef;
 use sqlite::{Connection, Error, MemStore, Row, Transaction, params};
+
+/// One of the two tables.
+#[derive(Clone, Copy, Debug)]
+pub(crate) enum Part {
+    /// The table of the release before.
+    Earlier,
+    /// The table of the rows that are written from now on.
+    Current,
+}
+
+impl Part {
+    // The query of all rows.
+    fn rows_query(self) -> &'static str
+        ensures { result.now ≡ select_rows self }
+    {
+        match self {
+            Part::Earlier => "SELECT path, stale, row FROM port",
+            Part::Current => "SELECT path, stale, row FROM port2",
+        }
+    }
+
+    // The query of all paths.
+    fn paths_query(self) -> &'static str
+        ensures { result.now ≡ select_paths self }
+    {
+        match self {
+            Part::Earlier => "SELECT path FROM port",
+            Part::Current => "SELECT path FROM port2",
+        }
+    }
+
+    // The statement that marks the row of a path.
+    fn mark_statement(self) -> &'static str
+        ensures { result.now ≡ mark_row self }
+    {
+        match self {
+            Part::Earlier => "UPDATE port SET stale = ?2 WHERE path = ?1",
+            Part::Current => "UPDATE port2 SET stale = ?2 WHERE path = ?1",
+        }
+    }
+
+    // The statement that marks all rows stale.
+    fn marks_statement(self) -> &'static str
+        ensures { result.now ≡ mark_rows self }
+    {
+        match self {
+            Part::Earlier => "UPDATE port SET stale = 1",
+            Part::Current => "UPDATE port2 SET stale = 1",
+        }
+    }
+
+    // The statement that takes out the rows that are marked so.
+    fn delete_statement(self) -> &'static str
+        ensures { result.now ≡ delete_rows self }
+    {
+        match self {
+            Part::Earlier => "DELETE FROM port WHERE stale = 2",
+            Part::Current => "DELETE FROM port2 WHERE stale = 2",
+        }
+    }
+}
 
 /// A mark that a row can be given.
 #[derive(Clone, Copy, Debug)]
@@ -23,7 +87,7 @@ pub(crate) enum Mark {
 }
 
 impl Mark {
-    // The number that stands for the mark in the table.
+    // The number that stands for the mark in a table.
     fn number(self) -> u32
         ensures { result ≡ mark_number self }
     {
@@ -34,11 +98,13 @@ impl Mark {
     }
 }
 
-/// Makes the table, without a row.
-pub(crate) fn create(conn: &mut Connection<MemStore>) -> Result<(), Error>
+/// Makes the table of the release before, without a row.
+pub(crate) fn create_earlier(conn: &mut Connection<MemStore>) -> Result<(), Error>
     requires autocommit { (state_of conn.old).in_transaction ≡ false }
     requires schema { (state_of conn.old).now.schema ≡ no_schema }
-    ensures { OnOk result (Holds (state_of conn.new) []) }
+    ensures autocommit { OnOk result ((state_of conn.new).in_transaction ≡ false) }
+    ensures schema { OnOk result ((state_of conn.new).now.schema ≡ earlier_schema) }
+    ensures empty { OnOk result ((state_of conn.new).now.trees 0 ≡ []) }
 {
     conn.execute(
         "CREATE TABLE port (path TEXT NOT NULL UNIQUE, stale INTEGER NOT NULL, row BLOB NOT NULL) STRICT",
@@ -47,73 +113,38 @@ pub(crate) fn create(conn: &mut Connection<MemStore>) -> Result<(), Error>
     Ok(())
 }
 
-/// All rows of the table.
-pub(crate) fn all_rows(conn: &mut Connection<MemStore>) -> Result<Vec<Row>, Error>
-    requires { IsKept (state_of conn.old) }
-    ensures rows { IfOk result (λ rows. AreRowsOf (stored_in conn.old) (map row_shown rows.items)) }
-    ensures stays { Stays (state_of conn.old) (state_of conn.new) }
+/// Makes the other table, without a row.
+pub(crate) fn create_current(conn: &mut Connection<MemStore>) -> Result<(), Error>
+    requires autocommit { (state_of conn.old).in_transaction ≡ false }
+    requires schema { (state_of conn.old).now.schema ≡ earlier_schema }
+    requires empty { (state_of conn.old).now.trees 0 ≡ [] }
+    ensures { OnOk result (Holds (state_of conn.new) no_rows) }
 {
-    conn.query_all("SELECT path, stale, row FROM port", &[])
+    conn.execute(
+        "CREATE TABLE port2 (path TEXT NOT NULL UNIQUE, stale INTEGER NOT NULL, row BLOB NOT NULL, profile INTEGER NOT NULL) STRICT",
+        &[],
+    )?;
+    Ok(())
 }
 
-/// The paths of all rows of the table.
-pub(crate) fn all_paths(conn: &mut Connection<MemStore>) -> Result<Vec<Row>, Error>
+/// All rows of a table.
+pub(crate) fn all_rows(conn: &mut Connection<MemStore>, part: Part) -> Result<Vec<Row>, Error>
     requires { IsKept (state_of conn.old) }
-    ensures paths { IfOk result (λ rows. ArePathsOf (stored_in conn.old)
+    ensures rows { IfOk result (λ rows. AreRowsOf (stored_by (rows_of conn.old part))
+        (map row_shown rows.items)) }
+    ensures stays { Stays (state_of conn.old) (state_of conn.new) }
+{
+    conn.query_all(part.rows_query(), &[])
+}
+
+/// The paths of all rows of a table.
+pub(crate) fn all_paths(conn: &mut Connection<MemStore>, part: Part) -> Result<Vec<Row>, Error>
+    requires { IsKept (state_of conn.old) }
+    ensures paths { IfOk result (λ rows. ArePathsOf (stored_by (rows_of conn.old part))
         (map path_shown rows.items)) }
     ensures stays { Stays (state_of conn.old) (state_of conn.new) }
 {
-    conn.query_all("SELECT path FROM port", &[])
-}
-
-/// Adds the row of a path that has none.
-pub(crate) fn insert<'x>(
-    conn: &mut Connection<MemStore>,
-    path: &'x str,
-    text: &'x [u8],
-) -> Result<(), Error>
-    requires kept { IsKept (state_of conn.old) }
-    requires free { find (is_at path.now) (entries_of conn.old) ≡ None }
-    ensures ok { OnOk result (Holds (state_of conn.new)
-        (entries_of conn.old ++ fresh_entry path.now text.now ∷ [])) }
-    ensures err { OnErr result (Stays (state_of conn.old) (state_of conn.new)) }
-{
-    conn.execute(
-        "INSERT INTO port (path, stale, row) VALUES (?1, 0, ?2)",
-        params![path, text],
-    )?;
-    Ok(())
-}
-
-/// Gives the row of a path other bytes and makes it fresh, and says whether there was one.
-pub(crate) fn replace<'x>(
-    conn: &mut Connection<MemStore>,
-    path: &'x str,
-    text: &'x [u8],
-) -> Result<bool, Error>
-    requires { IsKept (state_of conn.old) }
-    ensures was_there { IfOk result (λ there. there
-        ≡ is_some (find (is_at path.now) (entries_of conn.old))) }
-    ensures ok { OnOk result (Holds (state_of conn.new)
-        (replaced_at path.now text.now (entries_of conn.old))) }
-    ensures err { OnErr result (Stays (state_of conn.old) (state_of conn.new)) }
-{
-    let count = conn.execute(
-        "UPDATE port SET stale = 0, row = ?2 WHERE path = ?1",
-        params![path, text],
-    )?;
-    Ok(count != 0)
-}
-
-/// Marks all rows stale.
-pub(crate) fn mark_all(conn: &mut Connection<MemStore>) -> Result<(), Error>
-    requires { IsKept (state_of conn.old) }
-    ensures ok { OnOk result (Holds (state_of conn.new)
-        (map (with_mark stale_mark) (entries_of conn.old))) }
-    ensures err { OnErr result (Stays (state_of conn.old) (state_of conn.new)) }
-{
-    conn.execute("UPDATE port SET stale = 1", &[])?;
-    Ok(())
+    conn.query_all(part.paths_query(), &[])
 }
 
 // Runs one statement of a transaction. What was committed last stays as it was.
@@ -131,9 +162,102 @@ fn run(
     tx.execute(sql, params)
 }
 
-/// Gives the row of a path this mark, if there is one.
+/// Adds the row of a path that has none, as the release before wrote it.
+pub(crate) fn insert_earlier<'x>(
+    tx: &mut Transaction<'_, MemStore>,
+    path: &'x str,
+    text: &'x [u8],
+) -> Result<(), Error>
+    requires inside { IsTrue (state_of tx.old.conn.now).in_transaction }
+    requires formed { IsFormed (state_of tx.old.conn.now).now }
+    requires free { find (is_at path.now) (rows_of tx.old.conn.now Part.Earlier) ≡ None }
+    ensures same_reference { tx.new.conn.ghost_name ≡ tx.old.conn.ghost_name }
+    ensures kept { KeepsCommit (state_of tx.old.conn.now) (state_of tx.new.conn.now) }
+    ensures made { OnOk result (HoldsInside (state_of tx.new.conn.now)
+        (with_rows Part.Earlier
+        (rows_of tx.old.conn.now Part.Earlier ++ fresh_entry path.now None text.now ∷ [])
+        (rows_of tx.old.conn.now))) }
+{
+    run(
+        tx,
+        "INSERT INTO port (path, stale, row) VALUES (?1, 0, ?2)",
+        params![path, text],
+    )?;
+    Ok(())
+}
+
+/// Adds the row of a path that has none in the table of today.
+pub(crate) fn insert_current<'x>(
+    tx: &mut Transaction<'_, MemStore>,
+    path: &'x str,
+    profile: Profile,
+    text: &'x [u8],
+) -> Result<(), Error>
+    requires inside { IsTrue (state_of tx.old.conn.now).in_transaction }
+    requires formed { IsFormed (state_of tx.old.conn.now).now }
+    requires free { find (is_at path.now) (rows_of tx.old.conn.now Part.Current) ≡ None }
+    ensures same_reference { tx.new.conn.ghost_name ≡ tx.old.conn.ghost_name }
+    ensures kept { KeepsCommit (state_of tx.old.conn.now) (state_of tx.new.conn.now) }
+    ensures made { OnOk result (HoldsInside (state_of tx.new.conn.now)
+        (with_rows Part.Current
+        (rows_of tx.old.conn.now Part.Current
+        ++ fresh_entry path.now (Some (profile_number profile)) text.now ∷ [])
+        (rows_of tx.old.conn.now))) }
+{
+    run(
+        tx,
+        "INSERT INTO port2 (path, stale, row, profile) VALUES (?1, 0, ?2, ?3)",
+        params![path, text, profile.number()],
+    )?;
+    Ok(())
+}
+
+/// Gives the row of a path in the table of today other bytes and makes it fresh, and says whether there was
+/// one.
+pub(crate) fn replace_current<'x>(
+    tx: &mut Transaction<'_, MemStore>,
+    path: &'x str,
+    profile: Profile,
+    text: &'x [u8],
+) -> Result<bool, Error>
+    requires inside { IsTrue (state_of tx.old.conn.now).in_transaction }
+    requires formed { IsFormed (state_of tx.old.conn.now).now }
+    ensures same_reference { tx.new.conn.ghost_name ≡ tx.old.conn.ghost_name }
+    ensures kept { KeepsCommit (state_of tx.old.conn.now) (state_of tx.new.conn.now) }
+    ensures was_there { IfOk result (λ there. there
+        ≡ is_some (find (is_at path.now) (rows_of tx.old.conn.now Part.Current))) }
+    ensures made { OnOk result (HoldsInside (state_of tx.new.conn.now)
+        (with_rows Part.Current
+        (replaced_at path.now (Some (profile_number profile)) text.now
+        (rows_of tx.old.conn.now Part.Current))
+        (rows_of tx.old.conn.now))) }
+{
+    let count = run(
+        tx,
+        "UPDATE port2 SET stale = 0, row = ?2, profile = ?3 WHERE path = ?1",
+        params![path, text, profile.number()],
+    )?;
+    Ok(count != 0)
+}
+
+/// Marks all rows of a table stale.
+pub(crate) fn mark_table(tx: &mut Transaction<'_, MemStore>, part: Part) -> Result<(), Error>
+    requires inside { IsTrue (state_of tx.old.conn.now).in_transaction }
+    requires formed { IsFormed (state_of tx.old.conn.now).now }
+    ensures same_reference { tx.new.conn.ghost_name ≡ tx.old.conn.ghost_name }
+    ensures kept { KeepsCommit (state_of tx.old.conn.now) (state_of tx.new.conn.now) }
+    ensures made { OnOk result (HoldsInside (state_of tx.new.conn.now)
+        (with_rows part (map (with_mark stale_mark) (rows_of tx.old.conn.now part))
+        (rows_of tx.old.conn.now))) }
+{
+    run(tx, part.marks_statement(), &[])?;
+    Ok(())
+}
+
+/// Gives the row of a path in a table this mark, if there is one.
 pub(crate) fn set_mark(
     tx: &mut Transaction<'_, MemStore>,
+    part: Part,
     path: &str,
     mark: Mark,
 ) -> Result<(), Error>
@@ -142,25 +266,23 @@ pub(crate) fn set_mark(
     ensures same_reference { tx.new.conn.ghost_name ≡ tx.old.conn.ghost_name }
     ensures kept { KeepsCommit (state_of tx.old.conn.now) (state_of tx.new.conn.now) }
     ensures made { OnOk result (HoldsInside (state_of tx.new.conn.now)
-        (marked_at (mark_number mark) path.now (entries_of tx.old.conn.now))) }
+        (with_rows part (marked_at (mark_number mark) path.now (rows_of tx.old.conn.now part))
+        (rows_of tx.old.conn.now))) }
 {
-    run(
-        tx,
-        "UPDATE port SET stale = ?2 WHERE path = ?1",
-        params![path, mark.number()],
-    )?;
+    run(tx, part.mark_statement(), params![path, mark.number()])?;
     Ok(())
 }
 
-/// Takes out the rows that are marked so.
-pub(crate) fn delete_leaving(tx: &mut Transaction<'_, MemStore>) -> Result<(), Error>
+/// Takes out the rows of a table that are marked so.
+pub(crate) fn delete_leaving(tx: &mut Transaction<'_, MemStore>, part: Part) -> Result<(), Error>
     requires inside { IsTrue (state_of tx.old.conn.now).in_transaction }
     requires formed { IsFormed (state_of tx.old.conn.now).now }
     ensures same_reference { tx.new.conn.ghost_name ≡ tx.old.conn.ghost_name }
     ensures kept { KeepsCommit (state_of tx.old.conn.now) (state_of tx.new.conn.now) }
     ensures made { OnOk result (HoldsInside (state_of tx.new.conn.now)
-        (staying_of (entries_of tx.old.conn.now))) }
+        (with_rows part (staying_of (rows_of tx.old.conn.now part))
+        (rows_of tx.old.conn.now))) }
 {
-    run(tx, "DELETE FROM port WHERE stale = 2", &[])?;
+    run(tx, part.delete_statement(), &[])?;
     Ok(())
 }

@@ -1,11 +1,11 @@
 // Reading what the statements show.
-ghost use Rattle.std.specs.Prelude.{◌≡◌, map, string_bytes, IfOk};
+ghost use Rattle.std.specs.Prelude.{◌≡◌, ◌++◌, map, string_bytes, IfOk, OnOk};
 ghost use Rattle.table_facts.specs.States.{Stays, state_of};
 ghost use Rattle.index_store.specs.Entries.{AreRowsOf, ArePathsOf, stored_seen};
 ghost use Rattle.index_store.specs.PortTable.{IsKept, stored_in, row_shown, path_shown};
 
 use crate::path_rows::StoredRow;
-use crate::port_table::{all_paths, all_rows};
+use crate::port_table::{Part, all_paths, all_rows};
 use sqlite::{Connection, Error, MemStore, Row};
 use std::alloc::Global;
 
@@ -19,28 +19,31 @@ fn row_from(row: &Row) -> Result<StoredRow, Error>
     })
 }
 
-// Each row goes once it is read, so that the next takes its place in memory.
-fn rows_from(alloc: Global, rows: Vec<Row>) -> Result<Vec<StoredRow>, Error>
-    ensures { IfOk result (λ stored. map stored_seen stored.items ≡ map row_shown rows.items) }
+// Adds these rows. Each goes once it is read, so that the next takes its place in memory.
+fn add_rows(stored: &mut Vec<StoredRow>, rows: Vec<Row>) -> Result<(), Error>
+    ensures { OnOk result (map stored_seen stored.new.items
+        ≡ map stored_seen stored.old.items ++ map row_shown rows.items) }
 {
-    let mut stored = Vec::with_capacity(alloc, rows.len())?;
+    stored.reserve(rows.len())?;
     for row in rows {
         stored.push(row_from(&row)?)?;
     }
-    Ok(stored)
+    Ok(())
 }
 
-fn paths_from(alloc: Global, rows: Vec<Row>) -> Result<Vec<String>, Error>
-    ensures { IfOk result (λ paths. map string_bytes paths.items ≡ map path_shown rows.items) }
+// Adds the paths of these rows.
+fn add_paths(paths: &mut Vec<String>, rows: Vec<Row>) -> Result<(), Error>
+    ensures { OnOk result (map string_bytes paths.new.items
+        ≡ map string_bytes paths.old.items ++ map path_shown rows.items) }
 {
-    let mut paths = Vec::with_capacity(alloc, rows.len())?;
+    paths.reserve(rows.len())?;
     for row in rows {
         paths.push(row.get(0)?)?;
     }
-    Ok(paths)
+    Ok(())
 }
 
-/// All rows.
+/// All rows of both tables.
 pub(crate) fn read_rows(
     conn: &mut Connection<MemStore>,
     alloc: Global,
@@ -50,11 +53,15 @@ pub(crate) fn read_rows(
         (map stored_seen rows.items)) }
     ensures stays { Stays (state_of conn.old) (state_of conn.new) }
 {
-    let rows = all_rows(conn)?;
-    rows_from(alloc, rows)
+    let mut stored = Vec::new(alloc);
+    let earlier = all_rows(conn, Part::Earlier)?;
+    add_rows(&mut stored, earlier)?;
+    let current = all_rows(conn, Part::Current)?;
+    add_rows(&mut stored, current)?;
+    Ok(stored)
 }
 
-/// The paths of all rows.
+/// The paths of all rows of both tables.
 pub(crate) fn read_paths(
     conn: &mut Connection<MemStore>,
     alloc: Global,
@@ -64,6 +71,10 @@ pub(crate) fn read_paths(
         (map string_bytes paths.items)) }
     ensures stays { Stays (state_of conn.old) (state_of conn.new) }
 {
-    let rows = all_paths(conn)?;
-    paths_from(alloc, rows)
+    let mut paths = Vec::new(alloc);
+    let earlier = all_paths(conn, Part::Earlier)?;
+    add_paths(&mut paths, earlier)?;
+    let current = all_paths(conn, Part::Current)?;
+    add_paths(&mut paths, current)?;
+    Ok(paths)
 }

@@ -1,19 +1,20 @@
 // The rows of one tenant's index, as its callers see them.
-ghost use Rattle.std.specs.Prelude.{◌≡◌, IfOk};
-ghost use Rattle.index_store.specs.Entries.{HasNoRow};
-ghost use Rattle.index_store.specs.PortTable.{stored_by};
+ghost use Rattle.std.specs.Prelude.{◌≡◌, IfOk, OnOk, OnErr, None};
+ghost use Rattle.index_store.specs.Entries.{HasNoRow, PutsRow, PutsProfile, SameRows, SameProfiles};
+ghost use Rattle.index_store.specs.PortTable.{stored_by, profiles_by};
 
 use crate::faults::fault_of;
 use crate::path_rows::{PathRows, StoredRow};
 use crate::reading::{read_paths, read_rows};
-use crate::writing::{mark_paths, mark_rows, open, put_row, take_paths};
+use crate::writing::{mark_paths, mark_rows, open, put_earlier_row, put_row, take_paths};
 use mk_paths::FilesFault;
+use mk_text::Profile;
 use sqlite::{Connection, MemStore};
 use std::alloc::Global;
 use std::marker::Model;
 
 /// The rows of one tenant's index, in a database in memory of its own. Clauses see what is stored for each
-/// path (`stored_by`).
+/// path (`stored_by`), and with which profile (`profiles_by`).
 #[derive(Drop)]
 pub struct IndexStore {
     conn: Connection<MemStore>,
@@ -46,10 +47,33 @@ impl IndexStore {
             Err(error) => Err(fault_of(&error)),
         }
     }
+
+    /// Gives a path this row, which isn't stale, as the release before wrote it: without a profile.
+    ///
+    /// # Errors
+    ///
+    /// `Store` if the database refuses a statement, and `Memory` if memory runs out. After an error
+    /// all rows are as they were.
+    pub fn put_earlier(&mut self, path: &str, text: &[u8]) -> Result<(), FilesFault>
+        ensures ok { OnOk result (PutsRow path.now text.now (stored_by self.old)
+            (stored_by self.new)) }
+        ensures profile { OnOk result (PutsProfile path.now None (profiles_by self.old)
+            (profiles_by self.new)) }
+        ensures err { OnErr result (SameRows (stored_by self.old) (stored_by self.new)) }
+        ensures err_profiles { OnErr result
+            (SameProfiles (profiles_by self.old) (profiles_by self.new)) }
+    {
+        match put_earlier_row(&mut self.conn, path, text) {
+            Ok(()) => Ok(()),
+            Err(error) => Err(fault_of(&error)),
+        }
+    }
 }
 
 impl PathRows for IndexStore {
     ghost entries = { stored_by };
+
+    ghost profiles = { profiles_by };
 
     fn rows(&mut self, alloc: Global) -> Result<Vec<StoredRow>, FilesFault> {
         match read_rows(&mut self.conn, alloc) {
@@ -65,8 +89,8 @@ impl PathRows for IndexStore {
         }
     }
 
-    fn put(&mut self, path: &str, text: &[u8]) -> Result<(), FilesFault> {
-        match put_row(&mut self.conn, path, text) {
+    fn put(&mut self, path: &str, profile: Profile, text: &[u8]) -> Result<(), FilesFault> {
+        match put_row(&mut self.conn, path, profile, text) {
             Ok(()) => Ok(()),
             Err(error) => Err(fault_of(&error)),
         }

@@ -1,61 +1,249 @@
-// The calls that write. One statement stands alone; several are in one transaction.
-ghost use Rattle.std.specs.Prelude.{◌≡◌, map, string_bytes, OnOk, OnErr, IfOk, IsTrue, []};
-ghost use Rattle.table_facts.specs.States.{KeepsCommit, state_of};
+// The calls that write, each in one transaction.
+ghost use Rattle.std.specs.Prelude.{◌≡◌, map, string_bytes, OnOk, OnErr, IfOk, IsTrue, None, Some};
+ghost use Rattle.mk_text.specs.Profiles.{profile_number};
+ghost use Rattle.table_facts.specs.States.{KeepsCommit, Stays, state_of};
 ghost use Rattle.index_store.specs.Entries.{PutsRow, SameRows, Marks, MarksAll, TakesOut};
-ghost use Rattle.index_store.specs.PortTable.{IsKept, IsFormed, Holds, HoldsInside, entries_of, stored_in};
-ghost use Rattle.index_store.specs.PortTable.{marked_among};
-ghost use Rattle.index_store.specs.Marking.{mark_number};
+ghost use Rattle.index_store.specs.Entries.{PutsProfile, SameProfiles, TakesProfilesOut};
+ghost use Rattle.index_store.specs.PortTable.{IsKept, IsFormed, Holds, HoldsInside, rows_of, stored_in, profiles_in, no_rows};
+ghost use Rattle.index_store.specs.PortTable.{marked_at, marked_among, staying_of, without, with_row, with_rows};
+ghost use Rattle.index_store.specs.Marking.{mark_number, rows_after};
 
-use crate::port_table::{Mark, create, delete_leaving, insert, mark_all, replace, set_mark};
+use crate::port_table::{
+    Mark, Part, create_current, create_earlier, delete_leaving, insert_current, insert_earlier,
+    mark_table, replace_current, set_mark,
+};
+use mk_text::Profile;
 use sqlite::{Connection, Error, MemStore, Transaction};
 use std::alloc::Global;
 
-/// A database with the table, without a row.
+/// What a call does to the rows.
+#[derive(Clone, Copy, Debug)]
+pub(crate) enum Change<'a> {
+    /// A path has this row, which isn't stale, and which is written with this profile.
+    Put(&'a str, Profile, &'a [u8]),
+    /// A path has this row, which isn't stale, as the release before wrote it.
+    PutEarlier(&'a str, &'a [u8]),
+    /// The rows of these paths are stale.
+    Mark(&'a [String]),
+    /// All rows are stale.
+    MarkAll,
+    /// These paths have no row.
+    TakeOut(&'a [String]),
+}
+
+/// A database with the tables, without a row.
 pub(crate) fn open(alloc: Global) -> Result<Connection<MemStore>, Error>
-    ensures { IfOk result (λ conn. Holds (state_of conn) []) }
+    ensures { IfOk result (λ conn. Holds (state_of conn) no_rows) }
 {
     let mut conn = Connection::open_in_memory(alloc)?;
-    create(&mut conn)?;
+    create_earlier(&mut conn)?;
+    create_current(&mut conn)?;
     Ok(conn)
 }
 
-/// Gives a path this row, which isn't stale, whether or not it had one.
-pub(crate) fn put_row(conn: &mut Connection<MemStore>, path: &str, text: &[u8]) -> Result<(), Error>
-    requires { IsKept (state_of conn.old) }
-    ensures kept { IsKept (state_of conn.new) }
-    ensures ok { OnOk result (PutsRow path.now text.now (stored_in conn.old) (stored_in conn.new)) }
-    ensures err { OnErr result (SameRows (stored_in conn.old) (stored_in conn.new)) }
+// Gives the row of a path this mark, in whichever table it is.
+fn mark_path(tx: &mut Transaction<'_, MemStore>, path: &str, mark: Mark) -> Result<(), Error>
+    requires inside { IsTrue (state_of tx.old.conn.now).in_transaction }
+    requires formed { IsFormed (state_of tx.old.conn.now).now }
+    ensures same_reference { tx.new.conn.ghost_name ≡ tx.old.conn.ghost_name }
+    ensures kept { KeepsCommit (state_of tx.old.conn.now) (state_of tx.new.conn.now) }
+    ensures made { OnOk result (HoldsInside (state_of tx.new.conn.now)
+        (λ part. marked_at (mark_number mark) path.now (rows_of tx.old.conn.now part))) }
 {
-    if replace(conn, path, text)? {
+    set_mark(tx, Part::Earlier, path, mark)?;
+    set_mark(tx, Part::Current, path, mark)
+}
+
+// Takes out the rows that are marked so, of both tables.
+fn take_leaving(tx: &mut Transaction<'_, MemStore>) -> Result<(), Error>
+    requires inside { IsTrue (state_of tx.old.conn.now).in_transaction }
+    requires formed { IsFormed (state_of tx.old.conn.now).now }
+    ensures same_reference { tx.new.conn.ghost_name ≡ tx.old.conn.ghost_name }
+    ensures kept { KeepsCommit (state_of tx.old.conn.now) (state_of tx.new.conn.now) }
+    ensures made { OnOk result (HoldsInside (state_of tx.new.conn.now)
+        (λ part. staying_of (rows_of tx.old.conn.now part))) }
+{
+    delete_leaving(tx, Part::Earlier)?;
+    delete_leaving(tx, Part::Current)
+}
+
+// Takes the row of a path out of the table of the release before, if there is one.
+fn take_earlier(tx: &mut Transaction<'_, MemStore>, path: &str) -> Result<(), Error>
+    requires inside { IsTrue (state_of tx.old.conn.now).in_transaction }
+    requires formed { IsFormed (state_of tx.old.conn.now).now }
+    ensures same_reference { tx.new.conn.ghost_name ≡ tx.old.conn.ghost_name }
+    ensures kept { KeepsCommit (state_of tx.old.conn.now) (state_of tx.new.conn.now) }
+    ensures made { OnOk result (HoldsInside (state_of tx.new.conn.now)
+        (with_rows Part.Earlier (without path.now (rows_of tx.old.conn.now Part.Earlier))
+        (rows_of tx.old.conn.now))) }
+{
+    set_mark(tx, Part::Earlier, path, Mark::Leaving)?;
+    delete_leaving(tx, Part::Earlier)
+}
+
+// Gives a path this row in the table of today, in place of the one there or as the last.
+fn put_current<'x>(
+    tx: &mut Transaction<'_, MemStore>,
+    path: &'x str,
+    profile: Profile,
+    text: &'x [u8],
+) -> Result<(), Error>
+    requires inside { IsTrue (state_of tx.old.conn.now).in_transaction }
+    requires formed { IsFormed (state_of tx.old.conn.now).now }
+    ensures same_reference { tx.new.conn.ghost_name ≡ tx.old.conn.ghost_name }
+    ensures kept { KeepsCommit (state_of tx.old.conn.now) (state_of tx.new.conn.now) }
+    ensures made { OnOk result (HoldsInside (state_of tx.new.conn.now)
+        (with_rows Part.Current
+        (with_row path.now (Some (profile_number profile)) text.now
+        (rows_of tx.old.conn.now Part.Current))
+        (rows_of tx.old.conn.now))) }
+{
+    if replace_current(tx, path, profile, text)? {
         return Ok(());
     }
-    insert(conn, path, text)
+    insert_current(tx, path, profile, text)
 }
 
-/// Marks all rows stale.
-pub(crate) fn mark_rows(conn: &mut Connection<MemStore>) -> Result<(), Error>
-    requires { IsKept (state_of conn.old) }
-    ensures kept { IsKept (state_of conn.new) }
-    ensures ok { OnOk result (MarksAll (stored_in conn.old) (stored_in conn.new)) }
-    ensures err { OnErr result (SameRows (stored_in conn.old) (stored_in conn.new)) }
+// Gives a path this row in the table of today, and takes out the one that the release before wrote.
+fn put<'x>(
+    tx: &mut Transaction<'_, MemStore>,
+    path: &'x str,
+    profile: Profile,
+    text: &'x [u8],
+) -> Result<(), Error>
+    requires inside { IsTrue (state_of tx.old.conn.now).in_transaction }
+    requires formed { IsFormed (state_of tx.old.conn.now).now }
+    ensures same_reference { tx.new.conn.ghost_name ≡ tx.old.conn.ghost_name }
+    ensures kept { KeepsCommit (state_of tx.old.conn.now) (state_of tx.new.conn.now) }
+    ensures made { OnOk result (HoldsInside (state_of tx.new.conn.now)
+        (rows_after (Change.Put path.entry profile text.entry) (rows_of tx.old.conn.now))) }
 {
-    mark_all(conn)
+    take_earlier(tx, path)?;
+    put_current(tx, path, profile, text)
 }
 
-// Gives the rows of these paths this mark.
+// Gives a path this row as the release before wrote it, and takes out the one there.
+fn put_earlier<'x>(
+    tx: &mut Transaction<'_, MemStore>,
+    path: &'x str,
+    text: &'x [u8],
+) -> Result<(), Error>
+    requires inside { IsTrue (state_of tx.old.conn.now).in_transaction }
+    requires formed { IsFormed (state_of tx.old.conn.now).now }
+    ensures same_reference { tx.new.conn.ghost_name ≡ tx.old.conn.ghost_name }
+    ensures kept { KeepsCommit (state_of tx.old.conn.now) (state_of tx.new.conn.now) }
+    ensures made { OnOk result (HoldsInside (state_of tx.new.conn.now)
+        (rows_after (Change.PutEarlier path.entry text.entry) (rows_of tx.old.conn.now))) }
+{
+    mark_path(tx, path, Mark::Leaving)?;
+    take_leaving(tx)?;
+    insert_earlier(tx, path, text)
+}
+
+// Gives the rows of these paths this mark, in whichever table they are.
 fn set_marks(tx: &mut Transaction<'_, MemStore>, paths: &[String], mark: Mark) -> Result<(), Error>
     requires inside { IsTrue (state_of tx.old.conn.now).in_transaction }
     requires formed { IsFormed (state_of tx.old.conn.now).now }
     ensures same_reference { tx.new.conn.ghost_name ≡ tx.old.conn.ghost_name }
     ensures kept { KeepsCommit (state_of tx.old.conn.now) (state_of tx.new.conn.now) }
     ensures made { OnOk result (HoldsInside (state_of tx.new.conn.now)
-        (marked_among (mark_number mark) (map string_bytes paths.now)
-        (entries_of tx.old.conn.now))) }
+        (λ part. marked_among (mark_number mark) (map string_bytes paths.now)
+        (rows_of tx.old.conn.now part))) }
 {
     for path in paths {
-        set_mark(tx, path.as_str(), mark)?;
+        mark_path(tx, path.as_str(), mark)?;
     }
     Ok(())
+}
+
+// Marks all rows of both tables stale.
+fn mark_tables(tx: &mut Transaction<'_, MemStore>) -> Result<(), Error>
+    requires inside { IsTrue (state_of tx.old.conn.now).in_transaction }
+    requires formed { IsFormed (state_of tx.old.conn.now).now }
+    ensures same_reference { tx.new.conn.ghost_name ≡ tx.old.conn.ghost_name }
+    ensures kept { KeepsCommit (state_of tx.old.conn.now) (state_of tx.new.conn.now) }
+    ensures made { OnOk result (HoldsInside (state_of tx.new.conn.now)
+        (rows_after Change.MarkAll (rows_of tx.old.conn.now))) }
+{
+    mark_table(tx, Part::Earlier)?;
+    mark_table(tx, Part::Current)
+}
+
+// Takes out the rows of these paths, of both tables.
+fn take_out(tx: &mut Transaction<'_, MemStore>, paths: &[String]) -> Result<(), Error>
+    requires inside { IsTrue (state_of tx.old.conn.now).in_transaction }
+    requires formed { IsFormed (state_of tx.old.conn.now).now }
+    ensures same_reference { tx.new.conn.ghost_name ≡ tx.old.conn.ghost_name }
+    ensures kept { KeepsCommit (state_of tx.old.conn.now) (state_of tx.new.conn.now) }
+    ensures made { OnOk result (HoldsInside (state_of tx.new.conn.now)
+        (rows_after (Change.TakeOut paths.entry) (rows_of tx.old.conn.now))) }
+{
+    set_marks(tx, paths, Mark::Leaving)?;
+    take_leaving(tx)
+}
+
+// The statements of a change.
+fn make(tx: &mut Transaction<'_, MemStore>, change: Change<'_>) -> Result<(), Error>
+    requires inside { IsTrue (state_of tx.old.conn.now).in_transaction }
+    requires formed { IsFormed (state_of tx.old.conn.now).now }
+    ensures same_reference { tx.new.conn.ghost_name ≡ tx.old.conn.ghost_name }
+    ensures kept { KeepsCommit (state_of tx.old.conn.now) (state_of tx.new.conn.now) }
+    ensures made { OnOk result (HoldsInside (state_of tx.new.conn.now)
+        (rows_after change.entry (rows_of tx.old.conn.now))) }
+{
+    match change {
+        Change::Put(path, profile, text) => put(tx, path, profile, text),
+        Change::PutEarlier(path, text) => put_earlier(tx, path, text),
+        Change::Mark(paths) => set_marks(tx, paths, Mark::Stale),
+        Change::MarkAll => mark_tables(tx),
+        Change::TakeOut(paths) => take_out(tx, paths),
+    }
+}
+
+// Makes the change. If it fails, nothing changes.
+fn write(conn: &mut Connection<MemStore>, change: Change<'_>) -> Result<(), Error>
+    requires { IsKept (state_of conn.old) }
+    ensures ok { OnOk result (Holds (state_of conn.new) (rows_after change.entry (rows_of conn.old))) }
+    ensures err { OnErr result (Stays (state_of conn.old) (state_of conn.new)) }
+{
+    let mut tx = conn.transaction();
+    make(&mut tx, change)?;
+    tx.commit()
+}
+
+/// Gives a path this row, which isn't stale, whether or not it had one.
+pub(crate) fn put_row<'x>(
+    conn: &mut Connection<MemStore>,
+    path: &'x str,
+    profile: Profile,
+    text: &'x [u8],
+) -> Result<(), Error>
+    requires { IsKept (state_of conn.old) }
+    ensures kept { IsKept (state_of conn.new) }
+    ensures ok { OnOk result (PutsRow path.now text.now (stored_in conn.old) (stored_in conn.new)) }
+    ensures profile { OnOk result (PutsProfile path.now (Some profile)
+        (profiles_in conn.old) (profiles_in conn.new)) }
+    ensures err { OnErr result (SameRows (stored_in conn.old) (stored_in conn.new)) }
+    ensures err_profiles { OnErr result (SameProfiles (profiles_in conn.old) (profiles_in conn.new)) }
+{
+    write(conn, Change::Put(path, profile, text))
+}
+
+/// Gives a path this row, which isn't stale, as the release before wrote it.
+pub(crate) fn put_earlier_row<'x>(
+    conn: &mut Connection<MemStore>,
+    path: &'x str,
+    text: &'x [u8],
+) -> Result<(), Error>
+    requires { IsKept (state_of conn.old) }
+    ensures kept { IsKept (state_of conn.new) }
+    ensures ok { OnOk result (PutsRow path.now text.now (stored_in conn.old) (stored_in conn.new)) }
+    ensures profile { OnOk result (PutsProfile path.now None
+        (profiles_in conn.old) (profiles_in conn.new)) }
+    ensures err { OnErr result (SameRows (stored_in conn.old) (stored_in conn.new)) }
+    ensures err_profiles { OnErr result (SameProfiles (profiles_in conn.old) (profiles_in conn.new)) }
+{
+    write(conn, Change::PutEarlier(path, text))
 }
 
 /// Marks the rows of these paths stale.
@@ -65,10 +253,20 @@ pub(crate) fn mark_paths(conn: &mut Connection<MemStore>, paths: &[String]) -> R
     ensures ok { OnOk result (Marks (map string_bytes paths.now)
         (stored_in conn.old) (stored_in conn.new)) }
     ensures err { OnErr result (SameRows (stored_in conn.old) (stored_in conn.new)) }
+    ensures profiles { SameProfiles (profiles_in conn.old) (profiles_in conn.new) }
 {
-    let mut tx = conn.transaction();
-    set_marks(&mut tx, paths, Mark::Stale)?;
-    tx.commit()
+    write(conn, Change::Mark(paths))
+}
+
+/// Marks all rows stale.
+pub(crate) fn mark_rows(conn: &mut Connection<MemStore>) -> Result<(), Error>
+    requires { IsKept (state_of conn.old) }
+    ensures kept { IsKept (state_of conn.new) }
+    ensures ok { OnOk result (MarksAll (stored_in conn.old) (stored_in conn.new)) }
+    ensures err { OnErr result (SameRows (stored_in conn.old) (stored_in conn.new)) }
+    ensures profiles { SameProfiles (profiles_in conn.old) (profiles_in conn.new) }
+{
+    write(conn, Change::MarkAll)
 }
 
 /// Takes out the rows of these paths.
@@ -77,10 +275,10 @@ pub(crate) fn take_paths(conn: &mut Connection<MemStore>, paths: &[String]) -> R
     ensures kept { IsKept (state_of conn.new) }
     ensures ok { OnOk result (TakesOut (map string_bytes paths.now)
         (stored_in conn.old) (stored_in conn.new)) }
+    ensures profiles { OnOk result (TakesProfilesOut (map string_bytes paths.now)
+        (profiles_in conn.old) (profiles_in conn.new)) }
     ensures err { OnErr result (SameRows (stored_in conn.old) (stored_in conn.new)) }
+    ensures err_profiles { OnErr result (SameProfiles (profiles_in conn.old) (profiles_in conn.new)) }
 {
-    let mut tx = conn.transaction();
-    set_marks(&mut tx, paths, Mark::Leaving)?;
-    delete_leaving(&mut tx)?;
-    tx.commit()
+    write(conn, Change::TakeOut(paths))
 }

@@ -1,8 +1,9 @@
 //! Changes of what a tenant has, and what it has.
-use case_lines::{Answer, Trouble};
+use case_lines::{Answer, Trouble, as_number};
 use make_cases::{given_name, given_path, trees_answer, two_answer};
 use mk_files::Files;
 use mk_paths::{FilesFault, Name, Names, SearchPath};
+use mk_text::Profile;
 use std::alloc::Global;
 use tenant_store::{PutFault, TenantFiles, TenantStore};
 
@@ -15,6 +16,8 @@ pub enum Change {
     Remove(Name),
     /// `path TENANT TEXT`
     SetPath(SearchPath),
+    /// `profile TENANT N`
+    SetProfile(Profile),
 }
 
 impl Change {
@@ -24,6 +27,7 @@ impl Change {
             ("put", [name, bytes]) => Ok(Change::Put(given_name(alloc, name)?, bytes.clone()?)),
             ("remove", [name]) => Ok(Change::Remove(given_name(alloc, name)?)),
             ("path", [text]) => Ok(Change::SetPath(given_path(alloc, text)?)),
+            ("profile", [number]) => Ok(Change::SetProfile(given_profile(number)?)),
             _ => Err(Trouble::NoCase),
         }
     }
@@ -38,7 +42,8 @@ impl Change {
         match self {
             Change::Put(name, bytes) => put(alloc, store, tenant, name, bytes.as_slice()),
             Change::Remove(name) => remove(alloc, store, tenant, name),
-            Change::SetPath(path) => set(alloc, store, tenant, path),
+            Change::SetPath(path) => set_answer(&store.set_path(alloc, tenant, path)),
+            Change::SetProfile(profile) => set_answer(&store.set_profile(alloc, tenant, *profile)),
         }
     }
 
@@ -51,7 +56,7 @@ impl Change {
     ) -> Result<Answer, Trouble> {
         match self {
             Change::Put(name, _) | Change::Remove(name) => file_answer(alloc, store, tenant, name),
-            Change::SetPath(_) => settings_answer(alloc, store, tenant),
+            Change::SetPath(_) | Change::SetProfile(_) => settings_answer(alloc, store, tenant),
         }
     }
 }
@@ -87,14 +92,18 @@ fn remove(
     }
 }
 
-/// A path that is set: `set` or `Store`.
-fn set(
-    alloc: Global,
-    store: &mut TenantStore,
-    tenant: u32,
-    path: &SearchPath,
-) -> Result<&'static str, Trouble> {
-    match store.set_path(alloc, tenant, path) {
+/// The profile of this number, 1 or 2.
+pub fn given_profile(number: &[u8]) -> Result<Profile, Trouble> {
+    match as_number(number)? {
+        1 => Ok(Profile::One),
+        2 => Ok(Profile::Two),
+        _ => Err(Trouble::NoCase),
+    }
+}
+
+/// A setting that is set: `set` or `Store`.
+fn set_answer(told: &Result<(), FilesFault>) -> Result<&'static str, Trouble> {
+    match told {
         Ok(()) => Ok("set"),
         Err(FilesFault::Store) => Ok("Store"),
         Err(FilesFault::Memory) => Err(Trouble::Memory),
@@ -120,12 +129,14 @@ pub fn file_answer(
     })
 }
 
-/// `store settings TENANT`: the trees of its search path.
+/// `store settings TENANT`: the trees of its search path, and the number of its profile.
 pub fn settings_answer(
     alloc: Global,
     store: &mut TenantStore,
     tenant: u32,
 ) -> Result<Answer, Trouble> {
     let settings = store.settings(alloc, tenant)?;
-    Ok(trees_answer(alloc, &settings.path))
+    let mut answer = trees_answer(alloc, &settings.path);
+    answer.number(u64::from(settings.profile.number()));
+    Ok(answer)
 }

@@ -1,7 +1,9 @@
-//! Cases of the store of all tenants: calls in a row, and changes that are stopped at every step.
+//! Cases of the store of all tenants, and of the rows of an index: calls in a row, and changes that are stopped
+//! at every step.
 #![tactic(auto)]
 
 mod changes;
+pub mod rows;
 
 use case_lines::{Answer, Trouble, as_number};
 use changes::{Change, file_answer, put, settings_answer};
@@ -37,6 +39,12 @@ pub fn answer(
         "put stopped" => stopped(alloc, store, tenant, &Change::read(alloc, "put", given)?),
         "remove stopped" => stopped(alloc, store, tenant, &Change::read(alloc, "remove", given)?),
         "path stopped" => stopped(alloc, store, tenant, &Change::read(alloc, "path", given)?),
+        "profile stopped" => stopped(
+            alloc,
+            store,
+            tenant,
+            &Change::read(alloc, "profile", given)?,
+        ),
         _ => {
             let change = Change::read(alloc, call, given)?;
             Ok(Answer::of_word(alloc, change.make(alloc, store, tenant)?))

@@ -18,6 +18,7 @@ use Rattle.sqlite.specs.declared.error.Error.{Error}
 use Rattle.sqlite.specs.Listing.{understood}
 use Rattle.sqlite.specs.State.{State, Shown, FailsToQuery}
 use Rattle.sqlite.proofs.Callers.{IsPlain}
+use Rattle.mk_text.specs.Profiles.{numbered_profile}
 use Rattle.mk_paths.specs.SearchPath.{trees_of}
 use Rattle.table_facts.proofs.Statements.{AreSeen, seen as columns, shows, shown_stays, query_fails_stays}
 use Rattle.table_facts.proofs.Finding.{find_is, find_none}
@@ -74,10 +75,10 @@ module _ (tenant : ℕ) (rows : List Row) (filled : AreFilled IsAccountRow accou
   pub get_no_account : ((r : Row) → Has rows r → is_account (account_of r) ≡ false) → account_in tenant (map account_of rows) ≡ None
   get_no_account none = find_none is_account (map account_of rows) (λ a k. let s = has_mapped account_of rows a k in ap is_account s.2 ∙ none s.0 s.1)
 
-  module _ (given : List Row) (seen : AreSeen of_tenant (col 1 2 ∷ col 1 3 ∷ col 1 4 ∷ []) (Int (pos tenant) ∷ []) rows given) where
+  module _ (given : List Row) (seen : AreSeen of_tenant (col 1 2 ∷ col 1 3 ∷ col 1 4 ∷ col 1 5 ∷ []) (Int (pos tenant) ∷ []) rows given) where
     pub account_none : given ≡ [] → account_in tenant (map account_of rows) ≡ None
     account_none empty = get_no_account (λ r h. elim (cases_Bool (is_account (account_of r))) [
-      | inl ok ↦ absurd (subst (λ l. Has l (columns (col 1 2 ∷ col 1 3 ∷ col 1 4 ∷ []) (Int (pos tenant) ∷ []) r)) empty (seen.complete r h (passes_account tenant [] r (filled.formed r h) ∙ ok)))
+      | inl ok ↦ absurd (subst (λ l. Has l (columns (col 1 2 ∷ col 1 3 ∷ col 1 4 ∷ col 1 5 ∷ []) (Int (pos tenant) ∷ []) r)) empty (seen.complete r h (passes_account tenant [] r (filled.formed r h) ∙ ok)))
       | inr fails ↦ fails
     ])
 
@@ -86,11 +87,12 @@ module _ (tenant : ℕ) (rows : List Row) (filled : AreFilled IsAccountRow accou
         let r = seen.sound x h in
         let ok : is_account (account_of r.0) ≡ true = sym (passes_account tenant [] r.0 (filled.formed r.0 r.1)) ∙ r.2 in
         let t : (account_of r.0).tenant ≡ tenant = number_is (account_of r.0).tenant tenant ok in
-        let fs : (account_of r.0).files ≡ a.files = ap number_in (ap (λ y. column y 0) (sym r.3) ∙ is.1) in
-        let bs : (account_of r.0).bytes ≡ a.bytes = ap number_in (ap (λ y. column y 1) (sym r.3) ∙ is.2) in
-        let ps : (account_of r.0).trees ≡ trees_of is.0 = ap (λ v. trees_of (bytes_in v)) (ap (λ y. column y 2) (sym r.3) ∙ is.3) in
-        let same : account_of r.0 ≡ record { tenant = tenant; files = a.files; bytes = a.bytes; trees = trees_of is.0 } = λ i. record { tenant = t i; files = fs i; bytes = bs i; trees = ps i } in
-        sym (get_account r.0 r.1 ok ∙ ap Some (same ∙ sym is.4))
+        let fs : (account_of r.0).files ≡ a.files = ap number_in (ap (λ y. column y 0) (sym r.3) ∙ is.2) in
+        let bs : (account_of r.0).bytes ≡ a.bytes = ap number_in (ap (λ y. column y 1) (sym r.3) ∙ is.3) in
+        let ps : (account_of r.0).trees ≡ trees_of is.0 = ap (λ v. trees_of (bytes_in v)) (ap (λ y. column y 2) (sym r.3) ∙ is.4) in
+        let number : (account_of r.0).profile ≡ numbered_profile is.1 = ap (λ v. numbered_profile (number_in v)) (ap (λ y. column y 3) (sym r.3) ∙ is.5) in
+        let same : account_of r.0 ≡ record { tenant = tenant; files = a.files; bytes = a.bytes; trees = trees_of is.0; profile = numbered_profile is.1 } = λ i. record { tenant = t i; files = fs i; bytes = bs i; trees = ps i; profile = number i } in
+        sym (get_account r.0 r.1 ok ∙ ap Some (same ∙ sym is.6))
 
 -- ---- the two queries
 
@@ -107,7 +109,7 @@ pub account_shown : (tenant : ℕ) (old new : State) (rows : List Row) → IsFor
     → Shows (IsAccount tenant) rows (account_in tenant (held_in old).accounts) × Stays old new
 account_shown tenant old new rows formed h =
     let params = Int (pos tenant) ∷ [] in
-    let seen = shows select_account params old new store_schema 2 of_tenant (col 1 2 ∷ col 1 3 ∷ col 1 4 ∷ []) [] (codes "files" ∷ codes "bytes" ∷ codes "path" ∷ []) formed.schema account_text.0 account_text.1 account_text.2 refl rows h in (
+    let seen = shows select_account params old new store_schema 2 of_tenant (col 1 2 ∷ col 1 3 ∷ col 1 4 ∷ col 1 5 ∷ []) [] (codes "files" ∷ codes "bytes" ∷ codes "path" ∷ codes "profile" ∷ []) formed.schema account_text.0 account_text.1 account_text.2 refl rows h in (
       record { none = account_none tenant (old.now.trees 2) formed.accounts rows seen; some = λ row a k is. account_some tenant (old.now.trees 2) formed.accounts rows seen row a k is },
       shown_stays select_account params old new rows (subst (λ s. IsPlain (understood s select_account)) (sym formed.schema) account_text.1) h,
     )

@@ -31,7 +31,7 @@ pub content_text : (command_of (understood store_schema select_content) ≡ Sele
 unfolding understood everything
 content_text = (refl, (refl, refl), refl)
 
-pub account_text : (command_of (understood store_schema select_account) ≡ Select (program (over_table 2 of_tenant (col 1 2 ∷ col 1 3 ∷ col 1 4 ∷ []) [])) (codes "files" ∷ codes "bytes" ∷ codes "path" ∷ [])) × IsPlain (understood store_schema select_account) × (reads_listing store_schema select_account ≡ false)
+pub account_text : (command_of (understood store_schema select_account) ≡ Select (program (over_table 2 of_tenant (col 1 2 ∷ col 1 3 ∷ col 1 4 ∷ col 1 5 ∷ []) [])) (codes "files" ∷ codes "bytes" ∷ codes "path" ∷ codes "profile" ∷ [])) × IsPlain (understood store_schema select_account) × (reads_listing store_schema select_account ≡ false)
 unfolding understood everything
 account_text = (refl, (refl, refl), refl)
 
@@ -51,7 +51,7 @@ pub delete_file_text : (command_of (understood store_schema delete_file) ≡ Del
 unfolding understood everything
 delete_file_text = (refl, (refl, refl))
 
-pub insert_account_text : (command_of (understood store_schema insert_account) ≡ Insert 1 (Values (lit Null ∷ col 0 0 ∷ col 0 1 ∷ col 0 2 ∷ col 0 3 ∷ []) 5)) × IsPlain (understood store_schema insert_account)
+pub insert_account_text : (command_of (understood store_schema insert_account) ≡ Insert 1 (Values (lit Null ∷ col 0 0 ∷ col 0 1 ∷ col 0 2 ∷ col 0 3 ∷ col 0 4 ∷ []) 6)) × IsPlain (understood store_schema insert_account)
 unfolding understood everything
 insert_account_text = (refl, (refl, refl))
 

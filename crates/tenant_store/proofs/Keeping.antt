@@ -5,11 +5,13 @@ use Rattle.std.specs.Option.{option_map_or}
 use Rattle.std.specs.FinMap as finite
 use Rattle.std.proofs.lemmas.Bool.{cases_Bool}
 use Rattle.std.proofs.lemmas.Bool.Decides.{nat_tests}
+use Rattle.mk_text.specs.declared.profile.Profile.{Profile}
+use Rattle.mk_text.specs.declared.profile.Profile.TheVariants.{One}
 use Rattle.mk_paths.specs.World.{FileMap}
 use Rattle.mk_paths.specs.SearchPath.{standard_trees, trees_of}
 use Rattle.sqlite.specs.Effect.{Database}
 use Rattle.sqlite.specs.State.{State}
-use Rattle.tenant_store.specs.Holdings.{File, Account, Holdings, files_in, files_of, path_of, account_in, bytes_of, files_with, bytes_with, is_over, ChangesFiles, ChangesPath}
+use Rattle.tenant_store.specs.Holdings.{File, Account, Holdings, files_in, files_of, path_of, profile_of, account_in, bytes_of, files_with, bytes_with, is_over, ChangesFiles, ChangesPath, ChangesProfile}
 use Rattle.mk_files.specs.Limits.{passes}
 use Rattle.tenant_store.specs.Tables.{IsKept, IsCounted, IsFormed, Makes, held_in, holdings_in, accounts_after, files_after, Suits}
 use Rattle.table_facts.specs.States.{Stays}
@@ -63,18 +65,30 @@ module _ (old : Holdings) (files : List File) (account : Account) (m : FileMap) 
     ];
   }
 
-pub own_path : (old : Holdings) (files : List File) (account : Account) → path_of account.tenant (changed old files account) ≡ account.trees
-own_path old files account = ap (λ o. unwrap_or (option_map (λ a. a.trees) o) standard_trees) (account_own account old.accounts)
+-- ---- a setting, which is a part of the accounts: the path or the profile
 
-pub other_path : (old : Holdings) (files : List File) (account : Account) (other : ℕ) → other ≢ account.tenant → path_of other (changed old files account) ≡ path_of other old
-other_path old files account other apart = ap (λ o. unwrap_or (option_map (λ a. a.trees) o) standard_trees) (account_other other account old.accounts apart)
+abbrev pub setting_of : {X : Type 0} → (Account → X) → X → ℕ → Holdings → X
+setting_of part first tenant held = unwrap_or (option_map part (account_in tenant held.accounts)) first
 
--- an account that keeps its tenant's path leaves every path
-pub same_paths : (old : Holdings) (files : List File) (account : Account) → account.trees ≡ path_of account.tenant old → (t : ℕ) → path_of t (changed old files account) ≡ path_of t old
-same_paths old files account keeps t = elim (cases_Bool (eqb t account.tenant)) [
-  | inl is ↦ subst (λ n. path_of n (changed old files account) ≡ path_of n old) (sym (number_is t account.tenant is)) (own_path old files account ∙ keeps)
-  | inr other ↦ other_path old files account t (differs t account.tenant other)
-]
+module _ {X : Type 0} (part : Account → X) (first : X) (old : Holdings) (files : List File) (account : Account) where
+  pub own_setting : setting_of part first account.tenant (changed old files account) ≡ part account
+  own_setting = ap (λ o. unwrap_or (option_map part o) first) (account_own account old.accounts)
+
+  pub other_setting : (other : ℕ) → other ≢ account.tenant → setting_of part first other (changed old files account) ≡ setting_of part first other old
+  other_setting other apart = ap (λ o. unwrap_or (option_map part o) first) (account_other other account old.accounts apart)
+
+  -- an account that keeps its tenant's setting leaves that of every tenant
+  pub same_settings : part account ≡ setting_of part first account.tenant old → (t : ℕ) → setting_of part first t (changed old files account) ≡ setting_of part first t old
+  same_settings keeps t = elim (cases_Bool (eqb t account.tenant)) [
+    | inl is ↦ subst (λ n. setting_of part first n (changed old files account) ≡ setting_of part first n old) (sym (number_is t account.tenant is)) (own_setting ∙ keeps)
+    | inr other ↦ other_setting t (differs t account.tenant other)
+  ]
+
+abbrev trees_in : Account → List (List ℕ)
+trees_in a = a.trees
+
+abbrev profile_in : Account → Profile
+profile_in a = a.profile
 
 pub made_kept : (new : State) (held : Holdings) → Makes new held → IsCounted held → IsKept new
 made_kept new held h counted = record { settled = h.settled; formed = h.formed; counted = subst IsCounted (sym h.made) counted }
@@ -89,13 +103,15 @@ account_is tenant held kept counted is = record {
   files = ap (λ o. option_map_or (λ a. a.files) o 0) is ∙ counted.files tenant;
   bytes = ap (λ o. option_map_or (λ a. a.bytes) o 0) is ∙ counted.bytes tenant;
   path = ap (λ o. unwrap_or (option_map (λ a. a.trees) o) standard_trees) is;
+  profile = ap (λ o. unwrap_or (option_map (λ a. a.profile) o) One) is;
 }
 
-pub no_account_is : (tenant : ℕ) (held : Holdings) (kept : Kept) → IsCounted held → None ≡ account_in tenant held.accounts → kept.files ≡ 0 → kept.bytes ≡ 0 → string_bytes kept.path ≡ codes "/ports:/mystuff" → IsAccountOf tenant held kept
-no_account_is tenant held kept counted is f b p = record {
+pub no_account_is : (tenant : ℕ) (held : Holdings) (kept : Kept) → IsCounted held → None ≡ account_in tenant held.accounts → kept.files ≡ 0 → kept.bytes ≡ 0 → string_bytes kept.path ≡ codes "/ports:/mystuff" → kept.profile ≡ One → IsAccountOf tenant held kept
+no_account_is tenant held kept counted is f b p q = record {
   files = f ∙ ap (λ o. option_map_or (λ a. a.files) o 0) is ∙ counted.files tenant;
   bytes = b ∙ ap (λ o. option_map_or (λ a. a.bytes) o 0) is ∙ counted.bytes tenant;
   path = ap trees_of p ∙ ap (λ o. unwrap_or (option_map (λ a. a.trees) o) standard_trees) is;
+  profile = q ∙ ap (λ o. unwrap_or (option_map (λ a. a.profile) o) One) is;
 }
 
 -- ---- a file is stored
@@ -126,25 +142,26 @@ module _ (old : State) (new : State) (tenant : ℕ) (files : List File) (kept : 
   pub change_kept : IsKept new
   change_kept = made_kept new _ made (still_counted (held_in old) files (shown_account tenant kept) m own others fs bs was.counted)
 
-  pub change_files : trees_of (string_bytes kept.path) ≡ path_of tenant (held_in old) → ChangesFiles (held_in old) (held_in new) tenant m
-  change_files path = subst (λ h. ChangesFiles (held_in old) h tenant m) (sym made.made) (record {
+  pub change_files : trees_of (string_bytes kept.path) ≡ path_of tenant (held_in old) → kept.profile ≡ profile_of tenant (held_in old) → ChangesFiles (held_in old) (held_in new) tenant m
+  change_files path profile = subst (λ h. ChangesFiles (held_in old) h tenant m) (sym made.made) (record {
     own = own;
     others = others;
-    paths = same_paths (held_in old) files (shown_account tenant kept) path;
+    paths = same_settings trees_in standard_trees (held_in old) files (shown_account tenant kept) path;
+    profiles = same_settings profile_in One (held_in old) files (shown_account tenant kept) profile;
   })
 
 pub put_makes : (old new : State) (tenant : ℕ) (n c : Bor (List ℕ)) (length_was : Option ℕ) (kept : Kept) → IsKept old → length_was ≡ option_map length (finite.get (files_of tenant (held_in old)) n.now)
-    → kept.files ≡ files_with (finite.len (files_of tenant (held_in old))) length_was → kept.bytes ≡ bytes_with (bytes_of (files_of tenant (held_in old))) length_was (length c.now) → trees_of (string_bytes kept.path) ≡ path_of tenant (held_in old)
+    → kept.files ≡ files_with (finite.len (files_of tenant (held_in old))) length_was → kept.bytes ≡ bytes_with (bytes_of (files_of tenant (held_in old))) length_was (length c.now) → trees_of (string_bytes kept.path) ≡ path_of tenant (held_in old) → kept.profile ≡ profile_of tenant (held_in old)
     → Makes new (changed (held_in old) (files_after tenant (stored n c length_was) (held_in old).files) (shown_account tenant kept))
     → IsKept new × ChangesFiles (held_in old) (held_in new) tenant (finite.insert (files_of tenant (held_in old)) n.now c.now)
-put_makes old new tenant n c length_was kept was is fs bs path made =
+put_makes old new tenant n c length_was kept was is fs bs path profile made =
     let files = files_after tenant (stored n c length_was) (held_in old).files in
     let m = files_of tenant (held_in old) in
     let to = finite.insert m n.now c.now in
     let maps = put_files tenant n c (held_in old).files length_was is in
     let count : kept.files ≡ finite.len to = fs ∙ ap (files_with (finite.len m)) is ∙ sym (len-insert_with m n.now c.now) in
     let sum : kept.bytes ≡ bytes_of to = bs ∙ ap (λ o. bytes_with (bytes_of m) o (length c.now)) is ∙ sym (bytes_of-insert m n.now c.now) in
-    (change_kept old new tenant files kept to was made maps.0 maps.1 count sum, change_files old new tenant files kept to was made maps.0 maps.1 count sum path)
+    (change_kept old new tenant files kept to was made maps.0 maps.1 count sum, change_files old new tenant files kept to was made maps.0 maps.1 count sum path profile)
 
 -- how many files and bytes the map has that would be
 pub would_be : (m : FileMap) (name content : List ℕ) (files bytes : ℕ) (old : Option ℕ) → old ≡ option_map length (finite.get m name) → files ≡ finite.len m → bytes ≡ bytes_of m
@@ -159,10 +176,10 @@ same_some : {X : Type 0} {a b : X} → Some a ≡ Some b → a ≡ b
 same_some e = cc
 
 pub take_makes : (old new : State) (tenant : ℕ) (n : Bor (List ℕ)) (k : ℕ) (kept : Kept) → IsKept old → Some k ≡ option_map length (finite.get (files_of tenant (held_in old)) n.now)
-    → kept.files + 1 ≡ finite.len (files_of tenant (held_in old)) → kept.bytes + k ≡ bytes_of (files_of tenant (held_in old)) → trees_of (string_bytes kept.path) ≡ path_of tenant (held_in old)
+    → kept.files + 1 ≡ finite.len (files_of tenant (held_in old)) → kept.bytes + k ≡ bytes_of (files_of tenant (held_in old)) → trees_of (string_bytes kept.path) ≡ path_of tenant (held_in old) → kept.profile ≡ profile_of tenant (held_in old)
     → Makes new (changed (held_in old) (files_after tenant (Remove n) (held_in old).files) (shown_account tenant kept))
     → IsKept new × ChangesFiles (held_in old) (held_in new) tenant (finite.remove (files_of tenant (held_in old)) n.now)
-take_makes old new tenant n k kept was is fs bs path made =
+take_makes old new tenant n k kept was is fs bs path profile made =
     let files = files_after tenant (Remove n) (held_in old).files in
     let m = files_of tenant (held_in old) in
     let to = finite.remove m n.now in
@@ -175,7 +192,7 @@ take_makes old new tenant n k kept was is fs bs path made =
     let sum : kept.bytes ≡ bytes_of to = omega arith in
     let own = remove_own tenant n.now (held_in old).files in
     let others = λ (other : ℕ) (apart : other ≢ tenant). remove_other tenant n.now other (held_in old).files apart in
-    (change_kept old new tenant files kept to was made own others count sum, change_files old new tenant files kept to was made own others count sum path)
+    (change_kept old new tenant files kept to was made own others count sum, change_files old new tenant files kept to was made own others count sum path profile)
 
 -- a file that is there counts
 pub has_one : (m : FileMap) (name : List ℕ) (k : ℕ) → Some k ≡ option_map length (finite.get m name) → 1 ≤ finite.len m
@@ -184,18 +201,34 @@ has_one m name k is = let there = there_was _ k is in let less = len-remove_ther
 pub has_bytes : (m : FileMap) (name : List ℕ) (k : ℕ) → Some k ≡ option_map length (finite.get m name) → k ≤ bytes_of m
 has_bytes m name k is = subst (λ o. unwrap_or o 0 ≤ bytes_of m) (sym is) (within_bytes m name)
 
--- ---- a path is set
+-- ---- a path or a profile is set
 
-pub path_makes : (old new : State) (tenant : ℕ) (kept : Kept) (path : List (List ℕ)) → IsKept old → kept.files ≡ finite.len (files_of tenant (held_in old)) → kept.bytes ≡ bytes_of (files_of tenant (held_in old)) → trees_of (string_bytes kept.path) ≡ path
-    → Makes new (changed (held_in old) (held_in old).files (shown_account tenant kept)) → IsKept new × ChangesPath (held_in old) (held_in new) tenant path
-path_makes old new tenant kept path was fs bs is made = (
-  change_kept old new tenant (held_in old).files kept (files_of tenant (held_in old)) was made refl (λ other apart. refl) fs bs,
-  subst (λ h. ChangesPath (held_in old) h tenant path) (sym made.made) (record {
-    own = own_path (held_in old) (held_in old).files (shown_account tenant kept) ∙ is;
-    others = λ other apart. other_path (held_in old) (held_in old).files (shown_account tenant kept) other apart;
-    files = λ any. refl;
-  }),
-)
+module _ (old new : State) (tenant : ℕ) (kept : Kept) (was : IsKept old) (fs : kept.files ≡ finite.len (files_of tenant (held_in old))) (bs : kept.bytes ≡ bytes_of (files_of tenant (held_in old)))
+    (made : Makes new (changed (held_in old) (held_in old).files (shown_account tenant kept))) where
+  set_is_kept : IsKept new
+  set_is_kept = change_kept old new tenant (held_in old).files kept (files_of tenant (held_in old)) was made refl (λ other apart. refl) fs bs
+
+  pub path_makes : (path : List (List ℕ)) → trees_of (string_bytes kept.path) ≡ path → kept.profile ≡ profile_of tenant (held_in old) → IsKept new × ChangesPath (held_in old) (held_in new) tenant path
+  path_makes path is profile = (
+    set_is_kept,
+    subst (λ h. ChangesPath (held_in old) h tenant path) (sym made.made) (record {
+      own = own_setting trees_in standard_trees (held_in old) (held_in old).files (shown_account tenant kept) ∙ is;
+      others = other_setting trees_in standard_trees (held_in old) (held_in old).files (shown_account tenant kept);
+      files = λ any. refl;
+      profiles = same_settings profile_in One (held_in old) (held_in old).files (shown_account tenant kept) profile;
+    }),
+  )
+
+  pub profile_makes : (profile : Profile) → kept.profile ≡ profile → trees_of (string_bytes kept.path) ≡ path_of tenant (held_in old) → IsKept new × ChangesProfile (held_in old) (held_in new) tenant profile
+  profile_makes profile is path = (
+    set_is_kept,
+    subst (λ h. ChangesProfile (held_in old) h tenant profile) (sym made.made) (record {
+      own = own_setting profile_in One (held_in old) (held_in old).files (shown_account tenant kept) ∙ is;
+      others = other_setting profile_in One (held_in old) (held_in old).files (shown_account tenant kept);
+      files = λ any. refl;
+      paths = same_settings trees_in standard_trees (held_in old) (held_in old).files (shown_account tenant kept) path;
+    }),
+  )
 
 -- ---- however a call ends
 
@@ -224,4 +257,5 @@ takes false old new tenant name is removed absent =
       own = ap (files_of tenant) same ∙ sym (remove_absent (files_of tenant (held_in old)) name (sym is));
       others = λ other apart. ap (files_of other) same;
       paths = λ any. ap (path_of any) same;
+      profiles = λ any. ap (profile_of any) same;
     }

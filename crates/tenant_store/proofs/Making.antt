@@ -7,6 +7,8 @@ use Rattle.std.specs.Cmp.Lexicographic.{slice_cmp, nat_list_cmp_total}
 use Rattle.std.proofs.lemmas.Bool.{and_parts, and_from}
 use Rattle.std.proofs.lemmas.Bool.Decides.{nat_tests}
 use Rattle.std.proofs.lemmas.Cmp.{tied_itself}
+use Rattle.mk_text.specs.declared.profile.Profile.{Profile}
+use Rattle.mk_text.specs.Profiles.{profile_number, profile-numbered}
 use Rattle.mk_paths.specs.SearchPath.{trees_of}
 use Rattle.sqlite_value.specs.declared.value.Value.TheVariants.{Null, Int, Text, Blob}
 use Rattle.sqlite_value.specs.Order.{Row, column}
@@ -156,20 +158,23 @@ module _ (tenant : ℕ) (old new : State) (formed : IsFormed old.now) where
       let made = accounts_change old.now new.now (filter p rows) formed changes (filled-filter p rows formed.accounts) in
       (made.0, made.1 ∙ ap (λ accounts. record (held_in old) { accounts = accounts }) (map-filter account_of p (λ a. not (a.tenant == tenant)) rows (λ r k. ap not (passes_account tenant [] r (formed.accounts.formed r k)))))
 
-  pub inserts_account : (files bytes : ℕ) (path : List ℕ) → account_in tenant (held_in old).accounts ≡ None → (count : ℕ)
-      → Executes insert_account (Int (pos tenant) ∷ Int (pos files) ∷ Int (pos bytes) ∷ Text path ∷ []) old new (Ok count)
-      → IsFormed new.now × (held_in new ≡ record (held_in old) { accounts = (held_in old).accounts ++ (record { tenant = tenant; files = files; bytes = bytes; trees = trees_of path }) ∷ [] })
-  inserts_account files bytes path free count h =
-      let params = Int (pos tenant) ∷ Int (pos files) ∷ Int (pos bytes) ∷ Text path ∷ [] in
+  pub inserts_account : (files bytes : ℕ) (path : List ℕ) (profile : Profile) → account_in tenant (held_in old).accounts ≡ None → (count : ℕ)
+      → Executes insert_account (Int (pos tenant) ∷ Int (pos files) ∷ Int (pos bytes) ∷ Text path ∷ Int (pos (profile_number profile)) ∷ []) old new (Ok count)
+      → IsFormed new.now × (held_in new ≡ record (held_in old) { accounts = (held_in old).accounts ++ (record { tenant = tenant; files = files; bytes = bytes; trees = trees_of path; profile = profile }) ∷ [] })
+  inserts_account files bytes path profile free count h =
+      let params = Int (pos tenant) ∷ Int (pos files) ∷ Int (pos bytes) ∷ Text path ∷ Int (pos (profile_number profile)) ∷ [] in
       let rows = old.now.trees 2 in
       let source = Null ∷ params in
-      let cast_is : drop 1 (cast_row accounts_table source) ≡ params = λ i. cast_integer (pos tenant) i ∷ cast_integer (pos files) i ∷ cast_integer (pos bytes) i ∷ Text path ∷ [] in
-      let raw = inserts insert_account params old new store_schema 1 accounts_table formed.schema refl insert_account_text.1 (λ _ _. refl) (lit Null ∷ col 0 0 ∷ col 0 1 ∷ col 0 2 ∷ col 0 3 ∷ []) 5 source insert_account_text.0 refl refl cast_null formed.accounts.rise count h in
+      let back = profile-numbered profile in
+      let row_with = λ (p : Profile). Int (next_rowid rows) ∷ Int (pos tenant) ∷ Int (pos files) ∷ Int (pos bytes) ∷ Text path ∷ Int (pos (profile_number p)) ∷ [] in
+      let with_account = λ (p : Profile). record (held_in old) { accounts = (held_in old).accounts ++ (record { tenant = tenant; files = files; bytes = bytes; trees = trees_of path; profile = p }) ∷ [] } in
+      let cast_is : drop 1 (cast_row accounts_table source) ≡ params = λ i. cast_integer (pos tenant) i ∷ cast_integer (pos files) i ∷ cast_integer (pos bytes) i ∷ Text path ∷ cast_integer (pos (profile_number profile)) i ∷ [] in
+      let raw = inserts insert_account params old new store_schema 1 accounts_table formed.schema refl insert_account_text.1 (λ _ _. refl) (lit Null ∷ col 0 0 ∷ col 0 1 ∷ col 0 2 ∷ col 0 3 ∷ col 0 4 ∷ []) 6 source insert_account_text.0 refl refl cast_null formed.accounts.rise count h in
       let changes = subst (λ these. Changes store_schema old.now new.now 2 (rows ++ (Int (next_rowid rows) ∷ these) ∷ [])) cast_is raw in
-      let filled = filled-push rows (Int (next_rowid rows) ∷ params) (pushed_rise rows params formed.accounts.rise) (next_rowid rows, path, refl) (λ r k same.
+      let filled = filled-push rows (Int (next_rowid rows) ∷ params) (pushed_rise rows params formed.accounts.rise) (next_rowid rows, path, ap row_with (sym back)) (λ r k same.
       let e = sym (get_account tenant rows formed.accounts r k (own_number (account_of r).tenant tenant same)) ∙ free in cc) formed.accounts in
       let made = accounts_change old.now new.now (rows ++ (Int (next_rowid rows) ∷ params) ∷ []) formed changes filled in
-      (made.0, made.1 ∙ ap (λ accounts. record (held_in old) { accounts = accounts }) (map-push account_of rows (Int (next_rowid rows) ∷ params)))
+      (made.0, made.1 ∙ ap (λ accounts. record (held_in old) { accounts = accounts }) (map-push account_of rows (Int (next_rowid rows) ∷ params)) ∙ ap with_account back)
     where
       own_number : (a b : ℕ) → a ≡ b → eqb a b ≡ true
       own_number a b e = grind (arith, nat_tests)

@@ -8,6 +8,7 @@ use Rattle.std.specs.FinMap as finite
 use Rattle.sqlite_value.specs.declared.value.Value.TheVariants.{Int, Text, Blob}
 use Rattle.sqlite_value.specs.Order.{Row, column}
 use Rattle.sqlite_value.specs.Keys.{plain}
+use Rattle.mk_text.specs.Profiles.{profile_number, numbered_profile}
 use Rattle.mk_paths.specs.SearchPath.{trees_of}
 use Rattle.mk_paths.specs.World.{FileMap}
 use Rattle.text_parts.specs.Ordered.{among}
@@ -38,7 +39,8 @@ abbrev pub account_table : Table
 account_table =
     keyed (codes "account")
     (filled (codes "tenant") kind.Integer ∷ filled (codes "files") kind.Integer
-    ∷ filled (codes "bytes") kind.Integer ∷ filled (codes "path") kind.Text ∷ []) (1 ∷ []) plain
+    ∷ filled (codes "bytes") kind.Integer ∷ filled (codes "path") kind.Text ∷ filled (codes "profile") kind.Integer ∷ [])
+    (1 ∷ []) plain
 
 abbrev pub file_schema : Schema
 file_schema = created no_schema file_table
@@ -54,7 +56,8 @@ create_file = codes "CREATE TABLE file (tenant INTEGER NOT NULL, name TEXT NOT N
 
 abbrev pub create_account : List ℕ
 create_account =
-    codes "CREATE TABLE account (tenant INTEGER NOT NULL UNIQUE, files INTEGER NOT NULL, bytes INTEGER NOT NULL, path TEXT NOT NULL) STRICT"
+    codes "CREATE TABLE account (tenant INTEGER NOT NULL UNIQUE, files INTEGER NOT NULL, bytes INTEGER NOT NULL, "
+    ++ codes "path TEXT NOT NULL, profile INTEGER NOT NULL) STRICT"
 
 abbrev pub insert_file : List ℕ
 insert_file = codes "INSERT INTO file (tenant, name, content) VALUES (?1, ?2, ?3)"
@@ -72,13 +75,13 @@ abbrev pub select_names : List ℕ
 select_names = codes "SELECT name FROM file WHERE tenant = ?1"
 
 abbrev pub insert_account : List ℕ
-insert_account = codes "INSERT INTO account (tenant, files, bytes, path) VALUES (?1, ?2, ?3, ?4)"
+insert_account = codes "INSERT INTO account (tenant, files, bytes, path, profile) VALUES (?1, ?2, ?3, ?4, ?5)"
 
 abbrev pub delete_account : List ℕ
 delete_account = codes "DELETE FROM account WHERE tenant = ?1"
 
 abbrev pub select_account : List ℕ
-select_account = codes "SELECT files, bytes, path FROM account WHERE tenant = ?1"
+select_account = codes "SELECT files, bytes, path, profile FROM account WHERE tenant = ?1"
 
 -- ---- what the rows mean
 
@@ -101,6 +104,7 @@ account_of row =
       files = number_in (column row 2);
       bytes = number_in (column row 3);
       trees = trees_of (bytes_in (column row 4));
+      profile = numbered_profile (number_in (column row 5));
     }
 
 abbrev pub holdings_in : Trees → Holdings
@@ -135,9 +139,10 @@ AreNames files names = (name : List ℕ) → among name names ≡ finite.contain
 -- the row of the parts of an account
 abbrev pub IsAccount : ℕ → Row → Account → Type 0
 IsAccount tenant row a =
-    (path : List ℕ) × (column row 0 ≡ Int (pos a.files)) × (column row 1 ≡ Int (pos a.bytes))
-    × (column row 2 ≡ Text path)
-    × (a ≡ record { tenant = tenant; files = a.files; bytes = a.bytes; trees = trees_of path })
+    (path : List ℕ) × (number : ℕ) × (column row 0 ≡ Int (pos a.files)) × (column row 1 ≡ Int (pos a.bytes))
+    × (column row 2 ≡ Text path) × (column row 3 ≡ Int (pos number))
+    × (a
+    ≡ record { tenant = tenant; files = a.files; bytes = a.bytes; trees = trees_of path; profile = numbered_profile number })
 
 abbrev pub IsFileRow : Row → Type 0
 IsFileRow row = (id : ℤ) × (row ≡ Int id ∷ Int (pos (file_of row).tenant) ∷ Text (file_of row).name ∷ Blob (file_of row).content ∷ [])
@@ -150,7 +155,7 @@ IsAccountRow row =
     (id : ℤ) × (path : List ℕ)
     × (row
     ≡ Int id ∷ Int (pos (account_of row).tenant) ∷ Int (pos (account_of row).files) ∷ Int (pos (account_of row).bytes)
-    ∷ Text path ∷ [])
+    ∷ Text path ∷ Int (pos (profile_number (account_of row).profile)) ∷ [])
 
 abbrev pub account_key : Row → ℕ
 account_key row = (account_of row).tenant

@@ -4,7 +4,7 @@ ghost use Rattle.std.specs.Option.{option_map_or};
 ghost use Rattle.std.specs.FinMap.{get, insert, remove, contains_key};
 ghost use Rattle.mk_paths.specs.SearchPath.{trees_of, colon};
 ghost use Rattle.text_parts.specs.Laws.{after_marks};
-ghost use Rattle.tenant_store.specs.Holdings.{files_of, is_over, ChangesFiles, ChangesPath};
+ghost use Rattle.tenant_store.specs.Holdings.{files_of, is_over, ChangesFiles, ChangesPath, ChangesProfile};
 ghost use Rattle.tenant_store.specs.Accounts.{IsAccountOf};
 ghost use Rattle.tenant_store.specs.Tables.{IsKept, holdings_of};
 ghost use Rattle.table_facts.specs.States.{Stays, state_of};
@@ -13,10 +13,11 @@ use crate::reading::{Account, account_of, content_of};
 use crate::writing::{Change, write};
 use mk_files::Usage;
 use mk_paths::SearchPath;
+use mk_text::Profile;
 use sqlite::{Connection, Error, MemStore};
 use std::alloc::{AllocError, Global};
 
-/// The account of a tenant; if it has none, an account with no file and the standard path.
+/// The account of a tenant; if it has none, an account with no file, the standard path and the first profile.
 pub(crate) fn account_or_new(
     conn: &mut Connection<MemStore>,
     alloc: Global,
@@ -32,6 +33,7 @@ pub(crate) fn account_or_new(
             files: 0,
             bytes: 0,
             path: String::from_str(alloc, "/ports:/mystuff")?,
+            profile: Profile::One,
         }),
     }
 }
@@ -83,7 +85,12 @@ pub(crate) fn put(
     ensures err { OnErr result (Stays (state_of conn.old) (state_of conn.new)) }
 {
     let (old, account) = look_up(conn, alloc, tenant, name)?;
-    let Account { files, bytes, path } = account;
+    let Account {
+        files,
+        bytes,
+        path,
+        profile,
+    } = account;
     let Some(usage) = (Usage { files, bytes }).with(old, content.len()) else {
         return Ok(false);
     };
@@ -91,6 +98,7 @@ pub(crate) fn put(
         files: usage.files,
         bytes: usage.bytes,
         path,
+        profile,
     };
     write(conn, tenant, stored_as(old, name, content), &next)?;
     Ok(true)
@@ -137,7 +145,7 @@ pub(crate) fn take(
 }
 
 /// Gives a tenant this search path.
-pub(crate) fn set(
+pub(crate) fn set_path(
     conn: &mut Connection<MemStore>,
     alloc: Global,
     tenant: u32,
@@ -154,7 +162,26 @@ pub(crate) fn set(
         files: account.files,
         bytes: account.bytes,
         path: path_text(alloc, path)?,
+        profile: account.profile,
     };
+    write(conn, tenant, Change::Keep, &next)
+}
+
+/// Gives a tenant this profile.
+pub(crate) fn set_profile(
+    conn: &mut Connection<MemStore>,
+    alloc: Global,
+    tenant: u32,
+    profile: Profile,
+) -> Result<(), Error>
+    requires { IsKept (state_of conn.old) }
+    ensures profile { OnOk result (IsKept (state_of conn.new)
+        × ChangesProfile (holdings_of conn.old)
+        (holdings_of conn.new) tenant profile) }
+    ensures err { OnErr result (Stays (state_of conn.old) (state_of conn.new)) }
+{
+    let account = account_or_new(conn, alloc, tenant)?;
+    let next = account.with_profile(profile);
     write(conn, tenant, Change::Keep, &next)
 }
 

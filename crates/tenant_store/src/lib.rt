@@ -1,4 +1,4 @@
-//! The files and the search path of each tenant, in one database in memory.
+//! The files, the search path and the profile of each tenant, in one database in memory.
 #![tactic(auto)]
 
 mod asking;

@@ -30,7 +30,8 @@ fn create_accounts(conn: &mut Connection<MemStore>) -> Result<(), Error>
     ensures nothing { OnOk result (holdings_of conn.new ≡ nothing) }
 {
     conn.execute(
-        "CREATE TABLE account (tenant INTEGER NOT NULL UNIQUE, files INTEGER NOT NULL, bytes INTEGER NOT NULL, path TEXT NOT NULL) STRICT",
+        "CREATE TABLE account (tenant INTEGER NOT NULL UNIQUE, files INTEGER NOT NULL, bytes INTEGER NOT NULL, \
+         path TEXT NOT NULL, profile INTEGER NOT NULL) STRICT",
         &[],
     )?;
     Ok(())

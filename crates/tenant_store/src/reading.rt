@@ -6,16 +6,19 @@ ghost use Rattle.table_facts.specs.States.{IsSettled, Stays, state_of};
 ghost use Rattle.tenant_store.specs.Tables.{IsFormed, Shows, IsContent, IsAccount, AreNames, name_in, holdings_of};
 ghost use Rattle.tenant_store.specs.Accounts.{shown_account};
 
+use mk_text::Profile;
 use sqlite::{Connection, Error, MemStore, Row, params};
 use std::alloc::Global;
 use text_parts::put_in_order;
 
-/// The account of a tenant: how many files it has, the sum of their contents in bytes, and its search path.
+/// The account of a tenant: how many files it has, the sum of their contents in bytes, its search path, and
+/// its profile.
 #[derive(Debug, Drop)]
 pub(crate) struct Account {
     pub(crate) files: u32,
     pub(crate) bytes: u32,
     pub(crate) path: String,
+    pub(crate) profile: Profile,
 }
 
 fn content_rows(conn: &mut Connection<MemStore>, tenant: u32, name: &str) -> Result<Vec<Row>, Error>
@@ -39,12 +42,40 @@ impl Account {
         ensures files { result.files + 1 ≡ self.files }
         ensures bytes { result.bytes + length ≡ self.bytes }
         ensures path { result.path ≡ self.path }
+        ensures profile { result.profile ≡ self.profile }
     {
-        let Account { files, bytes, path } = self;
+        let Account {
+            files,
+            bytes,
+            path,
+            profile,
+        } = self;
         Account {
             files: files - 1,
             bytes: bytes - length as u32,
             path,
+            profile,
+        }
+    }
+
+    /// The same with this profile.
+    pub(crate) fn with_profile(self, profile: Profile) -> Account
+        ensures files { result.files ≡ self.files }
+        ensures bytes { result.bytes ≡ self.bytes }
+        ensures path { result.path ≡ self.path }
+        ensures profile { result.profile ≡ profile }
+    {
+        let Account {
+            files,
+            bytes,
+            path,
+            ..
+        } = self;
+        Account {
+            files,
+            bytes,
+            path,
+            profile,
         }
     }
 }
@@ -76,7 +107,7 @@ fn account_rows(conn: &mut Connection<MemStore>, tenant: u32) -> Result<Vec<Row>
     ensures stays { Stays (state_of conn.old) (state_of conn.new) }
 {
     conn.query_all(
-        "SELECT files, bytes, path FROM account WHERE tenant = ?1",
+        "SELECT files, bytes, path, profile FROM account WHERE tenant = ?1",
         params![tenant],
     )
 }
@@ -88,6 +119,7 @@ fn account_from(row: &Row) -> Result<Account, Error>
         files: row.get(0)?,
         bytes: row.get(1)?,
         path: row.get(2)?,
+        profile: Profile::with_number(row.get(3)?),
     })
 }
 

@@ -2,22 +2,24 @@
 ghost use Rattle.std.specs.Prelude.{◌≡◌, false, map, string_bytes, IfOk, IsErrOf, IsTrue, OnOk, OnErr};
 ghost use Rattle.std.specs.FinMap.{get, insert, keys, remove, contains_key};
 ghost use Rattle.mk_paths.specs.SearchPath.{trees_of};
-ghost use Rattle.tenant_store.specs.Holdings.{nothing, files_of, path_of, is_over, ChangesFiles, ChangesPath};
+ghost use Rattle.tenant_store.specs.Holdings.{nothing, files_of, path_of, profile_of, is_over, ChangesFiles, ChangesPath, ChangesProfile};
 ghost use Rattle.tenant_store.specs.Tables.{IsKept, holdings_of};
 ghost use Rattle.table_facts.specs.States.{Stays, state_of};
 
-use crate::changing::{put, set, take};
+use crate::changing::{put, set_path, set_profile, take};
 use crate::faults::{PutFault, fault_of};
 use crate::opening::open;
 use crate::reading::{account_of, content_of, names_of};
 use mk_files::Content;
 use mk_paths::{FilesFault, Name, PathFault, SearchPath, Settings};
+use mk_text::Profile;
 use sqlite::{Connection, MemStore};
 use std::alloc::Global;
 use std::marker::Model;
 
-/// The files and the search path of each tenant, in one database in memory. Clauses see what it holds: each
-/// tenant's files as a map of names to contents (`files_of`), and the trees of its search path (`path_of`).
+/// The files, the search path and the profile of each tenant, in one database in memory. Clauses see what it
+/// holds: each tenant's files as a map of names to contents (`files_of`), the trees of its search path
+/// (`path_of`), and its profile (`profile_of`).
 #[derive(Drop)]
 pub struct TenantStore {
     conn: Connection<MemStore>,
@@ -39,7 +41,7 @@ impl Model for TenantStore {
 }
 
 impl TenantStore {
-    /// A store in which no tenant has a file, and each has the path `/ports:/mystuff`.
+    /// A store in which no tenant has a file, and each has the path `/ports:/mystuff` and the first profile.
     ///
     /// The error is `Store` if the database refuses a statement, and `Memory` if memory runs out.
     pub fn open_in_memory(alloc: Global) -> Result<TenantStore, FilesFault>
@@ -154,19 +156,42 @@ impl TenantStore {
         ensures path { OnOk result (ChangesPath self.old self.new tenant path.now) }
         ensures err { OnErr result (self.new ≡ self.old) }
     {
-        match set(&mut self.conn, alloc, tenant, path) {
+        match set_path(&mut self.conn, alloc, tenant, path) {
             Ok(()) => Ok(()),
             Err(error) => Err(fault_of(&error)),
         }
     }
 
-    /// The settings of a tenant: its search path, which is `/ports:/mystuff` until it sets one.
+    /// Gives a tenant this profile.
+    ///
+    /// # Errors
+    ///
+    /// `Store` if the database refuses a statement, and `Memory` if memory runs out. After an error
+    /// nothing has changed.
+    pub fn set_profile(
+        &mut self,
+        alloc: Global,
+        tenant: u32,
+        profile: Profile,
+    ) -> Result<(), FilesFault>
+        ensures profile { OnOk result (ChangesProfile self.old self.new tenant profile) }
+        ensures err { OnErr result (self.new ≡ self.old) }
+    {
+        match set_profile(&mut self.conn, alloc, tenant, profile) {
+            Ok(()) => Ok(()),
+            Err(error) => Err(fault_of(&error)),
+        }
+    }
+
+    /// The settings of a tenant: its search path, which is `/ports:/mystuff` until it sets one, and its
+    /// profile, which is the first until it sets one.
     ///
     /// # Errors
     ///
     /// `Store` if the database refuses a statement, and `Memory` if memory runs out.
     pub fn settings(&mut self, alloc: Global, tenant: u32) -> Result<Settings, FilesFault>
         ensures path { IfOk result (λ settings. settings.path ≡ path_of tenant self.old) }
+        ensures profile { IfOk result (λ settings. settings.profile ≡ profile_of tenant self.old) }
         ensures same { self.new ≡ self.old }
     {
         settings_of(&mut self.conn, alloc, tenant)
@@ -221,14 +246,18 @@ fn settings_of(
     requires { IsKept (state_of conn.old) }
     ensures path { IfOk result (λ settings. settings.path
         ≡ path_of tenant (holdings_of conn.old)) }
+    ensures profile { IfOk result (λ settings. settings.profile
+        ≡ profile_of tenant (holdings_of conn.old)) }
     ensures stays { Stays (state_of conn.old) (state_of conn.new) }
 {
     match account_of(conn, tenant) {
         Ok(Some(account)) => Ok(Settings {
             path: path_from(alloc, account.path.as_str())?,
+            profile: account.profile,
         }),
         Ok(None) => Ok(Settings {
             path: SearchPath::standard(alloc)?,
+            profile: Profile::One,
         }),
         Err(error) => Err(fault_of(&error)),
     }

@@ -134,8 +134,14 @@ fn insert_account(
 {
     run(
         tx,
-        "INSERT INTO account (tenant, files, bytes, path) VALUES (?1, ?2, ?3, ?4)",
-        params![tenant, account.files, account.bytes, &account.path],
+        "INSERT INTO account (tenant, files, bytes, path, profile) VALUES (?1, ?2, ?3, ?4, ?5)",
+        params![
+            tenant,
+            account.files,
+            account.bytes,
+            &account.path,
+            account.profile.number()
+        ],
     )?;
     Ok(())
 }

@@ -1,7 +1,7 @@
 -- One path more has the mark.
 use Rattle.std.proofs.Common.{◌∙◌, ap, sym, refl, string_bytes}
 use Rattle.index_store.specs.Marking.{mark_number}
-use Rattle.index_store.specs.PortTable.{entries_of, marked_at}
+use Rattle.index_store.specs.PortTable.{rows_of, marked_at}
 use Rattle.index_store.proofs.Finding.{marked_none, marked_next}
 use Rattle.index_store.proofs.writing.set_marks.Goals as goal
 
@@ -9,22 +9,22 @@ pub loop-path-init : goal.loop-path-init
 loop-path-init c = record {
   same_reference = refl;
   kept = record { committed = refl };
-  made = record { inside = c.requires.inside; formed = c.requires.formed; are = sym (marked_none (mark_number c.args.mark) (entries_of c.args.tx.now.conn.now)) };
+  made = record { inside = c.requires.inside; formed = c.requires.formed; are = λ part. sym (marked_none (mark_number c.args.mark) (rows_of c.args.tx.now.conn.now part)) };
 }
 
 pub loop-path-preserved : goal.loop-path-preserved
 loop-path-preserved c =
-    let was = entries_of c.args.tx.now.conn.now in
+    let was = rows_of c.args.tx.now.conn.now in
     let before = c.loop-path.invariant in
-    let now = c.in_ok-set_mark.ensures.made in
+    let now = c.in_ok-mark_path.ensures.made in
     let path_is = c.as_str.ensures.value ∙ ap string_bytes c.path-item.is in
     record {
-      same_reference = c.in_ok-set_mark.ensures.same_reference ∙ before.same_reference;
-      kept = record { committed = c.in_ok-set_mark.ensures.kept.committed ∙ before.kept.committed };
+      same_reference = c.in_ok-mark_path.ensures.same_reference ∙ before.same_reference;
+      kept = record { committed = c.in_ok-mark_path.ensures.kept.committed ∙ before.kept.committed };
       made = record {
         inside = now.inside;
         formed = now.formed;
-        are = now.are ∙ ap (marked_at (mark_number c.args.mark) c.as_str.result.now) before.made.are
-            ∙ marked_next (mark_number c.args.mark) c.args.paths.now c.loop-path.path-index c.path-item.result c.as_str.result.now was c.loop-path-test.true path_is;
+        are = λ part. now.are part ∙ ap (marked_at (mark_number c.args.mark) c.as_str.result.now) (before.made.are part)
+            ∙ marked_next (mark_number c.args.mark) c.args.paths.now c.loop-path.path-index c.path-item.result c.as_str.result.now (was part) c.loop-path-test.true path_is;
       };
     }

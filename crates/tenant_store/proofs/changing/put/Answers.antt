@@ -50,13 +50,13 @@ returns-clause-stored c _ =
     let new = state over_memory c.write.new.conn in
     let same = still_held old mid c.in_ok-old.ensures.stays in
     let kept = still_kept old mid c.requires c.in_ok-old.ensures.stays in
-    let next : Kept = record { files = c.in-Some.usage.files; bytes = c.in-Some.usage.bytes; path = c.in_ok-old.account.path } in
+    let next : Kept = record { files = c.in-Some.usage.files; bytes = c.in-Some.usage.bytes; path = c.in_ok-old.account.path; profile = c.in_ok-old.account.profile } in
     let length_is = subst (λ (h : Holdings). c.in_ok-old.old ≡ option_map length (finite.get (files_of c.args.tenant h) c.args.name.now)) (sym same) c.in_ok-old.ensures.length in
     let account = subst (λ (h : Holdings). IsAccountOf c.args.tenant h c.in_ok-old.account) (sym same) c.in_ok-old.ensures.account in
     let files : next.files ≡ files_with (finite.len (files_of c.args.tenant (held_in mid))) c.in_ok-old.old = c.in-Some.ensures.files ∙ ap (λ n. files_with n c.in_ok-old.old) account.files in
     let bytes : next.bytes ≡ bytes_with (bytes_of (files_of c.args.tenant (held_in mid))) c.in_ok-old.old (length c.args.content.now) = c.in-Some.ensures.bytes ∙ ap (λ n. bytes_with n c.in_ok-old.old (length c.args.content.now)) account.bytes in
     let made = subst (λ ch. Makes new (changed (held_in mid) (files_after c.args.tenant ch (held_in mid).files) (shown_account c.args.tenant next))) c.stored_as.ensures c.in_ok-write.ensures.ok in
-    let all = put_makes mid new c.args.tenant c.args.name c.args.content c.in_ok-old.old next kept length_is files bytes account.path made in
+    let all = put_makes mid new c.args.tenant c.args.name c.args.content c.in_ok-old.old next kept length_is files bytes account.path account.profile made in
     subst (λ (h : Holdings). IsKept new × ChangesFiles h (held_in new) c.args.tenant (finite.insert (files_of c.args.tenant h) c.args.name.now c.args.content.now)) same all
 
 pub returns-clause-fits : goal.returns-clause-fits

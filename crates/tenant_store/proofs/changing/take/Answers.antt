@@ -40,5 +40,5 @@ returns-clause-removed c _ =
     let account = subst (λ (h : Holdings). IsAccountOf c.args.tenant h c.in_ok-old.account) (sym same) c.in_ok-old.ensures.account in
     let next = c.without-next.result in
     let all = take_makes mid new c.args.tenant c.args.name c.in-Some.length next kept length_is (c.without-next.ensures.files ∙ account.files) (c.without-next.ensures.bytes ∙ account.bytes)
-    (ap (λ p. trees_of (string_bytes p)) c.without-next.ensures.path ∙ account.path) c.in_ok-write.ensures.ok in
+    (ap (λ p. trees_of (string_bytes p)) c.without-next.ensures.path ∙ account.path) (c.without-next.ensures.profile ∙ account.profile) c.in_ok-write.ensures.ok in
     subst (λ (h : Holdings). IsKept new × ChangesFiles h (held_in new) c.args.tenant (finite.remove (files_of c.args.tenant h) c.args.name.now)) same all

@@ -1,8 +1,8 @@
 -- Nothing has changed.
 use Rattle.std.proofs.Common.{◌∙◌, ap}
 use Rattle.table_facts.specs.States.{state_of}
-use Rattle.index_store.specs.PortTable.{stored_by}
-use Rattle.index_store.proofs.Keeping.{still_kept, still_stored}
+use Rattle.index_store.specs.PortTable.{stored_by, profiles_by}
+use Rattle.index_store.proofs.Keeping.{still_kept, still_stored, still_profiles}
 use Rattle.index_store.proofs.store.IndexStorePathRows.rows.Goals as goal
 
 pub invariant_of-self : goal.invariant_of-self
@@ -11,3 +11,7 @@ invariant_of-self c = still_kept (state_of c.self.inside.conn) (state_of c.read_
 pub returns-clause-same : goal.returns-clause-same
 returns-clause-same c path =
     still_stored (state_of c.self.inside.conn) (state_of c.read_rows.new.conn) c.read_rows.ensures.stays path ∙ ap (λ es. stored_by es path) c.self.view_is
+
+pub returns-clause-profiles : goal.returns-clause-profiles
+returns-clause-profiles c path =
+    still_profiles (state_of c.self.inside.conn) (state_of c.read_rows.new.conn) c.read_rows.ensures.stays path ∙ ap (λ es. profiles_by es path) c.self.view_is

@@ -8,7 +8,7 @@ use Rattle.tenant_store.specs.declared.reading.Account.{Account as Kept}
 use Rattle.tenant_store.specs.Tables.{IsKept, held_in}
 use Rattle.table_facts.proofs.Ending.{on_error, ok_then, err_then}
 use Rattle.tenant_store.proofs.Keeping.{still_kept, still_held, stays_then, path_makes}
-use Rattle.tenant_store.proofs.changing.set.Goals as goal
+use Rattle.tenant_store.proofs.changing.set_path.Goals as goal
 
 pub returns-in_err-account-clause-err : goal.returns-in_err-account-clause-err
 returns-in_err-account-clause-err c = on_error c.from_residual.result c.account_or_new.ensures.stays
@@ -24,8 +24,8 @@ returns-clause-path c =
     let same = still_held old mid c.account_or_new.ensures.stays in
     let kept = still_kept old mid c.requires c.account_or_new.ensures.stays in
     let account = subst (λ (h : Holdings). IsAccountOf c.args.tenant h c.in_ok-account.account) (sym same) c.in_ok-account.ensures.account in
-    let next : Kept = record { files = c.in_ok-account.account.files; bytes = c.in_ok-account.account.bytes; path = c.in_ok-path_text.field-0 } in
-    ok_then c.write.result (λ made. subst (λ (h : Holdings). IsKept new × ChangesPath h (held_in new) c.args.tenant c.args.path.now) same (path_makes mid new c.args.tenant next c.args.path.now kept account.files account.bytes c.in_ok-path_text.ensures made)) c.write.ensures.ok
+    let next : Kept = record { files = c.in_ok-account.account.files; bytes = c.in_ok-account.account.bytes; path = c.in_ok-path_text.field-0; profile = c.in_ok-account.account.profile } in
+    ok_then c.write.result (λ made. subst (λ (h : Holdings). IsKept new × ChangesPath h (held_in new) c.args.tenant c.args.path.now) same (path_makes mid new c.args.tenant next kept account.files account.bytes made c.args.path.now c.in_ok-path_text.ensures account.profile)) c.write.ensures.ok
 
 pub returns-clause-err : goal.returns-clause-err
 returns-clause-err c =

@@ -1,0 +1,10 @@
+-- The first table.
+use Rattle.table_facts.specs.States.{state_of}
+use Rattle.sqlite.proofs.Callers.{memory_is_clean}
+use Rattle.index_store.proofs.Keeping.{creates_earlier}
+use Rattle.index_store.proofs.port_table.create_earlier.Goals as goal
+
+pub returns : goal.returns
+returns c =
+    let it = creates_earlier (state_of c.args.conn.now) (state_of c.execute.new.self) c.requires.autocommit c.requires.schema c.in_ok-execute.field-0 (c.in_ok-execute.ensures.runs (memory_is_clean c.execute.new.self)) in
+    record { autocommit = it.autocommit; schema = it.schema_is; empty = it.empty }

@@ -1,0 +1,8 @@
+-- No path has a row.
+use Rattle.std.proofs.Common.{ap, ap₂, ◌++◌}
+use Rattle.index_store.specs.declared.port_table.Part.TheVariants.{Earlier, Current}
+use Rattle.index_store.specs.PortTable.{stored_by}
+use Rattle.index_store.proofs.store.IndexStore.open_in_memory.Goals as goal
+
+pub returns-in-Ok : goal.returns-in-Ok
+returns-in-Ok c path = ap (λ es. stored_by es path) (ap₂ (λ xs ys. xs ++ ys) (c.in-Ok.ensures.are Earlier) (c.in-Ok.ensures.are Current))

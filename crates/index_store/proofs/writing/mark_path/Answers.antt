@@ -1,0 +1,14 @@
+-- The one table, and then the other.
+use Rattle.table_facts.specs.States.{state_of}
+use Rattle.table_facts.proofs.Ending.{ok_then}
+use Rattle.index_store.specs.Marking.{mark_number}
+use Rattle.index_store.specs.PortTable.{marked_at}
+use Rattle.index_store.specs.PortTable.{rows_of}
+use Rattle.index_store.proofs.Composing.{both_changed}
+use Rattle.index_store.proofs.writing.mark_path.Goals as goal
+
+pub returns-clause-made : goal.returns-clause-made
+returns-clause-made c =
+    let was = rows_of c.args.tx.now.conn.now in
+    let mid = c.in_ok-set_mark.ensures.made in
+    ok_then c.set_mark-2.result (both_changed (marked_at (mark_number c.args.mark) c.args.path.now) was (rows_of c.set_mark.new.tx.conn.now) (state_of c.set_mark-2.new.tx.conn.now) mid.are) c.set_mark-2.ensures.made

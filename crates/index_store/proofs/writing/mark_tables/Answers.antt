@@ -1,0 +1,14 @@
+-- The one table, and then the other.
+use Rattle.table_facts.specs.States.{state_of}
+use Rattle.table_facts.proofs.Ending.{ok_then}
+use Rattle.std.proofs.Common.{map}
+use Rattle.index_store.specs.PortTable.{with_mark, stale_mark}
+use Rattle.index_store.specs.PortTable.{rows_of}
+use Rattle.index_store.proofs.Composing.{both_changed}
+use Rattle.index_store.proofs.writing.mark_tables.Goals as goal
+
+pub returns-clause-made : goal.returns-clause-made
+returns-clause-made c =
+    let was = rows_of c.args.tx.now.conn.now in
+    let mid = c.in_ok-mark_table.ensures.made in
+    ok_then c.mark_table-2.result (both_changed (map (with_mark stale_mark)) was (rows_of c.mark_table.new.tx.conn.now) (state_of c.mark_table-2.new.tx.conn.now) mid.are) c.mark_table-2.ensures.made

@@ -1,0 +1,13 @@
+-- The one table, and then the other.
+use Rattle.table_facts.specs.States.{state_of}
+use Rattle.table_facts.proofs.Ending.{ok_then}
+use Rattle.index_store.specs.PortTable.{staying_of}
+use Rattle.index_store.specs.PortTable.{rows_of}
+use Rattle.index_store.proofs.Composing.{both_changed}
+use Rattle.index_store.proofs.writing.take_leaving.Goals as goal
+
+pub returns-clause-made : goal.returns-clause-made
+returns-clause-made c =
+    let was = rows_of c.args.tx.now.conn.now in
+    let mid = c.in_ok-delete_leaving.ensures.made in
+    ok_then c.delete_leaving-2.result (both_changed (staying_of) was (rows_of c.delete_leaving.new.tx.conn.now) (state_of c.delete_leaving-2.new.tx.conn.now) mid.are) c.delete_leaving-2.ensures.made

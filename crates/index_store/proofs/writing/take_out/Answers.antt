@@ -1,0 +1,17 @@
+-- The rows get their mark, and go.
+use Rattle.std.proofs.Common.{ap}
+use Rattle.table_facts.specs.States.{state_of}
+use Rattle.table_facts.proofs.Ending.{ok_then}
+use Rattle.index_store.specs.declared.port_table.Part.{Part}
+use Rattle.index_store.specs.declared.writing.Change.TheVariants.{TakeOut}
+use Rattle.index_store.specs.Marking.{rows_after}
+use Rattle.index_store.specs.PortTable.{rows_of, staying_of}
+use Rattle.index_store.proofs.Composing.{holds_as}
+use Rattle.index_store.proofs.writing.take_out.Goals as goal
+
+pub returns-clause-made : goal.returns-clause-made
+returns-clause-made c =
+    let was = rows_of c.args.tx.now.conn.now in
+    let mid = rows_of c.set_marks.new.tx.conn.now in
+    ok_then c.take_leaving.result (holds_as (state_of c.take_leaving.new.tx.conn.now) (λ part. staying_of (mid part)) (rows_after (TakeOut c.args.paths) was)
+    (λ (part : Part). ap staying_of (c.in_ok-set_marks.ensures.made.are part))) c.take_leaving.ensures.made
