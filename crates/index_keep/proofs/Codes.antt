@@ -7,6 +7,7 @@ use Rattle.mk_base.specs.Faults.{number_of}
 use Rattle.mk_base.specs.Meter.{Meter}
 use Rattle.mk_base.specs.declared.faults.FaultKind.{FaultKind}
 use Rattle.mk_base.specs.declared.faults.FaultKind.TheVariants as kinds
+use Rattle.mk_text.specs.Profiles.{profile_code}
 use Rattle.mk_env.specs.Texts.{Variables}
 use Rattle.mk_paths.specs.FilesView.{Question, Reply, Presence, Contents}
 use Rattle.mk_files.specs.Asking.{Account}
@@ -71,7 +72,7 @@ kind_code : Coded Kind
 kind_code = code_by ℕ coded_ℕ kind_number kind_of kind_of-number
 
 variables_code : Coded Variables
-variables_code = code (coded_list coded_ℕ) (coded_list coded_ℕ)
+variables_code = coded× profile_code (code (coded_list coded_ℕ) (coded_list coded_ℕ))
 
 state_code : Coded EvalState
 state_code =

@@ -21,6 +21,7 @@ use eval_cache::EvalCache;
 use mk_eval::evaluations_cost_few;
 use mk_files::Files;
 use mk_paths::{FilesFault, Name, Settings, find};
+use mk_text::Profile;
 use pkg_path::PkgPath;
 use port_rules::records_cost_few;
 use ports_index::{Finding, Spent, finding_of};
@@ -32,6 +33,8 @@ use std::alloc::{AllocError, Global};
 #[derive(Drop)]
 pub(crate) struct MadeRow {
     pub(crate) path: String,
+    /// The profile in which the path's makefile was read.
+    pub(crate) profile: Profile,
     pub(crate) row: KeptRow,
     pub(crate) spent: Spent,
 }
@@ -49,6 +52,7 @@ enum NamedDirectory {
 #[derive(Drop)]
 pub(crate) struct FoundPath {
     path: String,
+    profile: Profile,
     named: NamedDirectory,
     makefile: Name,
     placed: Trace,
@@ -90,16 +94,19 @@ impl PathAsk {
         ensures leaves { LeavesFiles (result_err result) (view_of F.view files.old) (view_of F.view files.new) }
     {
         let Some(named) = NamedDirectory::read(alloc, path.as_str())? else {
-            return Ok(PathTurned::Made(MadeRow::absent(path, Vec::new(alloc))));
+            let made = MadeRow::absent(path, settings.profile, Vec::new(alloc));
+            return Ok(PathTurned::Made(made));
         };
         let (makefile, placed) = place_of(alloc, files, settings, named.directory())?;
         let Some(makefile) = makefile else {
             let names = names_of(alloc, placed.questions())?;
-            return Ok(PathTurned::Made(MadeRow::absent(path, names)));
+            let made = MadeRow::absent(path, settings.profile, names);
+            return Ok(PathTurned::Made(made));
         };
         let ask = Ask::begin(alloc, cache, files, settings, &makefile, named.flavors())?;
         let found = FoundPath {
             path,
+            profile: settings.profile,
             named,
             makefile,
             placed,
@@ -218,6 +225,7 @@ impl FoundPath {
         records_cost_few();
         let FoundPath {
             path,
+            profile,
             named,
             makefile,
             placed,
@@ -228,6 +236,7 @@ impl FoundPath {
         add_names(alloc, &mut names, asked.evaluation.trace.questions())?;
         Ok(MadeRow {
             path,
+            profile,
             row: KeptRow { found: row, names },
             spent,
         })
@@ -236,13 +245,14 @@ impl FoundPath {
 
 impl MadeRow {
     // The row of a path without a makefile, for which these names were asked for.
-    fn absent(path: String, names: Vec<String>) -> MadeRow
+    fn absent(path: String, profile: Profile, names: Vec<String>) -> MadeRow
         ensures path { string_bytes result.path ≡ string_bytes path }
         ensures row { row_seen result.row ≡ paths.absent_row (map string_bytes names.items) }
         ensures spent { result.spent ≡ no_spending }
     {
         MadeRow {
             path,
+            profile,
             row: KeptRow {
                 found: Finding::nothing(),
                 names,

@@ -29,6 +29,7 @@ use eval_cache::EvalCache;
 use index_store::PathRows;
 use mk_files::Listing;
 use mk_paths::{FilesFault, Settings};
+use mk_text::Profile;
 use ports_index::Spent;
 use read_trace::Recorder;
 use row_text::{KeptRow, write_row};
@@ -157,8 +158,13 @@ impl<R: PathRows + Drop> Keeper<R> {
     {
         match turned {
             PathTurned::Made(made) => {
-                let MadeRow { path, row, spent } = made;
-                let walk = put_row(alloc, &mut self.rows, walk, path, row)?;
+                let MadeRow {
+                    path,
+                    profile,
+                    row,
+                    spent,
+                } = made;
+                let walk = put_row(alloc, &mut self.rows, walk, path, profile, row)?;
                 self.progress = Progress::Walking(walk);
                 Ok(Turned::Evaluated(spent_since(before, spent)))
             }
@@ -216,12 +222,14 @@ impl<R: PathRows + Drop> Keeper<R> {
     }
 }
 
-// Gives a path this row, which is fresh, and tells the walk of it. If it fails, all rows are as they were.
+// Gives a path this row, which is fresh and was made in this profile, and tells the walk of it. If it fails, all
+// rows are as they were.
 fn put_row<R: PathRows>(
     alloc: Global,
     rows: &mut R,
     walk: Walk,
     path: String,
+    profile: Profile,
     row: KeptRow,
 ) -> Result<Walk, FilesFault>
     ensures rows { OnOk result ((other : List ℕ) → shown no_name (R.entries rows.new) other
@@ -236,6 +244,6 @@ fn put_row<R: PathRows>(
     let text = write_row(alloc, &row)?;
     let key = String::from_str(alloc, path.as_str())?;
     let walk = walk.with_row(key, row.found.row)?;
-    rows.put(path.as_str(), &text)?;
+    rows.put(path.as_str(), profile, &text)?;
     Ok(walk)
 }

@@ -23,3 +23,4 @@ mod LostLemmas
 mod PositionLemmas
 mod RunConverses
 mod OneListLemmas
+mod LanguageLemmas

@@ -19,6 +19,7 @@ pub mod Runs
 pub mod Plainly
 pub mod Alike
 pub mod Isolation
+pub mod Languages
 pub mod InTime
 pub mod Conversations
 pub mod Replays

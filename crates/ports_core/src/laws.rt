@@ -10,7 +10,10 @@ ghost use Rattle.ports_core.specs.Plainly.{IsToldPlainly};
 ghost use Rattle.ports_core.specs.Alike.{own_requests, AreToldAlike};
 ghost use Rattle.ports_core.specs.Conversations.{EachConnectionConverses};
 ghost use Rattle.ports_core.specs.Isolation.{EachRunServesPlainly, EqualSlicesAreToldAlike};
+ghost use Rattle.ports_core.specs.Languages.{EachStaysInItsProfile};
 ghost use Rattle.ports_core.specs.InTime.{EachRequestIsToldInTime, EachFirstHasTurnsLeft};
+
+use ports_plain::others_keep_the_profile;
 
 /// What an event does to the tenants' worlds and waiting requests. The opening or the loss of a connection
 /// changes nothing. Bytes that come or are written, or an end, add at most one request at the end of one
@@ -85,3 +88,11 @@ pub fn each_request_is_told_in_time()
     ensures told { EachRequestIsToldInTime }
     ensures begun { EachFirstHasTurnsLeft }
 {}
+
+/// A tenant that asks for no profile keeps its own, in every run from any state: each of its requests is answered in
+/// the profile that it had. A tenant begins in profile 1, so it stays there until it goes to `/v1/profile` itself.
+pub fn each_stays_in_its_profile()
+    ensures { EachStaysInItsProfile }
+{
+    others_keep_the_profile();
+}

@@ -25,8 +25,8 @@ pub use job::Job;
 pub use keys::Config;
 pub use laws::{
     each_connection_converses, each_event_changes_so_much, each_request_is_told_in_time,
-    each_run_serves_plainly, each_tenant_is_told_plainly, equal_requests_are_told_alike,
-    equal_slices_are_told_alike, one_list_is_taken,
+    each_run_serves_plainly, each_stays_in_its_profile, each_tenant_is_told_plainly,
+    equal_requests_are_told_alike, equal_slices_are_told_alike, one_list_is_taken,
 };
 pub use service::{NewFault, Service};
 pub use tenants::{Answer, Tenants, Worked};

@@ -8,3 +8,4 @@ mod TargetLemmas
 mod TrimmingLemmas
 mod ListFloats
 mod SpendingLemmas
+mod LanguageLemmas

@@ -15,7 +15,7 @@ use Rattle.mk_paths.specs.FileName.{resolved}
 use Rattle.ports_http.specs.declared.method.Method.{Method}
 use Rattle.ports_http.specs.declared.method.Method.TheVariants.{Get, Put, Delete}
 use Rattle.ports_plain.specs.declared.routing.Route.{Route}
-use Rattle.ports_plain.specs.declared.routing.Route.TheVariants.{Deps, Faults, File, List as AllPackages, Match, Path, Port, Rdeps, Var}
+use Rattle.ports_plain.specs.declared.routing.Route.TheVariants.{Deps, Faults, File, List as AllPackages, Match, Path, Port, Profile as Language, Rdeps, Var}
 use Rattle.pkg_path.specs.Paths.{PathValue, path_of, port_path}
 use Rattle.pkg_path.specs.declared.faults.PkgPathFault.{PkgPathFault}
 use Rattle.port_rules.specs.declared.recording.Recorded.{Recorded}
@@ -38,11 +38,12 @@ use Rattle.port_deps.specs.Roots.{RootValue, RootEdgeValue}
 use Rattle.port_rules.specs.Ports.{PortValue}
 use Rattle.pkg_spec.specs.Alternatives.{spec_of}
 use Rattle.mk_base.specs.FaultAt.{FaultAt}
+use Rattle.mk_text.specs.declared.profile.Profile.{Profile}
 use Rattle.std.specs.Result.{is_ok}
 use Rattle.ports_http.specs.Messages.{ReplyMessage}
 use Rattle.ports_plain.specs.Trimming.{trimmed}
 use Rattle.ports_plain.specs.Replies.{bad_parameter, bad_path, full, json_reply, no_file, no_subpackage, removed, port_shown}
-use Rattle.ports_plain.specs.Plain.{PlainRequest, reply_alone, content_shown, on_named_file, on_resolved, on_file, set_trees, set_path, value_after, value_reply, variable_at, variable_of, get_variable, record_after, port_reply, port_at, port_of, get_reply, on_query, on_path, answer_on, answer, plain}
+use Rattle.ports_plain.specs.Plain.{PlainRequest, reply_alone, content_shown, on_named_file, on_resolved, on_file, set_trees, set_path, profile_named, set_language, set_profile, on_profile, value_after, value_reply, variable_at, variable_of, get_variable, record_after, port_reply, port_at, port_of, get_reply, on_query, on_path, answer_on, answer, plain}
 use Rattle.ports_plain.specs.declared.changing.Change.{Change}
 use Rattle.ports_plain.specs.declared.changing.Change.TheVariants.{RemoveFile}
 use Rattle.ports_plain.specs.Changing.{changed, overfills, settle_change}
@@ -78,6 +79,10 @@ set_path-fine body =
       | true ↦ set_trees-fine (trimmed body) (search_path (trimmed body))
       | false ↦ refl
     ]
+
+set_language-fine : (profile : Option Profile) → ((set_language profile).0.status == 503) ≡ false
+set_language-fine (Some profile) = refl
+set_language-fine None = refl
 
 -- what was read of a query, or a refusal that isn't 503
 RefusesFinely : {A : Type 0} → Result A ReplyMessage → Type 0
@@ -192,6 +197,7 @@ get_reply-fine world query AllPackages = parameter-fine (λ text. list_by world 
 get_reply-fine world query Match = parameter-fine (match_by world) (match_by-fine world) (parameter (codes "spec") query)
 get_reply-fine world query Path = refl
 get_reply-fine world query Port = with_path-fine (port_of world) (port_of-fine world) query
+get_reply-fine world query Language = refl
 get_reply-fine world query Rdeps = get_dependencies-fine world Dependents query
 get_reply-fine world query Var = get_variable-fine world query
 
@@ -205,6 +211,11 @@ on_path-fine body Put = set_path-fine body
 on_path-fine body Get = refl
 on_path-fine body Delete = refl
 
+on_profile-fine : (body : List ℕ) (method : Method) → ((on_profile body method).0.status == 503) ≡ false
+on_profile-fine body Put = set_language-fine (profile_named (trimmed body))
+on_profile-fine body Get = refl
+on_profile-fine body Delete = refl
+
 answer_on-fine : (world : World) (request : PlainRequest) (route : Option Route) → ((answer_on world request route).0.status == 503) ≡ false
 answer_on-fine world request None = refl
 answer_on-fine world request (Some Deps) = on_query-fine world (query_of_target request.target) Deps request.method
@@ -213,6 +224,7 @@ answer_on-fine world request (Some File) = on_file-fine (files_in world) request
 answer_on-fine world request (Some AllPackages) = on_query-fine world (query_of_target request.target) AllPackages request.method
 answer_on-fine world request (Some Match) = on_query-fine world (query_of_target request.target) Match request.method
 answer_on-fine world request (Some Path) = on_path-fine request.body request.method
+answer_on-fine world request (Some Language) = on_profile-fine request.body request.method
 answer_on-fine world request (Some Port) = on_query-fine world (query_of_target request.target) Port request.method
 answer_on-fine world request (Some Rdeps) = on_query-fine world (query_of_target request.target) Rdeps request.method
 answer_on-fine world request (Some Var) = on_query-fine world (query_of_target request.target) Var request.method

@@ -15,15 +15,15 @@ use Rattle.ports_plain.specs.declared.dependencies.Direction.TheVariants.{Depend
 use Rattle.ports_plain.specs.declared.questions.Question.{Question}
 use Rattle.ports_plain.specs.declared.questions.Question.TheVariants as questions
 use Rattle.ports_plain.specs.declared.routing.Route.{Route}
-use Rattle.ports_plain.specs.declared.routing.Route.TheVariants.{Deps, Faults, File, List as AllPackages, Match, Path, Port, Rdeps, Var}
+use Rattle.ports_plain.specs.declared.routing.Route.TheVariants.{Deps, Faults, File, List as AllPackages, Match, Path, Port, Profile as Language, Rdeps, Var}
 use Rattle.ports_plain.specs.IndexRoutes.{question_in, list_by, match_by, match_reply, bad_spec, dependency_reply}
 use Rattle.ports_plain.specs.Parameters.{parameter, optional}
 use Rattle.ports_plain.specs.PathParameter.{path_in, reply_or_refusal}
-use Rattle.ports_plain.specs.Plain.{PlainRequest, reply_alone, on_resolved, on_named_file, on_file, variable_of, port_of, get_reply, on_query, on_path, answer_on, answer}
+use Rattle.ports_plain.specs.Plain.{PlainRequest, reply_alone, on_resolved, on_named_file, on_file, variable_of, port_of, get_reply, on_query, on_path, on_profile, answer_on, answer}
 use Rattle.ports_plain.specs.Replies.{bad_parameter}
 use Rattle.ports_plain.specs.Routes.{route_of}
 use Rattle.ports_plain.specs.Target.{path_of as target_path, query_of as query_of_target}
-use Rattle.ports_plain.specs.Questions.{question_or_refusal, with_parameter, resolved_question, named_file_question, file_question, conditions_question, spec_question, get_question, query_question, path_question, question_on_route, question_of}
+use Rattle.ports_plain.specs.Questions.{question_or_refusal, with_parameter, resolved_question, named_file_question, file_question, conditions_question, spec_question, get_question, query_question, path_question, profile_question, question_on_route, question_of}
 use Rattle.ports_plain.specs.Answers.{answer_to}
 
 module _ (world : World) where
@@ -69,6 +69,7 @@ module _ (world : World) where
       parameter-answer (λ text. conditions_question (query_of text)) (λ text. list_by world (query_of text)) (λ text. conditions-answer (query_of text)) (optional (codes "where") query)
   get-answer query Match = parameter-answer spec_question (match_by world) spec-answer (parameter (codes "spec") query)
   get-answer query Path = refl
+  get-answer query Language = refl
   get-answer query Port = read-answer questions.Port (port_of world) (λ path. refl) (path_in query)
   get-answer query Rdeps = read-answer (questions.Dependencies Dependents) (dependency_reply world Dependents) (λ asked. refl) (question_in query)
   get-answer query Var =
@@ -87,6 +88,11 @@ module _ (world : World) where
   path-answer body Get = refl
   path-answer body Delete = refl
 
+  profile-answer : (body : List ℕ) (method : Method) → answer_to world (profile_question body method) ≡ on_profile body method
+  profile-answer body Put = refl
+  profile-answer body Get = refl
+  profile-answer body Delete = refl
+
   route-answer : (request : PlainRequest) (route : Option Route) → answer_to world (question_on_route request route) ≡ answer_on world request route
   route-answer request None = refl
   route-answer request (Some Deps) = query-answer (query_of_target request.target) Deps request.method
@@ -95,6 +101,7 @@ module _ (world : World) where
   route-answer request (Some AllPackages) = query-answer (query_of_target request.target) AllPackages request.method
   route-answer request (Some Match) = query-answer (query_of_target request.target) Match request.method
   route-answer request (Some Path) = path-answer request.body request.method
+  route-answer request (Some Language) = profile-answer request.body request.method
   route-answer request (Some Port) = query-answer (query_of_target request.target) Port request.method
   route-answer request (Some Rdeps) = query-answer (query_of_target request.target) Rdeps request.method
   route-answer request (Some Var) = query-answer (query_of_target request.target) Var request.method

@@ -15,6 +15,10 @@ removed_body = object (member (codes "removed") (boolean true) no_members)
 abbrev pub path_body : List ℕ → Data
 path_body path = object (member (codes "path") (string path) no_members)
 
+-- a profile, by its number
+abbrev pub profile_body : ℕ → Data
+profile_body profile = object (member (codes "profile") (number (unsigned profile)) no_members)
+
 -- a refusal, by its word
 abbrev pub error_body : List ℕ → Data
 error_body word = object (member (codes "error") (string word) no_members)

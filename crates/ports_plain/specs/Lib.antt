@@ -18,3 +18,4 @@ pub mod Questions
 pub mod Answers
 pub mod Resting
 pub mod Spending
+pub mod Languages

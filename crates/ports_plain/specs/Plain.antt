@@ -2,8 +2,10 @@
 -- nothing of connections, of other tenants, of work that waits or is shared.
 use Rattle.std.specs.Prelude.{ℕ, if◌then◌else◌, List, Option, Some, None, Result, Ok, Err, option_map, codes}
 use Rattle.std.specs.Option.{option_map_or}
-use Rattle.std.specs.Str.{is_utf8}
+use Rattle.std.specs.Str.{is_utf8, bytes_eq}
 use Rattle.std.specs.FinMap.{get, contains_key}
+use Rattle.mk_text.specs.declared.profile.Profile.{Profile}
+use Rattle.mk_text.specs.declared.profile.Profile.TheVariants.{One, Two}
 use Rattle.mk_paths.specs.FileName.{resolved}
 use Rattle.mk_paths.specs.SearchPath.{search_path}
 use Rattle.mk_paths.specs.Place.{place}
@@ -22,10 +24,11 @@ use Rattle.ports_http.specs.declared.method.Method.{Method}
 use Rattle.ports_http.specs.declared.method.Method.TheVariants.{Get, Put, Delete}
 use Rattle.ports_http.specs.Messages.{ReplyMessage}
 use Rattle.ports_plain.specs.declared.changing.Change.{Change}
-use Rattle.ports_plain.specs.declared.changing.Change.TheVariants.{PutFile, RemoveFile, SetPath}
+use Rattle.ports_plain.specs.declared.changing.Change.TheVariants.{PutFile, RemoveFile, SetPath, SetProfile}
 use Rattle.ports_plain.specs.declared.dependencies.Direction.TheVariants.{Dependencies, Dependents}
 use Rattle.ports_plain.specs.declared.routing.Route.{Route}
-use Rattle.ports_plain.specs.declared.routing.Route.TheVariants.{Deps, Faults, File, List as AllPackages, Match, Path, Port, Rdeps, Var}
+use Rattle.ports_plain.specs.declared.routing.Route.TheVariants.{Deps, Faults, File, List as AllPackages, Match}
+use Rattle.ports_plain.specs.declared.routing.Route.TheVariants.{Path, Port, Profile as Language, Rdeps, Var}
 use Rattle.ports_plain.specs.Target.{path_of as target_path, query_of}
 use Rattle.ports_plain.specs.IndexRoutes.{get_list, get_match, get_faults, get_dependencies}
 use Rattle.ports_plain.specs.Parameters.{parameter}
@@ -34,7 +37,7 @@ use Rattle.ports_plain.specs.Trimming.{trimmed}
 use Rattle.ports_plain.specs.Routes.{route_of}
 use Rattle.ports_plain.specs.Subpackages.{has_named}
 use Rattle.ports_plain.specs.Replies.{no_route, not_allowed, bad_parameter, bad_name, bad_path, no_file, no_port}
-use Rattle.ports_plain.specs.Replies.{no_subpackage, faulty, file_shown, stored, removed, path_set, variable}
+use Rattle.ports_plain.specs.Replies.{no_subpackage, faulty, file_shown, stored, removed, path_set, variable, profile_set, bad_profile}
 use Rattle.ports_plain.specs.Replies.{port_shown}
 use Rattle.ports_plain.specs.Changing.{settle_change}
 
@@ -88,6 +91,19 @@ set_text bytes = if is_utf8 bytes then set_trees bytes (search_path bytes) else 
 -- PUT /v1/path, whose body has a search path
 abbrev pub set_path : List ℕ → Answer
 set_path body = set_text (trimmed body)
+
+-- the profile that a text is the number of
+abbrev pub profile_named : List ℕ → Option Profile
+profile_named text = if bytes_eq text (codes "1") then Some One else if bytes_eq text (codes "2") then Some Two else None
+
+-- the profile that a text names is set, if it names one
+abbrev pub set_language : Option Profile → Answer
+set_language (Some profile) = (profile_set profile, Some (SetProfile profile))
+set_language None = reply_alone bad_profile
+
+-- PUT /v1/profile, whose body has the number of a profile
+abbrev pub set_profile : List ℕ → Answer
+set_profile body = set_language (profile_named (trimmed body))
 
 -- the value of a variable after a makefile's evaluation, or the fault that the evaluation or
 -- the value's expansion met
@@ -146,7 +162,7 @@ port_of world path = port_at world path (place world path.directory)
 abbrev pub get_port : World → List ℕ → ReplyMessage
 get_port world query = reply_or_refusal (port_of world) (path_in query)
 
--- the reply to a GET on a route, by the query; a file and the search path aren't asked for in this way
+-- the reply to a GET on a route, by the query; a file, the search path and the profile aren't asked for in this way
 abbrev pub get_reply : World → List ℕ → Route → ReplyMessage
 get_reply world query Deps = get_dependencies world Dependencies query
 get_reply world query Faults = get_faults world
@@ -155,6 +171,7 @@ get_reply world query AllPackages = get_list world query
 get_reply world query Match = get_match world query
 get_reply world query Path = not_allowed Path
 get_reply world query Port = get_port world query
+get_reply world query Language = not_allowed Language
 get_reply world query Rdeps = get_dependencies world Dependents query
 get_reply world query Var = get_variable world query
 
@@ -170,12 +187,19 @@ on_path body Put = set_path body
 on_path body Get = reply_alone (not_allowed Path)
 on_path body Delete = reply_alone (not_allowed Path)
 
+-- the answer on the route of the profile, by the method
+abbrev pub on_profile : List ℕ → Method → Answer
+on_profile body Put = set_profile body
+on_profile body Get = reply_alone (not_allowed Language)
+on_profile body Delete = reply_alone (not_allowed Language)
+
 -- the answer on a route
 abbrev pub answer_on : World → PlainRequest → Option Route → Answer
 answer_on world request None = reply_alone no_route
 answer_on world request (Some File) =
     on_file (files_in world) request.method request.body (parameter (codes "name") (query_of request.target))
 answer_on world request (Some Path) = on_path request.body request.method
+answer_on world request (Some Language) = on_profile request.body request.method
 answer_on world request (Some route) = on_query world (query_of request.target) route request.method
 
 -- The reply to a request, and what is to be changed. The path is looked at first, then the

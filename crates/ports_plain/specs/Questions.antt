@@ -16,11 +16,12 @@ use Rattle.ports_plain.specs.declared.dependencies.Direction.TheVariants.{Depend
 use Rattle.ports_plain.specs.declared.questions.Question.{Question}
 use Rattle.ports_plain.specs.declared.questions.Question.TheVariants as questions
 use Rattle.ports_plain.specs.declared.routing.Route.{Route}
-use Rattle.ports_plain.specs.declared.routing.Route.TheVariants.{Deps, Faults, File, List as AllPackages, Match, Path, Port, Rdeps, Var}
+use Rattle.ports_plain.specs.declared.routing.Route.TheVariants.{Deps, Faults, File, List as AllPackages, Match}
+use Rattle.ports_plain.specs.declared.routing.Route.TheVariants.{Path, Port, Profile as Language, Rdeps, Var}
 use Rattle.ports_plain.specs.IndexRoutes.{question_in, bad_query, bad_spec}
 use Rattle.ports_plain.specs.Parameters.{parameter, optional}
 use Rattle.ports_plain.specs.PathParameter.{path_in}
-use Rattle.ports_plain.specs.Plain.{PlainRequest, Answer, reply_alone, set_path}
+use Rattle.ports_plain.specs.Plain.{PlainRequest, Answer, reply_alone, set_path, set_profile}
 use Rattle.ports_plain.specs.Replies.{no_route, not_allowed, bad_parameter, bad_name, stored}
 use Rattle.ports_plain.specs.Routes.{route_of}
 use Rattle.ports_plain.specs.Target.{path_of as target_path, query_of as query_of_target}
@@ -84,7 +85,7 @@ match_question query = with_parameter spec_question (parameter (codes "spec") qu
 abbrev pub dependency_question : Direction → List ℕ → Question
 dependency_question direction query = question_or_refusal (questions.Dependencies direction) (question_in query)
 
--- the question of a GET on a route, by the query; a file and the search path aren't asked for in this way
+-- the question of a GET on a route, by the query; a file, the search path and the profile aren't asked for in this way
 abbrev pub get_question : List ℕ → Route → Question
 get_question query Deps = dependency_question Dependencies query
 get_question query Faults = questions.Faults
@@ -93,6 +94,7 @@ get_question query AllPackages = list_question query
 get_question query Match = match_question query
 get_question query Path = refused (not_allowed Path)
 get_question query Port = port_question query
+get_question query Language = refused (not_allowed Language)
 get_question query Rdeps = dependency_question Dependents query
 get_question query Var = variable_question query
 
@@ -108,12 +110,19 @@ path_question body Put = settled (set_path body)
 path_question body Get = refused (not_allowed Path)
 path_question body Delete = refused (not_allowed Path)
 
+-- the question on the route of the profile, by the method
+abbrev pub profile_question : List ℕ → Method → Question
+profile_question body Put = settled (set_profile body)
+profile_question body Get = refused (not_allowed Language)
+profile_question body Delete = refused (not_allowed Language)
+
 -- the question on a route
 abbrev pub question_on_route : PlainRequest → Option Route → Question
 question_on_route request None = refused no_route
 question_on_route request (Some File) =
     file_question request.method request.body (parameter (codes "name") (query_of_target request.target))
 question_on_route request (Some Path) = path_question request.body request.method
+question_on_route request (Some Language) = profile_question request.body request.method
 question_on_route request (Some route) = query_question (query_of_target request.target) route request.method
 
 -- What a request asks. The path is looked at first, then the method, then the parameters.

@@ -2,6 +2,8 @@
 use Rattle.std.specs.Prelude.{List, [], ◌∷◌, Option, Some, codes, ℕ}
 use Rattle.mk_base.specs.Faults.{number_of}
 use Rattle.mk_base.specs.FaultAt.{FaultAt}
+use Rattle.mk_text.specs.declared.profile.Profile.{Profile}
+use Rattle.mk_text.specs.Profiles.{profile_number}
 use Rattle.ports_http.specs.declared.method.Method.{Method}
 use Rattle.ports_http.specs.declared.method.Method.TheVariants.{Get, Put, Delete}
 use Rattle.ports_http.specs.declared.reply.Content.TheVariants.{Json, Octets}
@@ -9,11 +11,12 @@ use Rattle.ports_http.specs.Messages.{ReplyMessage}
 use Rattle.serde_json.specs.Data.{Data}
 use Rattle.serde_json.specs.Written.{compact_text}
 use Rattle.ports_plain.specs.declared.routing.Route.{Route}
-use Rattle.ports_plain.specs.declared.routing.Route.TheVariants.{Deps, Faults, File, List as AllPackages, Match, Path, Port, Rdeps, Var}
+use Rattle.ports_plain.specs.declared.routing.Route.TheVariants.{Deps, Faults, File, List as AllPackages, Match}
+use Rattle.ports_plain.specs.declared.routing.Route.TheVariants.{Path, Port, Profile as Language, Rdeps, Var}
 use Rattle.pkg_path.specs.Paths.{PathValue}
 use Rattle.port_rules.specs.Ports.{PortValue}
 use Rattle.ports_plain.specs.PortBody.{port_body}
-use Rattle.ports_plain.specs.Bodies.{stored_body, removed_body, path_body, error_body, fault_body, variable_body}
+use Rattle.ports_plain.specs.Bodies.{stored_body, removed_body, path_body, profile_body, error_body, fault_body, variable_body}
 
 -- a reply with a JSON value, written without blanks
 abbrev pub json_reply : ℕ → Data → ReplyMessage
@@ -36,6 +39,7 @@ methods_of AllPackages = Get ∷ []
 methods_of Match = Get ∷ []
 methods_of Path = Put ∷ []
 methods_of Port = Get ∷ []
+methods_of Language = Put ∷ []
 methods_of Rdeps = Get ∷ []
 methods_of Var = Get ∷ []
 
@@ -54,6 +58,10 @@ bad_name = refusal 400 (codes "Name")
 -- a text that is no package path, or no search path
 abbrev pub bad_path : ReplyMessage
 bad_path = refusal 400 (codes "Path")
+
+-- a text that is the number of no profile
+abbrev pub bad_profile : ReplyMessage
+bad_profile = refusal 400 (codes "Profile")
 
 -- a file that isn't there
 abbrev pub no_file : ReplyMessage
@@ -90,6 +98,10 @@ removed = json_reply 200 removed_body
 -- the search path was set
 abbrev pub path_set : List ℕ → ReplyMessage
 path_set path = json_reply 200 (path_body path)
+
+-- the profile was set
+abbrev pub profile_set : Profile → ReplyMessage
+profile_set profile = json_reply 200 (profile_body (profile_number profile))
 
 -- the value of a variable, or that it isn't defined
 abbrev pub variable : Option (List ℕ) → ReplyMessage

@@ -2,7 +2,8 @@
 use Rattle.std.specs.Prelude.{ℕ, if◌then◌else◌, List, [], ◌∷◌, Option, Some, None, codes}
 use Rattle.std.specs.Str.{bytes_eq}
 use Rattle.ports_plain.specs.declared.routing.Route.{Route}
-use Rattle.ports_plain.specs.declared.routing.Route.TheVariants.{Deps, Faults, File, List as AllPackages, Match, Path, Port, Rdeps, Var}
+use Rattle.ports_plain.specs.declared.routing.Route.TheVariants.{Deps, Faults, File, List as AllPackages, Match}
+use Rattle.ports_plain.specs.declared.routing.Route.TheVariants.{Path, Port, Profile as Language, Rdeps, Var}
 
 -- what a table has under a path
 abbrev pub under : {A : Type 0} → List (List ℕ × A) → List ℕ → Option A
@@ -14,7 +15,8 @@ abbrev pub table : List (List ℕ × Route)
 table =
     (codes "/v1/deps", Deps) ∷ (codes "/v1/faults", Faults) ∷ (codes "/v1/file", File)
     ∷ (codes "/v1/list", AllPackages) ∷ (codes "/v1/match", Match)
-    ∷ (codes "/v1/path", Path) ∷ (codes "/v1/port", Port) ∷ (codes "/v1/rdeps", Rdeps) ∷ (codes "/v1/var", Var) ∷ []
+    ∷ (codes "/v1/path", Path) ∷ (codes "/v1/port", Port) ∷ (codes "/v1/profile", Language)
+    ∷ (codes "/v1/rdeps", Rdeps) ∷ (codes "/v1/var", Var) ∷ []
 
 -- the route of a path, which is compared as it is written
 abbrev pub route_of : List ℕ → Option Route

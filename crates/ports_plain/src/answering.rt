@@ -15,6 +15,7 @@ use crate::lists::{faults_reply, list_question, list_reply, match_question, matc
 use crate::paths::path_question;
 use crate::port::{port_question, port_reply};
 use crate::ports::Ports;
+use crate::profiles::profile_question;
 use crate::questions::Question;
 use crate::replies::not_allowed;
 use crate::routing::{Route, Routes};
@@ -51,6 +52,10 @@ impl Plain {
     /// `PUT /v1/path` sets the trees that are searched for ports: those that the body names, without the
     /// blanks and line feeds at its ends. It gives 200 `{"path":P}`. If the body names no search path, it
     /// gives 400 `{"error":"Path"}`.
+    ///
+    /// `PUT /v1/profile` sets the make language of the tenant's files: the body, without the blanks and line
+    /// feeds at its ends, is its number, 1 or 2. It gives 200 `{"profile":N}`. Any other body gives 400
+    /// `{"error":"Profile"}`.
     ///
     /// `GET /v1/var?path=P&name=V` gives the variable V of the port with the package path P, in the first
     /// tree that has its directory, evaluated with P's flavors. A subpackage in P doesn't count. The reply
@@ -111,6 +116,7 @@ impl Plain {
         match route {
             Route::File => file_question(alloc, method, query, body),
             Route::Path => path_question(alloc, method, body),
+            Route::Profile => profile_question(alloc, method, body),
             Route::Deps
             | Route::Faults
             | Route::List
@@ -150,7 +156,9 @@ fn get_question(alloc: Global, route: Route, query: &str) -> Result<Question, Al
         Route::Port => port_question(alloc, query),
         Route::Rdeps => dependency_question(alloc, Direction::Dependents, query),
         Route::Var => variable_question(alloc, query),
-        Route::File | Route::Path => Ok(Question::settled(not_allowed(alloc, route)?)),
+        Route::File | Route::Path | Route::Profile => Ok(Question::settled(not_allowed(
+            alloc, route,
+        )?)),
     }
 }
 

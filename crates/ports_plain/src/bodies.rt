@@ -2,7 +2,8 @@
 ghost use Rattle.std.specs.Prelude.{◌≡◌, IfOk};
 ghost use Rattle.std.specs.Option.{option_copied};
 ghost use Rattle.serde_json.specs.View.{view};
-ghost use Rattle.ports_plain.specs.Bodies.{stored_body, removed_body, path_body, error_body, fault_body, variable_body};
+ghost use Rattle.ports_plain.specs.Bodies.{stored_body, removed_body, path_body, profile_body};
+ghost use Rattle.ports_plain.specs.Bodies.{error_body, fault_body, variable_body};
 
 use serde_json::{Value, json};
 use std::alloc::{AllocError, Global};
@@ -26,6 +27,13 @@ pub fn path(alloc: Global, path: &str) -> Result<Value, AllocError>
     ensures { IfOk result (λ value. view value ≡ path_body path.now) }
 {
     json!(in alloc; {"path": path})
+}
+
+// The body of the reply to a profile that was set.
+pub fn profile(alloc: Global, profile: u32) -> Result<Value, AllocError>
+    ensures { IfOk result (λ value. view value ≡ profile_body profile) }
+{
+    json!(in alloc; {"profile": profile})
 }
 
 // The body of a refusal: the word that names it.

@@ -1,6 +1,7 @@
 // What a request changes.
 use mk_files::Content;
 use mk_paths::{Name, SearchPath};
+use mk_text::Profile;
 use ports_http::Reply;
 
 /// What a request changes of the world over which it was answered. Whoever owns that world carries the
@@ -14,6 +15,8 @@ pub enum Change {
     RemoveFile(Name),
     /// From now on these trees are searched for ports.
     SetPath(SearchPath),
+    /// From now on makefiles are read in this language.
+    SetProfile(Profile),
 }
 
 /// The answer to a request before anything is changed: its reply, and what is to be changed, if anything

@@ -2,6 +2,7 @@
 ghost use Rattle.std.specs.Prelude.{◌≡◌, ◌==◌, false};
 ghost use Rattle.mk_paths.specs.World.{World};
 ghost use Rattle.ports_plain.specs.Answers.{QuestionsHaveTheAnswers};
+ghost use Rattle.ports_plain.specs.Languages.{OthersKeepTheProfile};
 ghost use Rattle.ports_plain.specs.Plain.{PlainRequest, plain};
 ghost use Rattle.ports_plain.specs.Spending.{ChecksNoMore, SpendsAllUnchecked, SpendsNoMore};
 
@@ -23,4 +24,9 @@ pub fn spending_is_bounded()
     ensures within { SpendsNoMore }
     ensures few { ChecksNoMore }
     ensures whole { SpendsAllUnchecked }
+{}
+
+/// A request to any other route than `/v1/profile` leaves the profile of the world.
+pub fn others_keep_the_profile()
+    ensures { OthersKeepTheProfile }
 {}

@@ -17,6 +17,7 @@ mod paths;
 mod port;
 mod port_bodies;
 mod ports;
+mod profiles;
 mod questions;
 mod replies;
 mod routing;
@@ -28,7 +29,9 @@ pub use answering::{Plain, answer_question};
 pub use changing::{Change, Prepared};
 pub use dependencies::{DependencyQuestion, Direction};
 pub use depth::Depth;
-pub use laws::{never_answers_503, questions_have_the_answers, spending_is_bounded};
+pub use laws::{
+    never_answers_503, others_keep_the_profile, questions_have_the_answers, spending_is_bounded,
+};
 pub use port::record_reply;
 pub use ports::{Ports, RecordFound, ValueFound};
 pub use questions::{Question, VariableQuestion};

@@ -7,11 +7,12 @@ ghost use Rattle.ports_plain.specs.Replies.{json_reply as json_reply_of, refusal
 ghost use Rattle.ports_plain.specs.Replies.{not_allowed as not_allowed_on, methods_of, full as full_reply};
 ghost use Rattle.ports_plain.specs.Replies.{faulty as faulty_at, file_shown as file_shown_as, stored as stored_reply};
 ghost use Rattle.ports_plain.specs.Replies.{removed as removed_reply, path_set as path_set_to};
-ghost use Rattle.ports_plain.specs.Replies.{variable as variable_reply, port_shown};
+ghost use Rattle.ports_plain.specs.Replies.{profile_set as profile_set_to, variable as variable_reply, port_shown};
 
 use crate::routing::Route;
 use crate::{bodies, port_bodies};
 use mk_base::Fault;
+use mk_text::Profile;
 use pkg_path::PkgPath;
 use port_rules::PortRecord;
 use ports_http::{Content, Method, Reply, StatusCode};
@@ -41,7 +42,7 @@ fn methods_of_route(route: Route) -> &'static [Method]
 {
     match route {
         Route::File => &[Method::Get, Method::Put, Method::Delete],
-        Route::Path => &[Method::Put],
+        Route::Path | Route::Profile => &[Method::Put],
         _ => &[Method::Get],
     }
 }
@@ -100,6 +101,14 @@ pub fn path_set(alloc: Global, path: &str) -> Result<Reply, AllocError>
     ensures { IfOk result (λ reply. reply ≡ path_set_to path.now) }
 {
     let body = bodies::path(alloc, path)?;
+    json_reply(alloc, StatusCode::OK, &body)
+}
+
+// The reply that the profile was set.
+pub fn profile_set(alloc: Global, profile: Profile) -> Result<Reply, AllocError>
+    ensures { IfOk result (λ reply. reply ≡ profile_set_to profile) }
+{
+    let body = bodies::profile(alloc, profile.number())?;
     json_reply(alloc, StatusCode::OK, &body)
 }
 

@@ -25,6 +25,8 @@ pub enum Route {
     Path,
     /// `/v1/port`: what a port is.
     Port,
+    /// `/v1/profile`: the make language of the tenant's files.
+    Profile,
     /// `/v1/rdeps`: what depends on a port.
     Rdeps,
     /// `/v1/var`: a variable of a port's makefile.
@@ -49,6 +51,7 @@ impl Routes {
         add(&mut router, "/v1/match", Route::Match)?;
         add(&mut router, "/v1/path", Route::Path)?;
         add(&mut router, "/v1/port", Route::Port)?;
+        add(&mut router, "/v1/profile", Route::Profile)?;
         add(&mut router, "/v1/rdeps", Route::Rdeps)?;
         add(&mut router, "/v1/var", Route::Var)?;
         Ok(Routes { router })

@@ -19,7 +19,7 @@ use Rattle.index_keep.specs.Keeping.{IsKept, rows_of, begun_in, refresh_of}
 use Rattle.index_keep.specs.Shown.{ShowsSame}
 use Rattle.index_keep.specs.Turns.{RefreshView, refresh_at}
 use Rattle.index_store.specs.PortTable.{stored_by}
-use Rattle.tenant_store.specs.Holdings.{Holdings, files_of, path_of, ChangesFiles}
+use Rattle.tenant_store.specs.Holdings.{Holdings, files_of, path_of, profile_of, ChangesFiles}
 use Rattle.index_store.specs.PortTable.{Entry}
 use Rattle.index_keep.specs.declared.keeper.Keeper.{Keeper}
 use Rattle.tenant_worlds.specs.declared.tenant.Tenant.{Tenant}
@@ -105,15 +105,15 @@ limited world tenant keeper rows begun kept is =
 apart_from : (name file : List ℕ) → bytes_eq name file ≡ false → eq_by_cmp (slice_cmp nat_cmp) file name ≡ false
 apart_from name file other = is_eq-slice_cmp file name ∙ bytes_eq-sym file name ∙ other
 
-settings_stay : (old new : Holdings) (t : ℕ) → path_of t new ≡ path_of t old → (world_in new t).1 ≡ (world_in old t).1
-settings_stay old new t e = ap (λ trees. let settings : Settings = record { path = trees } in settings) e
+settings_stay : (old new : Holdings) (t : ℕ) → path_of t new ≡ path_of t old → profile_of t new ≡ profile_of t old → (world_in new t).1 ≡ (world_in old t).1
+settings_stay old new t path profile i = record { path = path i; profile = profile i }
 
 -- an upload makes another world at the file's name alone
 pub put_differs
     : (old new : Holdings) (t : ℕ) (name content : List ℕ) → ChangesFiles old new t (finite.insert (files_of t old) name content)
     → DifferAt name (world_in old t) (world_in new t)
 put_differs old new t name content changes = record {
-  settings = settings_stay old new t (changes.paths t);
+  settings = settings_stay old new t (changes.paths t) (changes.profiles t);
   files = λ file other.
       ap (λ (files : FileMap). finite.get files file) changes.own
       ∙ finite.get-insert nat_list_cmp_total (files_of t old) name content file
@@ -125,7 +125,7 @@ pub removed_differs
     : (old new : Holdings) (t : ℕ) (name : List ℕ) → ChangesFiles old new t (finite.remove (files_of t old) name)
     → DifferAt name (world_in old t) (world_in new t)
 removed_differs old new t name changes = record {
-  settings = settings_stay old new t (changes.paths t);
+  settings = settings_stay old new t (changes.paths t) (changes.profiles t);
   files = λ file other.
       ap (λ (files : FileMap). finite.get files file) changes.own
       ∙ finite.get-remove nat_list_cmp_total (files_of t old) name file

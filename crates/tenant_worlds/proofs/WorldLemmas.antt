@@ -13,7 +13,7 @@ use Rattle.ports_http.specs.Messages.{RequestMessage, ReplyMessage}
 use Rattle.ports_plain.specs.declared.changing.Change.{Change}
 use Rattle.ports_plain.specs.Changing.{settle_change}
 use Rattle.ports_plain.specs.Plain.{PlainRequest, Served, plain, answer}
-use Rattle.tenant_store.specs.Holdings.{Holdings, nothing, files_of, path_of}
+use Rattle.tenant_store.specs.Holdings.{Holdings, nothing, files_of, path_of, profile_of}
 use Rattle.ports_core.specs.Answering.{Answers, AnswersFor, plain_request_of, plain_answer}
 use Rattle.ports_core.specs.Charging.{Spends, MayHaveHad, Charges, ChargesFor, GoesOn}
 use Rattle.ports_core.specs.Jobs.{TenantJob, had_by, one_turn_more, spent_on}
@@ -23,7 +23,7 @@ use Rattle.ports_core.specs.Telling.{is_failure}
 use Rattle.ports_core.specs.declared.keys.Config.{Config}
 use Rattle.ports_index.specs.Spending.{no_spending, spent_together}
 use Rattle.ports_index.specs.declared.spending.Spent.{Spent}
-use Rattle.tenant_worlds.specs.Stored.{world_in, worlds_in, KeepsOtherWorlds}
+use Rattle.tenant_worlds.specs.Stored.{settings_in, world_in, worlds_in, KeepsOtherWorlds}
 use Rattle.tenant_worlds.specs.Turning.{AnswersOver, ChargesOver}
 
 pub if_ok : {A E : Type 0} {P Q : A → Type 0} (r : Result A E) → ((a : A) → P a → Q a) → IfOk r P → IfOk r Q
@@ -34,18 +34,23 @@ pub if_err : {A E P Q : Type 0} (r : Result A E) → (P → Q) → OnErr r P →
 if_err (Ok a) f p = tt
 if_err (Err e) f p = f p
 
+-- settings whose parts are the tenant's
+pub settings_are : (held : Holdings) (tenant : ℕ) (settings found : Settings) → settings ≡ found → found.path ≡ path_of tenant held → found.profile ≡ profile_of tenant held
+    → settings ≡ settings_in held tenant
+settings_are held tenant settings found is path profile = is ∙ (let parts : found ≡ settings_in held tenant = λ i. record { path = path i; profile = profile i } in parts)
+
 -- the world of a tenant's files and settings is the tenant's
-pub asked_world : (held asked_in : Holdings) (tenant : ℕ) (settings : Settings) → asked_in ≡ held → settings.path ≡ path_of tenant held
+pub asked_world : (held asked_in : Holdings) (tenant : ℕ) (settings : Settings) → asked_in ≡ held → settings ≡ settings_in held tenant
     → ◌≡◌ {A = World} ((world_in asked_in tenant).0, settings) (world_in held tenant)
-asked_world held asked_in tenant settings e path i = (files_of tenant (e i), record { path = path i })
+asked_world held asked_in tenant settings e is i = (files_of tenant (e i), is i)
 
 -- what becomes of what was prepared over it is the plain answer over the tenant's world
 pub served : (held asked_in mid : Holdings) (tenant : ℕ) (settings : Settings) (request : RequestMessage) (reply : ReplyMessage) (change : Option Change) (end : Served)
-    → asked_in ≡ held → mid ≡ asked_in → settings.path ≡ path_of tenant held → (reply, change) ≡ answer ((world_in asked_in tenant).0, settings) (plain_request_of request)
+    → asked_in ≡ held → mid ≡ asked_in → settings ≡ settings_in held tenant → (reply, change) ≡ answer ((world_in asked_in tenant).0, settings) (plain_request_of request)
     → settle_change (world_in mid tenant) reply change ≡ end → plain_answer (world_in held tenant) request ≡ end
-served held asked_in mid tenant settings request reply change end e0 e1 path was is =
+served held asked_in mid tenant settings request reply change end e0 e1 same was is =
     let world : World = world_in held tenant in
-    let prepared = was ∙ ap (λ (w : World). answer w (plain_request_of request)) (asked_world held asked_in tenant settings e0 path) in
+    let prepared = was ∙ ap (λ (w : World). answer w (plain_request_of request)) (asked_world held asked_in tenant settings e0 same) in
     ap (λ (a : ReplyMessage × Option Change). settle_change world a.0 a.1) (sym prepared) ∙ ap (λ (h : Holdings). settle_change (world_in h tenant) reply change) (sym (e1 ∙ e0)) ∙ is
 
 opening_from : (first count : ℕ) → map (world_in nothing) (range_with_len first count) ≡ replicate count opening_world

@@ -2,11 +2,16 @@
 use Rattle.std.specs.Prelude.{◌≡◌, ◌≢◌, ℕ, List, map}
 use Rattle.std.specs.List.{range_with_len}
 use Rattle.mk_paths.specs.World.{World}
-use Rattle.tenant_store.specs.Holdings.{Holdings, files_of, path_of}
+use Rattle.mk_paths.specs.declared.search_path.Settings.{Settings}
+use Rattle.tenant_store.specs.Holdings.{Holdings, files_of, path_of, profile_of}
 
--- a tenant's world: its files, and its search path
+-- a tenant's settings: its search path, and its profile
+abbrev pub settings_in : Holdings → ℕ → Settings
+settings_in held tenant = record { path = path_of tenant held; profile = profile_of tenant held }
+
+-- a tenant's world: its files, and its settings
 abbrev pub world_in : Holdings → ℕ → World
-world_in held tenant = (files_of tenant held, record { path = path_of tenant held })
+world_in held tenant = (files_of tenant held, settings_in held tenant)
 
 -- the worlds of so many tenants, by their numbers
 abbrev pub worlds_in : Holdings → ℕ → List World

@@ -210,5 +210,9 @@ fn carry_out(
             keeper.note_path(alloc)?;
             Ok(store.set_path(alloc, tenant, &path)?)
         }
+        Change::SetProfile(profile) => {
+            keeper.note_path(alloc)?; // every row is stale under other settings
+            Ok(store.set_profile(alloc, tenant, profile)?)
+        }
     }
 }

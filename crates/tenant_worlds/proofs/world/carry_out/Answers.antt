@@ -19,3 +19,6 @@ returns-in_ok-_was_there-in-RemoveFile-clause-kept c =
 
 pub returns-in_ok-set_path-in-SetPath-clause-kept : goal.returns-in_ok-set_path-in-SetPath-clause-kept
 returns-in_ok-set_path-in-SetPath-clause-kept c = c.in_ok-note_path-in-SetPath.ensures.other (world_in c.set_path.new.self c.args.tenant)
+
+pub returns-in_ok-set_profile-in-SetProfile-clause-kept : goal.returns-in_ok-set_profile-in-SetProfile-clause-kept
+returns-in_ok-set_profile-in-SetProfile-clause-kept c = c.in_ok-note_path-in-SetProfile.ensures.other (world_in c.set_profile.new.self c.args.tenant)

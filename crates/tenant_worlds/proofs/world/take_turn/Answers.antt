@@ -2,8 +2,7 @@
 use Rattle.std.proofs.Common.{◌≡◌, ◌+◌, ◌∙◌, ap, refl, sym, subst, Some, None, Option}
 use Rattle.std.specs.Prelude.{option_map}
 use Rattle.mk_paths.specs.World.{World}
-use Rattle.mk_paths.specs.declared.search_path.Settings.{Settings}
-use Rattle.tenant_store.specs.Holdings.{Holdings, path_of}
+use Rattle.tenant_store.specs.Holdings.{Holdings}
 use Rattle.ports_core.specs.Answering.{plain_request_of}
 use Rattle.ports_core.specs.Jobs as jobs
 use Rattle.ports_index.specs.PathOutcomes.{counted}
@@ -16,8 +15,8 @@ use Rattle.kept_ports.specs.declared.pending.CallTurned.TheVariants.{More, Done}
 use Rattle.tenant_worlds.specs.declared.tenant.AskedRequest.{AskedRequest}
 use Rattle.tenant_worlds.specs.declared.tenant.TenantJob.{TenantJob}
 use Rattle.tenant_worlds.specs.Kept.{seen_job, turns_had, IsTenantOf}
-use Rattle.tenant_worlds.specs.Stored.{world_in}
-use Rattle.tenant_worlds.proofs.WorldLemmas.{asked_world, served}
+use Rattle.tenant_worlds.specs.Stored.{settings_in, world_in}
+use Rattle.tenant_worlds.proofs.WorldLemmas.{settings_are, asked_world, served}
 use Rattle.tenant_worlds.proofs.TurnLemmas.{copy_is, pending_is, without_job, open-within, open-job_over, open-job, done-answer, done-spends}
 use Rattle.tenant_worlds.proofs.world.take_turn.Goals as goal
 
@@ -27,7 +26,7 @@ turn_over-requires-clause-pending c =
     let settings = c.call_of-call.result.settings.now in
     let other : World = ((world_in c.settings.new.self c.args.number).0, settings) in
     let same = asked_world held c.settings.new.self c.args.number settings c.in_ok-settings.ensures.same
-    (ap (λ (s : Settings). s.path) c.call_of-call.ensures.settings ∙ c.in_ok-settings.ensures.path) in
+    (settings_are held c.args.number settings _ c.call_of-call.ensures.settings c.in_ok-settings.ensures.path c.in_ok-settings.ensures.profile) in
     pending_is (world_in held c.args.number) other (refresh_of stored_by c.args.tenant.now.keeper) c.args.incoming.now.request.now (request_of c.call_of-call.result)
     c.args.tenant.now.job c.parts-asked.result.2 same c.call_of-call.ensures.request
     (c.parts-asked.ensures.under_way ∙ ap (λ (j : Option TenantJob). option_map (λ (it : TenantJob). it.under_way) j) c.take.ensures.value)
@@ -39,7 +38,7 @@ returns-in_err-under_way-clause-tenant c =
     let settings = c.call_of-call.result.settings.now in
     let other : World = ((world_in c.settings.new.self c.args.number).0, settings) in
     let same = asked_world c.turn_over.new.store c.settings.new.self c.args.number settings (sym c.turn_over.ensures.same)
-    (ap (λ (s : Settings). s.path) c.call_of-call.ensures.settings ∙ c.in_ok-settings.ensures.path ∙ ap (path_of c.args.number) (sym (c.turn_over.ensures.same ∙ c.in_ok-settings.ensures.same))) in
+    (settings_are held c.args.number settings _ c.call_of-call.ensures.settings c.in_ok-settings.ensures.path c.in_ok-settings.ensures.profile ∙ ap (λ (h : Holdings). settings_in h c.args.number) (sym (c.turn_over.ensures.same ∙ c.in_ok-settings.ensures.same))) in
     without_job (world_in c.turn_over.new.store c.args.number) other c.turn_over.new.keeper c.take.new.self same c.take.ensures.after c.turn_over.ensures.kept
 
 pub returns-in_err-going_on-in-More-clause-tenant : goal.returns-in_err-going_on-in-More-clause-tenant
@@ -48,7 +47,7 @@ returns-in_err-going_on-in-More-clause-tenant c =
     let settings = c.call_of-call.result.settings.now in
     let other : World = ((world_in c.settings.new.self c.args.number).0, settings) in
     let same = asked_world c.turn_over.new.store c.settings.new.self c.args.number settings (sym c.turn_over.ensures.same)
-    (ap (λ (s : Settings). s.path) c.call_of-call.ensures.settings ∙ c.in_ok-settings.ensures.path ∙ ap (path_of c.args.number) (sym (c.turn_over.ensures.same ∙ c.in_ok-settings.ensures.same))) in
+    (settings_are held c.args.number settings _ c.call_of-call.ensures.settings c.in_ok-settings.ensures.path c.in_ok-settings.ensures.profile ∙ ap (λ (h : Holdings). settings_in h c.args.number) (sym (c.turn_over.ensures.same ∙ c.in_ok-settings.ensures.same))) in
     without_job (world_in c.turn_over.new.store c.args.number) other c.turn_over.new.keeper c.take.new.self same c.take.ensures.after c.turn_over.ensures.kept
 
 pub returns-in_ok-going_on-in-More-clause-works : goal.returns-in_ok-going_on-in-More-clause-works
@@ -63,7 +62,7 @@ returns-in_ok-going_on-in-More-clause-works c =
     let refresh = refresh_of stored_by c.turn_over.new.keeper in
     let before = c.parts-asked.result.2 in
     let same = asked_world held c.settings.new.self c.args.number settings c.in_ok-settings.ensures.same
-    (ap (λ (s : Settings). s.path) c.call_of-call.ensures.settings ∙ c.in_ok-settings.ensures.path) in
+    (settings_are held c.args.number settings _ c.call_of-call.ensures.settings c.in_ok-settings.ensures.path c.in_ok-settings.ensures.profile) in
     let was = c.parts-asked.ensures.under_way ∙ ap (λ (j : Option TenantJob). option_map (λ (it : TenantJob). it.under_way) j) c.take.ensures.value in
     let left = subst (TurnsRequest other refresh plain (spent_before before)) c.in-More.is c.in_ok-under_way.ensures.turned in
     let fewer = subst (LeavesFewerFor other old refresh plain before) c.in-More.is c.in_ok-under_way.ensures.fewer in
@@ -93,7 +92,7 @@ returns-in_ok-going_on-in-More-clause-tenant c =
     let refresh = refresh_of stored_by c.turn_over.new.keeper in
     let before = c.parts-asked.result.2 in
     let same = asked_world held c.settings.new.self c.args.number settings c.in_ok-settings.ensures.same
-    (ap (λ (s : Settings). s.path) c.call_of-call.ensures.settings ∙ c.in_ok-settings.ensures.path) in
+    (settings_are held c.args.number settings _ c.call_of-call.ensures.settings c.in_ok-settings.ensures.path c.in_ok-settings.ensures.profile) in
     let was = c.parts-asked.ensures.under_way ∙ ap (λ (j : Option TenantJob). option_map (λ (it : TenantJob). it.under_way) j) c.take.ensures.value in
     let left = subst (TurnsRequest other refresh plain (spent_before before)) c.in-More.is c.in_ok-under_way.ensures.turned in
     let fewer = subst (LeavesFewerFor other old refresh plain before) c.in-More.is c.in_ok-under_way.ensures.fewer in
@@ -119,13 +118,13 @@ returns-in_ok-answer-in-Done-clause-works c =
     let refresh = refresh_of stored_by c.turn_over.new.keeper in
     let before = c.parts-asked.result.2 in
     let old = refresh_of stored_by c.args.tenant.now.keeper in
-    let path = ap (λ (s : Settings). s.path) c.call_of-call.ensures.settings ∙ c.in_ok-settings.ensures.path in
-    let same = asked_world held c.settings.new.self c.args.number settings c.in_ok-settings.ensures.same path in
+    let own = settings_are held c.args.number settings _ c.call_of-call.ensures.settings c.in_ok-settings.ensures.path c.in_ok-settings.ensures.profile in
+    let same = asked_world held c.settings.new.self c.args.number settings c.in_ok-settings.ensures.same own in
     let was = c.parts-asked.ensures.under_way ∙ ap (λ (j : Option TenantJob). option_map (λ (it : TenantJob). it.under_way) j) c.take.ensures.value in
     let ended = subst (TurnsRequest other refresh plain (spent_before before)) c.in-Done.is c.in_ok-under_way.ensures.turned in
     record {
       answers = served held c.settings.new.self c.turn_over.new.store c.args.number settings request c.in-Done.prepared.reply c.in-Done.prepared.change _
-          c.in_ok-settings.ensures.same c.turn_over.ensures.same path
+          c.in_ok-settings.ensures.same c.turn_over.ensures.same own
           (done-answer (world_in held c.args.number) other old refresh request plain job before c.in-Done.spent same c.call_of-call.ensures.request was c.in-Done.prepared ended c.questions_have_the_answers.ensures)
           c.in_ok-answer-in-Done.ensures.settle_change;
       charges = done-spends (world_in held c.args.number) other old refresh request plain job before c.in-Done.spent same c.call_of-call.ensures.request was c.in-Done.prepared ended;

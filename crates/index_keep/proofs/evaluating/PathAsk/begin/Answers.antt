@@ -25,8 +25,8 @@ pub returns-in_default-clause-turns : goal.returns-in_default-clause-turns
 returns-in_default-clause-turns g c =
     let world : World = ((view_of g.F.Names.view c.args.files.now).files, c.args.settings.now) in
     let named = subst (IsNamed (string_bytes c.args.path)) c.in_default.is (subst (λ text. IsNamed text c.in_ok-named.field-0) c.as_str.ensures.value c.in_ok-named.ensures) in (
-      IsMade-none world (string_bytes c.args.path) c.absent.result named c.absent.ensures.path
-          (c.absent.ensures.row ∙ ap (λ (items : List (String Global)). absent_row (map string_bytes items)) c.new.ensures.items) c.absent.ensures.spent,
+      IsMade-none world (string_bytes c.args.path) c.absent-made.result named c.absent-made.ensures.path
+          (c.absent-made.ensures.row ∙ ap (λ (items : List (String Global)). absent_row (map string_bytes items)) c.new.ensures.items) c.absent-made.ensures.spent,
       record { units = omega arith; checks = omega arith },
     )
 
@@ -37,8 +37,8 @@ returns-in_default-makefile-clause-turns g c =
     let is = subst (IsNamed (string_bytes c.args.path)) c.in-Some.is (subst (λ text. IsNamed text c.in_ok-named.field-0) c.as_str.ensures.value c.in_ok-named.ensures) in
     let none = sym (c.in_ok-makefile.ensures.place ∙ ap (place world) c.directory.ensures) ∙ c.in_default-makefile.is in
     let asked = c.in_ok-makefile.ensures.asked ∙ ap (places_asked files c.args.settings.now.path) c.directory.ensures in
-    let absent = c.absent-in_default-makefile.ensures in (
-      IsMade-absent world (string_bytes c.args.path) c.in-Some.named is c.in_ok-makefile.placed asked c.in_ok-makefile.ensures.answered c.absent-in_default-makefile.result none absent.path
+    let absent = c.absent-made-in_default-makefile.ensures in (
+      IsMade-absent world (string_bytes c.args.path) c.in-Some.named is c.in_ok-makefile.placed asked c.in_ok-makefile.ensures.answered c.absent-made-in_default-makefile.result none absent.path
           (absent.row ∙ ap absent_row (c.in_ok-names.ensures ∙ ap names_in c.questions.ensures)) absent.spent,
       record { units = omega arith; checks = omega arith },
     )
@@ -65,7 +65,7 @@ returns-clause-turns g c =
     let is = subst (IsNamed path) c.in-Some.is (subst (λ text. IsNamed text c.in_ok-named.field-0) c.as_str.ensures.value c.in_ok-named.ensures) in
     let there = sym (c.in_ok-makefile.ensures.place ∙ ap (place world) c.directory.ensures) ∙ c.in-Some-makefile.is in
     let placed = c.in_ok-makefile.ensures.asked ∙ ap (places_asked files settings.path) c.directory.ensures in
-    let found : FoundPath = record { path = c.args.path; named = named; makefile = makefile; placed = c.in_ok-makefile.placed } in
+    let found : FoundPath = record { path = c.args.path; profile = settings.profile; named = named; makefile = makefile; placed = c.in_ok-makefile.placed } in
     let at : IsFoundAt world found = IsFoundAt-placed world path named is c.in_ok-makefile.placed placed c.in_ok-makefile.ensures.answered found refl refl refl there in
     let key = key_for settings makefile (option_map (λ (names : Bor (List (String Global))). map string_bytes names.now) c.flavors.result) in
     let come = subst (λ (f : FileMap). HasComeTo f key ask) c.in_ok-makefile.ensures.leaves.files c.in_ok-ask.ensures.comes in
@@ -80,10 +80,10 @@ returns-clause-turns g c =
     subst (λ (before : Spent). IfOk c.go_on.result (TurnsPath world path c.args.units before)) c.nothing.ensures turns
 
 pub returns-in_default-clause-short : goal.returns-in_default-clause-short
-returns-in_default-clause-short g c = short_absent c.args.units c.absent.result.spent c.absent.ensures.spent
+returns-in_default-clause-short g c = short_absent c.args.units c.absent-made.result.spent c.absent-made.ensures.spent
 
 pub returns-in_default-makefile-clause-short : goal.returns-in_default-makefile-clause-short
-returns-in_default-makefile-clause-short g c = short_absent c.args.units c.absent-in_default-makefile.result.spent c.absent-in_default-makefile.ensures.spent
+returns-in_default-makefile-clause-short g c = short_absent c.args.units c.absent-made-in_default-makefile.result.spent c.absent-made-in_default-makefile.ensures.spent
 
 pub returns-clause-short : goal.returns-clause-short
 returns-clause-short g c = subst (λ (before : Spent). IfOk c.go_on.result (IsShortOnRow c.args.units before)) c.nothing.ensures c.go_on.ensures.short

@@ -1,6 +1,7 @@
 -- The reply is made of the evaluation, or the evaluation goes on.
-use Rattle.std.proofs.Common.{◌∙◌, ap, subst, sym, arith, None}
+use Rattle.std.proofs.Common.{◌≤◌, ◌+◌, ◌∙◌, ℕ, ap, subst, sym, arith, None}
 use Rattle.mk_paths.specs.World.{files_in}
+use Rattle.mk_eval.specs.Sharing.{cost_of}
 use Rattle.ports_http.specs.Messages.{ReplyMessage}
 use Rattle.read_trace.specs.declared.evaluating.Evaluation.{Evaluation}
 use Rattle.ports_plain.specs.declared.changing.Prepared.{Prepared}
@@ -11,8 +12,9 @@ use Rattle.index_keep.specs.Asking.{HasComeTo, IsAnswerTo, IsUpFrom, spent_in}
 use Rattle.index_keep.specs.declared.asking.AskTurned.{AskTurned}
 use Rattle.kept_ports.specs.Evaluating.{path_sought, question_sought, reply_sought, cost_sought}
 use Rattle.kept_ports.specs.Pending.{StaysWithin}
+use Rattle.kept_ports.specs.Spending.{spent_between}
 use Rattle.kept_ports.proofs.PortLemmas.{goes_on, made-answers, made-spends, made-up, made-within}
-use Rattle.kept_ports.proofs.TurnsLemmas.{all-acted, fewer-after}
+use Rattle.kept_ports.proofs.TurnsLemmas.{all-acted, few-made, fewer-after, most-sought}
 use Rattle.kept_ports.proofs.evaluating.PortAsk.end_turn.Goals as goal
 
 pub returns-then-not-may_act-clause-turns : goal.returns-then-not-may_act-clause-turns
@@ -66,3 +68,17 @@ returns-clause-turns c = λ world refresh is.
       sum = sym sum;
       within = subst (StaysWithin world (question_sought sought)) (sym c.spent_on-in_all.ensures) (made-within world sought makefile asked is.placed answer _ cost);
     }
+
+pub returns-clause-short : goal.returns-clause-short
+returns-clause-short c =
+    let sought = c.args.sought.now in
+    let makefile = c.args.self.makefile in
+    let asked = c.in-Done.asked in
+    let outcome = asked.evaluation.value.outcome in
+    let cost = c.in_ok-reply.ensures.cost ∙ ap (λ (e : Evaluation). cost_sought sought makefile e.outcome) c.deref.ensures in
+    few-made c.args.before asked c.in_ok-reply.cost c.spent_in_turn-spent.result c.spent_in_turn-spent-2.result
+    (subst (λ (n : ℕ). n ≤ cost_of outcome + 50000) (sym cost) (most-sought c.evaluations_cost_few.ensures c.records_cost_few.ensures sought makefile outcome))
+    (c.spent_in_turn-spent.ensures.is ∙ ap (spent_between c.args.before) (c.spent-evaluated.ensures.is ∙ ap spent_in c.in-Done.is))
+    (grind (arith, c.may_act.ensures, c.if-not-may_act.false))
+    (subst (λ (came : AskTurned). IsUpFrom c.args.before (spent_in came)) c.in-Done.is c.requires.up)
+    (c.spent_in_turn-spent-2.ensures.is ∙ ap (spent_between c.args.before) c.spent_on-in_all.ensures)

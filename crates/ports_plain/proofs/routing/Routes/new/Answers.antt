@@ -14,4 +14,5 @@ invariant_of-result c =
     let seventh = c.in_ok-add-7.ensures in
     let eighth = c.in_ok-add-8.ensures in
     let ninth = c.in_ok-add-9.ensures in
-    record { fixed = rw (ninth.1, eighth.1, seventh.1, sixth.1, fifth.1, fourth.1, third.1, second.1, first.1, c.new-router.ensures) refl }
+    let tenth = c.in_ok-add-10.ensures in
+    record { fixed = rw (tenth.1, ninth.1, eighth.1, seventh.1, sixth.1, fifth.1, fourth.1, third.1, second.1, first.1, c.new-router.ensures) refl }

@@ -1,0 +1,53 @@
+// The route of the profile.
+ghost use Rattle.std.specs.Prelude.{◌≡◌, IfOk};
+ghost use Rattle.ports_plain.specs.Plain.{profile_named, set_profile as set_profile_of};
+ghost use Rattle.ports_plain.specs.Questions as questions;
+
+use crate::changing::{Change, Prepared};
+use crate::questions::Question;
+use crate::replies::{not_allowed, profile_set, refusal};
+use crate::routing::Route;
+use crate::trimming::trimmed;
+use mk_text::Profile;
+use ports_http::{Method, StatusCode};
+use std::alloc::{AllocError, Global};
+
+// The question about the profile, which a PUT sets and nothing shows.
+pub fn profile_question(alloc: Global, method: Method, body: &[u8]) -> Result<Question, AllocError>
+    ensures { IfOk result (λ question. question ≡ questions.profile_question body.now method) }
+{
+    match method {
+        Method::Put => Ok(Question::Settled(set_profile(alloc, body)?)),
+        Method::Get | Method::Delete => Ok(Question::settled(not_allowed(alloc, Route::Profile)?)),
+    }
+}
+
+// The change that sets the profile whose number a body is, without the blanks and line feeds at its ends.
+fn set_profile(alloc: Global, body: &[u8]) -> Result<Prepared, AllocError>
+    ensures { IfOk result (λ prepared. (prepared.reply, prepared.change)
+        ≡ set_profile_of body.now) }
+{
+    match profile_named(trimmed(body)) {
+        Some(profile) => Ok(Prepared {
+            reply: profile_set(alloc, profile)?,
+            change: Some(Change::SetProfile(profile)),
+        }),
+        None => {
+            let reply = refusal(alloc, StatusCode::BAD_REQUEST, "Profile")?;
+            Ok(Prepared::reply_alone(reply))
+        }
+    }
+}
+
+// The profile that a text is the number of.
+fn profile_named(text: &[u8]) -> Option<Profile>
+    ensures { result ≡ profile_named text.now }
+{
+    if text == b"1".as_slice() {
+        return Some(Profile::One);
+    }
+    if text == b"2".as_slice() {
+        return Some(Profile::Two);
+    }
+    None
+}
