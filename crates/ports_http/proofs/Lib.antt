@@ -1,4 +1,5 @@
 pub mod FixedReplies
+mod OneMoreLemmas
 pub mod FieldLemmas
 pub mod ConnLemmas
 pub mod PutLemmas

@@ -14,6 +14,7 @@ use Rattle.ports_http.specs.Messages.{RequestMessage}
 use Rattle.ports_http.specs.Fields.{NamedField, field_values, key_of, closes}
 use Rattle.ports_http.specs.Heads.{◌>>=◌, announced, announces, fields_of, method_named, no_coding, one_host, stated_length, body_length}
 use Rattle.ports_http.specs.Streams.{HeadAt, RequestAt, LacksBody, Refuses, IsTooLarge, HasTooManyLines, IsUnfinished, Waits, End, waiting, refused, closed, EndsAs, Cuts, Begins, LeftOpen}
+use Rattle.ports_http.proofs.OneMoreLemmas.{one_more_overflows, one_more_stays}
 use Rattle.ports_http.specs.Laws.{RequestStays, RefusalStays, WaitingHasRoom, OneCutting, RequestsStay, NextRequest, CutsOn, CutsFrom}
 
 -- a head that stands first does with more behind
@@ -77,9 +78,12 @@ too_large_stays stream more (inl full) =
     let bigger : head_limit ≤ length (stream ++ more) = omega (arith, full.0, length-append stream more) in
     let same = take-append-le head_limit stream more full.0 in
     inl (bigger, subst IsUnfinished (sym same) full.1)
-too_large_stays stream more (inr lines) =
+too_large_stays stream more (inr (inl lines)) =
     let on = front_goes_on head_limit stream more in
-    inr (lines_stay (take head_limit stream) on.0 (take head_limit (stream ++ more)) on.1 lines)
+    inr (inl (lines_stay (take head_limit stream) on.0 (take head_limit (stream ++ more)) on.1 lines))
+too_large_stays stream more (inr (inr one)) =
+    let on = front_goes_on head_limit stream more in
+    inr (inr (one_more_stays (take head_limit stream) on.0 (take head_limit (stream ++ more)) on.1 one))
 
 pub refusal_stays : RefusalStays
 refusal_stays stream fault more (inl never) =
@@ -146,10 +150,15 @@ head_not_never stream head rest at never =
 head_not_large : (stream : List ℕ) (head : RequestHead) (rest : List ℕ) → HeadAt stream head rest → IsTooLarge stream → ⊥
 head_not_large stream head rest at (inl full) =
     let front = head_in_take stream head rest at in full.1.0 head front.0 front.1
-head_not_large stream head rest at (inr lines) =
+head_not_large stream head rest at (inr (inl lines)) =
     let front = head_in_take stream head rest at in
     let longer = ReadsRequest-append (take head_limit stream) head front.0 [] front.1 in
     let over = lines.0 [] head (front.0 ++ []) longer in
+    absurd (omega (arith, over, at.lines))
+head_not_large stream head rest at (inr (inr one)) =
+    let front = head_in_take stream head rest at in
+    let longer = ReadsRequest-append (take head_limit stream) head front.0 [] front.1 in
+    let over = one_more_overflows (take head_limit stream) [] head (front.0 ++ []) one longer in
     absurd (omega (arith, over, at.lines))
 
 -- a request that stands first isn't refused
@@ -164,7 +173,7 @@ request_not_refused stream request rest fault at (inr (inr told)) =
 -- a request that stands first doesn't wait
 pub request_not_waits : (stream : List ℕ) (request : RequestMessage) (rest : List ℕ) → RequestAt stream request rest
     → Waits stream → ⊥
-request_not_waits stream request rest at (inl none) = none.1.0 at.head (request.body ++ rest) at.stands.reads
+request_not_waits stream request rest at (inl none) = none.unfinished.0 at.head (request.body ++ rest) at.stands.reads
 request_not_waits stream request rest at (inr lacks) =
     let heads = one_head stream at.head lacks.head (request.body ++ rest) lacks.rest at.stands lacks.stands in
     let says = ok_inj (sym at.announced ∙ ap announces heads.0 ∙ lacks.announced) in
@@ -181,12 +190,13 @@ open_front stream never (inr target) = inl target
 -- a stream that waits and is refused, too, is one that is left open
 waits_refused : (stream : List ℕ) (fault : HeadFault) → Waits stream → Refuses stream fault → LeftOpen stream
 waits_refused stream fault (inl none) (inl never) =
-    let all : take head_limit stream ≡ stream = take_all head_limit stream (omega (arith, none.0)) in
-    open_front stream never.1 (subst MayBecomeRequest (sym all) none.1.1)
-waits_refused stream fault (inl none) (inr (inl (is, inl full))) = absurd (omega (arith, none.0, full.0))
-waits_refused stream fault (inl none) (inr (inl (is, inr lines))) = inr lines.1
+    let all : take head_limit stream ≡ stream = take_all head_limit stream (omega (arith, none.short)) in
+    open_front stream never.1 (subst MayBecomeRequest (sym all) none.unfinished.1)
+waits_refused stream fault (inl none) (inr (inl (is, inl full))) = absurd (omega (arith, none.short, full.0))
+waits_refused stream fault (inl none) (inr (inl (is, inr (inl lines)))) = inr (inl lines.1)
+waits_refused stream fault (inl none) (inr (inl (is, inr (inr one)))) = inr (inr one)
 waits_refused stream fault (inl none) (inr (inr told)) =
-    absurd (none.1.0 told.head told.rest told.stands.reads)
+    absurd (none.unfinished.0 told.head told.rest told.stands.reads)
 waits_refused stream fault (inr lacks) (inl never) = absurd (head_not_never stream lacks.head lacks.rest lacks.stands never.1)
 waits_refused stream fault (inr lacks) (inr (inl large)) =
     absurd (head_not_large stream lacks.head lacks.rest lacks.stands large.1)
@@ -197,7 +207,8 @@ waits_refused stream fault (inr lacks) (inr (inr told)) =
 -- two refusals of a stream are one, but where it is left open
 never_large : (stream : List ℕ) → NeverHasRequest (take head_limit stream) → IsTooLarge stream → LeftOpen stream
 never_large stream never (inl full) = open_front stream never full.1.1
-never_large stream never (inr lines) = inr lines.1
+never_large stream never (inr (inl lines)) = inr (inl lines.1)
+never_large stream never (inr (inr one)) = inr (inr one)
 
 one_refusal : (stream : List ℕ) (fault other : HeadFault) → Refuses stream fault → Refuses stream other
     → (fault ≡ other) ⊎ LeftOpen stream
@@ -389,5 +400,5 @@ lacks_has_room stream lacks =
 
 pub waiting_has_room : WaitingHasRoom
 unfolding head_limit body_limit unread_limit
-waiting_has_room stream (inl none) = omega (arith, none.0)
+waiting_has_room stream (inl none) = omega (arith, none.short)
 waiting_has_room stream (inr lacks) = lacks_has_room stream lacks

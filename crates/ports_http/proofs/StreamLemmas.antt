@@ -12,7 +12,7 @@ use Rattle.ports_http.specs.declared.method.Method.{Method}
 use Rattle.ports_http.specs.Limits.{head_limit, field_limit}
 use Rattle.ports_http.specs.Fields.{key_of, closes}
 use Rattle.ports_http.specs.Heads.{announced, announces}
-use Rattle.ports_http.specs.Streams.{RequestAt, LacksBody, IsUnfinished, Waits}
+use Rattle.ports_http.specs.Streams.{RequestAt, LacksBody, IsUnfinished, BeginsOneMoreOpen, Waits}
 use Rattle.ports_http.specs.Spans.{named, CoversHead, message_at, IsWholeWithin, IsMissing}
 use Rattle.ports_http.specs.declared.first.Whole.{Whole}
 
@@ -136,11 +136,12 @@ covers_front stream headers r h room within at =
     (omega (arith, length-take head_limit stream)) room within at in
     subst (λ s. CoversHead s r (take r.headers headers) h) (take-append-drop head_limit stream) covers
 
--- a stream that is no whole head yet waits
-pub head_waits : (stream : List ℕ) → length stream < head_limit → IsUnfinished (take head_limit stream) → Waits stream
-head_waits stream short unfinished =
+-- a stream that is no whole head yet, and begins no line too many, waits
+pub head_waits : (stream : List ℕ) → length stream < head_limit → IsUnfinished (take head_limit stream)
+    → (¬ BeginsOneMoreOpen stream) → Waits stream
+head_waits stream short unfinished few =
     let all : take head_limit stream ≡ stream = take_all head_limit stream (omega arith) in
-    inl (short, subst IsUnfinished all unfinished)
+    inl record { short = short; unfinished = subst IsUnfinished all unfinished; few_lines = few }
 
 -- a head stands first whose body isn't whole
 pub missing_body : (stream : List ℕ) (spans : RequestSpans) (fields : List HeaderSpan) (head : RequestHead)

@@ -1,6 +1,9 @@
 -- A connection's bytes as requests (RFC 9112, sections 2.2, 6.3 and 9).
-use Rattle.std.specs.Prelude.{◌≡◌, ◌⊎◌, ℕ, ◌<◌, ◌≤◌, false, MatchBool, List, [], ◌∷◌, ◌++◌, length, take, Ok, Err}
-use Rattle.httparse.specs.Grammar.{RequestHead, print_request, ReadsRequest, HasNoRequest, NeverHasRequest, MayBecomeRequest, EndsInTarget}
+use Rattle.std.specs.Prelude.{◌≡◌, ◌⊎◌, ℕ, ◌<◌, ◌≤◌, ◌==◌, not, false, MatchBool, List, [], ◌∷◌, ◌++◌, length, take, Ok, Err}
+use Rattle.httparse.specs.Ascii.{line_feed}
+use Rattle.httparse.specs.Pieces.{Stops, is_newline}
+use Rattle.httparse.specs.Grammar.{AllPass, RequestHead, print_request, ReadsRequest}
+use Rattle.httparse.specs.Grammar.{HasNoRequest, NeverHasRequest, MayBecomeRequest, EndsInTarget}
 use Rattle.httparse.specs.Spans.{RequestOverflows, RequestExceeds}
 use Rattle.ports_http.specs.declared.method.Method.{Method}
 use Rattle.ports_http.specs.declared.fault.HeadFault.{HeadFault}
@@ -33,6 +36,25 @@ IsUnfinished bytes = HasNoRequest bytes × MayBecomeRequest bytes
 abbrev pub HasTooManyLines : List ℕ → Type 0
 HasTooManyLines bytes = RequestOverflows field_limit bytes × RequestExceeds field_limit bytes
 
+-- the bytes are a head with as many field lines as the limit
+pub record IsFullHead (bytes : List ℕ) : Type 0 where
+  pub head : RequestHead
+  pub reads : ReadsRequest bytes head []
+  pub lines : length head.fields ≡ field_limit
+
+-- the bytes up to a line feed, and then an empty line, are such a head; but another line begins there
+pub record BeginsOneMore (bytes : List ℕ) : Type 0 where
+  pub before : List ℕ
+  pub line : List ℕ
+  pub cut : bytes ≡ before ++ line_feed ∷ line
+  pub full : IsFullHead (before ++ line_feed ∷ line_feed ∷ [])
+  pub begins : Stops is_newline line
+
+-- the same, and that line isn't finished
+pub record BeginsOneMoreOpen (bytes : List ℕ) : Type 0 where
+  pub more : BeginsOneMore bytes
+  pub unfinished : AllPass (λ b. not (b == line_feed)) more.line
+
 -- a head comes first, but its body isn't whole yet
 pub record LacksBody (stream : List ℕ) : Type 0 where
   pub head : RequestHead
@@ -43,9 +65,15 @@ pub record LacksBody (stream : List ℕ) : Type 0 where
   pub announced : announces head ≡ Ok (method, size)
   pub short : length rest < size
 
+-- no whole head comes first, but one may with more bytes; and no line begins that is one too many
+pub record LacksHead (stream : List ℕ) : Type 0 where
+  pub short : length stream < head_limit
+  pub unfinished : IsUnfinished stream
+  pub few_lines : ¬ BeginsOneMoreOpen stream
+
 -- what comes first is no whole request yet, and isn't refused
 abbrev pub Waits : List ℕ → Type 0
-Waits stream = ((length stream < head_limit) × IsUnfinished stream) ⊎ LacksBody stream
+Waits stream = LacksHead stream ⊎ LacksBody stream
 
 -- the head that comes first is refused for what it announces
 pub record RefusesHead (stream : List ℕ) (fault : HeadFault) : Type 0 where
@@ -54,11 +82,11 @@ pub record RefusesHead (stream : List ℕ) (fault : HeadFault) : Type 0 where
   pub stands : HeadAt stream head rest
   pub announced : announces head ≡ Err fault
 
--- the bytes of a greatest head hold no whole head, or too many field lines
+-- the bytes of a greatest head hold no whole head, or too many field lines, or begin one too many
 abbrev pub IsTooLarge : List ℕ → Type 0
 IsTooLarge stream =
     ((head_limit ≤ length stream) × IsUnfinished (take head_limit stream))
-    ⊎ HasTooManyLines (take head_limit stream)
+    ⊎ (HasTooManyLines (take head_limit stream) ⊎ BeginsOneMore (take head_limit stream))
 
 -- The head refusal that comes first. The bytes of a greatest head begin no head; or they hold none, or too
 -- many field lines; or the head that is there is refused.
@@ -98,4 +126,5 @@ Begins stream (request ∷ requests) rest =
 -- 400, 431 and waiting are all allowed: too many field lines begin, or the bytes end in a target
 abbrev pub LeftOpen : List ℕ → Type 0
 LeftOpen stream =
-    EndsInTarget (take head_limit stream) ⊎ RequestExceeds field_limit (take head_limit stream)
+    EndsInTarget (take head_limit stream)
+    ⊎ (RequestExceeds field_limit (take head_limit stream) ⊎ BeginsOneMore (take head_limit stream))

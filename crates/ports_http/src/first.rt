@@ -3,19 +3,21 @@ ghost use Rattle.std.specs.Prelude.{◌≡◌, ◌≤◌, ◌<◌, length, take,
 ghost use Rattle.httparse.specs.Grammar.{RequestHead};
 ghost use Rattle.ports_http.specs.Limits.{head_limit};
 ghost use Rattle.ports_http.specs.Spans.{CoversHead, ComesFirst};
+ghost use Rattle.ports_http.specs.Streams.{IsUnfinished};
 
 use crate::announced::announced;
 use crate::fault::HeadFault;
 use crate::fields::{closes, key_of};
 use crate::method::Method;
+use crate::one_more::begins_one_more;
 use httparse::spans::{EMPTY_HEADER_SPAN, HeaderSpan, RequestSpans, Span, parse_request};
 use httparse::{Error, Status};
 
 /// The most bytes of a head.
-const HEAD_LIMIT: usize = 8_192;
+pub(crate) const HEAD_LIMIT: usize = 8_192;
 
 /// The most field lines of a head.
-const FIELD_LIMIT: usize = 32;
+pub(crate) const FIELD_LIMIT: usize = 32;
 
 /// What comes first.
 pub(crate) enum First {
@@ -42,18 +44,24 @@ pub(crate) fn read_first(unread: &[u8]) -> First
     let mut fields = [EMPTY_HEADER_SPAN; FIELD_LIMIT];
     match parse_request(front(unread), &mut fields) {
         Ok(Status::Complete(spans)) => after_head(unread, &spans, &fields[..spans.headers]),
-        Ok(Status::Partial) => {
-            if unread.len() < HEAD_LIMIT {
-                First::Waiting(0)
-            } else {
-                First::Refused(HeadFault::HeadTooLarge)
-            }
-        }
+        Ok(Status::Partial) => before_head(unread),
         Err(error) => match error {
             Error::TooManyHeaders => First::Refused(HeadFault::HeadTooLarge),
             _ => First::Refused(HeadFault::Malformed),
         },
     }
+}
+
+/// What comes first, if no whole head does. A head isn't waited for that has too many bytes, or begins a field line
+/// too many.
+fn before_head(unread: &[u8]) -> First
+    requires { IsUnfinished (take head_limit unread.now) }
+    ensures { ComesFirst unread.now result }
+{
+    if unread.len() >= HEAD_LIMIT || begins_one_more(unread) {
+        return First::Refused(HeadFault::HeadTooLarge);
+    }
+    First::Waiting(0)
 }
 
 /// The first bytes, as many as a head may take.

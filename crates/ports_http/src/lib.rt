@@ -11,6 +11,7 @@ mod fields;
 mod first;
 pub mod laws;
 mod method;
+mod one_more;
 mod reply;
 mod request;
 mod stream;

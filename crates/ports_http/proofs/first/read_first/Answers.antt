@@ -1,6 +1,6 @@
 use Rattle.std.proofs.Common.{refl, ap, inl, inr, Err}
 use Rattle.ports_http.specs.Limits.{head_limit, field_limit}
-use Rattle.ports_http.proofs.StreamLemmas.{covers_front, head_waits}
+use Rattle.ports_http.proofs.StreamLemmas.{covers_front}
 use Rattle.ports_http.proofs.first.read_first.Goals as goal
 
 pub after_head-requires : goal.after_head-requires
@@ -10,23 +10,9 @@ after_head-requires c =
     let at = rw (c.in-Ok-Complete.field-0-is, c.front.ensures) at c.in-Ok-Complete.ensures.complete in
     (at.0, covers_front c.args.unread.now c.parse_request.new.headers c.in-Ok-Complete.spans at.0 c.parse_request.auto.headers within at.1)
 
-pub returns-then-unread-lt-HEAD_LIMIT : goal.returns-then-unread-lt-HEAD_LIMIT
-unfolding head_limit
-returns-then-unread-lt-HEAD_LIMIT c =
-    let none = rw (c.in-Ok-Partial.field-0-is, c.front.ensures) at c.in-Ok-Partial.ensures.partial in
-    let open_still = rw (c.in-Ok-Partial.field-0-is, c.front.ensures) at c.in-Ok-Partial.ensures.unfinished in
-    (head_waits c.args.unread.now c.if-unread-lt-HEAD_LIMIT.true (none, open_still), inl refl)
-
-pub returns-else-unread-lt-HEAD_LIMIT : goal.returns-else-unread-lt-HEAD_LIMIT
-unfolding head_limit
-returns-else-unread-lt-HEAD_LIMIT c =
-    let none = rw (c.in-Ok-Partial.field-0-is, c.front.ensures) at c.in-Ok-Partial.ensures.partial in
-    let open_still = rw (c.in-Ok-Partial.field-0-is, c.front.ensures) at c.in-Ok-Partial.ensures.unfinished in
-    inr (inl (refl, inl (c.if-unread-lt-HEAD_LIMIT.false, (none, open_still))))
-
 pub returns-in-TooManyHeaders : goal.returns-in-TooManyHeaders
 unfolding field_limit
 returns-in-TooManyHeaders c =
     let no_room = rw c.front.ensures at c.in-Err.ensures.no_room in
     let too_many = rw c.front.ensures at c.in-Err.ensures.too_many in
-    inr (inl (refl, inr (no_room, too_many (ap Err c.in-TooManyHeaders.is))))
+    inr (inl (refl, inr (inl (no_room, too_many (ap Err c.in-TooManyHeaders.is)))))
