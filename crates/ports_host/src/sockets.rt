@@ -1,6 +1,9 @@
 //! Clients over TCP.
-ghost use Rattle.std.specs.Prelude.{ℕ};
+ghost use Rattle.std.specs.Prelude.{◌≡◌, ◌↔◌, ℕ, IsTrue, MatchResult};
+ghost use Rattle.std.specs.IoError.{error_kind};
 ghost use Rattle.ports_serve.specs.Calls.{Call};
+ghost use Rattle.ports_serve.specs.declared.wire.Outcome.TheVariants as outcomes;
+ghost use Rattle.ports_host.specs.Hosts.{IsLocalAddress, IsLater, FailsAs, heard};
 
 use mio::net::{TcpListener, TcpStream};
 use mio::{Events, Interest, Poll, Token};
@@ -53,11 +56,17 @@ impl<R: Net> Listen for Loopback<'_, R> {
 /// A listener on the port, and what waits for it.
 fn begin(net: &impl Net, port: u16) -> io::Result<(Poll, TcpListener)> {
     let poll = Poll::new(net)?;
-    let address = SocketAddr::new(IpAddr::V4(Ipv4Addr::LOCALHOST), port);
-    let mut listener = TcpListener::bind(net, address)?;
+    let mut listener = TcpListener::bind(net, address_of(port))?;
     poll.registry()
         .register(&mut listener, Token(0), Interest::READABLE)?;
     Ok((poll, listener))
+}
+
+/// The address of the port on 127.0.0.1.
+fn address_of(port: u16) -> SocketAddr
+    ensures { IsLocalAddress port result }
+{
+    SocketAddr::new(IpAddr::V4(Ipv4Addr::new(127, 0, 0, 1)), port)
 }
 
 /// A client, under the number of its connection.
@@ -111,13 +120,14 @@ impl Wire for Sockets {
                 .poll
                 .poll(&mut self.events, Some(Duration::from_millis(IDLE)));
         }
-        match self.listener.accept() {
-            Ok((stream, _)) => match self.take(conn, stream) {
+        match outcome_of(self.listener.accept()) {
+            Outcome::Got((stream, _)) => match self.take(conn, stream) {
                 Ok(()) => Outcome::Got(()),
                 Err(_) => Outcome::Nothing,
             },
-            Err(error) if is_later(&error) => Outcome::Nothing,
-            Err(_) => Outcome::Fault,
+            Outcome::Nothing => Outcome::Nothing,
+            Outcome::End => Outcome::End,
+            Outcome::Fault => Outcome::Fault,
         }
     }
 
@@ -125,23 +135,14 @@ impl Wire for Sockets {
         let Some(client) = self.client(conn) else {
             return Outcome::Fault;
         };
-        match client.stream.read(buffer) {
-            Ok(0) => Outcome::End,
-            Ok(count) => Outcome::Got(count),
-            Err(error) if is_later(&error) => Outcome::Nothing,
-            Err(_) => Outcome::Fault,
-        }
+        outcome_of_read(client.stream.read(buffer))
     }
 
     fn write(&mut self, conn: u64, bytes: &[u8]) -> Outcome<usize> {
         let Some(client) = self.client(conn) else {
             return Outcome::Fault;
         };
-        match client.stream.write(bytes) {
-            Ok(count) => Outcome::Got(count),
-            Err(error) if is_later(&error) => Outcome::Nothing,
-            Err(_) => Outcome::Fault,
-        }
+        outcome_of(client.stream.write(bytes))
     }
 
     fn shut(&mut self, conn: u64) {
@@ -149,7 +150,31 @@ impl Wire for Sockets {
     }
 }
 
+/// What a read of a socket brought. A read of no bytes is the end.
+fn outcome_of_read(read: io::Result<usize>) -> Outcome<usize>
+    ensures { MatchResult read (λ count. result ≡ heard count) (λ error. FailsAs (error_kind error) result) }
+{
+    match read {
+        Ok(0) => Outcome::End,
+        read => outcome_of(read),
+    }
+}
+
+/// What a call of a socket brought: nothing yet, if it is to be tried again later, and a fault at
+/// any other error.
+fn outcome_of<T: Drop>(answer: io::Result<T>) -> Outcome<T>
+    ensures { MatchResult answer (λ got. result ≡ outcomes.Got got) (λ error. FailsAs (error_kind error) result) }
+{
+    match answer {
+        Ok(got) => Outcome::Got(got),
+        Err(error) if is_later(&error) => Outcome::Nothing,
+        Err(_) => Outcome::Fault,
+    }
+}
+
 /// Whether the call is to be tried again later.
-fn is_later(error: &io::Error) -> bool {
-    matches!(error.kind(), ErrorKind::WouldBlock | ErrorKind::Interrupted)
+fn is_later(error: &io::Error) -> bool
+    ensures { IsTrue result ↔ IsLater (error_kind error.now) }
+{
+    error.kind() == ErrorKind::WouldBlock || error.kind() == ErrorKind::Interrupted
 }

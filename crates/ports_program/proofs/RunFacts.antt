@@ -1,14 +1,18 @@
 -- How runs end.
-use Rattle.std.proofs.Common.{◌≡◌, ◌<◌, ◌∙◌, ◌⊎◌, inl, inr, Bool, true, false, ℕ, List, length, get_or, refl, sym, ap, subst, arith, Option, Some, None, Result, Ok, Err}
+use Rattle.std.proofs.Common.{◌≡◌, ◌<◌, ◌∙◌, ◌⊎◌, inl, inr, Bool, true, false, ℕ, List, length, refl, sym, subst, arith, Option, Some, None, Result, Ok, Err}
 use Rattle.std.proofs.lemmas.Option.{slice_get_within, slice_get-get_or}
-use Rattle.std.specs.Result.{OnOk, IfErr}
+use Rattle.std.proofs.lemmas.Bool.{false≢true}
+use Rattle.std.specs.Prelude.{slice_index}
+use Rattle.std.specs.Result.{OnOk, IfOk, IfErr}
 use Rattle.std.specs.Io.KnownBytes.{Appends, Keeps}
 use Rattle.ports_core.specs.declared.event.Event.{Event}
 use Rattle.ports_core.specs.declared.history.Transcript.{Transcript}
 use Rattle.ports_core.specs.declared.keys.Config.{Config}
 use Rattle.ports_core.specs.Effects.{Effect}
 use Rattle.ports_core.specs.declared.history.ReplayFault.{ReplayFault}
-use Rattle.ports_core.specs.declared.history.ReplayFault.TheVariants.{NotAllowed}
+use Rattle.ports_core.specs.declared.history.ReplayFault.TheVariants as run
+use Rattle.ports_core.specs.declared.service.NewFault.{NewFault}
+use Rattle.ports_core.specs.declared.service.NewFault.TheVariants as new
 use Rattle.ports_core.specs.Replays.{IsRun, TellsPlainly, ConversesOnEach, StopsAt, EndsEarly}
 use Rattle.ports_core.specs.State.{State}
 use Rattle.ports_script.specs.declared.script.Script.{Script}
@@ -20,7 +24,8 @@ use Rattle.ports_script.specs.Scripts.{numbered, ReadsScript, FailsToRead}
 use Rattle.ports_script.specs.Printing.{transcript}
 use Rattle.ports_core.specs.Keys.{is_fit}
 use Rattle.ports_program.specs.Running.{Streams, HappensWhole, HappensUpTo, PrintsWhole, PrintsUpTo, EventsEnd, Completes, Ends, FailsToPrint}
-use Rattle.ports_script.specs.Failures.{script_failure}
+use Rattle.ports_program.specs.Reporting.{PrintsRun, FailsAfter}
+use Rattle.ports_script.specs.Failures.{script_failure, new_failure}
 
 pub Keeps-same : (known : Option (List ℕ)) → Keeps known known
 Keeps-same None = tt
@@ -34,37 +39,6 @@ happens config script steps service events e run plainly converses = (
   subst (λ (ran : List Event). ConversesOnEach config ran steps service) e converses,
 )
 
--- the events of a script happened, and are printed
-pub prints_whole : {A E : Type 0} (config : Config) (script : Script) (held holds : Option (List ℕ)) (r : Result A E) (steps : List Effect) (service : State) (events : List Event) (printed : List Effect) → events ≡ script.events.items → printed ≡ steps → IsRun config events steps service → TellsPlainly config events steps service → ConversesOnEach config events steps service → OnOk r (Appends held holds (transcript (numbered script) printed)) → OnOk r (PrintsWhole config script held holds)
-prints_whole config script held holds (Ok x) steps service events printed e f run plainly converses appends = (
-  steps,
-  service,
-  happens config script steps service events e run plainly converses,
-  subst (λ (told : List Effect). Appends held holds (transcript (numbered script) told)) f appends,
-)
-prints_whole config script held holds (Err why) steps service events printed e f run plainly converses appends = appends
-
--- the events of a script happened up to one that isn't allowed
-pub happened_up_to : {K : Type 0} (config : Config) (script : Script) (index : ℕ) (done : Transcript K) (why : ReplayFault K) (events : List Event) → events ≡ script.events.items → why ≡ NotAllowed index done → EndsEarly config events why → (place : ℕ) × HappensUpTo config script place done.steps.items done.service
-happened_up_to {K} config script index done why events e n early =
-    let ends : StopsAt config events index done.steps.items done.service = subst (λ (fault : ReplayFault K). EndsEarly config events fault) n early in
-    (index, subst (λ (ran : List Event). StopsAt config ran index done.steps.items done.service) e ends)
-
--- the events of a script happened up to one that isn't allowed, and are printed
-pub prints_up_to : {K : Type 0} (config : Config) (script : Script) (held holds : Option (List ℕ)) (index line : ℕ) (done : Transcript K) (why : ReplayFault K) (events : List Event) (printed : List Effect) → events ≡ script.events.items → printed ≡ done.steps.items → why ≡ NotAllowed index done → length script.lines.items ≡ length script.events.items → line ≡ get_or script.lines.items index 0 → EndsEarly config events why → Appends held holds (transcript (numbered script) printed) → PrintsUpTo config script line held holds
-prints_up_to {K} config script held holds index line done why events printed e f n paired l early appends =
-    let ends : StopsAt config events index done.steps.items done.service = subst (λ (fault : ReplayFault K). EndsEarly config events fault) n early in
-    let stops : StopsAt config script.events.items index done.steps.items done.service = subst (λ (ran : List Event). StopsAt config ran index done.steps.items done.service) e ends in
-    let event = slice_get_within script.events.items index _ stops.3.1 in
-    let within : index < length script.lines.items = omega arith in (
-      index,
-      done.steps.items,
-      done.service,
-      stops,
-      slice_get-get_or script.lines.items index 0 within ∙ ap Some (sym l),
-      subst (λ (told : List Effect). Appends held holds (transcript (numbered script) told)) f appends,
-    )
-
 -- events happened, and aren't printed
 events_unprinted : (config : Config) (script : Script) (held holds : Option (List ℕ)) (steps : List Effect) (service : State) (failure : Failure) → (HappensWhole config script steps service ⊎ ((index : ℕ) × HappensUpTo config script index steps service)) → FailsToPrint held holds (transcript (numbered script) steps) failure → EventsEnd config script held holds failure
 events_unprinted config script held holds steps service BadKey happened h = absurd h
@@ -75,11 +49,52 @@ events_unprinted config script held holds steps service CannotWrite happened h =
 events_unprinted config script held holds steps service StoreFailed happened h = absurd h
 events_unprinted config script held holds steps service OutOfMemory happened h = h
 
--- events happened, whole or up to one, and aren't printed
-pub unprinted : {A : Type 0} (config : Config) (script : Script) (held holds : Option (List ℕ)) (r : Result A Failure) (steps : List Effect) (service : State) (printed : List Effect) → printed ≡ steps → (HappensWhole config script steps service ⊎ ((index : ℕ) × HappensUpTo config script index steps service)) → IfErr r (FailsToPrint held holds (transcript (numbered script) printed)) → IfErr r (EventsEnd config script held holds)
-unprinted config script held holds (Ok x) steps service printed f happened h = h
-unprinted config script held holds (Err failure) steps service printed f happened h =
-    events_unprinted config script held holds steps service failure happened (subst (λ (told : List Effect). FailsToPrint held holds (transcript (numbered script) told) failure) f h)
+-- all events of a run happened, and are printed
+pub done_run : {W A E : Type 0} (config : Config) (script : Script) (held holds : Option (List ℕ)) (r : Result A E) (ran : Result (Transcript W) (ReplayFault W)) (events : List Event) → events ≡ script.events.items
+    → IfOk ran (λ done. IsRun config events done.steps.items done.service) → IfOk ran (λ done. TellsPlainly config events done.steps.items done.service) → IfOk ran (λ done. ConversesOnEach config events done.steps.items done.service)
+    → OnOk r (PrintsRun script ran held holds) → OnOk r (PrintsWhole config script held holds)
+done_run config script held holds (Err why) ran events e run plainly converses h = h
+done_run config script held holds (Ok x) (Err why) events e run plainly converses h = absurd h
+done_run config script held holds (Ok x) (Ok done) events e run plainly converses h =
+    (done.steps.items, done.service, happens config script done.steps.items done.service events e run plainly converses, h)
+
+-- the event of a line wasn't allowed, and those before it are printed
+pub prints_up_to : {W : Type 0} (config : Config) (script : Script) (held holds : Option (List ℕ)) (index : ℕ) (done : Transcript W) → length script.lines.items ≡ length script.events.items
+    → StopsAt config script.events.items index done.steps.items done.service → Appends held holds (transcript (numbered script) done.steps.items) → PrintsUpTo config script (slice_index script.lines.items index) held holds
+prints_up_to config script held holds index done paired stops appends =
+    let event = slice_get_within script.events.items index _ stops.3.1 in
+    let within : index < length script.lines.items = omega (arith, paired, event) in
+    (index, done.steps.items, done.service, stops, slice_get-get_or script.lines.items index 0 within, appends)
+
+-- the service didn't begin
+unbegun : (config : Config) (script : Script) (held holds : Option (List ℕ)) (why : NewFault) → is_fit config ≡ true → (why ≡ new.Config → is_fit config ≡ false) → Keeps held holds → EventsEnd config script held holds (new_failure why)
+unbegun config script held holds new.Config fit unfit kept = absurd (false≢true (sym (unfit refl) ∙ fit))
+unbegun config script held holds new.Store fit unfit kept = kept
+unbegun config script held holds new.Memory fit unfit kept = kept
+
+-- a config that is fit begins, if its beginning doesn't fail
+unfit_only : (W : Type 0) (config : Config) (events : List Event) (why : NewFault) → EndsEarly {W = W} config events (run.New why) → why ≡ new.Config → is_fit config ≡ false
+unfit_only W config events why early is = subst (λ fault. EndsEarly {W = W} config events (run.New fault)) is early
+
+-- a run failed, or its output did
+pub failed_run : {W A : Type 0} (config : Config) (script : Script) (held holds : Option (List ℕ)) (r : Result A Failure) (ran : Result (Transcript W) (ReplayFault W)) (events : List Event) → events ≡ script.events.items
+    → is_fit config ≡ true → length script.lines.items ≡ length script.events.items
+    → IfOk ran (λ done. IsRun config events done.steps.items done.service) → IfOk ran (λ done. TellsPlainly config events done.steps.items done.service) → IfOk ran (λ done. ConversesOnEach config events done.steps.items done.service)
+    → IfErr ran (EndsEarly config events)
+    → IfErr r (FailsAfter script ran held holds) → IfErr r (EventsEnd config script held holds)
+failed_run config script held holds (Ok x) ran events e fit paired run plainly converses early h = h
+failed_run config script held holds (Err failure) (Ok done) events e fit paired run plainly converses early h =
+    events_unprinted config script held holds done.steps.items done.service failure (inl (happens config script done.steps.items done.service events e run plainly converses)) h
+failed_run config script held holds (Err failure) (Err (run.NotAllowed index done)) events e fit paired run plainly converses early (inl h) =
+    let stops = subst (λ (ran : List Event). StopsAt config ran index done.steps.items done.service) e early in
+    events_unprinted config script held holds done.steps.items done.service failure (inr (index, stops)) h
+failed_run config script held holds (Err failure) (Err (run.NotAllowed index done)) events e fit paired run plainly converses early (inr (is, appends)) =
+    let stops = subst (λ (ran : List Event). StopsAt config ran index done.steps.items done.service) e early in
+    subst (EventsEnd config script held holds) (sym is) (prints_up_to config script held holds index done paired stops appends)
+failed_run {W} config script held holds (Err failure) (Err (run.New why)) events e fit paired run plainly converses early (is, kept) =
+    subst (EventsEnd config script held holds) (sym is) (unbegun config script held holds why fit (unfit_only W config events why early) kept)
+failed_run config script held holds (Err failure) (Err run.Memory) events e fit paired run plainly converses early (is, kept) =
+    subst (EventsEnd config script held holds) (sym is) kept
 
 -- a script was read and run
 pub completes : {A E : Type 0} (config : Config) (streams : Streams) (r : Result A E) (script : Script) → is_fit config ≡ true → ReadsScript streams.unread streams.left (numbered script) → OnOk r (PrintsWhole config script streams.held streams.holds) → OnOk r (Completes config streams)

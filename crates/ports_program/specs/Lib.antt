@@ -1,3 +1,4 @@
 pub mod Running
 pub mod Serving
 pub mod CommandLine
+pub mod Reporting

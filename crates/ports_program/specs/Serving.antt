@@ -3,6 +3,8 @@ use Rattle.std.specs.Prelude.{◌≡◌, ◌⊎◌, ℕ, true, false, List, code
 use Rattle.std.specs.Io.KnownBytes.{Appends, Keeps}
 use Rattle.ports_core.specs.Keys.{is_fit, key_texts}
 use Rattle.ports_core.specs.State.{State, new_state}
+use Rattle.ports_serve.specs.declared.listen.ListenFault.{ListenFault}
+use Rattle.ports_serve.specs.declared.listen.ListenFault.TheVariants as listening
 use Rattle.ports_serve.specs.Calls.{Call}
 use Rattle.ports_serve.specs.Rounds.{IsServed}
 use Rattle.ports_program.specs.declared.command_line.Serving.{Serving}
@@ -16,9 +18,10 @@ use Rattle.ports_script.specs.Failures.{failure_status, failure_text}
 abbrev pub ready_text : List ℕ
 ready_text = codes "portsd: ready\n"
 
--- the failures if nothing listens: the port can't be had, or memory ran out
-abbrev pub FailsToListen : Failure → Type 0
-FailsToListen failure = (failure ≡ CannotListen) ⊎ (failure ≡ OutOfMemory)
+-- the failure if nothing listens
+abbrev pub listen_failure : ListenFault → Failure
+listen_failure listening.Port = CannotListen
+listen_failure listening.Memory = OutOfMemory
 
 -- A service that begins with the config serves all rounds over a wire that listens on the port, and it
 -- has said that it is ready.
@@ -32,17 +35,22 @@ pub record Serves {W : Type 0} (After : W → Call → W → Type 0) (ListensOn 
   pub left : State
   pub served : IsServed After serving.rounds wire (new_state (key_texts serving.config.keys.items)) wire_left left
 
+-- a wire listens on the port
+abbrev pub Listens : {W : Type 0} → (ℕ → W → Type 0) → Serving → Type 0
+Listens {W} ListensOn serving = (wire : W) × ListensOn serving.port wire
+
 -- Why it ends early. Keys are looked at first, and nothing is printed before something listens. If memory
 -- runs out for the rounds, only that it is ready is printed before.
-abbrev pub EndsServing : Serving → Option (List ℕ) → Option (List ℕ) → Failure → Type 0
-EndsServing serving held holds BadKey = (is_fit serving.config ≡ false) × Keeps held holds
-EndsServing serving held holds (BadEvent line) = ⊥
-EndsServing serving held holds (NotAllowed line) = ⊥
-EndsServing serving held holds CannotListen = (is_fit serving.config ≡ true) × Keeps held holds
-EndsServing serving held holds CannotWrite = (is_fit serving.config ≡ true) × AppendsFront held holds ready_text
-EndsServing serving held holds StoreFailed = (is_fit serving.config ≡ true) × Keeps held holds
-EndsServing serving held holds OutOfMemory =
-    (is_fit serving.config ≡ true) × (Keeps held holds ⊎ Appends held holds ready_text)
+abbrev pub EndsServing : {W : Type 0} → (ℕ → W → Type 0) → Serving → Option (List ℕ) → Option (List ℕ) → Failure → Type 0
+EndsServing ListensOn serving held holds BadKey = (is_fit serving.config ≡ false) × Keeps held holds
+EndsServing ListensOn serving held holds (BadEvent line) = ⊥
+EndsServing ListensOn serving held holds (NotAllowed line) = ⊥
+EndsServing ListensOn serving held holds CannotListen = (is_fit serving.config ≡ true) × Keeps held holds
+EndsServing ListensOn serving held holds CannotWrite =
+    (is_fit serving.config ≡ true) × Listens ListensOn serving × AppendsFront held holds ready_text
+EndsServing ListensOn serving held holds StoreFailed = (is_fit serving.config ≡ true) × Keeps held holds
+EndsServing ListensOn serving held holds OutOfMemory =
+    (is_fit serving.config ≡ true) × (Keeps held holds ⊎ (Listens ListensOn serving × Appends held holds ready_text))
 
 -- How it ends. It ends with status 0 after the last round, and nothing is said. Or a failure ended it: the
 -- status is the failure's, and its text is said as far as standard error takes it.
@@ -50,5 +58,5 @@ abbrev pub FinishesServing : {W : Type 0} → (W → Call → W → Type 0) → 
     → Option (List ℕ) → Option (List ℕ) → Option (List ℕ) → ℕ → Type 0
 FinishesServing After ListensOn serving held holds unsaid said status =
     ((status ≡ 0) × Serves After ListensOn serving held holds × Keeps unsaid said)
-    ⊎ ((failure : Failure) × (status ≡ failure_status failure) × EndsServing serving held holds failure
+    ⊎ ((failure : Failure) × (status ≡ failure_status failure) × EndsServing ListensOn serving held holds failure
     × AppendsUpTo unsaid said (failure_text failure))

@@ -5,16 +5,17 @@ ghost use Rattle.ports_core.specs.Keys.{is_fit};
 ghost use Rattle.ports_script.specs.Scripts.{numbered};
 ghost use Rattle.ports_script.specs.Printing.{transcript};
 ghost use Rattle.ports_program.specs.Running.{Completes, Ends, PrintsWhole, EventsEnd, Finishes, FailsToPrint};
+ghost use Rattle.ports_program.specs.Reporting.{PrintsRun, FailsAfter};
 
-use ports_core::{Config, ReplayFault, Step, Tenants, replay};
+use ports_core::{Config, ReplayFault, Step, Tenants, Transcript, replay};
 use ports_script::{DONE, Failure, Script, read_script, report, transcript_text, write_whole};
 use std::alloc::Global;
 use std::io::{Read, Write};
 
 /// Reads a script to its end, and runs it over a service that begins with the config. `K` keeps the worlds
 /// of the tenants. The effects of the events go to `out`: the bytes sent, the replies, and the connections
-/// that are refused or close. The text of a failure goes to `err`. The result is the exit status: 0; 1 if
-/// memory, the store or the output failed; 2 for a fault of a key or of the script.
+/// that are refused or close. The text of a failure goes to `err`, as far as `err` takes it. The result is the
+/// exit status: 0; 1 if memory, the store or the output failed; 2 for a fault of a key or of the script.
 ///
 /// Failures are found in this order: keys, the script, the start of the service, the run, the output. An
 /// event that isn't allowed stops the run, after what the earlier ones printed. Each byte is written once,
@@ -85,7 +86,24 @@ fn run_script<K: Tenants, O: Write>(
     ensures failed { IfErr result (EventsEnd config script.now (O.contents out.old)
         (O.contents out.new)) }
 {
-    match replay::<K>(alloc, config, script.events.as_slice()) {
+    let ran = replay::<K>(alloc, config, script.events.as_slice());
+    print_run(alloc, script, ran, out)
+}
+
+/// Prints the effects of a script's events that happened. The error is the failure that ended the run, or
+/// that of the output.
+fn print_run<K: Tenants, O: Write>(
+    alloc: Global,
+    script: &Script,
+    ran: Result<Transcript<K>, ReplayFault<K>>,
+    out: &mut O,
+) -> Result<(), Failure>
+    ensures done { OnOk result (PrintsRun script.now ran (O.contents out.old)
+        (O.contents out.new)) }
+    ensures failed { IfErr result (FailsAfter script.now ran (O.contents out.old)
+        (O.contents out.new)) }
+{
+    match ran {
         Ok(done) => print(alloc, script, done.steps.as_slice(), out),
         Err(ReplayFault::NotAllowed { index, done }) => {
             print(alloc, script, done.steps.as_slice(), out)?;

@@ -1,9 +1,9 @@
 //! One run of a service for clients.
-ghost use Rattle.std.specs.Prelude.{◌≡◌, ℕ, IfOk, IfErr, OnOk, OnErr};
+ghost use Rattle.std.specs.Prelude.{◌≡◌, Ok, IfOk, IfErr, IsErrAnd, OnOk, OnErr};
 ghost use Rattle.std.specs.Io.KnownBytes.{Appends};
 ghost use Rattle.ports_script.specs.declared.failure.Failure.TheVariants as failures;
 ghost use Rattle.ports_script.specs.Writing.{AppendsFront};
-ghost use Rattle.ports_program.specs.Serving.{ready_text, FailsToListen, Serves, EndsServing, FinishesServing};
+ghost use Rattle.ports_program.specs.Serving.{ready_text, listen_failure, Serves, EndsServing, FinishesServing};
 
 use crate::command_line::Serving;
 use ports_core::{Service, Tenants};
@@ -12,13 +12,14 @@ use ports_serve::{Listen, ListenFault, Wire, serve};
 use std::alloc::Global;
 use std::io::Write;
 
-/// A wire that listens on the port. The failure is `CannotListen` if nothing can listen there, and
-/// `OutOfMemory` if memory ran out.
-fn begin_listening<L: Listen>(alloc: Global, net: &L, port: u16) -> Result<L::Wire, Failure>
-    ensures listens { IfOk result (L.listens_on port) }
-    ensures fails { IfErr result FailsToListen }
+/// The wire that listens. The failure is `CannotListen` if the port isn't available, and `OutOfMemory` if
+/// memory ran out.
+fn listening<W>(begun: Result<W, ListenFault>) -> Result<W, Failure>
+    ensures listens { IfOk result (λ wire. begun ≡ Ok wire) }
+    ensures fails { IfErr result (λ failure. IsErrAnd begun
+        (λ fault. failure ≡ listen_failure fault)) }
 {
-    match net.listen(alloc, port) {
+    match begun {
         Ok(wire) => Ok(wire),
         Err(ListenFault::Port) => Err(Failure::CannotListen),
         Err(ListenFault::Memory) => Err(Failure::OutOfMemory),
@@ -27,11 +28,11 @@ fn begin_listening<L: Listen>(alloc: Global, net: &L, port: u16) -> Result<L::Wi
 
 /// Serves clients over a wire that listens on the port. The service begins with the config, and `K` keeps
 /// the worlds of its tenants. `portsd: ready` goes to `out` once the wire listens, and the text of a
-/// failure goes to `err`. The result is the exit status: 0 after the last round; 1 if memory, the store,
-/// the listening or the output failed; 2 for a fault of a key.
+/// failure goes to `err`, as far as `err` takes it. The result is the exit status: 0 after the last round; 1
+/// if memory, the store, the listening or the output failed; 2 for a fault of a key.
 ///
-/// Failures are found in this order: keys, the start of the service, listening, the output,
-/// and memory for the rounds.
+/// Failures are found in this order: keys, the start of the service, listening, the output, and memory for
+/// the rounds. The clause says that the keys come first, and the output and the rounds after listening.
 pub fn run_serving<K: Tenants, L: Listen, O: Write, E: Write>(
     alloc: Global,
     serving: Serving,
@@ -58,7 +59,8 @@ fn serve_clients<K: Tenants, L: Listen, O: Write>(
 ) -> Result<(), Failure>
     ensures done { OnOk result (Serves L.Wire.after L.listens_on serving (O.contents out.old)
         (O.contents out.new)) }
-    ensures failed { IfErr result (EndsServing serving (O.contents out.old) (O.contents out.new)) }
+    ensures failed { IfErr result (EndsServing L.listens_on serving (O.contents out.old)
+        (O.contents out.new)) }
 {
     let Serving {
         port,
@@ -66,7 +68,7 @@ fn serve_clients<K: Tenants, L: Listen, O: Write>(
         config,
     } = serving;
     let service = Service::<K>::new(alloc, config)?;
-    let mut wire = begin_listening(alloc, net, port)?;
+    let mut wire = listening(net.listen(alloc, port))?;
     say_ready(out)?;
     let _served = serve(alloc, &mut wire, service, rounds)?;
     Ok(())

@@ -85,8 +85,7 @@ impl From<NewFault> for Failure {
     }
 }
 
-/// Writes the text of the failure, and gives its status. If the text can't be written,
-/// the status still says it.
+/// Writes the text of the failure, as far as it can be written, and gives its status.
 pub fn report<E: Write>(failure: Failure, err: &mut E) -> u8
     ensures status { result ≡ failure_status failure }
     ensures said { AppendsUpTo (E.contents err.old) (E.contents err.new) (failure_text failure) }

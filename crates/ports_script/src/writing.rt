@@ -1,6 +1,7 @@
 //! Bytes written to their end.
-ghost use Rattle.std.specs.Prelude.{OnOk, OnErr};
+ghost use Rattle.std.specs.Prelude.{◌≢◌, OnOk, OnErr, IfErr};
 ghost use Rattle.std.specs.Io.KnownBytes.{Appends};
+ghost use Rattle.std.specs.IoError.{error_kind};
 ghost use Rattle.ports_script.specs.Writing.{AppendsFront};
 
 use std::io::{self, ErrorKind, Write};
@@ -14,6 +15,7 @@ pub fn write_whole<W: Write>(out: &mut W, bytes: &[u8]) -> io::Result<()>
     ensures written { OnOk result (Appends (W.contents out.old) (W.contents out.new) bytes.now) }
     ensures front { OnErr result (AppendsFront (W.contents out.old)
         (W.contents out.new) bytes.now) }
+    ensures retried { IfErr result (λ error. error_kind error ≢ ErrorKind.Interrupted) }
 {
     let mut done = 0;
     for _ in 0..u64::MAX {

@@ -1,13 +1,13 @@
 -- The calls of a wire.
-use Rattle.std.specs.Prelude.{◌≡◌, ℕ, ◌≤◌, List, [], ◌∷◌, take}
+use Rattle.std.specs.Prelude.{◌≡◌, ℕ, ◌≤◌, Bool, List, [], ◌∷◌, take}
 use Rattle.ports_serve.specs.declared.wire.Outcome.{Outcome}
 use Rattle.ports_serve.specs.declared.wire.Outcome.TheVariants.{Nothing, Got, End, Fault}
 
--- A call of a wire, and what it brought. `Accept`: a client for this number. `Read`: bytes of a
--- connection, if so many were asked for. `Write`: how many of these bytes were written to a connection.
--- `Shut`: a connection was dropped.
+-- A call of a wire, and what it brought. `Accept`: a client for this number, by a caller that is idle or
+-- isn't. `Read`: bytes of a connection, if so many were asked for. `Write`: how many of these bytes were
+-- written to a connection. `Shut`: a connection was dropped.
 pub data Call : Type 0 where
-  Accept : ℕ → Outcome (Unit {0}) → Call
+  Accept : ℕ → Bool → Outcome (Unit {0}) → Call
   Read : ℕ → ℕ → Outcome (List ℕ) → Call
   Write : ℕ → List ℕ → Outcome ℕ → Call
   Shut : ℕ → Call

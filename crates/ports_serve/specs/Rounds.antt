@@ -1,13 +1,15 @@
 -- Serving, round by round: what a wire is asked, and what its answers make happen to a service.
-use Rattle.std.specs.Prelude.{◌≡◌, ◌≢◌, ◌⊎◌, ℕ, zero, suc, ◌<◌, ◌≤◌, List, [], ◌∷◌, ◌++◌, map, length, Option, Some, None, Vec}
+use Rattle.std.specs.Prelude.{◌≡◌, ◌≢◌, ◌⊎◌, ℕ, zero, suc, ◌<◌, ◌==◌, min, Bool, true, false, not, ◌||◌}
+use Rattle.std.specs.Prelude.{List, [], ◌∷◌, ◌++◌, map, length, Option, Some, None, is_some, Vec}
 use Rattle.std.specs.declared.alloc.Global.{Global}
+use Rattle.std.specs.List.{list_any}
 use Rattle.std.specs.Option.{option_to_list}
 use Rattle.ports_core.specs.declared.event.Event.{Event}
 use Rattle.ports_core.specs.declared.event.Event.TheVariants as events
 use Rattle.ports_core.specs.declared.event.Told.{Told}
 use Rattle.ports_core.specs.declared.event.Refused.{Refused}
 use Rattle.ports_core.specs.Effects.{Effect}
-use Rattle.ports_core.specs.State.{State, keys_of, next_of, connections_of, room_at, pending_at}
+use Rattle.ports_core.specs.State.{State, keys_of, next_of, connections_of, room_at, pending_at, waiting_at}
 use Rattle.ports_core.specs.Runs.{Happens, Run}
 use Rattle.ports_serve.specs.declared.wire.Outcome.{Outcome}
 use Rattle.ports_serve.specs.declared.wire.Outcome.TheVariants.{Nothing, Got, End, Fault}
@@ -60,10 +62,11 @@ abbrev pub opening : ℕ → Outcome (Unit {0}) → Option Event
 opening c (Got client) = Some (events.Open c)
 opening c outcome = None
 
-abbrev pub Accepts : State → Course → State → Type 0
-Accepts old course new =
+-- a client is asked for, for the next number, by a caller that is idle or isn't
+abbrev pub Accepts : Bool → State → Course → State → Type 0
+Accepts idle old course new =
     (outcome : Outcome (Unit {0}))
-    × Follows (Accept (next_of old) outcome) (opening (next_of old) outcome) old course new
+    × Follows (Accept (next_of old) idle outcome) (opening (next_of old) outcome) old course new
 
 -- these bytes are a piece of a connection's stream
 abbrev pub HearsPiece : ℕ → List ℕ → State → Course → State → Type 0
@@ -78,11 +81,16 @@ Brings c size End old course new = Follows (Read c size End) (Some (events.End c
 Brings c size Fault old course new = Follows (Read c size Fault) (Some (events.Fault c)) old course new
 Brings c size Nothing old course new = Follows (Read c size Nothing) None old course new
 
--- a connection is read once, at most as many bytes as it has room for; if it has no room, it isn't read
+-- the most bytes that are read of a connection at once
+abbrev pub most_at_once : ℕ
+most_at_once = 16384
+
+-- A connection is read once. As many bytes are asked for as it has room for, up to the most that are read
+-- at once. If it has no room, it isn't read.
 abbrev pub Reads : ℕ → State → Course → State → Type 0
 Reads c old course new =
     ((room_at c old ≡ 0) × ChangesNothing old course new)
-    ⊎ ((size : ℕ) × (outcome : Outcome (List ℕ)) × (0 < size) × (size ≤ room_at c old) × Brings c size outcome old course new)
+    ⊎ ((0 < room_at c old) × (outcome : Outcome (List ℕ)) × Brings c (min (room_at c old) most_at_once) outcome old course new)
 
 -- what a write makes happen
 abbrev pub writing : ℕ → Outcome ℕ → Option Event
@@ -111,12 +119,12 @@ abbrev pub numbers_from : ℕ → ℕ → List ℕ
 numbers_from first zero = []
 numbers_from first (suc count) = first ∷ numbers_from (suc first) count
 
--- A round. At most one client is accepted. Each connection that is open then is read, each that is open
--- after that is written to, and each tenant has a turn.
-pub record IsRound (old : State) (course : Course) (new : State) : Type 0 where
+-- A round, whose caller is idle or isn't. At most one client is accepted. Each connection that is open then
+-- is read, each that is open after that is written to, and each tenant has a turn.
+pub record IsRound (idle : Bool) (old : State) (course : Course) (new : State) : Type 0 where
   pub opened : State
   pub accepting : Course
-  pub accepts : Accepts old accepting opened
+  pub accepts : Accepts idle old accepting opened
   pub heard : State
   pub reading : Course
   pub reads : Each Reads (connections_of opened) opened reading heard
@@ -127,9 +135,34 @@ pub record IsRound (old : State) (course : Course) (new : State) : Type 0 where
   pub turns : Each TakesTurn (numbers_from 0 (length (keys_of written))) written working new
   pub course_is : course ≡ joined accepting (joined reading (joined answering working))
 
--- so many rounds
-abbrev pub Rounds : ℕ → State → Course → State → Type 0
-Rounds count = Each (λ round. IsRound) (numbers_from 0 count)
+-- an event comes from a client: it isn't a turn
+abbrev pub comes : Event → Bool
+comes (events.Turn t) = false
+comes event = true
+
+-- a reply is told at a step
+abbrev pub replies : Effect → Bool
+replies step = is_some step.told.reply
+
+-- something comes from a client in a course, or a reply is told
+abbrev pub brings : Course → Bool
+brings course = list_any comes course.events || list_any replies course.steps
+
+-- a request waits for a turn of some tenant
+abbrev pub waits : State → Bool
+waits state = list_any (λ t. not (waiting_at t state == 0)) (numbers_from 0 (length (keys_of state)))
+
+-- after a course that leaves this state the caller is idle: the course brought nothing, and no request waits
+abbrev pub is_idle : Course → State → Bool
+is_idle course state = not (brings course || waits state)
+
+-- So many rounds, of which the first has a caller that is idle or isn't. In each later one, the caller is idle
+-- exactly if it is after the round before.
+abbrev pub Rounds : ℕ → Bool → State → Course → State → Type 0
+Rounds zero idle old course new = ChangesNothing old course new
+Rounds (suc count) idle old course new =
+    (first : Course) × (mid : State) × (rest : Course) × IsRound idle old first mid
+    × Rounds count (is_idle first mid) mid rest new × (course ≡ joined first rest)
 
 -- A wire and a service go through a course of some kind, call by call, and the events of the course
 -- are a run of the service.
@@ -140,6 +173,7 @@ pub record Goes {W : Type 0} (After : W → Call → W → Type 0) (P : State �
   pub wire : Leads After old_wire course.calls new_wire
   pub run : Run old course.events course.steps new
 
--- A service is served so many rounds: each event is what the wire's answers make happen, or a turn.
+-- A service is served so many rounds: each event is what the wire's answers make happen, or a turn. In the
+-- first round the caller isn't idle.
 abbrev pub IsServed : {W : Type 0} → (W → Call → W → Type 0) → ℕ → W → State → W → State → Type 0
-IsServed After rounds old_wire old new_wire new = Goes After (Rounds rounds) old_wire old new_wire new
+IsServed After rounds old_wire old new_wire new = Goes After (Rounds rounds false) old_wire old new_wire new

@@ -4,7 +4,8 @@ ghost use Rattle.std.specs.Option.{option_to_list};
 ghost use Rattle.ports_core.specs.State.{IsAllowed, keys_of, connections_of, room_at};
 ghost use Rattle.ports_serve.specs.Calls.{Leads, Read, Shut, GotWithin, read_outcome};
 ghost use Rattle.ports_serve.specs.Rounds.{unopened, Accepts, Reads, Writes, TakesTurn, Each, HappensOn, HearsPiece};
-ghost use Rattle.ports_serve.specs.Rounds.{IsRound, Goes, IsServed, numbers_from};
+ghost use Rattle.ports_serve.specs.Rounds.{IsRound, Goes, IsServed, numbers_from, comes, waits};
+ghost use Rattle.ports_serve.specs.Bringing.{Brought, Rested};
 ghost use Rattle.ports_serve.specs.declared.serving.TheConstants.{READ_SIZE};
 ghost use Rattle.ports_serve.specs.Buffers.{IsBuffer};
 
@@ -18,8 +19,8 @@ const READ_SIZE: usize = 16_384;
 /// Serves clients for so many rounds, and hands the service back. In a round at most one client is
 /// accepted, under the number of the next connection. Each open connection is read once, at most as many
 /// bytes as it has room for. Each that has bytes pending is written to once, and each tenant has one turn.
-/// A connection that isn't opened, or that closes, is shut. As long as a request waits, or a round brings something,
-/// the next client isn't waited for.
+/// A connection that isn't opened, or that closes, is shut. The wire may wait for the next client
+/// exactly if the round before brought nothing and told no reply, and no request waits.
 ///
 /// Whatever the wire answers, the service changes by `step` alone, at events that may happen. It fails only
 /// if there is no memory for the buffer of what is read, before anything is served.
@@ -43,8 +44,8 @@ pub fn serve<W: Wire, K: Tenants>(
     Ok(service)
 }
 
-/// One round. It gives the buffer back, and whether nothing came in the round and
-/// no request waits after it.
+/// One round, whose caller is idle or isn't. It gives the buffer back, and whether the caller is idle after
+/// it: nothing came in the round, no reply was told, and no request waits.
 fn round<W: Wire, K: Tenants>(
     wire: &mut W,
     service: &mut Service<K>,
@@ -52,26 +53,43 @@ fn round<W: Wire, K: Tenants>(
     idle: bool,
 ) -> (Vec<u8>, bool)
     requires { IsBuffer buffer }
-    ensures goes { Goes W.after IsRound wire.old service.old wire.new service.new }
+    ensures goes { Goes W.after (Rested result.1
+        (IsRound idle)) wire.old service.old wire.new service.new }
     ensures buffer { IsBuffer result.0 }
 {
     let accepted = accept(wire, service, idle);
     let (buffer, heard) = read_all(wire, service, buffer);
     let written = write_all(wire, service);
-    let worked = turn_all(wire, service);
-    (buffer, !(accepted || heard || written || worked))
+    let told = turn_all(wire, service);
+    let came = accepted | heard | written | told;
+    (buffer, !(came | requests_wait(service)))
 }
 
-/// An event happens, and a connection that isn't opened, or that closes, is shut. It gives
-/// whether there was a reply.
+/// An event happens, and a connection that isn't opened, or that closes, is shut. It gives whether
+/// something came from a client with it, or a reply was told.
 fn happen<W: Wire, K: Tenants>(wire: &mut W, service: &mut Service<K>, event: &Event) -> bool
     requires { IsAllowed event.now service.old }
-    ensures { Goes W.after (HappensOn event.now) wire.old service.old wire.new service.new }
+    ensures { Goes W.after (Brought result
+        (HappensOn event.now)) wire.old service.old wire.new service.new }
 {
     let told = service.step(event);
     shut_unopened(wire, event, told.refused);
     shut_closed(wire, told.closed);
-    told.reply.is_some()
+    is_from_client(event) | told.reply.is_some()
+}
+
+/// Whether an event comes from a client: it isn't a turn.
+fn is_from_client(event: &Event) -> bool
+    ensures { result ≡ comes event.now }
+{
+    match event {
+        Event::Turn(_) => false,
+        Event::Open(_)
+        | Event::Piece(_, _)
+        | Event::End(_)
+        | Event::Fault(_)
+        | Event::Wrote(_, _) => true,
+    }
 }
 
 fn shut_unopened<W: Wire>(wire: &mut W, event: &Event, refused: Option<Refused>)
@@ -90,16 +108,14 @@ fn shut_closed<W: Wire>(wire: &mut W, closed: Option<u64>)
     }
 }
 
-/// Accepts a client, if one waits. It gives whether something came.
+/// Accepts a client, if one waits. It gives whether one came.
 fn accept<W: Wire, K: Tenants>(wire: &mut W, service: &mut Service<K>, idle: bool) -> bool
-    ensures { Goes W.after Accepts wire.old service.old wire.new service.new }
+    ensures { Goes W.after (Brought result
+        (Accepts idle)) wire.old service.old wire.new service.new }
 {
     let conn = service.next_conn();
     match wire.accept(conn, idle) {
-        Outcome::Got(_client) => {
-            happen(wire, service, &Event::Open(conn));
-            true
-        }
+        Outcome::Got(_client) => happen(wire, service, &Event::Open(conn)),
         Outcome::Nothing | Outcome::End | Outcome::Fault => false,
     }
 }
@@ -111,8 +127,8 @@ fn read_all<W: Wire, K: Tenants>(
     buffer: Vec<u8>,
 ) -> (Vec<u8>, bool)
     requires { IsBuffer buffer }
-    ensures goes { Goes W.after (Each Reads
-        (connections_of service.old)) wire.old service.old wire.new service.new }
+    ensures goes { Goes W.after (Brought result.1 (Each Reads
+        (connections_of service.old))) wire.old service.old wire.new service.new }
     ensures buffer { IsBuffer result.0 }
 {
     let mut buffer = buffer;
@@ -121,12 +137,13 @@ fn read_all<W: Wire, K: Tenants>(
     for conn in open.as_slice() {
         let (left, came) = read(wire, service, *conn, buffer);
         buffer = left;
-        heard = heard || came;
+        heard |= came;
     }
     (buffer, heard)
 }
 
-/// Reads a connection, if it has room. It gives the buffer back, and whether something came.
+/// Reads a connection, if it has room: as many bytes as it has room for, up to the size of one read. It
+/// gives the buffer back, and whether something came.
 fn read<W: Wire, K: Tenants>(
     wire: &mut W,
     service: &mut Service<K>,
@@ -134,7 +151,8 @@ fn read<W: Wire, K: Tenants>(
     buffer: Vec<u8>,
 ) -> (Vec<u8>, bool)
     requires { IsBuffer buffer }
-    ensures goes { Goes W.after (Reads conn) wire.old service.old wire.new service.new }
+    ensures goes { Goes W.after (Brought result.1
+        (Reads conn)) wire.old service.old wire.new service.new }
     ensures buffer { IsBuffer result.0 }
 {
     let mut buffer = buffer;
@@ -144,14 +162,14 @@ fn read<W: Wire, K: Tenants>(
     }
     match fill(wire, conn, &mut buffer, size) {
         Outcome::Nothing => (buffer, false),
-        Outcome::Got(count) => (take_piece(wire, service, conn, buffer, count), true),
+        Outcome::Got(count) => take_piece(wire, service, conn, buffer, count),
         Outcome::End => {
-            happen(wire, service, &Event::End(conn));
-            (buffer, true)
+            let came = happen(wire, service, &Event::End(conn));
+            (buffer, came)
         }
         Outcome::Fault => {
-            happen(wire, service, &Event::Fault(conn));
-            (buffer, true)
+            let came = happen(wire, service, &Event::Fault(conn));
+            (buffer, came)
         }
     }
 }
@@ -169,49 +187,52 @@ fn fill<W: Wire>(wire: &mut W, conn: u64, buffer: &mut Vec<u8>, size: usize) -> 
     wire.read(conn, buffer.as_mut_slice())
 }
 
-/// The first bytes of the buffer come as a piece of a connection's stream. It gives the buffer back.
+/// The first bytes of the buffer come as a piece of a connection's stream. It gives the buffer back, and
+/// that something came.
 fn take_piece<W: Wire, K: Tenants>(
     wire: &mut W,
     service: &mut Service<K>,
     conn: u64,
     buffer: Vec<u8>,
     count: usize,
-) -> Vec<u8>
+) -> (Vec<u8>, bool)
     requires sized { IsBuffer buffer }
     requires within { count ≤ READ_SIZE }
     requires room { count ≤ room_at conn service.old }
     requires hears { 0 < room_at conn service.old }
-    ensures goes { Goes W.after (HearsPiece conn
-        (take count buffer.items)) wire.old service.old wire.new service.new }
-    ensures buffer { IsBuffer result }
+    ensures goes { Goes W.after (Brought result.1 (HearsPiece conn
+        (take count buffer.items))) wire.old service.old wire.new service.new }
+    ensures buffer { IsBuffer result.0 }
 {
     let mut piece = buffer;
     piece.truncate(count);
     let event = Event::Piece(conn, piece);
-    happen(wire, service, &event);
+    let came = happen(wire, service, &event);
     let Event::Piece(_, buffer) = event else {
         unreachable!();
     };
-    buffer
+    (buffer, came)
 }
 
-/// Writes to each connection that has bytes pending. It gives whether some were taken.
+/// Writes to each connection that has bytes pending. It gives whether some were taken, or one was lost.
 fn write_all<W: Wire, K: Tenants>(wire: &mut W, service: &mut Service<K>) -> bool
-    ensures { Goes W.after (Each Writes
-        (connections_of service.old)) wire.old service.old wire.new service.new }
+    ensures { Goes W.after (Brought result (Each Writes
+        (connections_of service.old))) wire.old service.old wire.new service.new }
 {
     let mut written = false;
     let open = service.connections();
     for conn in open.as_slice() {
         let taken = write(wire, service, *conn);
-        written = written || taken;
+        written |= taken;
     }
     written
 }
 
-/// Writes a connection's pending bytes, if there are some. It gives whether the wire took some.
+/// Writes a connection's pending bytes, if there are some. It gives whether the wire took them up to
+/// some place, or the connection is lost.
 fn write<W: Wire, K: Tenants>(wire: &mut W, service: &mut Service<K>, conn: u64) -> bool
-    ensures { Goes W.after (Writes conn) wire.old service.old wire.new service.new }
+    ensures { Goes W.after (Brought result
+        (Writes conn)) wire.old service.old wire.new service.new }
 {
     let pending = service.pending(conn);
     if pending.is_empty() {
@@ -219,27 +240,33 @@ fn write<W: Wire, K: Tenants>(wire: &mut W, service: &mut Service<K>, conn: u64)
     }
     match wire.write(conn, pending) {
         Outcome::Nothing | Outcome::End => false,
-        Outcome::Got(count) => {
-            happen(wire, service, &Event::Wrote(conn, Some(count)));
-            true
-        }
-        Outcome::Fault => {
-            happen(wire, service, &Event::Fault(conn));
-            true
-        }
+        Outcome::Got(count) => happen(wire, service, &Event::Wrote(conn, Some(count))),
+        Outcome::Fault => happen(wire, service, &Event::Fault(conn)),
     }
 }
 
-/// Each tenant has a turn. It gives whether there was a reply, or a request waits. So it does where work was done
-/// for a request that isn't answered yet: the request still waits.
+/// Each tenant has a turn. It gives whether a reply was told.
 fn turn_all<W: Wire, K: Tenants>(wire: &mut W, service: &mut Service<K>) -> bool
-    ensures { Goes W.after (λ old. Each TakesTurn
-        (numbers_from 0 (length (keys_of old))) old) wire.old service.old wire.new service.new }
+    ensures { Goes W.after (Brought result (Each TakesTurn
+        (numbers_from 0 (length (keys_of service.old))))) wire.old service.old wire.new service.new }
 {
     let mut worked = false;
     for tenant in 0..service.tenants() {
         let told = happen(wire, service, &Event::Turn(tenant));
-        worked = worked || told || service.waiting(tenant) > 0;
+        worked |= told;
     }
     worked
+}
+
+/// Whether a request waits for a turn of some tenant. So does one for which work was done, but
+/// which isn't answered yet.
+fn requests_wait<K: Tenants>(service: &Service<K>) -> bool
+    ensures { result ≡ waits service.now }
+{
+    for tenant in 0..service.tenants() {
+        if service.waiting(tenant) > 0 {
+            return true;
+        }
+    }
+    false
 }

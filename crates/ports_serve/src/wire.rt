@@ -26,7 +26,7 @@ pub trait Wire {
     /// Takes the client that waited longest, if one waits, and gives its connection this number. If the
     /// caller is idle, it may wait a while for something to come, on any connection.
     fn accept(&mut self, conn: u64, idle: bool) -> Outcome<()>
-        ensures after { after self.old (Accept conn result) self.new };
+        ensures after { after self.old (Accept conn idle result) self.new };
 
     /// Reads bytes of a connection into the front of the buffer; `Got` says how many.
     fn read(&mut self, conn: u64, buffer: &mut [u8]) -> Outcome<usize>

@@ -1,4 +1,6 @@
-use Rattle.std.proofs.Common.{arith, take}
+use Rattle.std.proofs.Common.{◌≡◌, ◌<◌, arith, take, min}
+use Rattle.ports_core.specs.State.{room_at}
+use Rattle.ports_serve.specs.Rounds.{most_at_once}
 use Rattle.ports_serve.proofs.Going.{reads_none, reads_nothing, reads_piece, reads_end, reads_fault}
 use Rattle.ports_serve.proofs.serving.read.Goals as goal
 
@@ -8,20 +10,27 @@ returns-then-size-eq0-clause-goes g c =
 
 pub returns-in-Nothing-clause-goes : goal.returns-in-Nothing-clause-goes
 returns-in-Nothing-clause-goes g c =
-    reads_nothing g.W.Wire.after c.args.conn c.min-size.result c.args.wire.now c.fill.new.wire c.args.service.now
-    (omega (arith, c.if-size-eq0.false)) (omega (arith, c.min-size.ensures, c.room.ensures)) c.in-Nothing.ensures.after
+    let room : 0 < room_at c.args.conn c.args.service.now = omega (arith, c.if-size-eq0.false, c.min-size.ensures, c.room.ensures) in
+    let size : c.min-size.result ≡ min (room_at c.args.conn c.args.service.now) most_at_once = omega (arith, c.min-size.ensures, c.room.ensures) in
+    reads_nothing g.W.Wire.after c.args.conn c.min-size.result c.args.wire.now c.fill.new.wire c.args.service.now room size c.in-Nothing.ensures.after
 
 pub returns-in-Got-clause-goes : goal.returns-in-Got-clause-goes
 returns-in-Got-clause-goes g c =
-    reads_piece g.W.Wire.after c.args.conn c.min-size.result (take c.in-Got.count c.fill.new.buffer.items) c.args.wire.now c.fill.new.wire c.take_piece.new.wire c.args.service.now c.take_piece.new.service
-    (omega (arith, c.if-size-eq0.false)) (omega (arith, c.min-size.ensures, c.room.ensures)) c.in-Got.ensures.after c.take_piece.ensures.goes
+    let room : 0 < room_at c.args.conn c.args.service.now = omega (arith, c.if-size-eq0.false, c.min-size.ensures, c.room.ensures) in
+    let size : c.min-size.result ≡ min (room_at c.args.conn c.args.service.now) most_at_once = omega (arith, c.min-size.ensures, c.room.ensures) in
+    reads_piece g.W.Wire.after c.args.conn c.min-size.result c.take_piece.result.1 (take c.in-Got.count c.fill.new.buffer.items) c.args.wire.now c.fill.new.wire c.take_piece.new.wire c.args.service.now c.take_piece.new.service
+    room size c.in-Got.ensures.after c.take_piece.ensures.goes
 
 pub returns-in-End-clause-goes : goal.returns-in-End-clause-goes
 returns-in-End-clause-goes g c =
-    reads_end g.W.Wire.after c.args.conn c.min-size.result c.args.wire.now c.fill.new.wire c.happen.new.wire c.args.service.now c.happen.new.service
-    (omega (arith, c.if-size-eq0.false)) (omega (arith, c.min-size.ensures, c.room.ensures)) c.in-End.ensures.after c.happen.ensures
+    let room : 0 < room_at c.args.conn c.args.service.now = omega (arith, c.if-size-eq0.false, c.min-size.ensures, c.room.ensures) in
+    let size : c.min-size.result ≡ min (room_at c.args.conn c.args.service.now) most_at_once = omega (arith, c.min-size.ensures, c.room.ensures) in
+    reads_end g.W.Wire.after c.args.conn c.min-size.result c.happen-came.result c.args.wire.now c.fill.new.wire c.happen-came.new.wire c.args.service.now c.happen-came.new.service
+    room size c.in-End.ensures.after c.happen-came.ensures
 
 pub returns-in-Fault-clause-goes : goal.returns-in-Fault-clause-goes
 returns-in-Fault-clause-goes g c =
-    reads_fault g.W.Wire.after c.args.conn c.min-size.result c.args.wire.now c.fill.new.wire c.happen-in-Fault.new.wire c.args.service.now c.happen-in-Fault.new.service
-    (omega (arith, c.if-size-eq0.false)) (omega (arith, c.min-size.ensures, c.room.ensures)) c.in-Fault.ensures.after c.happen-in-Fault.ensures
+    let room : 0 < room_at c.args.conn c.args.service.now = omega (arith, c.if-size-eq0.false, c.min-size.ensures, c.room.ensures) in
+    let size : c.min-size.result ≡ min (room_at c.args.conn c.args.service.now) most_at_once = omega (arith, c.min-size.ensures, c.room.ensures) in
+    reads_fault g.W.Wire.after c.args.conn c.min-size.result c.happen-came-in-Fault.result c.args.wire.now c.fill.new.wire c.happen-came-in-Fault.new.wire c.args.service.now c.happen-came-in-Fault.new.service
+    room size c.in-Fault.ensures.after c.happen-came-in-Fault.ensures
