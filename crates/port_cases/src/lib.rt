@@ -3,6 +3,7 @@
 
 mod asking;
 mod dependencies;
+mod looking;
 mod paths;
 mod records;
 mod refreshing;
@@ -28,6 +29,8 @@ pub fn answer(
         "asked" => asking::asked_answer(alloc, world, given),
         "asked by" => asking::asked_by_turns(alloc, world, given),
         "refreshed by" => refreshing::refreshed_answer(alloc, world, given),
+        "refreshed failing by" => refreshing::refreshed_failing(alloc, world, given),
+        "look failing" => looking::look_failing(alloc, world, given),
         "items" => dependencies::items_answer(alloc, world),
         "statuses" => dependencies::statuses(alloc, world, given),
         "first" | "to" | "reached" | "reaching" => {

@@ -9,9 +9,9 @@ use case_lines::{Answer, Trouble, as_number};
 use eval_cache::EvalCache;
 use index_keep::{Keeper, Refreshed};
 use index_store::IndexStore;
-use make_cases::World;
+use make_cases::{Asking, FailingFiles, World, failing_answer};
 use mk_files::Listing;
-use mk_paths::Settings;
+use mk_paths::{FilesFault, Settings};
 use ports_index::Spent;
 use read_trace::{Recorder, Trace};
 use std::alloc::Global;
@@ -53,7 +53,7 @@ fn refresh(
     let mut keeper = Keeper::new(alloc, IndexStore::open_in_memory(alloc)?);
     let mut recorder = Recorder::new(alloc, files, Trace::new(alloc));
     let turns = turns_of(alloc, cache, &mut keeper, &mut recorder, settings, units)?;
-    for turn in turns {
+    for turn in turns.ok_or(Trouble::NoCase)? {
         tell(answer, turn);
     }
     let (roots, _spent) = keeper.select(alloc, cache, &mut recorder, settings)?;
@@ -61,7 +61,61 @@ fn refresh(
     Ok(())
 }
 
-/// What each turn of a refresh tells that is given so many units.
+/// `refreshed failing by UNITS`: what each turn of a refresh tells that is given so many units, in files that fail at each
+/// call in turn. Before that, how many calls there are.
+pub fn refreshed_failing(
+    alloc: Global,
+    world: &mut World,
+    given: &[Vec<u8>],
+) -> Result<Answer, Trouble> {
+    let [units] = given else {
+        return Err(Trouble::NoCase);
+    };
+    let units = as_number(units)?;
+    let World {
+        files,
+        settings,
+        ..
+    } = world;
+    failing_answer(alloc, files, &mut Refreshing { settings, units })
+}
+
+/// A new index that is refreshed by turns of so many units, with a new cache.
+#[derive(Drop)]
+struct Refreshing<'a> {
+    settings: &'a Settings,
+    units: u64,
+}
+
+impl Asking for Refreshing<'_> {
+    fn ask(
+        &mut self,
+        alloc: Global,
+        files: &mut FailingFiles<'_>,
+    ) -> Result<Result<Answer, Trouble>, FilesFault> {
+        let mut cache = EvalCache::new(alloc, 16, 16)?;
+        let mut keeper = Keeper::new(alloc, IndexStore::open_in_memory(alloc)?);
+        let mut recorder = Recorder::new(alloc, files, Trace::new(alloc));
+        let turns = turns_of(
+            alloc,
+            &mut cache,
+            &mut keeper,
+            &mut recorder,
+            self.settings,
+            self.units,
+        )?;
+        let Some(turns) = turns else {
+            return Ok(Err(Trouble::NoCase));
+        };
+        let mut answer = Answer::new(alloc);
+        for turn in turns {
+            tell(&mut answer, turn);
+        }
+        Ok(Ok(answer))
+    }
+}
+
+/// What each turn of a refresh tells that is given so many units. `None` if it has no end.
 fn turns_of<F: Listing + Drop>(
     alloc: Global,
     cache: &mut EvalCache,
@@ -69,19 +123,21 @@ fn turns_of<F: Listing + Drop>(
     files: &mut Recorder<F>,
     settings: &Settings,
     units: u64,
-) -> Result<Vec<Refreshed>, Trouble>
+) -> Result<Option<Vec<Refreshed>>, FilesFault>
     requires { IsKept stored_by (world_of (view_of F.view files.old) settings.now) keeper.old }
     ensures { OnOk result (IsKept stored_by (world_of (view_of F.view files.new) settings.now) keeper.new) }
 {
     let mut turns = Vec::new(alloc);
     for _turn in 0..MOST_TURNS {
         let turn = keeper.refresh_turn(alloc, cache, files, settings, units)?;
-        turns.push(turn)?;
+        if turns.push(turn).is_err() {
+            return Err(FilesFault::Memory);
+        }
         if turn == Refreshed::Done {
-            return Ok(turns);
+            return Ok(Some(turns));
         }
     }
-    Err(Trouble::NoCase)
+    Ok(None)
 }
 
 fn tell(answer: &mut Answer, turn: Refreshed) {

@@ -4,6 +4,8 @@
 //! a list of its calls on top.
 #![tactic(auto)]
 
+mod cutting;
+mod interrupted;
 mod loopback;
 mod orders;
 mod quiet;
@@ -13,6 +15,7 @@ mod streams;
 mod subjects;
 mod trickle;
 mod turns;
+mod visitors;
 
 use case_lines::{Bench, Cases};
 use ports_host::words_given;

@@ -195,6 +195,7 @@ fn carry_out(world: &mut World, change: Change) -> Result<(), AllocError> {
             let _was_there = world.files.remove(&name);
         }
         Change::SetPath(path) => world.settings.path = path,
+        Change::SetProfile(profile) => world.settings.profile = profile,
     }
     Ok(())
 }

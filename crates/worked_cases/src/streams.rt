@@ -1,4 +1,5 @@
 //! Inputs and outputs that fail, and steps that no run can be made to take.
+use crate::interrupted::Interrupted;
 use crate::quiet::QuietPorts;
 use crate::service::{config_of_one, status_answer};
 use case_lines::{Answer, FailingReader, FailingWriter, Ran, Trouble, as_number};
@@ -10,15 +11,15 @@ use std::alloc::Global;
 use tenant_worlds::StoredTenants;
 
 /// `input SCRIPT failing after N`: the fault of a script whose input gives five bytes at a read and fails
-/// after so many reads, or how many events were read.
+/// after so many reads, or how many events were read. Each read is interrupted once before it is answered.
 pub fn failing_input(alloc: Global, given: &[Vec<u8>]) -> Result<Answer, Trouble> {
     let [script, reads] = given else {
         return Err(Trouble::NoCase);
     };
-    let mut input = FailingReader {
+    let mut input = Interrupted::new(FailingReader {
         rest: script.as_slice(),
         reads: as_number(reads)?,
-    };
+    });
     let mut answer = Answer::new(alloc);
     match read_script(alloc, &mut input) {
         Ok(script) => answer.number(script.events.len() as u64),
@@ -34,7 +35,8 @@ pub fn failing_input(alloc: Global, given: &[Vec<u8>]) -> Result<Answer, Trouble
 /// `narrow output SCRIPT PRINTED`: how many bytes a run writes whose output takes one byte at a write and
 /// all that is to be printed. Before that there are runs in which each write fails in turn. If one of them
 /// ends with another status than 1, writes other bytes than those before that write, or says anything but
-/// that it can't write, it gives `wrong` and the number of that write.
+/// that it can't write, it gives `wrong` and the number of that write. Each write is interrupted once before it is
+/// answered.
 pub fn narrow_output(alloc: Global, given: &[Vec<u8>]) -> Result<Answer, Trouble> {
     let [script, printed] = given else {
         return Err(Trouble::NoCase);
@@ -89,16 +91,16 @@ pub fn narrow_serving(alloc: Global, given: &[Vec<u8>]) -> Result<Answer, Troubl
 /// A run for one tenant whose output takes so many bytes.
 fn run_narrow(alloc: Global, script: &[u8], writes: usize) -> Result<Ran, Trouble> {
     let config = config_of_one(alloc)?;
-    let mut out = FailingWriter {
+    let mut out = Interrupted::new(FailingWriter {
         taken: Vec::new(alloc),
         writes,
-    };
+    });
     let mut said = Vec::new(alloc);
     let mut input = script;
     let status = run_config::<StoredTenants, _, _, _>(
         alloc, config, &mut input, &mut out, &mut said,
     );
-    let FailingWriter { taken, .. } = out;
+    let FailingWriter { taken, .. } = out.stream;
     Ok(Ran {
         status,
         printed: taken,

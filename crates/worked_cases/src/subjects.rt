@@ -1,7 +1,8 @@
 //! The things that lines of a case set up and ask, and which call each line means.
 use crate::service::StoredService;
-use crate::{loopback, orders, served, service, streams, trickle};
+use crate::{cutting, loopback, orders, served, service, streams, trickle, visitors};
 use case_lines::{Answer, Bench, Ran, Trouble};
+use index_store::IndexStore;
 use make_cases::Setup;
 use ports_http::Method;
 use std::alloc::{AllocError, Global};
@@ -15,6 +16,7 @@ pub struct Subjects<'a, N: Net> {
     net: &'a N,
     setup: Setup,
     store: Option<TenantStore>,
+    rows: Option<IndexStore>,
     service: Option<StoredService>,
 }
 
@@ -25,16 +27,29 @@ impl<'a, N: Net> Subjects<'a, N> {
             net,
             setup: Setup::new(alloc)?,
             store: None,
+            rows: None,
             service: None,
         })
     }
 
-    /// What the call of a store, of a service or of ports gives.
+    /// What the call of a store, of rows, of a service or of ports gives.
     fn answer_of_other(&mut self, call: &str, given: &[Vec<u8>]) -> Result<Answer, Trouble> {
-        match (call.strip_prefix("store "), call.strip_prefix("service ")) {
-            (Some(call), _) => self.answer_of_store(call, given),
-            (None, Some(call)) => self.answer_of_service(call, given),
-            (None, None) => port_cases::answer(self.alloc, &mut self.setup, call, given),
+        if let Some(call) = call.strip_prefix("store ") {
+            return self.answer_of_store(call, given);
+        }
+        if let Some(call) = call.strip_prefix("rows ") {
+            return self.answer_of_rows(call, given);
+        }
+        match call.strip_prefix("service ") {
+            Some(call) => self.answer_of_service(call, given),
+            None => port_cases::answer(self.alloc, &mut self.setup, call, given),
+        }
+    }
+
+    fn answer_of_rows(&mut self, call: &str, given: &[Vec<u8>]) -> Result<Answer, Trouble> {
+        match &mut self.rows {
+            Some(rows) => store_cases::rows::answer(self.alloc, rows, call, given),
+            None => Err(Trouble::NoCase),
         }
     }
 
@@ -57,6 +72,7 @@ impl<N: Net> Bench for Subjects<'_, N> {
     fn clear(&mut self) -> Result<(), AllocError> {
         self.setup = Setup::new(self.alloc)?;
         self.store = None;
+        self.rows = None;
         self.service = None;
         Ok(())
     }
@@ -64,6 +80,7 @@ impl<N: Net> Bench for Subjects<'_, N> {
     fn set_up(&mut self, call: &str, given: &[Vec<u8>]) -> Result<(), Trouble> {
         match call {
             "empty store" => self.store = Some(store_cases::empty(self.alloc)?),
+            "empty rows" => self.rows = Some(store_cases::rows::empty(self.alloc)?),
             "new service" => self.service = Some(served::new(self.alloc, given)?),
             _ => self.setup.set_up(call, given)?,
         }
@@ -93,8 +110,12 @@ impl<N: Net> Bench for Subjects<'_, N> {
             "print" => streams::printed_steps(alloc, given),
             "open and end" => service::open_and_end(alloc, given),
             "after at" => service::after(alloc, given),
+            "ends of" => cutting::ends_of(alloc, given),
+            "by bytes" => cutting::by_bytes(alloc, given),
             "any order of with" => orders::any_order(alloc, given),
             "loopback" => loopback::answered(alloc, self.net, given),
+            "visits by" => visitors::served(alloc, self.net, given),
+            "listen" => visitors::listens(alloc, self.net),
             _ => self.answer_of_other(call, given),
         }
     }

@@ -1,0 +1,142 @@
+//! Clients over TCP that come one after another, and where the service listens for them.
+ghost use Rattle.std.specs.Prelude.{ℕ};
+ghost use Rattle.ports_serve.specs.Calls.{Call};
+
+use crate::service::service_of_one;
+use case_lines::{Answer, Trouble, as_number};
+use mio::net::TcpStream;
+use ports_host::{Loopback, Sockets};
+use ports_serve::{Listen, Outcome, Wire, serve};
+use std::alloc::Global;
+use std::io::{Read, Write};
+use std::net::{IpAddr, Ipv4Addr, Net, SocketAddr};
+
+/// More rounds than the clients of a case take, each of which takes a few.
+const ROUNDS: u32 = 2_000;
+
+/// What listens, and clients of it. One does a step at each accept: it sends what it has, and leaves once it was sent
+/// something. Then the next one comes.
+#[derive(Drop)]
+struct Visitors<'a, N: Net> {
+    net: &'a N,
+    sockets: Sockets,
+    address: SocketAddr,
+    sent: &'a [u8],
+    client: Option<TcpStream>,
+    unsent: &'a [u8],
+    last: Vec<u8>,
+    served: u64,
+    most: u64,
+}
+
+impl<N: Net> Visitors<'_, N> {
+    /// The client that is there, or the next one, as long as one is left.
+    fn step(&mut self) {
+        match &mut self.client {
+            None if self.served < self.most => {
+                self.unsent = self.sent;
+                self.client = TcpStream::connect(self.net, self.address).ok();
+            }
+            None => {}
+            Some(client) => {
+                if let Ok(count) = client.write(self.unsent) {
+                    self.unsent = self.unsent.get(count..).unwrap_or(&[]);
+                }
+                let mut bytes = [0; 256];
+                let count = client.read(&mut bytes).unwrap_or(0);
+                if count > 0 {
+                    self.leave(&bytes[..count]);
+                }
+            }
+        }
+    }
+
+    /// The client was sent these bytes, and leaves.
+    fn leave(&mut self, bytes: &[u8]) {
+        self.client = None;
+        self.last.clear();
+        let _ = self.last.extend_from_slice(bytes);
+        self.served = self.served.saturating_add(1);
+    }
+}
+
+impl<N: Net> Wire for Visitors<'_, N> {
+    ghost after = { λ old call new. Unit {0} };
+
+    fn accept(&mut self, conn: u64, _idle: bool) -> Outcome<()> {
+        self.step();
+        self.sockets.accept(conn, false)
+    }
+
+    fn read(&mut self, conn: u64, buffer: &mut [u8]) -> Outcome<usize> {
+        self.sockets.read(conn, buffer)
+    }
+
+    fn write(&mut self, conn: u64, bytes: &[u8]) -> Outcome<usize> {
+        self.sockets.write(conn, bytes)
+    }
+
+    fn shut(&mut self, conn: u64) {
+        self.sockets.shut(conn);
+    }
+}
+
+/// `visits STREAM by N`: how many of N clients that come one after another over sockets are sent something by a
+/// service with the key `alpha`, and what the last of them was sent. Each sends this stream, and leaves once it
+/// was sent something.
+pub fn served(alloc: Global, net: &impl Net, given: &[Vec<u8>]) -> Result<Answer, Trouble> {
+    let [sent, most] = given else {
+        return Err(Trouble::NoCase);
+    };
+    let (sockets, address) = listening(alloc, net, 0)?;
+    let mut visitors = Visitors {
+        net,
+        sockets,
+        address,
+        sent: sent.as_slice(),
+        client: None,
+        unsent: &[],
+        last: Vec::new(alloc),
+        served: 0,
+        most: as_number(most)?,
+    };
+    let _service = serve(alloc, &mut visitors, service_of_one(alloc)?, ROUNDS)?;
+    let mut answer = Answer::new(alloc);
+    answer.number(visitors.served);
+    answer.text(visitors.last.as_slice());
+    Ok(answer)
+}
+
+/// `listen`: a port is found that is free, and listened on. It gives whether the address that is then listened on is
+/// `127.0.0.1`, and whether it has that port; and why a second one can't listen there.
+pub fn listens(alloc: Global, net: &impl Net) -> Result<Answer, Trouble> {
+    let port = free_port(alloc, net)?;
+    let (_sockets, address) = listening(alloc, net, port)?;
+    let is_local = address.ip() == IpAddr::V4(Ipv4Addr::new(127, 0, 0, 1));
+    let mut answer = Answer::of_choice(alloc, is_local, "127.0.0.1", "elsewhere");
+    answer.word(if address.port() == port {
+        "there"
+    } else {
+        "on another port"
+    });
+    match Loopback::new(net).listen(alloc, port) {
+        Ok(_sockets) => answer.word("and again"),
+        Err(fault) => answer.kind(&fault),
+    }
+    Ok(answer)
+}
+
+/// A port that nothing listens on.
+fn free_port(alloc: Global, net: &impl Net) -> Result<u16, Trouble> {
+    let (_sockets, address) = listening(alloc, net, 0)?;
+    Ok(address.port())
+}
+
+/// What listens on the port, and its address.
+fn listening(alloc: Global, net: &impl Net, port: u16) -> Result<(Sockets, SocketAddr), Trouble> {
+    let sockets = Loopback::new(net)
+        .listen(alloc, port)
+        .map_err(|_| Trouble::NoCase)?;
+    let address = sockets.address().map_err(|_| Trouble::NoCase)?;
+    Ok((sockets, address))
+}
