@@ -4,6 +4,7 @@
 //! a list of its calls on top.
 #![tactic(auto)]
 
+mod clients;
 mod cutting;
 mod interrupted;
 mod loopback;

@@ -1,12 +1,10 @@
 //! Clients over TCP that come one after another, and where the service listens for them.
-ghost use Rattle.std.specs.Prelude.{ℕ};
-ghost use Rattle.ports_serve.specs.Calls.{Call};
-
+use crate::clients::{Clients, WithClients, listening};
 use crate::service::service_of_one;
 use case_lines::{Answer, Trouble, as_number};
 use mio::net::TcpStream;
-use ports_host::{Loopback, Sockets};
-use ports_serve::{Listen, Outcome, Wire, serve};
+use ports_host::Loopback;
+use ports_serve::{Listen, serve};
 use std::alloc::Global;
 use std::io::{Read, Write};
 use std::net::{IpAddr, Ipv4Addr, Net, SocketAddr};
@@ -14,12 +12,11 @@ use std::net::{IpAddr, Ipv4Addr, Net, SocketAddr};
 /// More rounds than the clients of a case take, each of which takes a few.
 const ROUNDS: u32 = 2_000;
 
-/// What listens, and clients of it. One does a step at each accept: it sends what it has, and leaves once it was sent
+/// Clients of what listens on the address. The one that is there sends what it has, and leaves once it was sent
 /// something. Then the next one comes.
 #[derive(Drop)]
 struct Visitors<'a, N: Net> {
     net: &'a N,
-    sockets: Sockets,
     address: SocketAddr,
     sent: &'a [u8],
     client: Option<TcpStream>,
@@ -29,7 +26,7 @@ struct Visitors<'a, N: Net> {
     most: u64,
 }
 
-impl<N: Net> Visitors<'_, N> {
+impl<N: Net> Clients for Visitors<'_, N> {
     /// The client that is there, or the next one, as long as one is left.
     fn step(&mut self) {
         match &mut self.client {
@@ -50,34 +47,15 @@ impl<N: Net> Visitors<'_, N> {
             }
         }
     }
+}
 
+impl<N: Net> Visitors<'_, N> {
     /// The client was sent these bytes, and leaves.
     fn leave(&mut self, bytes: &[u8]) {
         self.client = None;
         self.last.clear();
         let _ = self.last.extend_from_slice(bytes);
         self.served = self.served.saturating_add(1);
-    }
-}
-
-impl<N: Net> Wire for Visitors<'_, N> {
-    ghost after = { λ old call new. Unit {0} };
-
-    fn accept(&mut self, conn: u64, _idle: bool) -> Outcome<()> {
-        self.step();
-        self.sockets.accept(conn, false)
-    }
-
-    fn read(&mut self, conn: u64, buffer: &mut [u8]) -> Outcome<usize> {
-        self.sockets.read(conn, buffer)
-    }
-
-    fn write(&mut self, conn: u64, bytes: &[u8]) -> Outcome<usize> {
-        self.sockets.write(conn, bytes)
-    }
-
-    fn shut(&mut self, conn: u64) {
-        self.sockets.shut(conn);
     }
 }
 
@@ -89,9 +67,8 @@ pub fn served(alloc: Global, net: &impl Net, given: &[Vec<u8>]) -> Result<Answer
         return Err(Trouble::NoCase);
     };
     let (sockets, address) = listening(alloc, net, 0)?;
-    let mut visitors = Visitors {
+    let visitors = Visitors {
         net,
-        sockets,
         address,
         sent: sent.as_slice(),
         client: None,
@@ -100,7 +77,12 @@ pub fn served(alloc: Global, net: &impl Net, given: &[Vec<u8>]) -> Result<Answer
         served: 0,
         most: as_number(most)?,
     };
-    let _service = serve(alloc, &mut visitors, service_of_one(alloc)?, ROUNDS)?;
+    let mut wire = WithClients {
+        sockets,
+        clients: visitors,
+    };
+    let _service = serve(alloc, &mut wire, service_of_one(alloc)?, ROUNDS)?;
+    let visitors = wire.clients;
     let mut answer = Answer::new(alloc);
     answer.number(visitors.served);
     answer.text(visitors.last.as_slice());
@@ -130,13 +112,4 @@ pub fn listens(alloc: Global, net: &impl Net) -> Result<Answer, Trouble> {
 fn free_port(alloc: Global, net: &impl Net) -> Result<u16, Trouble> {
     let (_sockets, address) = listening(alloc, net, 0)?;
     Ok(address.port())
-}
-
-/// What listens on the port, and its address.
-fn listening(alloc: Global, net: &impl Net, port: u16) -> Result<(Sockets, SocketAddr), Trouble> {
-    let sockets = Loopback::new(net)
-        .listen(alloc, port)
-        .map_err(|_| Trouble::NoCase)?;
-    let address = sockets.address().map_err(|_| Trouble::NoCase)?;
-    Ok((sockets, address))
 }
