@@ -57,10 +57,11 @@ impl TenantStore {
     ///
     /// # Errors
     ///
-    /// `Full` exactly if the tenant would then have more than 2,000 files or more than 8,388,608
-    /// bytes of contents. A file that is replaced counts as the one that takes its place. `Store`
-    /// if the database refuses a statement, and `Memory` if memory runs out. After an error
-    /// nothing has changed.
+    /// `Full` only if the tenant would then have more than 2,000 files or more than 8,388,608
+    /// bytes of contents. A file that is replaced counts as the one that takes its place. A file
+    /// that makes it more is never stored, but `Store` or `Memory` may come in place of `Full`.
+    /// `Store` comes if the database refuses a statement, and `Memory` if memory runs out. After
+    /// an error nothing has changed.
     pub fn put_file(
         &mut self,
         alloc: Global,
