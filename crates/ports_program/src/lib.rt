@@ -8,6 +8,6 @@ mod running;
 mod serving;
 
 pub use command_line::Serving;
-pub use program::run_command;
+pub use program::{run_command, run_program};
 pub use running::run_config;
 pub use serving::run_serving;

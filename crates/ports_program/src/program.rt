@@ -1,5 +1,6 @@
 //! One run of the program.
 ghost use Rattle.std.specs.Prelude.{◌≡◌, map, string_bytes};
+ghost use Rattle.std.specs.Process.{exit_status};
 ghost use Rattle.clap.specs.Words.{kind_of};
 ghost use Rattle.ports_program.specs.CommandLine.{EndsUnasked, Runs};
 
@@ -13,6 +14,7 @@ use ports_script::{DONE, Failure, REFUSED, report};
 use ports_serve::Listen;
 use std::alloc::Global;
 use std::io::{Read, Write};
+use std::process::ExitCode;
 
 /// Runs the program over worlds that `K` keeps. It takes the words of its command line, the first being its
 /// name, a reader for a script, and what listens for clients. What the run prints goes to `out`, and the
@@ -45,6 +47,28 @@ pub fn run_command<K: Tenants, R: Read, O: Write, E: Write, L: Listen>(
         Ok(Invocation::Serve(serving)) => run_serving::<K, L, O, E>(alloc, serving, net, out, err),
         Err(error) => answer(&error, out, err),
     }
+}
+
+/// The same, with the exit status as `main` returns it.
+pub fn run_program<K: Tenants, R: Read, O: Write, E: Write, L: Listen>(
+    alloc: Global,
+    words: &[String],
+    reader: &mut R,
+    out: &mut O,
+    err: &mut E,
+    net: &L,
+) -> ExitCode
+    ensures { Runs L.Wire.after L.listens_on (map string_bytes words.now)
+        (record {
+          unread = R.remaining reader.old;
+          left = R.remaining reader.new;
+          held = O.contents out.old;
+          holds = O.contents out.new;
+        }) (E.contents err.old)
+        (E.contents err.new) (exit_status result) }
+{
+    let status = run_command::<K, R, O, E, L>(alloc, words, reader, out, err, net);
+    ExitCode::from(status)
 }
 
 /// Prints help, or says why the words ask for no run, and gives the status.

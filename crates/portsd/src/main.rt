@@ -4,7 +4,7 @@
 #![tactic(auto)]
 
 use ports_host::{Loopback, words_given};
-use ports_program::run_command;
+use ports_program::run_program;
 use std::io;
 use std::process::ExitCode;
 use tenant_worlds::StoredTenants;
@@ -15,13 +15,12 @@ fn main(rt: HostRuntime) -> ExitCode {
         let _ = eprintln!(rt; "portsd: out of memory");
         return ExitCode::from(1);
     };
-    let status = run_command::<StoredTenants, _, _, _, _>(
+    run_program::<StoredTenants, _, _, _, _>(
         alloc,
         words.as_slice(),
         &mut rt.reader(),
         &mut io::writer(&rt),
         &mut rt.stderr(),
         &Loopback::new(&rt),
-    );
-    ExitCode::from(status)
+    )
 }
