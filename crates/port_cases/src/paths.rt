@@ -1,7 +1,8 @@
 //! What paths lead to, what it costs to learn that, and what is asked.
 use case_lines::{Answer, Trouble, as_text, one_text};
-use make_cases::{World, add_cost, given_name};
+use make_cases::{Asking, FailingFiles, World, add_cost, failing_answer, given_name};
 use mk_files::Content;
+use mk_paths::{FilesFault, Settings};
 use ports_index::{Finding, Row, evaluate_path};
 use read_trace::{Recorder, Reply, Trace, agrees};
 use std::alloc::Global;
@@ -29,6 +30,42 @@ fn recorded(alloc: Global, world: &mut World, path: &str) -> Result<(Finding, Tr
     let mut recorder = Recorder::new(alloc, files, Trace::new(alloc));
     let found = evaluate_path(alloc, &mut recorder, settings, path)?;
     Ok((found, recorder.into_trace()))
+}
+
+/// `finding failing PATH`: what a path leads to, and what it costs to learn that, in files that fail at each of their calls
+/// in turn. Before that, how many calls there are.
+pub fn finding_failing(
+    alloc: Global,
+    world: &mut World,
+    given: &[Vec<u8>],
+) -> Result<Answer, Trouble> {
+    let path = one_text(given)?;
+    let World {
+        files,
+        settings,
+        ..
+    } = world;
+    failing_answer(alloc, files, &mut FindingPath { settings, path })
+}
+
+/// A path that leads to something.
+#[derive(Drop)]
+struct FindingPath<'a> {
+    settings: &'a Settings,
+    path: &'a str,
+}
+
+impl Asking for FindingPath<'_> {
+    fn ask(
+        &mut self,
+        alloc: Global,
+        files: &mut FailingFiles<'_>,
+    ) -> Result<Result<Answer, Trouble>, FilesFault> {
+        let found = evaluate_path(alloc, files, self.settings, self.path)?;
+        let mut answer = Answer::of_word(alloc, row_word(&found.row));
+        add_cost(&mut answer, found.cost);
+        Ok(Ok(answer))
+    }
 }
 
 fn row_word(row: &Row) -> &'static str {

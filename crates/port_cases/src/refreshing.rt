@@ -1,16 +1,18 @@
 //! Indexes that are refreshed turn by turn.
 ghost use Rattle.std.specs.Prelude.{OnOk};
+ghost use Rattle.std.specs.Result.{result_err};
 ghost use Rattle.mk_paths.specs.FilesView.{world_of};
 ghost use Rattle.index_store.specs.PortTable.{stored_by};
 ghost use Rattle.read_trace.specs.Recording.{view_of};
 ghost use Rattle.index_keep.specs.Keeping.{IsKept};
+ghost use Rattle.index_keep.specs.Right.{LeavesFiles};
 
 use case_lines::{Answer, Trouble, as_number};
 use eval_cache::EvalCache;
 use index_keep::{Keeper, Refreshed};
 use index_store::IndexStore;
 use make_cases::{Asking, FailingFiles, World, failing_answer};
-use mk_files::Listing;
+use mk_files::{Listing, MemoryFiles};
 use mk_paths::{FilesFault, Settings};
 use ports_index::Spent;
 use read_trace::{Recorder, Trace};
@@ -18,6 +20,27 @@ use std::alloc::Global;
 
 /// The most turns of a refresh.
 const MOST_TURNS: usize = 1000;
+
+/// More steps than a statement of the store takes in a refresh.
+const MOST_STEPS: u64 = 10_000;
+
+/// In which turn of a refresh each statement of the index's store may take so many steps at most.
+#[derive(Clone, Copy)]
+enum Limit {
+    Never,
+    /// In the turn with this number alone, counted from 0.
+    In(usize, u64),
+}
+
+impl Limit {
+    /// The limit in the turn with this number.
+    fn in_turn(self, number: usize) -> Option<u64> {
+        match self {
+            Limit::In(turn, steps) if turn == number => Some(steps),
+            Limit::Never | Limit::In(_, _) => None,
+        }
+    }
+}
 
 /// `refreshed by UNITS`: what each turn of a refresh tells that is given so many units, from the first one to the
 /// last, and how many roots the index has then. Then the same for a second index of the same files, with the
@@ -52,10 +75,16 @@ fn refresh(
     } = world;
     let mut keeper = Keeper::new(alloc, IndexStore::open_in_memory(alloc)?);
     let mut recorder = Recorder::new(alloc, files, Trace::new(alloc));
-    let turns = turns_of(alloc, cache, &mut keeper, &mut recorder, settings, units)?;
-    for turn in turns.ok_or(Trouble::NoCase)? {
-        tell(answer, turn);
-    }
+    let turns = turns_of(
+        alloc,
+        cache,
+        &mut keeper,
+        &mut recorder,
+        settings,
+        units,
+        Limit::Never,
+    )?;
+    tell_turns(answer, &turns.ok_or(Trouble::NoCase)?);
     let (roots, _spent) = keeper.select(alloc, cache, &mut recorder, settings)?;
     answer.number(roots.len() as u64);
     Ok(())
@@ -103,16 +132,88 @@ impl Asking for Refreshing<'_> {
             &mut recorder,
             self.settings,
             self.units,
+            Limit::Never,
         )?;
         let Some(turns) = turns else {
             return Ok(Err(Trouble::NoCase));
         };
         let mut answer = Answer::new(alloc);
-        for turn in turns {
-            tell(&mut answer, turn);
-        }
+        tell_turns(&mut answer, &turns);
         Ok(Ok(answer))
     }
+}
+
+/// `refreshed stopped by UNITS`: what each turn of a refresh tells that is given so many units, of an index whose rows are
+/// all stale. Before that, for each of these turns, what refreshes told in which each statement of the store may take 1,
+/// 2, 3 .. steps at most in that turn, until none is stopped: `Store`, if that is the fault of each that was stopped,
+/// `wrong`, if one had another fault, and `never`, if none was stopped.
+pub fn refreshed_stopped(
+    alloc: Global,
+    world: &mut World,
+    given: &[Vec<u8>],
+) -> Result<Answer, Trouble> {
+    let [units] = given else {
+        return Err(Trouble::NoCase);
+    };
+    let units = as_number(units)?;
+    let World {
+        files,
+        settings,
+        ..
+    } = world;
+    let turns = turns_of_stale(alloc, files, settings, units, Limit::Never)?;
+    let turns = turns.ok_or(Trouble::NoCase)?;
+    let mut answer = Answer::new(alloc);
+    for number in 0..turns.len() {
+        answer.word(stopped_in(alloc, files, settings, units, number)?);
+    }
+    tell_turns(&mut answer, &turns);
+    Ok(answer)
+}
+
+/// What is told of the turn with this number.
+fn stopped_in(
+    alloc: Global,
+    files: &mut MemoryFiles,
+    settings: &Settings,
+    units: u64,
+    number: usize,
+) -> Result<&'static str, Trouble> {
+    for steps in 1..MOST_STEPS {
+        match turns_of_stale(alloc, files, settings, units, Limit::In(number, steps)) {
+            Ok(_turns) if steps == 1 => return Ok("never"),
+            Ok(_turns) => return Ok("Store"),
+            Err(FilesFault::Store) => {}
+            Err(FilesFault::Memory) => return Ok("wrong"),
+        }
+    }
+    Err(Trouble::NoCase)
+}
+
+/// What each turn of a refresh tells that is given so many units, of an index whose rows are all stale, with a new cache.
+/// `None` if it has no end.
+fn turns_of_stale(
+    alloc: Global,
+    files: &mut MemoryFiles,
+    settings: &Settings,
+    units: u64,
+    limit: Limit,
+) -> Result<Option<Vec<Refreshed>>, FilesFault> {
+    let mut keeper = Keeper::new(alloc, IndexStore::open_in_memory(alloc)?);
+    let mut recorder = Recorder::new(alloc, files, Trace::new(alloc));
+    let mut cache = EvalCache::new(alloc, 16, 16)?;
+    let (_roots, _spent) = keeper.select(alloc, &mut cache, &mut recorder, settings)?;
+    keeper.note_path(alloc)?;
+    let mut cache = EvalCache::new(alloc, 16, 16)?;
+    turns_of(
+        alloc,
+        &mut cache,
+        &mut keeper,
+        &mut recorder,
+        settings,
+        units,
+        limit,
+    )
 }
 
 /// What each turn of a refresh tells that is given so many units. `None` if it has no end.
@@ -123,13 +224,15 @@ fn turns_of<F: Listing + Drop>(
     files: &mut Recorder<F>,
     settings: &Settings,
     units: u64,
+    limit: Limit,
 ) -> Result<Option<Vec<Refreshed>>, FilesFault>
     requires { IsKept stored_by (world_of (view_of F.view files.old) settings.now) keeper.old }
     ensures { OnOk result (IsKept stored_by (world_of (view_of F.view files.new) settings.now) keeper.new) }
 {
     let mut turns = Vec::new(alloc);
-    for _turn in 0..MOST_TURNS {
-        let turn = keeper.refresh_turn(alloc, cache, files, settings, units)?;
+    for number in 0..MOST_TURNS {
+        let steps = limit.in_turn(number);
+        let turn = turn_within(alloc, cache, keeper, files, settings, units, steps)?;
         if turns.push(turn).is_err() {
             return Err(FilesFault::Memory);
         }
@@ -138,6 +241,31 @@ fn turns_of<F: Listing + Drop>(
         }
     }
     Ok(None)
+}
+
+/// A turn of a refresh that is given so many units. Each statement of the index's store may take so many steps at most,
+/// if there is a limit.
+fn turn_within<F: Listing + Drop>(
+    alloc: Global,
+    cache: &mut EvalCache,
+    keeper: &mut Keeper<IndexStore>,
+    files: &mut Recorder<F>,
+    settings: &Settings,
+    units: u64,
+    steps: Option<u64>,
+) -> Result<Refreshed, FilesFault>
+    requires { IsKept stored_by (world_of (view_of F.view files.old) settings.now) keeper.old }
+    ensures kept { IsKept stored_by (world_of (view_of F.view files.old) settings.now) keeper.new }
+    ensures leaves { LeavesFiles (result_err result) (view_of F.view files.old) (view_of F.view files.new) }
+{
+    keeper.limit_steps(steps);
+    keeper.refresh_turn(alloc, cache, files, settings, units)
+}
+
+fn tell_turns(answer: &mut Answer, turns: &[Refreshed]) {
+    for turn in turns {
+        tell(answer, *turn);
+    }
 }
 
 fn tell(answer: &mut Answer, turn: Refreshed) {

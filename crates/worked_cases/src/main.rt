@@ -6,6 +6,7 @@
 
 mod clients;
 mod cutting;
+mod failing;
 mod interrupted;
 mod loopback;
 mod orders;

@@ -1,6 +1,6 @@
 //! The things that lines of a case set up and ask, and which call each line means.
 use crate::service::StoredService;
-use crate::{cutting, loopback, orders, served, service, streams, trickle, visitors};
+use crate::{cutting, failing, loopback, orders, served, service, streams, trickle, visitors};
 use case_lines::{Answer, Bench, Ran, Trouble};
 use index_store::IndexStore;
 use make_cases::Setup;
@@ -93,6 +93,7 @@ impl<N: Net> Bench for Subjects<'_, N> {
             "GET" => service::request(alloc, &mut self.setup.world, Method::Get, given),
             "PUT" => service::request(alloc, &mut self.setup.world, Method::Put, given),
             "DELETE" => service::request(alloc, &mut self.setup.world, Method::Delete, given),
+            "GET failing" => failing::answered(alloc, &mut self.setup.world, given),
             "rests" => service::rests(alloc, &mut self.setup.world, given),
             "bound" => service::bound(alloc, &mut self.setup.world, given),
             "stream" => service::stream(alloc, given),

@@ -1,0 +1,42 @@
+//! Requests over files that fail.
+use crate::service::reply_answer;
+use case_lines::{Answer, Trouble, one_text};
+use computed_ports::ComputedPorts;
+use make_cases::{Asking, FailingFiles, World, failing_answer};
+use mk_paths::{FilesFault, Settings};
+use ports_http::Method;
+use ports_plain::Plain;
+use std::alloc::Global;
+
+/// `GET failing TARGET`: the status and the body of the plain reply over the world, in files that fail at each of their
+/// calls in turn. Before that, how many calls there are.
+pub fn answered(alloc: Global, world: &mut World, given: &[Vec<u8>]) -> Result<Answer, Trouble> {
+    let target = one_text(given)?;
+    let World {
+        files,
+        settings,
+        ..
+    } = world;
+    failing_answer(alloc, files, &mut Getting { settings, target })
+}
+
+/// A GET of a target.
+#[derive(Drop)]
+struct Getting<'a> {
+    settings: &'a Settings,
+    target: &'a str,
+}
+
+impl Asking for Getting<'_> {
+    fn ask(
+        &mut self,
+        alloc: Global,
+        files: &mut FailingFiles<'_>,
+    ) -> Result<Result<Answer, Trouble>, FilesFault> {
+        let settings = self.settings;
+        let mut ports = ComputedPorts { files, settings };
+        let plain = Plain::new(alloc)?;
+        let (prepared, _spent) = plain.prepare(alloc, &mut ports, Method::Get, self.target, &[])?;
+        Ok(Ok(reply_answer(alloc, &prepared.reply)))
+    }
+}
