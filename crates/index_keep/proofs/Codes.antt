@@ -76,8 +76,8 @@ variables_code = coded× profile_code (code (coded_list coded_ℕ) (coded_list c
 
 state_code : Coded EvalState
 state_code =
-    code_by (Variables × (Kind × Bool)) (coded× variables_code (coded× kind_code coded_bool))
-    (λ state. (state.variables, (state.kind, state.shared_asked))) (λ parts. record { variables = parts.0; kind = parts.1.0; shared_asked = parts.1.1 }) (λ state. refl)
+    code_by (Variables × (Kind × (Bool × List (List ℕ)))) (coded× variables_code (coded× kind_code (coded× coded_bool (coded_list (coded_list coded_ℕ)))))
+    (λ state. (state.variables, (state.kind, (state.shared_asked, state.path)))) (λ parts. record { variables = parts.0; kind = parts.1.0; shared_asked = parts.1.1.0; path = parts.1.1.1 }) (λ state. refl)
 
 abbrev reply_parts : Reply → Bool ⊎ Option (List ℕ)
 reply_parts (Presence there) = inl there

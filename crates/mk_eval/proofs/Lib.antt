@@ -1,6 +1,7 @@
 mod Blaming
 mod Costs
 mod Joining
+pub mod Searching
 pub mod Logged
 pub mod Shared
 pub mod SharedConditions

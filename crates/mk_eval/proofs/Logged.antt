@@ -6,16 +6,10 @@ use Rattle.mk_base.specs.FaultAt.{FaultAt}
 use Rattle.mk_base.specs.Meter.{Meter, full}
 use Rattle.mk_base.specs.Outcome.{left}
 use Rattle.mk_paths.specs.FilesView.{Question, FilesView, noted}
-use Rattle.mk_base.specs.Stopping.{StopsAt}
-use Rattle.mk_base.specs.declared.stopping.Stop.{Stop}
-use Rattle.mk_base.specs.declared.stopping.Stop.TheVariants as stops
 use Rattle.mk_paths.specs.World.{FileMap}
-use Rattle.mk_paths.specs.declared.asking.FilesFault.{FilesFault}
 use Rattle.mk_paths.specs.declared.search_path.Settings.{Settings}
-use Rattle.mk_files.specs.Asking.{Account, account, beside}
-use Rattle.mk_files.specs.Looking.{AfterQuestions, LeavesAtStop}
-use Rattle.mk_eval.specs.Telling.{FailsWith, LeavesAsked, CostsAtMost, with_cost}
-use Rattle.mk_eval.specs.declared.outcome.Failed.{Failed}
+use Rattle.mk_files.specs.Asking.{Account, beside}
+use Rattle.mk_files.specs.Looking.{AfterQuestions}
 use Rattle.mk_eval.specs.declared.state.EvalState.{EvalState}
 use Rattle.mk_eval.specs.Meaning.{evaluation, evaluated, fresh, means, questions_asked}
 use Rattle.mk_eval.specs.Sharing.{Agrees, cost_of, questions_of, IsTheSameWhereAnswered}

@@ -1,13 +1,16 @@
 -- What an evaluation asks, and how it ends, depends on its meter alone, and is shared by every world that answers the same.
-use Rattle.std.proofs.Common.{ℕ, suc, zero, Bool, true, List, Option, Some, None, option_map, Result, Ok, Err, codes}
+use Rattle.std.proofs.Common.{ℕ, suc, zero, Bool, true, List, [], ◌∷◌, Option, Some, None, option_map, is_some, Result, Ok, Err, codes}
 use Rattle.mk_base.specs.declared.faults.FaultKind.TheVariants as kinds
+use Rattle.mk_base.specs.declared.faults.FaultKind.{FaultKind}
 use Rattle.mk_base.specs.FaultAt.{FaultAt}
+use Rattle.mk_base.specs.Outcome.{Work}
 use Rattle.mk_text.specs.Lines.{LogicalLine}
 use Rattle.mk_ast.specs.declared.parsing.ParseFault.{ParseFault}
 use Rattle.mk_ast.specs.Trees.{Tree, LineTree, ChoiceTree, LoopTree, Block, EmptyBlock, MoreBlock, Branches, NoBranches, ElifBranch, ElseBranch}
 use Rattle.mk_ast.specs.Parsing.{parsed}
 use Rattle.mk_ast.specs.Kinds.{line_kind}
-use Rattle.mk_env.specs.Texts.{Variables}
+use Rattle.mk_text.specs.Words.{words_of}
+use Rattle.mk_env.specs.Texts.{Variables, text_in}
 use Rattle.mk_paths.specs.FileName.{resolved, name_under, directory_of}
 use Rattle.mk_paths.specs.declared.file_name.NameFault.{NameFault}
 use Rattle.mk_paths.specs.World.{FileMap}
@@ -16,10 +19,13 @@ use Rattle.mk_files.specs.Asking.{Account}
 use Rattle.mk_eval.specs.declared.state.EvalState.{EvalState}
 use Rattle.mk_eval.specs.Lines.{Loops, Request, inside_turn}
 use Rattle.mk_eval.specs.Heads.{judge, form_in}
-use Rattle.mk_eval.specs.Includes.{Form, OwnFile, PortFile, SubdirFile, SystemFile, NoForm, form_of, Place, Opened, deep_enough, named, found, open_named, open_own, open_shared, open_port, first_port, open_form, open_request}
+use Rattle.mk_eval.specs.Includes.{Form, OwnFile, PortFile, SubdirFile, SystemFile, NoForm, form_of, Place, Opened, deep_enough, named, found, open_named, open_own, open_if_there, open_port, first_port, open_form, open_request}
+use Rattle.mk_eval.specs.Modules.{asks_modules, module_words, module_file, names_in_trees, opened_or, open_first, open_module}
 use Rattle.mk_eval.specs.Execution.{LineWorks, execute_tree, execute, execute_branches}
-use Rattle.mk_eval.specs.Meaning.{at, Entering, enter, open_line, works_at, execute_read, nothing_entered, file_meaning, makefile_meaning, opening, evaluation}
-use Rattle.mk_eval.proofs.Steady.{steady-pay}
+use Rattle.mk_eval.specs.Meaning.{at, Entering, enter, open_line, include_module, include_modules, modules_after, perform_line, works_at, execute_read, nothing_entered, file_meaning, makefile_meaning, opening, evaluation}
+use Rattle.mk_eval.proofs.Steady as steady
+use Rattle.mk_eval.proofs.Steady.{Steady, steady-give, steady-pay}
+use Rattle.mk_eval.proofs.SteadyTexts.{steady-variable}
 use Rattle.mk_eval.proofs.SteadyLoops.{steady-perform, steady-head_text, steady-turns}
 use Rattle.mk_eval.proofs.Shared.{Shared, shared-quietly, shared-give, shared-fail, shared-tell, shared-ask_read, shared-look_read, bind, either, over}
 use Rattle.mk_eval.proofs.SharedConditions.{shared-parts}
@@ -45,13 +51,13 @@ module _ (files other : FileMap) where
   shared-open_named : (state : EvalState) (optional : Bool) (name : List ℕ) → Shared other (open_named files state optional name) (open_named other state optional name)
   shared-open_named state optional name = bind (shared-ask_read files other name) (shared-found other state optional name)
 
-shared-open_shared : (other : FileMap) (place : Place) (state : EvalState) (name : Result (List ℕ) NameFault) → Shared other (open_shared place state name) (open_shared (among other place) state name)
-shared-open_shared other place state (Err fault) = shared-give other _
-shared-open_shared other place state (Ok name) = bind (shared-deep_enough other place.levels) (λ _. shared-open_named place.files other state true name)
+shared-open_if_there : (other : FileMap) (place : Place) (state : EvalState) (name : Result (List ℕ) NameFault) → Shared other (open_if_there place state name) (open_if_there (among other place) state name)
+shared-open_if_there other place state (Err fault) = shared-give other _
+shared-open_if_there other place state (Ok name) = bind (shared-deep_enough other place.levels) (λ _. shared-open_named place.files other state true name)
 
 shared-open_port : (other : FileMap) (place : Place) (state : EvalState) → Shared other (open_port place state) (open_port (among other place) state)
 shared-open_port other place state =
-    either state.shared_asked (shared-give other _) (shared-open_shared other place (first_port state) (resolved (name_under (directory_of place.makefile) (codes "../Makefile.inc"))))
+    either state.shared_asked (shared-give other _) (shared-open_if_there other place (first_port state) (resolved (name_under (directory_of place.makefile) (codes "../Makefile.inc"))))
 
 module _ (other : FileMap) (place : Place) (state : EvalState) where
   shared-open_own : (optional : Bool) (file : List ℕ) → Shared other (open_own place state optional file) (open_own (among other place) state optional file)
@@ -68,6 +74,24 @@ module _ (other : FileMap) (place : Place) (state : EvalState) where
   pub shared-open_request : (request : Option Request) → Shared other (open_request place state request) (open_request (among other place) state request)
   shared-open_request None = shared-give other _
   shared-open_request (Some request) = shared-open_form request.optional (form_of request.text)
+
+-- the modules of a port
+pub steady-module_words : (variables : Variables) → Steady (module_words variables)
+steady-module_words variables =
+    steady.either (is_some (text_in variables (codes "MODULES"))) (steady.bind (steady-variable variables (codes "MODULES")) (λ text. steady-give (words_of text))) (steady-give [])
+
+module _ (other : FileMap) (place : Place) where
+  shared-opened_or : (others again : EvalState → Work Account FaultKind Opened) → ((state : EvalState) → Shared other (others state) (again state)) → (opened : Opened) → Shared other (opened_or others opened) (opened_or again opened)
+  shared-opened_or others again shared (state, Some file) = shared-give other _
+  shared-opened_or others again shared (state, None) = shared state
+
+  shared-open_first : (names : List (List ℕ)) (state : EvalState) → Shared other (open_first place names state) (open_first (among other place) names state)
+  shared-open_first [] state = shared-give other _
+  shared-open_first (name ∷ names) state =
+      bind (shared-open_if_there other place state (resolved name)) (shared-opened_or (open_first place names) (open_first (among other place) names) (shared-open_first names))
+
+  pub shared-open_module : (state : EvalState) (word : List ℕ) → Shared other (open_module place state word) (open_module (among other place) state word)
+  shared-open_module state word = shared-open_first (names_in_trees state.path (module_file word)) state
 
 -- what a file does that is included, among these files and among others
 pub record EntersShared (other : FileMap) (entering again : Entering) : Type 0 where
@@ -110,9 +134,24 @@ module _ (other : FileMap) (entering again : Entering) (enters : EntersShared ot
   shared-open_line place loops line state =
       bind (shared-quietly other (steady-perform state.variables loops line.text)) (λ done. shared-open_request other place (record state { variables = done.0 }) done.1)
 
+  pub shared-include_module : (place : Place) (line : ℕ) (state : EvalState) (word : List ℕ) → Shared other (include_module entering place line state word) (include_module again (among other place) line state word)
+  shared-include_module place line state word = bind (shared-tell (at place.file line) (shared-open_module other place state word)) shared-enter
+
+  pub shared-include_modules : (place : Place) (line : ℕ) (state : EvalState) → Shared other (include_modules entering place line state) (include_modules again (among other place) line state)
+  shared-include_modules place line state =
+      bind (shared-tell (at place.file line) (shared-quietly other (steady-module_words state.variables))) (over (shared-include_module place line) state)
+
+  shared-modules_after : (place : Place) (line : ℕ) (asked : Bool) (state : EvalState) → Shared other (modules_after entering place line asked state) (modules_after again (among other place) line asked state)
+  shared-modules_after place line asked state = either asked (shared-include_modules place line state) (shared-give other state)
+
+  shared-perform_line : (place : Place) (loops : Loops) (line : LogicalLine) (state : EvalState) → Shared other (perform_line entering place loops line state) (perform_line again (among other place) loops line state)
+  shared-perform_line place loops line state =
+      bind (shared-tell (at place.file line.line) (shared-open_line place loops line state))
+      (λ opened. bind (shared-enter opened) (shared-modules_after place line.line (asks_modules state opened.0)))
+
   pub works-shared : (place : Place) → AreShared other (works_at entering place) (works_at again (among other place))
   works-shared place = record {
-    performs = λ loops line state. bind (shared-tell (at place.file line.line) (shared-open_line place loops line state)) shared-enter;
+    performs = shared-perform_line place;
     holds = λ loops line state. shared-tell (at place.file line.line) (shared-judge place.files other place.makefile state.variables loops line.text);
     turns = λ loops line state. shared-tell (at place.file line.line) (shared-quietly other (steady-turns state.variables loops line.text));
     begins = λ line. shared-tell (at place.file line.line) (shared-quietly other steady-pay);

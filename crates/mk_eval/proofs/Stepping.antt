@@ -1,27 +1,14 @@
 -- Other forms of the same: work that ends alike, a branch, a file.
-use Rattle.std.proofs.Common.{◌≡◌, ◌<◌, ◌+◌, ◌∙◌, ℕ, suc, zero, Bool, true, false, List, ◌∷◌, map, drop, length, get_or, Option, Result, Ok, Err, if◌then◌else◌, refl, sym, ap, subst, arith}
-use Rattle.std.proofs.lemmas.List.{drop_more, drop_all}
-use Rattle.mk_base.specs.declared.faults.FaultKind.{FaultKind}
+use Rattle.std.proofs.Common.{◌≡◌, ℕ, suc, zero, List, Result, refl, sym, subst}
 use Rattle.mk_base.specs.declared.stopping.Stop.{Stop}
-use Rattle.mk_base.specs.FaultAt.{FaultAt}
-use Rattle.mk_base.specs.Meter.{Meter}
-use Rattle.mk_base.specs.Outcome.{Work, after, each, tell}
 use Rattle.mk_base.specs.Stopping.{Gives}
 use Rattle.mk_text.specs.Lines.{LogicalLine}
-use Rattle.mk_ast.specs.declared.nodes.Node.{Node}
 use Rattle.mk_ast.specs.declared.nodes.Branch.{Branch, out-Branch, fold_out-Branch}
-use Rattle.mk_ast.specs.Trees.{Tree, Block, Branches}
-use Rattle.mk_ast.specs.Blocks.{branches_from}
+use Rattle.mk_ast.specs.Trees.{Tree, Block}
 use Rattle.mk_ast.specs.Parsing.{parsed}
-use Rattle.mk_ast.specs.Views.{block_of, tree_of, branch_of, node_step, branch_step}
-use Rattle.mk_env.specs.Texts.{Variables}
+use Rattle.mk_ast.specs.Views.{block_of, branch_of, node_step, branch_step}
 use Rattle.mk_paths.specs.World.{FileMap}
-use Rattle.mk_paths.specs.FilesView.{Question}
-use Rattle.mk_files.specs.Asking.{Account, beside}
-use Rattle.mk_loop.specs.LoopWords.{LoopWords}
-use Rattle.mk_loop.specs.Header.{header}
-use Rattle.mk_eval.specs.Lines.{Loops}
-use Rattle.mk_eval.specs.Execution.{LineWorks, execute, execute_tree, execute_branches, chosen}
+use Rattle.mk_files.specs.Asking.{Account}
 use Rattle.mk_eval.specs.Meaning.{file_meaning, execute_read}
 use Rattle.mk_eval.specs.Running.{entering_at}
 use Rattle.mk_eval.specs.declared.state.EvalState.{EvalState}

@@ -109,11 +109,10 @@ first_said before kind = before
 abbrev pub with_kind : EvalState → Kind → EvalState
 with_kind state kind = record state { kind = first_said state.kind kind }
 
--- the file beside a makefile's directory that ports share, if it is there; if the text is no file
--- name, it isn't
-abbrev pub open_shared : Place → EvalState → Result (List ℕ) NameFault → Work Account FaultKind Opened
-open_shared place state (Err fault) = give (state, None)
-open_shared place state (Ok name) = open_inside place state true name
+-- a file of the ports tree that may be missing; if the text is no file name, it is missing
+abbrev pub open_if_there : Place → EvalState → Result (List ℕ) NameFault → Work Account FaultKind Opened
+open_if_there place state (Err fault) = give (state, None)
+open_if_there place state (Ok name) = open_inside place state true name
 
 -- the state after the first `<bsd.port.mk>`
 abbrev pub first_port : EvalState → EvalState
@@ -124,7 +123,7 @@ first_port state = record (with_kind state roles.Port) { shared_asked = true }
 abbrev pub open_port : Place → EvalState → Work Account FaultKind Opened
 open_port place state =
     if state.shared_asked then give (with_kind state roles.Port, None)
-    else open_shared place (first_port state) (resolved (name_under (directory_of place.makefile) (codes "../Makefile.inc")))
+    else open_if_there place (first_port state) (resolved (name_under (directory_of place.makefile) (codes "../Makefile.inc")))
 
 -- what is opened by an include of a form
 abbrev pub open_form : Place → EvalState → Bool → Form → Work Account FaultKind Opened

@@ -2,6 +2,7 @@ pub mod Expanded
 pub mod Lines
 pub mod Heads
 pub mod Includes
+pub mod Modules
 pub mod Execution
 pub mod Start
 pub mod Meaning

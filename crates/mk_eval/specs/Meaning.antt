@@ -1,12 +1,12 @@
 -- What a makefile means: its kind, its variables and what it costs, or the first fault with what it
 -- cost up to there.
-use Rattle.std.specs.Prelude.{ℕ, suc, zero, false, if◌then◌else◌, List, [], Option, Some, None, is_some, unwrap_or, Result, Ok, Err}
+use Rattle.std.specs.Prelude.{ℕ, suc, zero, Bool, false, if◌then◌else◌, List, [], Option, Some, None, is_some, unwrap_or, Result, Ok, Err}
 use Rattle.mk_base.specs.declared.faults.FaultKind.{FaultKind}
 use Rattle.mk_base.specs.declared.faults.FaultKind.TheVariants as kinds
 use Rattle.mk_base.specs.declared.metering.TheConstants.{UNITS}
 use Rattle.mk_base.specs.FaultAt.{FaultAt, fault_at}
 use Rattle.mk_base.specs.Meter.{Meter, full, pay}
-use Rattle.mk_base.specs.Outcome.{Work, give, fail, tell, left, ◌>>=◌}
+use Rattle.mk_base.specs.Outcome.{Work, give, fail, tell, left, each, ◌>>=◌}
 use Rattle.mk_text.specs.Lines.{LogicalLine}
 use Rattle.mk_ast.specs.declared.parsing.ParseFault.{ParseFault}
 use Rattle.mk_ast.specs.Trees.{Block}
@@ -20,6 +20,7 @@ use Rattle.mk_eval.specs.Expanded.{Expanded}
 use Rattle.mk_eval.specs.Lines.{Loops, perform}
 use Rattle.mk_eval.specs.Heads.{judge, turns}
 use Rattle.mk_eval.specs.Includes.{Place, Opened, open_request}
+use Rattle.mk_eval.specs.Modules.{asks_modules, module_words, open_module}
 use Rattle.mk_eval.specs.Execution.{LineWorks, execute}
 use Rattle.mk_eval.specs.Start.{start}
 use Rattle.mk_eval.specs.declared.outcome.Kind.TheVariants as roles
@@ -31,9 +32,13 @@ use Rattle.mk_eval.specs.declared.state.EvalState.{EvalState}
 abbrev pub at : List ℕ → ℕ → FaultKind → FaultAt
 at name line kind = fault_at kind name line
 
--- work on a line of a file: its faults are given with their place
+-- work at a line of a file with this number: its faults are given with their place
+abbrev pub blamed : {A : Type 0} → Place → ℕ → Work Account FaultKind A → Work Account FaultAt A
+blamed place line work a = tell (at place.file line) (work a)
+
+-- work on a line of a file
 abbrev pub blamed_at : {A : Type 0} → Place → LogicalLine → Work Account FaultKind A → Work Account FaultAt A
-blamed_at place line work a = tell (at place.file line.line) (work a)
+blamed_at place line work = blamed place line.line work
 
 -- what a file with this name and these bytes does
 abbrev pub Entering : Type 0
@@ -49,10 +54,30 @@ abbrev pub open_line : Place → Loops → LogicalLine → EvalState → Work Ac
 open_line place loops line state =
     quietly (perform state.variables loops line.text) >>= λ done. open_request place (record state { variables = done.0 }) done.1
 
+-- a module, at the line with this number that includes `<bsd.port.mk>`: it is executed before the next one is looked
+-- for
+abbrev pub include_module : Entering → Place → ℕ → EvalState → List ℕ → Work Account FaultAt EvalState
+include_module entering place line state word = blamed place line (open_module place state word) >>= enter entering
+
+-- the modules of MODULES, which is expanded once
+abbrev pub include_modules : Entering → Place → ℕ → EvalState → Work Account FaultAt EvalState
+include_modules entering place line state =
+    blamed place line (quietly (module_words state.variables)) >>= each (include_module entering place line) state
+
+-- what comes after a line, and after the file that it opened
+abbrev pub modules_after : Entering → Place → ℕ → Bool → EvalState → Work Account FaultAt EvalState
+modules_after entering place line asked state = if asked then include_modules entering place line state else give state
+
+-- a line that frames no block, with the file that it opens, if any, and then the modules, if it asks for them
+abbrev pub perform_line : Entering → Place → Loops → LogicalLine → EvalState → Work Account FaultAt EvalState
+perform_line entering place loops line state =
+    blamed_at place line (open_line place loops line state)
+    >>= λ opened. enter entering opened >>= modules_after entering place line.line (asks_modules state opened.0)
+
 -- what the lines of a file do
 abbrev pub works_at : Entering → Place → LineWorks Account FaultAt EvalState
 works_at entering place = record {
-  performs = λ loops line state. blamed_at place line (open_line place loops line state) >>= enter entering;
+  performs = perform_line entering place;
   holds = λ loops line state. blamed_at place line (judge place.files place.makefile state.variables loops line.text);
   turns = λ loops line state. blamed_at place line (quietly (turns state.variables loops line.text));
   begins = λ line. blamed_at place line (quietly pay);
@@ -79,7 +104,12 @@ file_meaning files makefile (suc levels) name bytes state a =
 
 -- the state with which an evaluation begins
 abbrev pub opening : World → List ℕ → Option (List (List ℕ)) → EvalState
-opening world name flavors = record { variables = start world.1 name flavors; kind = roles.Other; shared_asked = false }
+opening world name flavors = record {
+  variables = start world.1 name flavors;
+  kind = roles.Other;
+  shared_asked = false;
+  path = world.1.path;
+}
 
 -- what the makefile of this name does, if it is there
 abbrev pub makefile_meaning : World → List ℕ → Option (List (List ℕ)) → Option (List ℕ) → Work Account FaultAt EvalState

@@ -2,7 +2,7 @@
 ghost use Rattle.std.specs.Prelude.{◌≡◌, IfOk, option_map};
 ghost use Rattle.mk_base.specs.Meter.{IsLater};
 ghost use Rattle.mk_base.specs.Stopping.{Gives};
-ghost use Rattle.mk_paths.specs.FileName.{resolved, name_under, directory_of};
+ghost use Rattle.mk_paths.specs.FileName.{resolved, name_under};
 ghost use Rattle.mk_files.specs.Asking.{account};
 ghost use Rattle.mk_eval.specs.declared.state.EvalState.{EvalState};
 ghost use Rattle.mk_files.specs.Working.{Asks};
@@ -164,13 +164,15 @@ fn open_port<F: Files>(
         return Ok(None);
     }
     say_first_port(state);
-    open_shared(alloc, here, "../Makefile.inc", files, budget)
+    let directory = here.makefile.directory();
+    open_if_there(alloc, here, directory, "../Makefile.inc", files, budget)
 }
 
-/// A file beside the makefile's directory that ports share, if it is there.
-fn open_shared<F: Files>(
+/// A file under a directory, if it is there. If the text is no file name, it isn't.
+pub(crate) fn open_if_there<F: Files>(
     alloc: Global,
     here: ExecutedFile<'_>,
+    directory: &str,
     file: &str,
     files: &mut F,
     budget: &mut Budget,
@@ -178,14 +180,14 @@ fn open_shared<F: Files>(
     ensures gives { (state : EvalState)
         → Gives (λ included. (state, option_map file_of included)) result
         (account budget.new (F.view files.new))
-        (includes.open_shared (place_of here.entry (F.view files.old).files) state
-        (resolved (name_under (directory_of here.entry.makefile.now) file.now))
+        (includes.open_if_there (place_of here.entry (F.view files.old).files) state
+        (resolved (name_under directory.now file.now))
         (account budget.old (F.view files.old))) }
     ensures asks { Asks F.fails_with result (F.view files.old) (F.view files.new) }
     ensures later { IsLater budget.old budget.new }
     ensures opens { IfOk result (MayOpen here.entry.levels) }
 {
-    match Name::under(alloc, here.makefile.directory(), file) {
+    match Name::under(alloc, directory, file) {
         Ok(name) => open_inside(here, name, true, files, budget),
         Err(NameFault::BadName | NameFault::Above) => Ok(None),
         Err(NameFault::Memory) => Err(Stop::Memory),

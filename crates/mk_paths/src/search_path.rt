@@ -80,6 +80,15 @@ impl SearchPath {
         SearchPath::read(alloc, "/ports:/mystuff").map_err(|_| AllocError)
     }
 
+    /// The same path once more. It fails only if memory runs out.
+    pub fn copy(&self, alloc: Global) -> Result<SearchPath, AllocError>
+        ensures { IfOk result (λ path. path ≡ self.now) }
+    {
+        Ok(SearchPath {
+            trees: same_texts(alloc, self.trees())?,
+        })
+    }
+
     /// The trees, the first one searched first.
     pub fn trees(&self) -> &[String]
         ensures trees { map string_bytes result.now ≡ self.now }
@@ -96,6 +105,17 @@ pub struct Settings {
     pub path: SearchPath,
     /// The make language of the makefiles.
     pub profile: Profile,
+}
+
+// The same texts once more.
+fn same_texts(alloc: Global, texts: &[String]) -> Result<Vec<String>, AllocError>
+    ensures { IfOk result (λ copies. map string_bytes copies.items ≡ map string_bytes texts.now) }
+{
+    let mut copies = Vec::with_capacity(alloc, texts.len())?;
+    for text in texts {
+        copies.push(String::from_str(alloc, text.as_str())?)?;
+    }
+    Ok(copies)
 }
 
 // Whether the texts are one to eight trees.

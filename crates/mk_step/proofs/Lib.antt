@@ -2,9 +2,11 @@ pub mod Advancing
 pub mod SharedSteps
 pub mod Coming
 pub mod Spending
+pub mod Heading
 pub mod Blanks
 pub mod Skipping
 pub mod Settling
+pub mod Searching
 pub mod Stacks
 pub mod Stepping
 pub mod Beginning

@@ -11,12 +11,12 @@ use Rattle.mk_paths.specs.declared.asking.FilesFault.{FilesFault}
 use Rattle.mk_files.specs.Asking.{Account, account}
 use Rattle.mk_files.specs.Looking.{AfterQuestions, LeavesAtStop, LeavesAtStop-on}
 use Rattle.mk_step.specs.Machine.{Frame, Left, advance}
-use Rattle.mk_step.specs.Paying.{Costs}
+use Rattle.mk_step.specs.Paying.{Costs, may_follow}
 use Rattle.mk_step.specs.Points.{Point, GoesOn, StopsWith, AreAlike}
 use Rattle.mk_step.specs.Turning.{AsksMore, IsLast, StopsInTime, RunsOn}
 use Rattle.mk_step.proofs.Coming.{goes-nowhere, goes-free, goes-on, goes-step, stops-step, stops-on, notes, asked, spends}
 use Rattle.mk_step.proofs.SharedSteps.{shared-advance}
-use Rattle.mk_step.proofs.Spending.{grows-advance}
+use Rattle.mk_step.proofs.Heading.{leaves-less}
 
 abbrev stop_at : Stop FaultAt → Stop FaultAt
 stop_at stop = stop
@@ -105,8 +105,8 @@ module _ (may : FilesFault → Type 0) (first : FilesView) (start : Point) (unit
         last = inr (last_at (Ok (next, account m' new)) low is);
       }
 
-      pub way-grows : Costs frame → point.meter.spent < m'.spent
-      way-grows costs = (grows-advance old.files point.makefile frame others point.state costs).grows (account point.meter old) (account m' new) next is
+      pub way-lessens : Costs frame → m'.spent ≤ point.meter.limit → may_follow m' next.1 < may_follow point.meter (frame ∷ others)
+      way-lessens costs fits = leaves-less old.files point.makefile frame others point.state (account point.meter old) (account m' new) next costs is later fits
 
       pub way-fits : point.meter.spent ≤ point.meter.limit → m'.spent ≤ point.meter.limit
       way-fits fits =

@@ -1,5 +1,5 @@
 -- What is left of a frame without what costs nothing.
-use Rattle.std.proofs.Common.{◌≡◌, ◌<◌, ◌≤◌, ◌∙◌, ℕ, List, [], ◌∷◌, drop, length, map, ap, subst, arith}
+use Rattle.std.proofs.Common.{◌≡◌, ◌<◌, ◌≤◌, ◌∙◌, ℕ, List, [], ◌∷◌, drop, length, map, String, string_bytes, Global, ap, subst, arith}
 use Rattle.std.proofs.lemmas.List.{drop_all, length-drop}
 use Rattle.mk_base.specs.Outcome.{after}
 use Rattle.mk_ast.specs.declared.nodes.Node.{Node}
@@ -9,8 +9,9 @@ use Rattle.mk_ast.specs.Blocks.{branches_from}
 use Rattle.mk_ast.specs.Views.{block_of, branch_of}
 use Rattle.mk_loop.specs.LoopWords.{LoopWords}
 use Rattle.mk_eval.specs.Execution.{execute, turn_of}
-use Rattle.mk_step.specs.Machine.{Site, Frame, Lines, Later, Turns, works_in, numbered, rest}
-use Rattle.mk_step.specs.Paying.{Costs}
+use Rattle.mk_eval.specs.Meaning.{include_module}
+use Rattle.mk_step.specs.Machine.{Site, Frame, Lines, Later, Turns, Searches, place_at, works_in, entering_in, numbered, rest}
+use Rattle.mk_step.specs.Paying.{Costs, weight}
 use Rattle.mk_step.specs.Points.{AreAlike}
 use Rattle.mk_step.proofs.Advancing.{each-nil}
 
@@ -46,3 +47,21 @@ pub over-turns : (site : Site) (line : ℕ) (body : Block) (turns : List LoopWor
 over-turns site line body turns next others past files makefile s a =
     ap (λ left. rest files makefile (Turns site line body left ∷ others) s a) (drop_all next turns past)
     ∙ ap (λ r. after r (rest files makefile others)) (each-nil (turn_of ((works_in files makefile site).begins (numbered line)) (execute (works_in files makefile site) body) site.loops) s a)
+
+-- words that are left to be searched, and none
+costs-words : (site : Site) (line : ℕ) (left : List (String Global)) → 0 < length left → Costs (Searches site line (map string_bytes left))
+costs-words site line [] some = absurd (omega (arith, some))
+costs-words site line (word ∷ left) some = tt
+
+pub costs-searches : (site : Site) (line : ℕ) (words : List (String Global)) (next : ℕ) → next < length words → Costs (Searches site line (map string_bytes (drop next words)))
+costs-searches site line words next within = costs-words site line (drop next words) (omega (arith, length-drop next words, within))
+
+pub over-searches : (site : Site) (line : ℕ) (words : List (String Global)) (next : ℕ) (others : List Frame) → length words ≤ next → AreAlike (Searches site line (map string_bytes (drop next words)) ∷ others) others
+over-searches site line words next others past files makefile s a =
+    ap (λ left. rest files makefile (Searches site line (map string_bytes left) ∷ others) s a) (drop_all next words past)
+    ∙ ap (λ r. after r (rest files makefile others)) (each-nil (include_module (entering_in files makefile site) (place_at files makefile site) line) s a)
+
+-- none weighs more than some
+pub lighter-searches : (site : Site) (line : ℕ) (words : List (List ℕ)) (others : List Frame) → weight others ≤ weight (Searches site line words ∷ others)
+lighter-searches site line [] others = omega arith
+lighter-searches site line (word ∷ words) others = omega arith

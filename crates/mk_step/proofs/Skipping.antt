@@ -1,18 +1,20 @@
 -- A blank line has nothing to do.
-use Rattle.std.proofs.Common.{◌≡◌, ◌<◌, ◌≤◌, ◌+◌, ◌∙◌, ℕ, List, ◌∷◌, drop, length, get_or, sym, ap, arith}
+use Rattle.std.proofs.Common.{◌≡◌, ◌<◌, ◌≤◌, ◌+◌, ◌∙◌, ◌&&◌, not, Bool, true, false, refl, ℕ, List, ◌∷◌, drop, length, get_or, sym, ap, arith}
 use Rattle.std.proofs.lemmas.List.{drop_more, drop_all}
-use Rattle.mk_base.specs.Outcome.{after, tell}
+use Rattle.mk_base.specs.Outcome.{after, tell, ◌>>=◌}
 use Rattle.mk_ast.specs.declared.nodes.Node.{Node}
 use Rattle.mk_ast.specs.Kinds.{TextLineKind}
 use Rattle.mk_ast.specs.Trees.{Tree, LineTree, ChoiceTree, LoopTree, Block, MoreBlock}
 use Rattle.mk_ast.specs.Views.{tree_of, block_of}
 use Rattle.mk_files.specs.Asking.{beside}
 use Rattle.mk_eval.specs.Lines.{perform_kind}
+use Rattle.mk_env.specs.Texts.{language_of}
+use Rattle.mk_eval.specs.declared.state.EvalState.{EvalState}
 use Rattle.mk_eval.specs.Includes.{open_request}
+use Rattle.mk_eval.specs.Modules.{has_modules, asks_modules}
 use Rattle.mk_eval.specs.Execution.{execute}
-use Rattle.mk_eval.specs.Meaning.{at, enter}
-use Rattle.mk_eval.specs.Running.{entering_at}
-use Rattle.mk_step.specs.Machine.{Site, Frame, Lines, place_at, works_in, rest}
+use Rattle.mk_eval.specs.Meaning.{at, enter, modules_after}
+use Rattle.mk_step.specs.Machine.{Site, Frame, Lines, place_at, works_in, entering_in, rest}
 use Rattle.mk_step.specs.Paying.{IsBlank, TreeCosts, Costs}
 use Rattle.mk_step.specs.Points.{AreAlike}
 
@@ -20,11 +22,23 @@ use Rattle.mk_step.specs.Points.{AreAlike}
 pub block-more : (items : List Node) (i : ℕ) (item : Node) → i < length items → item ≡ get_or items i item → block_of (drop i items) ≡ MoreBlock (tree_of item) (block_of (drop (i + 1) items))
 block-more items i item within is = ap block_of (drop_more items i item within ∙ ap (λ x. x ∷ drop (i + 1) items) (sym is))
 
+-- no line asks for modules that leaves the state as it was
+never-asks-by : (included has : Bool) → (not included && has && included) ≡ false
+never-asks-by true has = refl
+never-asks-by false true = refl
+never-asks-by false false = refl
+
+never-asks : (s : EvalState) → asks_modules s s ≡ false
+never-asks s = never-asks-by s.shared_asked (has_modules (language_of s.variables))
+
 pub skips : (tree : Tree) (block : Block) (site : Site) (others : List Frame) → IsBlank tree → AreAlike (Lines site (MoreBlock tree block) ∷ others) (Lines site block ∷ others)
 skips (LineTree line) block site others blank files makefile s a =
+    let place = place_at files makefile site in
+    let entering = entering_in files makefile site in
     ap (λ (kind : TextLineKind).
-    let r = after (beside a.log (perform_kind s.variables site.loops line.text kind a.meter)) (λ done. open_request (place_at files makefile site) (record s { variables = done.0 }) done.1) in
-    after (after (after (tell (at site.file line.line) r) (enter (entering_at files makefile site.levels))) (execute (works_in files makefile site) block site.loops)) (rest files makefile others)) blank
+    let r = after (beside a.log (perform_kind s.variables site.loops line.text kind a.meter)) (λ done. open_request place (record s { variables = done.0 }) done.1) in
+    after (after (after (tell (at site.file line.line) r) (λ opened. enter entering opened >>= modules_after entering place line.line (asks_modules s opened.0))) (execute (works_in files makefile site) block site.loops)) (rest files makefile others)) blank
+    ∙ ap (λ asked. after (after (modules_after entering place line.line asked s a) (execute (works_in files makefile site) block site.loops)) (rest files makefile others)) (never-asks s)
 skips (ChoiceTree line first later) block site others blank files makefile s a = absurd blank
 skips (LoopTree line body) block site others blank files makefile s a = absurd blank
 

@@ -16,11 +16,11 @@ use Rattle.mk_eval.specs.Includes.{Place}
 use Rattle.mk_eval.specs.Meaning.{at, open_line}
 use Rattle.mk_eval.proofs.Steady.{Steady}
 use Rattle.mk_eval.proofs.SteadyLoops.{steady-execute_in, steady-put_in, steady-header}
-use Rattle.mk_eval.proofs.Shared.{Shared, shared-give}
+use Rattle.mk_eval.proofs.Shared.{Shared, shared-give, bind}
 use Rattle.mk_eval.proofs.SharedConditions.{shared-parts}
 use Rattle.mk_eval.proofs.SharedEvaluation.{shared-open_request}
-use Rattle.mk_step.specs.Machine.{Site, Frame, Lines, Later, Turns, place_at, do_tree, advance}
-use Rattle.mk_step.specs.Paying.{TreeCosts, Costs}
+use Rattle.mk_step.specs.Machine.{Site, Frame, Lines, Later, Turns, Modules, Searches, place_at, do_tree, advance}
+use Rattle.mk_step.specs.Paying.{TreeCosts}
 use Rattle.mk_step.proofs.Coming.{spends}
 use Rattle.mk_step.proofs.SharedSteps.{shared-opened_lines}
 
@@ -126,13 +126,24 @@ module _ (files : FileMap) (makefile : List ℕ) (site : Site) where
       (grows-tell (at site.file line.line) (open_line place site.loops line s)
       (grows-bind files _ _ (grows-quietly _ (grows-perform s.variables site.loops line.text (line_kind line.text) costs))
       (λ done. shared-open_request files place (record s { variables = done.0 }) done.1)))
-      (shared-opened_lines files makefile site.levels)
+      (λ opened. bind (shared-opened_lines files makefile site.levels opened) (λ done. shared-give files _))
   grows-tree (ChoiceTree line first later) s costs = grows-bind files _ _ (grows-holds line.line line.text s) (λ held. shared-give files _)
   grows-tree (LoopTree line body) s costs =
       grows-bind files _ _ (grows-tell (at site.file line.line) _ (grows-quietly _ (grows-turns s.variables site.loops line.text))) (λ turns. shared-give files _)
 
 -- the next thing that a frame does, if it costs at least a unit
-pub grows-advance : (files : FileMap) (makefile : List ℕ) (frame : Frame) (frames : List Frame) (s : EvalState) → Costs frame → Grows (advance files makefile frame frames s)
+abbrev pub Spends : Frame → Type 0
+Spends (Lines site EmptyBlock) = ⊥
+Spends (Lines site (MoreBlock tree block)) = TreeCosts tree
+Spends (Later site NoBranches) = ⊥
+Spends (Later site (ElifBranch line block more)) = Unit {0}
+Spends (Later site (ElseBranch block)) = ⊥
+Spends (Turns site line body []) = ⊥
+Spends (Turns site line body (turn ∷ turns)) = Unit {0}
+Spends (Modules site line) = ⊥
+Spends (Searches site line words) = ⊥
+
+pub grows-advance : (files : FileMap) (makefile : List ℕ) (frame : Frame) (frames : List Frame) (s : EvalState) → Spends frame → Grows (advance files makefile frame frames s)
 grows-advance files makefile (Lines site EmptyBlock) frames s costs = absurd costs
 grows-advance files makefile (Lines site (MoreBlock tree block)) frames s costs = grows-bind files _ _ (grows-tree files makefile site tree s costs) (λ done. shared-give files _)
 grows-advance files makefile (Later site NoBranches) frames s costs = absurd costs
@@ -141,3 +152,5 @@ grows-advance files makefile (Later site (ElseBranch block)) frames s costs = ab
 grows-advance files makefile (Turns site line body []) frames s costs = absurd costs
 grows-advance files makefile (Turns site line body (turn ∷ turns)) frames s costs =
     grows-bind files _ _ (grows-tell (at site.file line) _ (grows-quietly _ grows-pay)) (λ _. shared-give files _)
+grows-advance files makefile (Modules site line) frames s costs = absurd costs
+grows-advance files makefile (Searches site line words) frames s costs = absurd costs

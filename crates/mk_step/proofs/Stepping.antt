@@ -1,9 +1,9 @@
 -- What the code's steps do.
-use Rattle.std.proofs.Common.{◌≡◌, ◌<◌, ◌+◌, ◌-◌, ◌∙◌, ℕ, suc, zero, Bool, List, [], ◌∷◌, drop, length, get_or, map, option_map, Option, Some, None, Result, Ok, Err, if◌then◌else◌, refl, sym, ap, subst, arith}
+use Rattle.std.proofs.Common.{◌≡◌, ◌<◌, ◌+◌, ◌-◌, ◌∙◌, ℕ, suc, zero, Bool, List, [], ◌∷◌, ◌++◌, drop, length, get_or, map, option_map, Option, Some, None, Result, Ok, Err, if◌then◌else◌, refl, sym, ap, subst, arith}
 use Rattle.std.proofs.lemmas.List.{drop_more}
 use Rattle.mk_base.specs.FaultAt.{FaultAt}
 use Rattle.mk_base.specs.Meter.{Meter, pay}
-use Rattle.mk_base.specs.Outcome.{Work, give, after, tell}
+use Rattle.mk_base.specs.Outcome.{Work, give, after, tell, ◌>>=◌}
 use Rattle.mk_base.specs.Stopping.{StopsAt, StopsAt-whole, StopsPurelyAt, stop_of_pure}
 use Rattle.mk_base.specs.declared.stopping.PureStop.{PureStop}
 use Rattle.mk_base.specs.declared.stopping.PureStop.TheVariants as pure
@@ -14,7 +14,7 @@ use Rattle.std.specs.declared.rc.Rc.{Rc}
 use Rattle.mk_ast.specs.declared.nodes.Node.{Node, Node-F, fold-roll-Node}
 use Rattle.mk_ast.specs.declared.nodes.Node.TheVariants.{Choice, Loop, rolls-Choice, rolls-Loop}
 use Rattle.mk_ast.specs.declared.nodes.Branch.{Branch, out-Branch}
-use Rattle.mk_ast.specs.Trees.{Tree, LineTree, ChoiceTree, LoopTree, Block}
+use Rattle.mk_ast.specs.Trees.{Tree, ChoiceTree, LoopTree, Block}
 use Rattle.mk_ast.specs.Parsing.{parsed}
 use Rattle.mk_ast.specs.Blocks.{branches_from, last_branch}
 use Rattle.mk_ast.specs.Views.{tree_of, block_of, branch_of, node_step, branch_step}
@@ -29,11 +29,12 @@ use Rattle.mk_eval.specs.Lines.{inside_turn}
 use Rattle.mk_eval.specs.Heads.{judge, turns}
 use Rattle.mk_eval.specs.Includes.{Place, File, Opened}
 use Rattle.mk_eval.specs.Meaning.{at, blamed_at, open_line}
-use Rattle.mk_eval.specs.Running.{works_of, Opens}
+use Rattle.mk_eval.specs.Modules.{asks_modules, module_words}
+use Rattle.mk_eval.specs.Running.{works_of, Opens, MayOpen}
 use Rattle.mk_eval.specs.declared.including.Included.{Included}
 use Rattle.mk_eval.specs.Views.{loops_of, place_of, file_of}
 use Rattle.mk_eval.proofs.Stepping.{tree-branch}
-use Rattle.mk_step.specs.Machine.{Site, Frame, Lines, Later, Turns, Left, place_at, works_in, numbered, read_lines, file_lines, opened_lines, do_tree, before, advance}
+use Rattle.mk_step.specs.Machine.{Site, Frame, Lines, Later, Turns, Modules, Searches, Left, place_at, works_in, numbered, read_lines, file_lines, opened_lines, next_module, do_line, do_tree, before, modules_at, advance}
 use Rattle.mk_step.specs.Views.{later_from}
 use Rattle.mk_step.proofs.Skipping.{block-more}
 
@@ -63,7 +64,7 @@ module _ (files : FileMap) (makefile : List ℕ) (site : Site) (frames : List Fr
   -- the lines from a place on
   pub lines-first : (items : List Node) (next : ℕ) (item : Node) → next < length items → item ≡ get_or items next item
       → advance files makefile (Lines site (block_of (drop next items))) frames s a
-      ≡ after (do_tree files makefile site (tree_of item) s a) (λ done. give (done.0, before done.1 (Lines site (block_of (drop (next + 1) items)) ∷ frames)))
+      ≡ after (do_tree files makefile site (tree_of item) s a) (λ done. give (done.0, done.1 ++ Lines site (block_of (drop (next + 1) items)) ∷ frames))
   lines-first items next item within is = ap (λ block. advance files makefile (Lines site block) frames s a) (block-more items next item within is)
 
   -- the iterations from a place on
@@ -94,9 +95,9 @@ module _ (here : ExecutedFile) (files : FileMap) (makefile : List ℕ) (site : S
   later-goes held end frames' holds left =
       judged ∙ ap (λ r. after r left_by) holds ∙ ap (λ frames. let outcome : Result (Left × Account) (FaultAt × Account) = Ok ((s, frames), end) in outcome) left
 
-told-begins : {A F G : Type 0} (f : F → G) (log : Option (List Question)) (r : Result (A × Meter) (F × Meter)) (x : A) (m : Meter) → tell f r ≡ Ok (x, m) → tell f (beside log r) ≡ Ok (x, record { meter = m; log = log })
-told-begins f log (Ok end) x m is = ap (beside log) is
-told-begins f log (Err end) x m is = cc
+told-found : {A F G : Type 0} (f : F → G) (log : Option (List Question)) (r : Result (A × Meter) (F × Meter)) (x : A) (m : Meter) → tell f r ≡ Ok (x, m) → tell f (beside log r) ≡ Ok (x, record { meter = m; log = log })
+told-found f log (Ok end) x m is = ap (beside log) is
+told-found f log (Err end) x m is = cc
 
 told-stops : {A F G : Type 0} (f : F → G) (log : Option (List Question)) (r : Result (A × Meter) (F × Meter)) (fault : G) (m : Meter) → tell f r ≡ Err (fault, m) → tell f (beside log r) ≡ Err (fault, record { meter = m; log = log })
 told-stops f log (Ok end) fault m is = cc
@@ -122,7 +123,27 @@ module _ (here : ExecutedFile) (files : FileMap) (makefile : List ℕ) (site : S
       → Lines (record site { loops = inside_turn site.loops (get_or turns next []) }) body ∷ Turns site line body (drop (next + 1) turns) ∷ frames ≡ frames'
       → advance files makefile (Turns site line body (drop next turns)) frames s (record { meter = m; log = log }) ≡ Ok ((s, frames'), record { meter = end; log = log })
   turns-go end frames' gives left =
-      begun ∙ ap (λ r. after r left_begun) (told-begins (at here.file.now line) log (pay m) tt end gives)
+      begun ∙ ap (λ r. after r left_begun) (told-found (at here.file.now line) log (pay m) tt end gives)
+      ∙ ap (λ frames. let outcome : Result (Left × Account) (FaultAt × Account) = Ok ((s, frames), record { meter = end; log = log }) in outcome) left
+
+-- MODULES expanded
+module _ (here : ExecutedFile) (files : FileMap) (makefile : List ℕ) (site : Site) (placed : place_of here files ≡ place_at files makefile site)
+    (frames : List Frame) (s : EvalState) (m : Meter) (log : Option (List Question)) (line : ℕ) where
+  abbrev left_expanded : List (List ℕ) → Work Account FaultAt Left
+  left_expanded words = give (s, Searches site line words ∷ frames)
+
+  expanded : advance files makefile (Modules site line) frames s (record { meter = m; log = log }) ≡ after (tell (at here.file.now line) (beside log (module_words s.variables m))) left_expanded
+  expanded = ap (λ (place : Place). after (tell (at place.file line) (beside log (module_words s.variables m))) left_expanded) (sym placed)
+
+  pub modules-stop : (stop : PureStop FaultAt) (end : Meter) → StopsPurelyAt stop end (tell (at here.file.now line) (module_words s.variables m))
+      → StopsPurelyAt stop (record { meter = end; log = log }) (advance files makefile (Modules site line) frames s (record { meter = m; log = log }))
+  modules-stop (pure.Fault fault) end stops = expanded ∙ ap (λ r. after r left_expanded) (told-stops (at here.file.now line) log (module_words s.variables m) fault end stops)
+  modules-stop pure.Memory end stops = tt
+
+  pub modules-go : (words : List (List ℕ)) (end : Meter) (frames' : List Frame) → tell (at here.file.now line) (module_words s.variables m) ≡ Ok (words, end) → Searches site line words ∷ frames ≡ frames'
+      → advance files makefile (Modules site line) frames s (record { meter = m; log = log }) ≡ Ok ((s, frames'), record { meter = end; log = log })
+  modules-go words end frames' gives left =
+      expanded ∙ ap (λ r. after r left_expanded) (told-found (at here.file.now line) log (module_words s.variables m) words end gives)
       ∙ ap (λ frames. let outcome : Result (Left × Account) (FaultAt × Account) = Ok ((s, frames), record { meter = end; log = log }) in outcome) left
 
 -- a stop of work that looks at no file, as a stop of any work
@@ -140,18 +161,41 @@ module _ (here : ExecutedFile) (files : FileMap) (makefile : List ℕ) (site : S
   abbrev opening : Result (Opened × Account) (FaultAt × Account)
   opening = blamed_at (place_of here files) line (open_line (place_of here files) (loops_of loops) line s) a
 
-  opened : do_tree files makefile site (LineTree line) s a ≡ after opening (opened_lines site.levels)
-  opened = ap (λ r. after r (opened_lines site.levels)) (sym (opens-there here files makefile site loops placed looped line s a))
+  abbrev left_of_line : Opened → Work Account FaultAt Left
+  left_of_line opened = opened_lines site.levels opened >>= λ done. give (done.0, before done.1 (modules_at site line.line (asks_modules s opened.0)))
 
-  pub line-stops : (stop : Stop FaultAt) (end : Account) → StopsAt stop end opening → StopsAt stop end (do_tree files makefile site (LineTree line) s a)
-  line-stops stop end stops = StopsAt-whole stop end _ _ (λ fault at. opened ∙ ap (λ r. after r (opened_lines site.levels)) at) stops
+  opened : do_line files makefile site line s a ≡ after opening left_of_line
+  opened = ap (λ r. after r left_of_line) (sym (opens-there here files makefile site loops placed looped line s a))
 
-  pub line-alone : (s' : EvalState) (end : Account) → opening ≡ Ok ((s', None), end) → do_tree files makefile site (LineTree line) s a ≡ Ok ((s', None), end)
-  line-alone s' end gives = opened ∙ ap (λ r. after r (opened_lines site.levels)) gives
+  pub line-stops : (stop : Stop FaultAt) (end : Account) → StopsAt stop end opening → StopsAt stop end (do_line files makefile site line s a)
+  line-stops stop end stops = StopsAt-whole stop end _ _ (λ fault at. opened ∙ ap (λ r. after r left_of_line) at) stops
+
+  pub line-alone : (s' : EvalState) (end : Account) (modules : List Frame) → opening ≡ Ok ((s', None), end) → modules ≡ modules_at site line.line (asks_modules s s')
+      → do_line files makefile site line s a ≡ Ok ((s', modules), end)
+  line-alone s' end modules gives are =
+      opened ∙ ap (λ r. after r left_of_line) gives
+      ∙ ap (λ modules. let outcome : Result (Left × Account) (FaultAt × Account) = Ok ((s', modules), end) in outcome) (sym are)
+
+  -- what is left of a file that was opened
+  abbrev left_of_file : EvalState → (EvalState × Option Frame) → Work Account FaultAt Left
+  left_of_file s' done = give (done.0, before done.1 (modules_at site line.line (asks_modules s s')))
 
   pub line-enters : (s' : EvalState) (file : File) (end : Account) → opening ≡ Ok ((s', Some file), end) → (site.levels ≡ 0 → ⊥)
-      → do_tree files makefile site (LineTree line) s a ≡ read_lines file.0 (site.levels - 1) (parsed file.1) s' end
-  line-enters s' file end gives some = opened ∙ ap (λ r. after r (opened_lines site.levels)) gives ∙ enters-file site.levels file s' end some
+      → do_line files makefile site line s a ≡ after (read_lines file.0 (site.levels - 1) (parsed file.1) s' end) (left_of_file s')
+  line-enters s' file end gives some =
+      opened ∙ ap (λ r. after r left_of_line) gives ∙ ap (λ r. after r (left_of_file s')) (enters-file site.levels file s' end some)
+
+  pub line-reads : (s' : EvalState) (file : File) (end : Account) (frame : Frame) (frames : List Frame) → opening ≡ Ok ((s', Some file), end) → (site.levels ≡ 0 → ⊥)
+      → read_lines file.0 (site.levels - 1) (parsed file.1) s' end ≡ Ok ((s', Some frame), end) → frames ≡ frame ∷ modules_at site line.line (asks_modules s s')
+      → do_line files makefile site line s a ≡ Ok ((s', frames), end)
+  line-reads s' file end frame frames gives some reads are =
+      line-enters s' file end gives some ∙ ap (λ r. after r (left_of_file s')) reads
+      ∙ ap (λ frames. let outcome : Result (Left × Account) (FaultAt × Account) = Ok ((s', frames), end) in outcome) (sym are)
+
+  pub line-unread : (s' : EvalState) (file : File) (end : Account) (stop : PureStop FaultAt) → opening ≡ Ok ((s', Some file), end) → (site.levels ≡ 0 → ⊥)
+      → StopsPurelyAt stop end (read_lines file.0 (site.levels - 1) (parsed file.1) s' end) → StopsAt (stop_of_pure stop) end (do_line files makefile site line s a)
+  line-unread s' file end (pure.Fault fault) gives some stops = line-enters s' file end gives some ∙ ap (λ r. after r (left_of_file s')) stops
+  line-unread s' file end pure.Memory gives some stops = tt
 
 pub may-open : (levels levels' : ℕ) (old new : Meter) (found : Option Included) (included : Included) → levels ≡ levels' → found ≡ Some included → Opens levels old new found → levels' ≡ 0 → ⊥
 may-open levels levels' old new found included same is opens none = let may = subst (Opens levels old new) is opens in may.0 (same ∙ none)
@@ -176,8 +220,8 @@ module _ (here : ExecutedFile) (files : FileMap) (makefile : List ℕ) (site : S
   abbrev first : Bool → Frame
   first held = if held then Lines site (block_of body.value.items) else Later site (later_from branches.value.items 0 (option_map (λ block. block.value.items) otherwise))
 
-  abbrev left_chosen : Bool → Work Account FaultAt (EvalState × Option Frame)
-  left_chosen held = give (s, Some (first held))
+  abbrev left_chosen : Bool → Work Account FaultAt Left
+  left_chosen held = give (s, first held ∷ [])
 
   chooses : do_tree files makefile site (tree_of node) s a ≡ after ((works_of here files).holds (loops_of loops) head s a) left_chosen
   chooses =
@@ -187,10 +231,10 @@ module _ (here : ExecutedFile) (files : FileMap) (makefile : List ℕ) (site : S
   pub choice-stops : (stop : Stop FaultAt) (end : Account) → StopsAt stop end ((works_of here files).holds (loops_of loops) head s a) → StopsAt stop end (do_tree files makefile site (tree_of node) s a)
   choice-stops stop end stops = StopsAt-whole stop end _ _ (λ fault at. chooses ∙ ap (λ r. after r left_chosen) at) stops
 
-  pub choice-goes : (held : Bool) (end : Account) (frame : Frame) → (works_of here files).holds (loops_of loops) head s a ≡ Ok (held, end) → first held ≡ frame
-      → do_tree files makefile site (tree_of node) s a ≡ Ok ((s, Some frame), end)
-  choice-goes held end frame holds left =
-      chooses ∙ ap (λ r. after r left_chosen) holds ∙ ap (λ frame. let outcome : Result ((EvalState × Option Frame) × Account) (FaultAt × Account) = Ok ((s, Some frame), end) in outcome) left
+  pub choice-goes : (held : Bool) (end : Account) (frames : List Frame) → (works_of here files).holds (loops_of loops) head s a ≡ Ok (held, end) → first held ∷ [] ≡ frames
+      → do_tree files makefile site (tree_of node) s a ≡ Ok ((s, frames), end)
+  choice-goes held end frames holds left =
+      chooses ∙ ap (λ r. after r left_chosen) holds ∙ ap (λ frames. let outcome : Result (Left × Account) (FaultAt × Account) = Ok ((s, frames), end) in outcome) left
 
 -- a loop
 module _ (here : ExecutedFile) (files : FileMap) (makefile : List ℕ) (site : Site) (loops : List Iteration) (placed : place_of here files ≡ place_at files makefile site) (looped : loops_of loops ≡ site.loops)
@@ -198,8 +242,8 @@ module _ (here : ExecutedFile) (files : FileMap) (makefile : List ℕ) (site : S
   abbrev reading : Result (List LoopWords × Meter) (FaultAt × Meter)
   reading = tell (at here.file.now head.line) (turns s.variables (loops_of loops) head.text m)
 
-  abbrev left_read : List LoopWords → Work Account FaultAt (EvalState × Option Frame)
-  left_read turns = give (s, Some (Turns site head.line (block_of body.value.items) turns))
+  abbrev left_read : List LoopWords → Work Account FaultAt Left
+  left_read turns = give (s, Turns site head.line (block_of body.value.items) turns ∷ [])
 
   reads : do_tree files makefile site (tree_of node) s (record { meter = m; log = log }) ≡ after (tell (at here.file.now head.line) (beside log (turns s.variables (loops_of loops) head.text m))) left_read
   reads =
@@ -211,8 +255,57 @@ module _ (here : ExecutedFile) (files : FileMap) (makefile : List ℕ) (site : S
   loop-stops (pure.Fault fault) end stops = reads ∙ ap (λ r. after r left_read) (told-stops (at here.file.now head.line) log (turns s.variables (loops_of loops) head.text m) fault end stops)
   loop-stops pure.Memory end stops = tt
 
-  pub loop-goes : (found : List LoopWords) (end : Meter) (frame : Frame) → reading ≡ Ok (found, end) → Turns site head.line (block_of body.value.items) found ≡ frame
-      → do_tree files makefile site (tree_of node) s (record { meter = m; log = log }) ≡ Ok ((s, Some frame), record { meter = end; log = log })
-  loop-goes found end frame gives left =
-      reads ∙ ap (λ r. after r left_read) (told-begins (at here.file.now head.line) log (turns s.variables (loops_of loops) head.text m) found end gives)
-      ∙ ap (λ frame. let outcome : Result ((EvalState × Option Frame) × Account) (FaultAt × Account) = Ok ((s, Some frame), record { meter = end; log = log }) in outcome) left
+  pub loop-goes : (found : List LoopWords) (end : Meter) (frames : List Frame) → reading ≡ Ok (found, end) → Turns site head.line (block_of body.value.items) found ∷ [] ≡ frames
+      → do_tree files makefile site (tree_of node) s (record { meter = m; log = log }) ≡ Ok ((s, frames), record { meter = end; log = log })
+  loop-goes found end frames gives left =
+      reads ∙ ap (λ r. after r left_read) (told-found (at here.file.now head.line) log (turns s.variables (loops_of loops) head.text m) found end gives)
+      ∙ ap (λ frames. let outcome : Result (Left × Account) (FaultAt × Account) = Ok ((s, frames), record { meter = end; log = log }) in outcome) left
+
+pub may-search : (levels levels' : ℕ) (found : Option Included) (included : Included) → levels ≡ levels' → found ≡ Some included → MayOpen levels found → levels' ≡ 0 → ⊥
+may-search levels levels' found included same is opens none = let may = subst (MayOpen levels) is opens in may (same ∙ none)
+
+-- the next module searched for
+module _ (here : ExecutedFile) (files : FileMap) (makefile : List ℕ) (site : Site) (placed : place_of here files ≡ place_at files makefile site)
+    (frames : List Frame) (s : EvalState) (a : Account) (line : ℕ) (words : List (List ℕ)) where
+  abbrev searching : Result ((Opened × List (List ℕ)) × Account) (FaultAt × Account)
+  searching = next_module (place_of here files) line words s a
+
+  abbrev left_found : Opened × List (List ℕ) → Work Account FaultAt Left
+  left_found found = opened_lines site.levels found.0 >>= λ done. give (done.0, before done.1 (Searches site line found.1 ∷ frames))
+
+  searched : advance files makefile (Searches site line words) frames s a ≡ after searching left_found
+  searched = ap (λ place. after (next_module place line words s a) left_found) (sym placed)
+
+  pub search-stops : (stop : Stop FaultAt) (end : Account) → StopsAt stop end searching → StopsAt stop end (advance files makefile (Searches site line words) frames s a)
+  search-stops stop end stops = StopsAt-whole stop end _ _ (λ fault at. searched ∙ ap (λ r. after r left_found) at) stops
+
+  module _ (rest : List (List ℕ)) (end : Account) (found : Option Included) (gives : searching ≡ Ok (((s, option_map file_of found), rest), end)) where
+    found-is : (one : Option Included) → found ≡ one → searching ≡ Ok (((s, option_map file_of one), rest), end)
+    found-is one is = gives ∙ ap (λ found. let outcome : Result ((Opened × List (List ℕ)) × Account) (FaultAt × Account) = Ok (((s, option_map file_of found), rest), end) in outcome) is
+
+    -- there is none
+    pub search-ends : (frames' : List Frame) → found ≡ None → Searches site line rest ∷ frames ≡ frames' → advance files makefile (Searches site line words) frames s a ≡ Ok ((s, frames'), end)
+    search-ends frames' none left =
+        searched ∙ ap (λ r. after r left_found) (found-is None none)
+        ∙ ap (λ frames. let outcome : Result (Left × Account) (FaultAt × Account) = Ok ((s, frames), end) in outcome) left
+
+    abbrev left_entered : (EvalState × Option Frame) → Work Account FaultAt Left
+    left_entered done = give (done.0, before done.1 (Searches site line rest ∷ frames))
+
+    -- it is there
+    module _ (included : Included) (is : found ≡ Some included) (some : site.levels ≡ 0 → ⊥) where
+      enters : advance files makefile (Searches site line words) frames s a ≡ after (read_lines included.name (site.levels - 1) (parsed included.content) s end) left_entered
+      enters =
+          searched ∙ ap (λ r. after r left_found) (found-is (Some included) is)
+          ∙ ap (λ r. after r left_entered) (enters-file site.levels (file_of included) s end some)
+
+      pub search-reads : (frame : Frame) (frames' : List Frame) → read_lines included.name (site.levels - 1) (parsed included.content) s end ≡ Ok ((s, Some frame), end) → frame ∷ Searches site line rest ∷ frames ≡ frames'
+          → advance files makefile (Searches site line words) frames s a ≡ Ok ((s, frames'), end)
+      search-reads frame frames' reads left =
+          enters ∙ ap (λ r. after r left_entered) reads
+          ∙ ap (λ frames. let outcome : Result (Left × Account) (FaultAt × Account) = Ok ((s, frames), end) in outcome) left
+
+      pub search-unread : (stop : PureStop FaultAt) → StopsPurelyAt stop end (read_lines included.name (site.levels - 1) (parsed included.content) s end)
+          → StopsAt (stop_of_pure stop) end (advance files makefile (Searches site line words) frames s a)
+      search-unread (pure.Fault fault) stops = enters ∙ ap (λ r. after r left_entered) stops
+      search-unread pure.Memory stops = tt

@@ -1,5 +1,5 @@
 -- What the code has, as the definitions see it.
-use Rattle.std.specs.Prelude.{ℕ, List, map, drop, reverse, option_map, Option}
+use Rattle.std.specs.Prelude.{ℕ, List, [], map, string_bytes, drop, reverse, option_map, Option}
 use Rattle.mk_ast.specs.declared.nodes.Node.{Node}
 use Rattle.mk_ast.specs.declared.nodes.Branch.{Branch}
 use Rattle.mk_ast.specs.Trees.{Branches}
@@ -10,9 +10,12 @@ use Rattle.mk_eval.specs.Views.{loops_of}
 use Rattle.mk_step.specs.Machine as machine
 use Rattle.mk_step.specs.Points.{Point}
 use Rattle.mk_step.specs.declared.sites.Site.{Site}
+use Rattle.mk_step.specs.Machine.{before}
 use Rattle.mk_step.specs.declared.frames.Frame.{Frame}
+use Rattle.mk_step.specs.declared.frames.Inner.{Inner}
 use Rattle.mk_step.specs.declared.frames.ToDo.{ToDo}
-use Rattle.mk_step.specs.declared.frames.ToDo.TheVariants.{Lines, Later, Turns}
+use Rattle.mk_step.specs.declared.frames.ToDo.TheVariants.{Lines, Later, Turns, Modules, Searches}
+use Rattle.mk_step.specs.declared.searches.Search.{Search}
 use Rattle.mk_step.specs.declared.machine.Machine.{Machine}
 
 -- where lines are
@@ -23,16 +26,26 @@ site_of site = record { file = site.file.value; levels = site.levels; loops = lo
 abbrev pub later_from : List Branch → ℕ → Option (List Node) → Branches
 later_from branches next otherwise = branches_from (map branch_of (drop next branches)) (last_branch (option_map block_of otherwise))
 
+-- the words of a search that are left
+abbrev pub words_left : Search → List (List ℕ)
+words_left search = map string_bytes (drop search.next search.words.items)
+
 -- what is to be done at a site
 abbrev pub frame_at : machine.Site → ToDo → machine.Frame
 frame_at site (Lines block next) = machine.Lines site (block_of (drop next block.value.items))
 frame_at site (Later branches next otherwise) =
     machine.Later site (later_from branches.value.items next (option_map (λ block. block.value.items) otherwise))
 frame_at site (Turns line body turns next) = machine.Turns site line (block_of body.value.items) (drop next (turns_in turns.value))
+frame_at site (Modules line) = machine.Modules site line
+frame_at site (Searches search) = machine.Searches site search.line (words_left search)
 
 -- a frame
 abbrev pub frame_of : Frame → machine.Frame
 frame_of frame = frame_at (site_of frame.site.value) frame.to_do
+
+-- what is to be done before what follows a line
+abbrev pub inner_frames : Inner → List machine.Frame
+inner_frames inner = before (option_map frame_of inner.lines) (before (option_map frame_of inner.modules) [])
 
 -- all frames, of which the innermost is the last
 abbrev pub frames_of : List Frame → List machine.Frame

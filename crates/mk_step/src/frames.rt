@@ -1,17 +1,20 @@
 //! What is still to be done.
-ghost use Rattle.std.specs.Prelude.{◌≡◌, ◌∷◌, ◌<◌, List, length, IfSome, option_map, [], None};
+ghost use Rattle.std.specs.Prelude.{◌≡◌, ◌∷◌, ◌<◌, ◌≤◌, ◌&&◌, ◌++◌, IfOk, OnOk, List, IfSome, option_map, [], None};
 ghost use Rattle.mk_step.specs.Machine as machine;
 ghost use Rattle.mk_step.specs.Machine.{before};
-ghost use Rattle.mk_step.specs.Paying.{Costs};
+ghost use Rattle.mk_step.specs.Paying.{Costs, weight};
 ghost use Rattle.mk_step.specs.Points.{AreAlike};
-ghost use Rattle.mk_step.specs.Views.{site_of, frame_of, frames_of};
+ghost use Rattle.mk_step.specs.Views.{site_of, frame_at, frame_of, frames_of, inner_frames};
 ghost use Rattle.mk_ast.specs.Views.{block_of};
 ghost use Rattle.std.specs.Prelude.{drop};
 
 use crate::blank_lines::skip_blank_lines;
+use crate::searches::Search;
 use crate::sites::Site;
 use mk_ast::{Block, Branches};
+use mk_eval::EvalState;
 use mk_loop::Iterations;
+use std::alloc::AllocError;
 use std::rc::Rc;
 
 /// What is still to be done at one site.
@@ -53,6 +56,76 @@ pub(crate) enum ToDo {
         /// The index of the next one.
         next: usize,
     },
+    /// The modules that a line asks for.
+    Modules {
+        /// The number of the line.
+        line: u64,
+    },
+    /// The modules of the words that are left.
+    Searches(Search),
+}
+
+/// What is to be done before what follows a line.
+#[derive(Drop)]
+pub(crate) struct Inner {
+    /// The first that is to be done: the lines of a file, or what the head of a block leaves.
+    pub(crate) lines: Option<Frame>,
+    /// After that, the modules that the line asks for.
+    pub(crate) modules: Option<Frame>,
+}
+
+impl Inner {
+    /// What a line leaves that opened a file with these lines, or none: they, and the modules, if the line asks
+    /// for them.
+    pub(crate) fn of_line(
+        site: &Rc<Site>,
+        line: u64,
+        lines: Option<Frame>,
+        may_ask: bool,
+        state: &EvalState,
+    ) -> Result<Inner, AllocError>
+        ensures { IfOk result (λ inner. inner_frames inner
+            ≡ before (option_map frame_of lines)
+            (machine.modules_at (site_of site.now.value) line (may_ask && state.now.shared_asked))) }
+    {
+        if !may_ask || !state.shared_asked {
+            return Ok(Inner {
+                lines,
+                modules: None,
+            });
+        }
+        let site = site.clone()?;
+        let to_do = ToDo::Modules { line };
+        Ok(Inner {
+            lines,
+            modules: Some(Frame { site, to_do }),
+        })
+    }
+
+    /// Puts what is to be done on top of other frames.
+    pub(crate) fn push_onto(self, frames: &mut Vec<Frame>) -> Result<(), AllocError>
+        ensures { OnOk result (frames_of frames.new.items
+            ≡ inner_frames self ++ frames_of frames.old.items) }
+    {
+        let Inner { lines, modules } = self;
+        match modules {
+            None => push_if_there(frames, lines),
+            Some(modules) => {
+                frames.push(modules)?;
+                push_if_there(frames, lines)
+            }
+        }
+    }
+
+    /// What the head of a block leaves.
+    pub(crate) fn of_block(site: Rc<Site>, to_do: ToDo) -> Inner
+        ensures { inner_frames result ≡ frame_at (site_of site.value) to_do ∷ [] }
+    {
+        Inner {
+            lines: Some(Frame { site, to_do }),
+            modules: None,
+        }
+    }
 }
 
 impl Frame {
@@ -61,6 +134,8 @@ impl Frame {
     fn settled(self) -> Option<Frame>
         ensures alike { (others : List machine.Frame) → AreAlike (frame_of self ∷ others)
             (before (option_map frame_of result) others) }
+        ensures lighter { (others : List machine.Frame)
+            → weight (before (option_map frame_of result) others) ≤ weight (frame_of self ∷ others) }
         ensures costs { IfSome result (λ frame. Costs (frame_of frame)) }
     {
         let Frame { site, to_do } = self;
@@ -91,20 +166,26 @@ impl Frame {
                 body,
                 turns,
                 next,
-            } => {
-                if next < turns.count() {
-                    return Some(Frame {
-                        site,
-                        to_do: ToDo::Turns {
-                            line,
-                            body,
-                            turns,
-                            next,
-                        },
-                    });
-                }
-                None
-            }
+            } => turns_from(site, line, body, turns, next),
+            ToDo::Modules { line } => Some(Frame {
+                site,
+                to_do: ToDo::Modules { line },
+            }),
+            ToDo::Searches(search) => searches_from(site, search),
+        }
+    }
+}
+
+/// Puts a frame, if there is one, on top of others.
+fn push_if_there(frames: &mut Vec<Frame>, frame: Option<Frame>) -> Result<(), AllocError>
+    ensures { OnOk result (frames_of frames.new.items
+        ≡ before (option_map frame_of frame) (frames_of frames.old.items)) }
+{
+    match frame {
+        None => Ok(()),
+        Some(frame) => {
+            frames.push(frame)?;
+            Ok(())
         }
     }
 }
@@ -115,6 +196,8 @@ fn lines_from(site: Rc<Site>, block: Block, next: usize) -> Option<Frame>
     ensures alike { (others : List machine.Frame)
         → AreAlike (machine.Lines (site_of site.value) (block_of (drop next block.value.items)) ∷ others)
         (before (option_map frame_of result) others) }
+    ensures lighter { (others : List machine.Frame)
+        → weight (before (option_map frame_of result) others) ≤ weight others }
     ensures costs { IfSome result (λ frame. Costs (frame_of frame)) }
 {
     let next = skip_blank_lines(block.as_slice(), next);
@@ -127,12 +210,58 @@ fn lines_from(site: Rc<Site>, block: Block, next: usize) -> Option<Frame>
     None
 }
 
+/// The iterations of a loop from this index on. It is `None` if there are no others.
+fn turns_from(
+    site: Rc<Site>,
+    line: u64,
+    body: Block,
+    turns: Rc<Iterations>,
+    next: usize,
+) -> Option<Frame>
+    ensures alike { (others : List machine.Frame)
+        → AreAlike (frame_at (site_of site.value) (ToDo.Turns line body turns next) ∷ others)
+        (before (option_map frame_of result) others) }
+    ensures lighter { (others : List machine.Frame)
+        → weight (before (option_map frame_of result) others) ≤ weight others }
+    ensures costs { IfSome result (λ frame. Costs (frame_of frame)) }
+{
+    if next < turns.count() {
+        let to_do = ToDo::Turns {
+            line,
+            body,
+            turns,
+            next,
+        };
+        return Some(Frame { site, to_do });
+    }
+    None
+}
+
+/// The modules of the words that are left. It is `None` if none is.
+fn searches_from(site: Rc<Site>, search: Search) -> Option<Frame>
+    ensures alike { (others : List machine.Frame)
+        → AreAlike (frame_at (site_of site.value) (ToDo.Searches search) ∷ others)
+        (before (option_map frame_of result) others) }
+    ensures lighter { (others : List machine.Frame)
+        → weight (before (option_map frame_of result) others)
+        ≤ weight (frame_at (site_of site.value) (ToDo.Searches search) ∷ others) }
+    ensures costs { IfSome result (λ frame. Costs (frame_of frame)) }
+{
+    if search.next < search.words.len() {
+        let to_do = ToDo::Searches(search);
+        return Some(Frame { site, to_do });
+    }
+    None
+}
+
 /// Takes the innermost frame in which something is to be done that costs a unit, without what it has to do
 /// before that. The frames inside it, in which nothing else is to be done, are dropped. It is `None` if
 /// there is no such frame.
 pub(crate) fn next_frame(frames: &mut Vec<Frame>) -> Option<Frame>
     ensures alike { AreAlike (frames_of frames.old.items)
         (before (option_map frame_of result) (frames_of frames.new.items)) }
+    ensures lighter { weight (before (option_map frame_of result) (frames_of frames.new.items))
+        ≤ weight (frames_of frames.old.items) }
     ensures costs { IfSome result (λ frame. Costs (frame_of frame)) }
     ensures none { result ≡ None → frames.new.items ≡ [] }
 {

@@ -4,8 +4,10 @@
 mod blank_lines;
 mod evaluation;
 mod frames;
+mod heads;
 mod laws;
 mod machine;
+mod searches;
 mod sites;
 mod steps;
 

@@ -136,10 +136,16 @@ impl Machine {
           cost = self.budget.spent;
         } }
     {
+        let Machine { state, budget, .. } = self;
+        let EvalState {
+            variables,
+            kind,
+            ..
+        } = state;
         Evaluated {
-            kind: self.state.kind,
-            env: self.state.variables,
-            cost: self.budget.spent(),
+            kind,
+            env: variables,
+            cost: budget.spent(),
         }
     }
 
@@ -173,6 +179,7 @@ fn begin<F: Files, P: Parses>(
         variables: start(alloc, settings, name, flavors)?,
         kind: Kind::Other,
         shared_asked: false,
+        path: settings.path.copy(alloc)?,
     };
     let file = Included {
         name: name.copy(alloc)?,

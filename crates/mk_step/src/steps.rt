@@ -1,9 +1,8 @@
 //! The things that a machine does, one after another.
-ghost use Rattle.std.specs.Prelude.{◌≡◌, ◌<◌, ◌+◌, List, Option, length, drop, option_map, IfOk, Some, if◌then◌else◌};
+ghost use Rattle.std.specs.Prelude.{◌≡◌, ◌<◌, List, Option, length, drop, Some};
 ghost use Rattle.mk_base.specs.Meter.{IsLater};
 ghost use Rattle.mk_base.specs.Stopping.{Gives, GivesPurely};
 ghost use Rattle.mk_ast.specs.Parsing.{parsed};
-ghost use Rattle.mk_ast.specs.Trees.{LineTree};
 ghost use Rattle.mk_ast.specs.Views.{tree_of, block_of};
 ghost use Rattle.mk_files.specs.Asking.{Account, account};
 ghost use Rattle.mk_files.specs.Working.{Asks};
@@ -12,24 +11,28 @@ ghost use Rattle.mk_paths.specs.FilesView.{Question};
 ghost use Rattle.mk_loop.specs.Scopes.{turns_in};
 ghost use Rattle.mk_eval.specs.declared.state.EvalState.{EvalState};
 ghost use Rattle.mk_step.specs.Machine as machine;
-ghost use Rattle.mk_step.specs.Machine.{read_lines, do_tree, advance};
+ghost use Rattle.mk_step.specs.Machine.{read_lines, do_line, do_tree, advance};
 ghost use Rattle.mk_step.specs.Paying.{Costs};
-ghost use Rattle.mk_step.specs.Views.{site_of, frame_at, frame_of, frames_of, later_from};
+ghost use Rattle.mk_step.specs.Views.{site_of, frame_at, frame_of, frames_of, inner_frames};
 
-use crate::frames::{Frame, ToDo};
+use crate::frames::{Frame, Inner, ToDo};
+use crate::heads::{after_condition, begun, chosen};
 use crate::machine::Machine;
+use crate::searches::Search;
 use crate::sites::Site;
 use mk_ast::{Block, Branches, Node};
 use mk_base::{Fault, PureStop, Stop};
-use mk_eval::{Included, Parses, begin_turn, holds, open_line, turns_at};
+use mk_eval::{
+    Included, Parses, begin_turn, holds, may_ask_modules, module_words, open_line, turns_at,
+};
 use mk_files::Files;
 use mk_loop::Iterations;
 use mk_text::Logical;
-use std::alloc::{AllocError, Global};
+use std::alloc::Global;
 use std::rc::Rc;
 
 impl Machine {
-    /// Does the next thing that this frame has to do, which costs a unit or more.
+    /// Does the next thing that this frame has to do, which costs a unit or more, or is about modules.
     pub(crate) fn step<F: Files, P: Parses>(
         &mut self,
         alloc: Global,
@@ -62,6 +65,8 @@ impl Machine {
                 turns,
                 next,
             } => Ok(self.step_turns(alloc, site, line, body, turns, next)?),
+            ToDo::Modules { line } => Ok(self.step_modules(alloc, site, line)?),
+            ToDo::Searches(search) => self.step_searches(alloc, site, search, parses, files),
         }
     }
 
@@ -94,9 +99,7 @@ impl Machine {
             site,
             to_do: ToDo::Lines { block, next },
         })?;
-        if let Some(inner) = inner {
-            self.frames.push(inner)?;
-        }
+        inner.push_onto(&mut self.frames)?;
         Ok(())
     }
 
@@ -108,8 +111,8 @@ impl Machine {
         node: &Node,
         parses: &mut P,
         files: &mut F,
-    ) -> Result<Option<Frame>, Stop<Fault>>
-        ensures gives { Gives (λ inner. (self.new.state, option_map frame_of inner)) result
+    ) -> Result<Inner, Stop<Fault>>
+        ensures gives { Gives (λ inner. (self.new.state, inner_frames inner)) result
             (account self.new.budget (F.view files.new))
             (do_tree (F.view files.old).files self.old.makefile (site_of site.now.value)
             (tree_of node.now) self.old.state (account self.old.budget (F.view files.old))) }
@@ -139,32 +142,30 @@ impl Machine {
                     &mut self.budget,
                 )?;
                 let to_do = chosen(held, body, branches, otherwise)?;
-                let site = site.clone()?;
-                Ok(Some(Frame { site, to_do }))
+                Ok(Inner::of_block(site.clone()?, to_do))
             }
             Node::Loop { head, body } => {
                 let turns = turns_at(alloc, here, loops, head, &self.state, &mut self.budget)?;
                 let to_do = begun(head, body, turns)?;
-                let site = site.clone()?;
-                Ok(Some(Frame { site, to_do }))
+                Ok(Inner::of_block(site.clone()?, to_do))
             }
         }
     }
 
     /// Does a line that frames no block. If it opens a file, the file's lines are to be done before what
-    /// follows.
+    /// follows, and after them the modules that the line asks for, if it does.
     fn do_line<F: Files, P: Parses>(
         &mut self,
         alloc: Global,
-        site: &Site,
+        site: &Rc<Site>,
         line: &Logical,
         parses: &mut P,
         files: &mut F,
-    ) -> Result<Option<Frame>, Stop<Fault>>
-        ensures gives { Gives (λ inner. (self.new.state, option_map frame_of inner)) result
+    ) -> Result<Inner, Stop<Fault>>
+        ensures gives { Gives (λ inner. (self.new.state, inner_frames inner)) result
             (account self.new.budget (F.view files.new))
-            (do_tree (F.view files.old).files self.old.makefile (site_of site.now)
-            (LineTree line.now) self.old.state (account self.old.budget (F.view files.old))) }
+            (do_line (F.view files.old).files self.old.makefile (site_of site.now.value)
+            line.now self.old.state (account self.old.budget (F.view files.old))) }
         ensures asks { Asks F.fails_with result (F.view files.old) (F.view files.new) }
         ensures later { IsLater self.old.budget self.new.budget }
         ensures frames { self.new.frames ≡ self.old.frames }
@@ -173,10 +174,14 @@ impl Machine {
     {
         let here = site.here(&self.makefile);
         let loops = site.loops.as_slice();
+        let may_ask = may_ask_modules(&self.state);
         let (state, budget) = (&mut self.state, &mut self.budget);
         match open_line(alloc, here, loops, line, state, files, budget)? {
-            None => Ok(None),
-            Some(included) => Ok(Some(lines_in(alloc, included, site.levels - 1, parses)?)),
+            None => Ok(Inner::of_line(site, line.line(), None, may_ask, &self.state)?),
+            Some(included) => {
+                let lines = lines_in(alloc, included, site.levels - 1, parses)?;
+                Ok(Inner::of_line(site, line.line(), Some(lines), may_ask, &self.state)?)
+            }
         }
     }
 
@@ -264,6 +269,71 @@ impl Machine {
         self.frames.push(inner)?;
         Ok(())
     }
+
+    /// Expands MODULES at this line.
+    fn step_modules(
+        &mut self,
+        alloc: Global,
+        site: Rc<Site>,
+        line: u64,
+    ) -> Result<(), PureStop<Fault>>
+        ensures gives { (files : FileMap) (log : Option (List Question))
+            → GivesPurely (λ _. (self.new.state, frames_of self.new.frames.items)) result
+            (record { meter = self.new.budget; log = log })
+            (advance files self.old.makefile (machine.Modules (site_of site.value) line)
+            (frames_of self.old.frames.items) self.old.state
+            (record { meter = self.old.budget; log = log })) }
+        ensures later { IsLater self.old.budget self.new.budget }
+        ensures makefile { self.new.makefile ≡ self.old.makefile }
+    {
+        let here = site.here(&self.makefile);
+        let words = module_words(alloc, here, line, &self.state, &mut self.budget)?;
+        let to_do = ToDo::Searches(Search {
+            line,
+            words,
+            next: 0,
+        });
+        self.frames.push(Frame { site, to_do })?;
+        Ok(())
+    }
+
+    /// Looks for the next module, and leaves its lines and the words after it.
+    fn step_searches<F: Files, P: Parses>(
+        &mut self,
+        alloc: Global,
+        site: Rc<Site>,
+        mut search: Search,
+        parses: &mut P,
+        files: &mut F,
+    ) -> Result<(), Stop<Fault>>
+        ensures gives { Gives (λ _. (self.new.state, frames_of self.new.frames.items)) result
+            (account self.new.budget (F.view files.new))
+            (advance (F.view files.old).files self.old.makefile
+            (frame_at (site_of site.value) (ToDo.Searches search))
+            (frames_of self.old.frames.items) self.old.state
+            (account self.old.budget (F.view files.old))) }
+        ensures asks { Asks F.fails_with result (F.view files.old) (F.view files.new) }
+        ensures later { IsLater self.old.budget self.new.budget }
+        ensures makefile { self.new.makefile ≡ self.old.makefile }
+        ensures parses { P.becomes parses.old parses.new }
+    {
+        let here = site.here(&self.makefile);
+        let found = search.next_module(alloc, here, &self.state, files, &mut self.budget)?;
+        let levels = site.levels;
+        let to_do = ToDo::Searches(search);
+        match found {
+            None => {
+                self.frames.push(Frame { site, to_do })?;
+                Ok(())
+            }
+            Some(included) => {
+                let lines = lines_in(alloc, included, levels - 1, parses)?;
+                self.frames.push(Frame { site, to_do })?;
+                self.frames.push(lines)?;
+                Ok(())
+            }
+        }
+    }
 }
 
 /// The lines of a file that was read.
@@ -291,81 +361,5 @@ pub(crate) fn lines_in<P: Parses>(
             let fault = Fault::new(alloc, fault.kind, name.as_str(), fault.line)?;
             Err(PureStop::Fault(fault))
         }
-    }
-}
-
-/// What is to be done of a choice once its first condition is judged.
-fn chosen(
-    held: bool,
-    body: &Block,
-    branches: &Branches,
-    otherwise: &Option<Block>,
-) -> Result<ToDo, AllocError>
-    ensures { IfOk result (λ to_do. (site : machine.Site) → frame_at site to_do
-        ≡ (if held then machine.Lines site (block_of body.now.value.items)
-        else machine.Later site (later_from branches.now.value.items 0
-        (option_map (λ block. block.value.items) otherwise.now)))) }
-{
-    if held {
-        return Ok(ToDo::Lines {
-            block: body.clone()?,
-            next: 0,
-        });
-    }
-    Ok(ToDo::Later {
-        branches: branches.clone()?,
-        next: 0,
-        otherwise: shared(otherwise)?,
-    })
-}
-
-/// The same last branch once more.
-fn shared(otherwise: &Option<Block>) -> Result<Option<Block>, AllocError>
-    ensures { IfOk result (λ shared. option_map (λ block. block.value.items) shared
-        ≡ option_map (λ block. block.value.items) otherwise.now) }
-{
-    match otherwise {
-        Some(block) => Ok(Some(block.clone()?)),
-        None => Ok(None),
-    }
-}
-
-/// What is to be done of a loop once its header is read.
-fn begun(head: &Logical, body: &Block, turns: Rc<Iterations>) -> Result<ToDo, AllocError>
-    ensures { IfOk result (λ to_do. (site : machine.Site) → frame_at site to_do
-        ≡ machine.Turns site head.now.line (block_of body.now.value.items) (turns_in turns.value)) }
-{
-    Ok(ToDo::Turns {
-        line: head.line(),
-        body: body.clone()?,
-        turns,
-        next: 0,
-    })
-}
-
-/// What is to be done of a choice once the condition of the branch with this index and body is judged.
-fn after_condition(
-    held: bool,
-    body: Block,
-    branches: Branches,
-    next: usize,
-    otherwise: Option<Block>,
-) -> ToDo
-    requires { next < length branches.value.items }
-    ensures { (site : machine.Site) → frame_at site result
-        ≡ (if held then machine.Lines site (block_of body.value.items)
-        else machine.Later site (later_from branches.value.items (next + 1)
-        (option_map (λ block. block.value.items) otherwise))) }
-{
-    if held {
-        return ToDo::Lines {
-            block: body,
-            next: 0,
-        };
-    }
-    ToDo::Later {
-        branches,
-        next: next + 1,
-        otherwise,
     }
 }

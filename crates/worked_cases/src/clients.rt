@@ -10,13 +10,16 @@ use std::net::{Net, SocketAddr};
 
 /// Clients that do a step of their own between the steps of the service.
 pub trait Clients: Drop {
+    /// Does what the sockets allow now: a client connects, sends, takes what has come, or leaves.
     fn step(&mut self);
 }
 
 /// What listens, and clients of it, which do one step at each accept.
 #[derive(Drop)]
 pub struct WithClients<C: Clients> {
+    /// What listens.
     pub sockets: Sockets,
+    /// The clients.
     pub clients: C,
 }
 

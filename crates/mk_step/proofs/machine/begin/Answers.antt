@@ -5,6 +5,7 @@ use Rattle.mk_base.specs.Stopping.{StopsPurelyAt}
 use Rattle.mk_base.specs.declared.faults.FaultKind.TheVariants as kinds
 use Rattle.mk_base.specs.declared.stopping.Stop.TheVariants as stops
 use Rattle.mk_ast.specs.Parsing.{parsed}
+use Rattle.mk_eval.specs.Start as starts
 use Rattle.mk_eval.specs.Views.{flavors_in}
 use Rattle.mk_step.specs.Machine.{read_lines}
 use Rattle.mk_step.specs.Views.{frame_of, frames_of}
@@ -34,13 +35,14 @@ returns-in_err-lines-clause-begins g c =
     rw (p.1, p.2)
     (reading-stops g.F.Names.fails_with (view c.args.files.now) (view c.look_read.new.files) c.args.settings.now c.args.name.now (flavors_in c.args.flavors) c.in_ok-content.ensures.noted stop c.in-Some.content
     (sym c.in_ok-content.ensures.found ∙ c.in-Some.is)
-    (λ s a. subst (λ name. StopsPurelyAt stop a (read_lines name 16 (parsed c.in-Some.content) s a)) c.in_ok-copy.ensures (c.in_err-lines.ensures.gives s a)))
+    (λ s a. subst (λ name. StopsPurelyAt stop a (read_lines name 16 (parsed c.in-Some.content) s a)) c.in_ok-copy-2.ensures (c.in_err-lines.ensures.gives s a)))
 
 pub returns-clause-begins : goal.returns-clause-begins
 returns-clause-begins g c =
     let view = g.F.Names.view in
-    begins g.F.Names.fails_with (view c.args.files.now) (view c.look_read.new.files) c.args.settings.now c.args.name.now (flavors_in c.args.flavors) c.in_ok-content.ensures.noted (record { makefile = c.in_ok-copy-2.field-0; state = record { variables = c.in_ok-start.field-0; kind = roles.Other; shared_asked = false }; budget = c.new.result; frames = c.push.new.self }) (frame_of c.in_ok-lines.lines) c.in-Some.content
+    begins g.F.Names.fails_with (view c.args.files.now) (view c.look_read.new.files) c.args.settings.now c.args.name.now (flavors_in c.args.flavors) c.in_ok-content.ensures.noted (record { makefile = c.in_ok-copy-3.field-0; state = record { variables = c.in_ok-start.field-0; kind = roles.Other; shared_asked = false; path = c.in_ok-copy.field-0 }; budget = c.new.result; frames = c.push.new.self }) (frame_of c.in_ok-lines.lines) c.in-Some.content
     (sym c.in_ok-content.ensures.found ∙ c.in-Some.is)
-    (λ s a. subst (λ name. read_lines name 16 (parsed c.in-Some.content) s a ≡ Ok ((s, Some (frame_of c.in_ok-lines.lines)), a)) c.in_ok-copy.ensures (c.in_ok-lines.ensures.gives s a))
-    (point-is _ _ _ _ _ _ _ _ c.in_ok-copy-2.ensures (ap frames_of (c.in_ok-push.ensures.items ∙ ap (λ frames. frames ++ c.in_ok-lines.lines ∷ []) c.new-frames.ensures.items))
-    (ap (λ variables. let state : EvalState = record { variables = variables; kind = roles.Other; shared_asked = false } in state) c.in_ok-start.ensures) c.new.ensures)
+    (λ s a. subst (λ name. read_lines name 16 (parsed c.in-Some.content) s a ≡ Ok ((s, Some (frame_of c.in_ok-lines.lines)), a)) c.in_ok-copy-2.ensures (c.in_ok-lines.ensures.gives s a))
+    (point-is _ _ _ _ _ _ _ _ c.in_ok-copy-3.ensures (ap frames_of (c.in_ok-push.ensures.items ∙ ap (λ frames. frames ++ c.in_ok-lines.lines ∷ []) c.new-frames.ensures.items))
+    (ap (λ variables. let state : EvalState = record { variables = variables; kind = roles.Other; shared_asked = false; path = c.in_ok-copy.field-0 } in state) c.in_ok-start.ensures
+    ∙ ap (λ path. let state : EvalState = record { variables = starts.start c.args.settings.now c.args.name.now (flavors_in c.args.flavors); kind = roles.Other; shared_asked = false; path = path } in state) c.in_ok-copy.ensures) c.new.ensures)

@@ -1,9 +1,10 @@
-use Rattle.std.proofs.Common.{◌≡◌, ◌≤◌, ◌<◌, ◌+◌, refl, sym, ap, subst, arith}
+use Rattle.std.proofs.Common.{◌≤◌, ◌<◌, ◌+◌, ◌∷◌, refl, sym, ap, subst, arith}
 use Rattle.std.proofs.lemmas.Result.{err_from_is_err_and}
 use Rattle.mk_base.specs.Meter.{IsLater-on}
 use Rattle.mk_step.specs.Points.{Point}
 use Rattle.mk_step.specs.Views.{point_of, frame_of, frames_of}
-use Rattle.mk_step.proofs.Running.{Way, way-begins, way-on, way-grows, way-fits, way-stops, way-stays, way-ends}
+use Rattle.mk_step.specs.Paying.{weight, may_follow}
+use Rattle.mk_step.proofs.Running.{Way, way-begins, way-on, way-lessens, way-fits, way-stops, way-stays, way-ends}
 use Rattle.mk_step.proofs.machine.Machine.run.Goals as goal
 
 pub loop-alloc-init : goal.loop-alloc-init
@@ -36,15 +37,15 @@ loop-alloc-smaller g c =
     let start = point_of c.args.self.now in
     let here = c.loop-alloc.self in
     let new = c.step.new.self in
-    let grows : here.budget.spent < new.budget.spent =
-    way-grows g.F.Names.fails_with first start c.args.units (view c.loop-alloc.files) (view c.step.new.files) (point_of here) c.loop-alloc.invariant.way (frame_of c.in-Some.frame) (frames_of c.next_frame.new.frames.items) new.budget
-    c.in-Some.ensures.alike c.in_ok-step.ensures.later (new.state, frames_of new.frames.items) c.in_ok-step.ensures.asks c.in_ok-step.ensures.gives c.in-Some.ensures.costs in
     let there : here.budget.spent ≤ here.budget.limit = omega (arith, c.spent.ensures.units, c.spent.ensures.within) in
     let fits : new.budget.spent ≤ here.budget.limit =
     way-fits g.F.Names.fails_with first start c.args.units (view c.loop-alloc.files) (view c.step.new.files) (point_of here) c.loop-alloc.invariant.way (frame_of c.in-Some.frame) (frames_of c.next_frame.new.frames.items) new.budget
     c.in-Some.ensures.alike c.in_ok-step.ensures.later (new.state, frames_of new.frames.items) c.in_ok-step.ensures.asks c.in_ok-step.ensures.gives there in
-    let limit : new.budget.limit ≡ here.budget.limit = c.in_ok-step.ensures.later.limit in
-    omega (arith, grows, fits, limit)
+    let lessens : may_follow new.budget (frames_of new.frames.items) < may_follow here.budget (frame_of c.in-Some.frame ∷ frames_of c.next_frame.new.frames.items) =
+    way-lessens g.F.Names.fails_with first start c.args.units (view c.loop-alloc.files) (view c.step.new.files) (point_of here) c.loop-alloc.invariant.way (frame_of c.in-Some.frame) (frames_of c.next_frame.new.frames.items) new.budget
+    c.in-Some.ensures.alike c.in_ok-step.ensures.later (new.state, frames_of new.frames.items) c.in_ok-step.ensures.asks c.in_ok-step.ensures.gives c.in-Some.ensures.costs fits in
+    let lighter : weight (frame_of c.in-Some.frame ∷ frames_of c.next_frame.new.frames.items) ≤ weight (frames_of here.frames.items) = c.in-Some.ensures.lighter in
+    omega (arith, lessens, lighter)
 
 pub returns-in_err-step-clause-runs : goal.returns-in_err-step-clause-runs
 returns-in_err-step-clause-runs g c =

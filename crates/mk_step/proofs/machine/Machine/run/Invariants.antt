@@ -1,6 +1,6 @@
-use Rattle.std.proofs.Common.{◌-◌}
 use Rattle.mk_base.specs.Meter.{IsLater}
-use Rattle.mk_step.specs.Views.{point_of}
+use Rattle.mk_step.specs.Paying.{may_follow}
+use Rattle.mk_step.specs.Views.{point_of, frames_of}
 use Rattle.mk_step.proofs.Running.{Way}
 use Rattle.mk_step.proofs.machine.Machine.run.Given as goal
 
@@ -15,4 +15,4 @@ invariant-loop-alloc g l =
     }
 
 abbrev pub decreases-loop-alloc : goal.decreases-loop-alloc
-decreases-loop-alloc g l = l.self.budget.limit - l.self.budget.spent
+decreases-loop-alloc g l = may_follow l.self.budget (frames_of l.self.frames.items)

@@ -1,0 +1,60 @@
+//! The search for the modules that a line asks for.
+ghost use Rattle.std.specs.Prelude.{◌≡◌, option_map, IfOk};
+ghost use Rattle.mk_base.specs.Meter.{IsLater};
+ghost use Rattle.mk_base.specs.Stopping.{Gives};
+ghost use Rattle.mk_files.specs.Asking.{account};
+ghost use Rattle.mk_files.specs.Working.{Asks};
+ghost use Rattle.mk_eval.specs.Running.{MayOpen};
+ghost use Rattle.mk_eval.specs.Views.{place_of, file_of};
+ghost use Rattle.mk_step.specs.Machine as machine;
+ghost use Rattle.mk_step.specs.Views.{words_left};
+
+use mk_base::{Budget, Fault, Stop};
+use mk_eval::{EvalState, ExecutedFile, Included, open_module};
+use mk_files::Files;
+use std::alloc::Global;
+
+/// The words of MODULES of which the modules are still to be included.
+#[derive(Drop)]
+pub(crate) struct Search {
+    /// The number of the line that asks for them.
+    pub(crate) line: u64,
+    /// All words.
+    pub(crate) words: Vec<String>,
+    /// The index of the next one.
+    pub(crate) next: usize,
+}
+
+impl Search {
+    /// The file of the next module that is there. The words up to it are done, or all words if there is none.
+    ///
+    /// The errors are those of `mk_eval::open_module` for each word.
+    pub(crate) fn next_module<F: Files>(
+        &mut self,
+        alloc: Global,
+        here: ExecutedFile<'_>,
+        state: &EvalState,
+        files: &mut F,
+        budget: &mut Budget,
+    ) -> Result<Option<Included>, Stop<Fault>>
+        ensures gives { Gives (λ found. ((state.now, option_map file_of found), words_left self.new))
+            result (account budget.new (F.view files.new))
+            (machine.next_module (place_of here.entry (F.view files.old).files) self.old.line
+            (words_left self.old) state.now (account budget.old (F.view files.old))) }
+        ensures asks { Asks F.fails_with result (F.view files.old) (F.view files.new) }
+        ensures later { IsLater budget.old budget.new }
+        ensures opens { IfOk result (MayOpen here.entry.levels) }
+        ensures line { self.new.line ≡ self.old.line }
+    {
+        let line = self.line;
+        while self.next < self.words.len() {
+            let word = self.words[self.next].as_str();
+            let opened = open_module(alloc, here, line, state, word, files, budget)?;
+            self.next += 1;
+            if opened.is_some() {
+                return Ok(opened);
+            }
+        }
+        Ok(None)
+    }
+}
