@@ -11,11 +11,11 @@ field_limit = 32
 
 -- the bytes of a body
 unfoldable pub body_limit : ℕ
-body_limit = 65536
+body_limit = 131072
 
 -- the bytes that a connection holds unread: a greatest head and a greatest body
 unfoldable pub unread_limit : ℕ
-unread_limit = 73728
+unread_limit = 139264
 
 -- the bytes that a fixed reply takes at most
 unfoldable pub fixed_limit : ℕ

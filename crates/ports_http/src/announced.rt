@@ -11,7 +11,7 @@ use crate::method::{Method, method_of};
 use httparse::spans::HeaderSpan;
 
 /// The most bytes of a body.
-const BODY_LIMIT: u64 = 65_536;
+const BODY_LIMIT: u64 = 131_072;
 
 /// The method, and how many bytes the body has; or the first refusal that fits.
 #[tactic(auto, unfolding(crate::specs::Heads::announced))]

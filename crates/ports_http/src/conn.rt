@@ -13,11 +13,11 @@ use std::marker::Model;
 use std::str;
 
 /// The most bytes that a connection holds unread: a greatest head and a greatest body.
-const UNREAD_LIMIT: usize = 73_728;
+const UNREAD_LIMIT: usize = 139_264;
 
 /// The bytes that are reserved. Bytes that were taken stay in front until the buffer is full. Then the
 /// unread bytes move to its front. So the moves cost no more than the bytes that were fed.
-const RESERVED: usize = 147_456;
+const RESERVED: usize = 278_528;
 
 /// The bytes of one connection that aren't taken yet. A contract sees them as an `Incoming`: the
 /// unread bytes, and whether the stream is over.
@@ -56,7 +56,7 @@ impl Conn {
         })
     }
 
-    /// How many bytes may be fed: 73,728 less those that are unread, and none once the stream is over.
+    /// How many bytes may be fed: 139,264 less those that are unread, and none once the stream is over.
     pub fn room(&self) -> usize
         ensures { result ≡ room_of self.now }
     {

@@ -30,7 +30,7 @@ pub enum HeadFault {
     /// A PUT has no Content-Length: 411.
     #[error("the PUT has no Content-Length")]
     LengthRequired,
-    /// The Content-Length is over 65,536: 413.
+    /// The Content-Length is over 131,072: 413.
     #[error("the body is too large")]
     BodyTooLarge,
 }
