@@ -29,3 +29,19 @@ make_tree() { # make_tree DIRECTORY PORTS: writes the makefile of each port belo
         port "$number" "$2" "1.$((number % 40))" >"$1/ports/$(path "$number")/Makefile"
     done
 }
+
+# add_modules DIRECTORY: has each port of the tree name two of 40 modules, which are there, one of each two in the
+# second tree of the search path
+add_modules() {
+    local number=0 makefile
+    for makefile in "$1"/ports/category*/port*/Makefile; do
+        sed -i "1i MODULES = lang/module$((number % 40)) lang/module$(((number + 7) % 40))" "$makefile"
+        number=$((number + 1))
+    done
+    for number in $(seq 0 39); do
+        local tree=ports
+        [ $((number % 2)) = 0 ] || tree=mystuff
+        mkdir -p "$1/$tree/lang/module$number"
+        printf 'MODULE%s = %s\nMODULES_USED += %s\n' "$number" "$number" "$number" >"$1/$tree/lang/module$number/module$number.port.mk"
+    done
+}
