@@ -3,6 +3,7 @@ use crate::service::reply_answer;
 use case_lines::{Answer, Trouble, one_text};
 use computed_ports::ComputedPorts;
 use make_cases::{Asking, FailingFiles, World, failing_answer};
+use mk_files::Listing;
 use mk_paths::{FilesFault, Settings};
 use ports_http::Method;
 use ports_plain::Plain;
@@ -33,10 +34,19 @@ impl Asking for Getting<'_> {
         alloc: Global,
         files: &mut FailingFiles<'_>,
     ) -> Result<Result<Answer, Trouble>, FilesFault> {
-        let settings = self.settings;
-        let mut ports = ComputedPorts { files, settings };
-        let plain = Plain::new(alloc)?;
-        let (prepared, _spent) = plain.prepare(alloc, &mut ports, Method::Get, self.target, &[])?;
-        Ok(Ok(reply_answer(alloc, &prepared.reply)))
+        Ok(Ok(answer_to(alloc, files, self.settings, self.target)?))
     }
+}
+
+/// The status and the body of the plain reply to a GET over these files.
+fn answer_to<F: Listing>(
+    alloc: Global,
+    files: &mut F,
+    settings: &Settings,
+    target: &str,
+) -> Result<Answer, FilesFault> {
+    let mut ports = ComputedPorts { files, settings };
+    let plain = Plain::new(alloc)?;
+    let (prepared, _spent) = plain.prepare(alloc, &mut ports, Method::Get, target, &[])?;
+    Ok(reply_answer(alloc, &prepared.reply))
 }
