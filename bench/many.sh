@@ -1,8 +1,9 @@
 #!/usr/bin/env bash
 # Starts portsd for 64 tenants (or as many as TENANTS says), and stores the same tree of 2,000 ports (PORTS)
 # with 8 dependencies each for every one of them. Then each tenant in turn asks for its first list. Prints how
-# long the first tenant's first list takes and how long the last one's, the same for the list again, and what
-# an upload takes as the first and as the last tenant. With 64 tenants it takes some minutes.
+# long the first tenant's first list takes and how long the last one's, the same for the list again, how many
+# uploads a second the first and the last tenant have, and what a DELETE of the first tenant takes before and after
+# the others store theirs. With 64 tenants it takes some minutes.
 set -euo pipefail
 top=$(cd "$(dirname "$0")/.." && pwd)
 source "$top/bench/ports_tree.sh"

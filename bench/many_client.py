@@ -3,7 +3,8 @@
 many_client.py PORT PID TREE TENANTS: uploads the files below TREE as each of the tenants `t1` to `tTENANTS`,
 then asks for the list of packages as each of them in turn, and prints how long the first one's first list and
 the last one's take, by the clock and by the processor time of the process PID. The lists have to be equal.
-Then it prints the same for both lists again, and how many uploads a second the first and the last tenant had."""
+Then it prints the same for both lists again, and how many uploads a second the first and the last tenant had. It
+also prints how long a DELETE of the first tenant takes before the others store their files, and after that."""
 import os
 import sys
 import time
@@ -11,6 +12,7 @@ import time
 from serve_client import Client, cpu_seconds, head
 
 AGAIN = 20
+REMOVED = 100
 
 
 def files(tree):
@@ -23,13 +25,28 @@ def files(tree):
     return sorted(found)
 
 
+def upload(client, key, name, content):
+    request = f"PUT /v1/file?name={name} {head(key)}Content-Length: {len(content)}\r\n\r\n".encode()
+    client.ask(request + content, b'{"stored":true}')
+
+
 def uploads_a_second(client, key, stored):
     """How many files a second are stored for the key."""
     start = time.monotonic()
     for name, content in stored:
-        request = f"PUT /v1/file?name={name} {head(key)}Content-Length: {len(content)}\r\n\r\n".encode()
-        client.ask(request + content, b'{"stored":true}')
+        upload(client, key, name, content)
     return len(stored) / (time.monotonic() - start)
+
+
+def removal(client, key, stored):
+    """The milliseconds that it takes to remove one of the key's files, each of which is stored again."""
+    spent = 0
+    for name, content in stored[:REMOVED]:
+        start = time.monotonic()
+        client.ask(f"DELETE /v1/file?name={name} {head(key)}\r\n".encode(), b'{"removed":true}')
+        spent += time.monotonic() - start
+        upload(client, key, name, content)
+    return 1000 * spent / REMOVED
 
 
 def list_of(client, key, wanted=None):
@@ -54,8 +71,11 @@ def main():
     port, pid, tree, tenants = int(sys.argv[1]), int(sys.argv[2]), sys.argv[3], int(sys.argv[4])
     keys = [f"t{number}" for number in range(1, tenants + 1)]
     stored, client = files(tree), Client(port)
-    rates = [uploads_a_second(client, key, stored) for key in keys]
+    rates = [uploads_a_second(client, keys[0], stored)]
+    alone = removal(client, keys[0], stored)
+    rates += [uploads_a_second(client, key, stored) for key in keys[1:]]
     print(f"{tenants} tenants, {len(stored)} ports each: uploads a second of the first {rates[0]:.0f}, of the last {rates[-1]:.0f}")
+    print(f"a DELETE of the first tenant: {alone:.2f} ms alone, {removal(client, keys[0], stored):.2f} ms among all")
     first = None
     for number, key in enumerate(keys, 1):
         watch = Watch(pid)

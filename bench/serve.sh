@@ -8,7 +8,7 @@ set -euo pipefail
 top=$(cd "$(dirname "$0")/.." && pwd)
 port=${1-18080}
 work=$(mktemp -d)
-"$top/run" --help >/dev/null
+[ -n "${PORTSD:-}" ] || "$top/run" --help >/dev/null
 portsd=${PORTSD:-$top/crates/portsd/out/portsd}
 
 start() { # start KEY..: starts a server for these keys, and waits until it is ready

@@ -33,43 +33,27 @@ impl Change {
     }
 
     /// Makes it, and gives the answer.
-    pub fn make(
-        &self,
-        alloc: Global,
-        store: &mut TenantStore,
-        tenant: u32,
-    ) -> Result<&'static str, Trouble> {
+    pub fn make(&self, alloc: Global, store: &mut TenantStore) -> Result<&'static str, Trouble> {
         match self {
-            Change::Put(name, bytes) => put(alloc, store, tenant, name, bytes.as_slice()),
-            Change::Remove(name) => remove(alloc, store, tenant, name),
-            Change::SetPath(path) => set_answer(&store.set_path(alloc, tenant, path)),
-            Change::SetProfile(profile) => set_answer(&store.set_profile(alloc, tenant, *profile)),
+            Change::Put(name, bytes) => put(store, name, bytes.as_slice()),
+            Change::Remove(name) => remove(store, name),
+            Change::SetPath(path) => set_answer(&store.set_path(alloc, path)),
+            Change::SetProfile(profile) => set_answer(&store.set_profile(*profile)),
         }
     }
 
     /// What the store has of that which it changes.
-    pub fn subject(
-        &self,
-        alloc: Global,
-        store: &mut TenantStore,
-        tenant: u32,
-    ) -> Result<Answer, Trouble> {
+    pub fn subject(&self, alloc: Global, store: &mut TenantStore) -> Result<Answer, Trouble> {
         match self {
-            Change::Put(name, _) | Change::Remove(name) => file_answer(alloc, store, tenant, name),
-            Change::SetPath(_) | Change::SetProfile(_) => settings_answer(alloc, store, tenant),
+            Change::Put(name, _) | Change::Remove(name) => file_answer(alloc, store, name),
+            Change::SetPath(_) | Change::SetProfile(_) => settings_answer(alloc, store),
         }
     }
 }
 
 /// A put: `stored`, `Full` or `Store`.
-pub fn put(
-    alloc: Global,
-    store: &mut TenantStore,
-    tenant: u32,
-    name: &Name,
-    bytes: &[u8],
-) -> Result<&'static str, Trouble> {
-    match store.put_file(alloc, tenant, name, bytes) {
+pub fn put(store: &mut TenantStore, name: &Name, bytes: &[u8]) -> Result<&'static str, Trouble> {
+    match store.put_file(name, bytes) {
         Ok(()) => Ok("stored"),
         Err(PutFault::Full) => Ok("Full"),
         Err(PutFault::Store) => Ok("Store"),
@@ -78,13 +62,8 @@ pub fn put(
 }
 
 /// A removal: `removed`, `absent` or `Store`.
-fn remove(
-    alloc: Global,
-    store: &mut TenantStore,
-    tenant: u32,
-    name: &Name,
-) -> Result<&'static str, Trouble> {
-    match store.remove_file(alloc, tenant, name) {
+fn remove(store: &mut TenantStore, name: &Name) -> Result<&'static str, Trouble> {
+    match store.remove_file(name) {
         Ok(true) => Ok("removed"),
         Ok(false) => Ok("absent"),
         Err(FilesFault::Store) => Ok("Store"),
@@ -111,17 +90,12 @@ fn set_answer(told: &Result<(), FilesFault>) -> Result<&'static str, Trouble> {
 }
 
 /// `store get TENANT NAME`: the bytes of a file, or `absent`. Every way of asking gives the same.
-pub fn file_answer(
-    alloc: Global,
-    store: &mut TenantStore,
-    tenant: u32,
-    name: &Name,
-) -> Result<Answer, Trouble> {
-    let mut files = TenantFiles::new(alloc, store, tenant);
+pub fn file_answer(alloc: Global, store: &mut TenantStore, name: &Name) -> Result<Answer, Trouble> {
+    let mut files = TenantFiles::new(alloc, store);
     let has = files.has(name)?;
     let read = files.read(name)?;
     drop(files);
-    let held = store.get_file(alloc, tenant, name)?;
+    let held = store.get_file(alloc, name)?;
     Ok(match (held, read) {
         (Some(held), Some(read)) if has => two_answer(alloc, held.as_slice(), read.as_slice()),
         (None, None) if !has => Answer::of_word(alloc, "absent"),
@@ -130,12 +104,8 @@ pub fn file_answer(
 }
 
 /// `store settings TENANT`: the trees of its search path, and the number of its profile.
-pub fn settings_answer(
-    alloc: Global,
-    store: &mut TenantStore,
-    tenant: u32,
-) -> Result<Answer, Trouble> {
-    let settings = store.settings(alloc, tenant)?;
+pub fn settings_answer(alloc: Global, store: &mut TenantStore) -> Result<Answer, Trouble> {
+    let settings = store.settings(alloc)?;
     let mut answer = trees_answer(alloc, &settings.path);
     answer.number(u64::from(settings.profile.number()));
     Ok(answer)

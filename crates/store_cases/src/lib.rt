@@ -1,5 +1,5 @@
-//! Cases of the store of all tenants, and of the rows of an index: calls in a row, and changes that are stopped
-//! at every step.
+//! Cases of the stores of tenants, and of the rows of an index: calls in a row, and changes that are stopped at
+//! every step.
 #![tactic(auto)]
 
 mod changes;
@@ -15,39 +15,44 @@ use tenant_store::TenantStore;
 /// The most limits of steps that a call is stopped by in turn.
 pub const MOST_LIMITS: u64 = 10_000;
 
-/// `empty store`
-pub fn empty(alloc: Global) -> Result<TenantStore, Trouble> {
-    Ok(TenantStore::open_in_memory(alloc)?)
+/// How many tenants the cases of stores have.
+const TENANTS: usize = 4;
+
+/// `empty stores`: those of four tenants.
+pub fn empty(alloc: Global) -> Result<Vec<TenantStore>, Trouble> {
+    let mut stores = Vec::new(alloc);
+    for _ in 0..TENANTS {
+        stores.push(TenantStore::open_in_memory(alloc)?)?;
+    }
+    Ok(stores)
 }
 
-/// What a call of the store gives: a line `store CALL TENANT GIVEN..`. The error is `NoCase` if the line is
+/// What a call of a tenant's store gives: a line `store CALL TENANT GIVEN..`. The error is `NoCase` if the line is
 /// in no form of a case, and `Memory` if memory runs out.
 pub fn answer(
     alloc: Global,
-    store: &mut TenantStore,
+    stores: &mut [TenantStore],
     call: &str,
     given: &[Vec<u8>],
 ) -> Result<Answer, Trouble> {
     let [tenant, given @ ..] = given else {
         return Err(Trouble::NoCase);
     };
-    let tenant = u32::try_from(as_number(tenant)?).map_err(|_| Trouble::NoCase)?;
+    let tenant = usize::try_from(as_number(tenant)?).map_err(|_| Trouble::NoCase)?;
+    let Some(store) = stores.get_mut(tenant) else {
+        return Err(Trouble::NoCase);
+    };
     match call {
-        "fill" => fill(alloc, store, tenant, given),
-        "get" => file_answer(alloc, store, tenant, &one_name(alloc, given)?),
-        "settings" if given.is_empty() => settings_answer(alloc, store, tenant),
-        "put stopped" => stopped(alloc, store, tenant, &Change::read(alloc, "put", given)?),
-        "remove stopped" => stopped(alloc, store, tenant, &Change::read(alloc, "remove", given)?),
-        "path stopped" => stopped(alloc, store, tenant, &Change::read(alloc, "path", given)?),
-        "profile stopped" => stopped(
-            alloc,
-            store,
-            tenant,
-            &Change::read(alloc, "profile", given)?,
-        ),
+        "fill" => fill(alloc, store, given),
+        "get" => file_answer(alloc, store, &one_name(alloc, given)?),
+        "settings" if given.is_empty() => settings_answer(alloc, store),
+        "put stopped" => stopped(alloc, store, &Change::read(alloc, "put", given)?),
+        "remove stopped" => stopped(alloc, store, &Change::read(alloc, "remove", given)?),
+        "path stopped" => stopped(alloc, store, &Change::read(alloc, "path", given)?),
+        "profile stopped" => stopped(alloc, store, &Change::read(alloc, "profile", given)?),
         _ => {
             let change = Change::read(alloc, call, given)?;
-            Ok(Answer::of_word(alloc, change.make(alloc, store, tenant)?))
+            Ok(Answer::of_word(alloc, change.make(alloc, store)?))
         }
     }
 }
@@ -61,19 +66,14 @@ fn one_name(alloc: Global, given: &[Vec<u8>]) -> Result<Name, Trouble> {
 
 /// `store fill TENANT N BYTES`: puts so many files of these bytes. It gives how many were stored before the
 /// first that wasn't, and the answer to that one.
-fn fill(
-    alloc: Global,
-    store: &mut TenantStore,
-    tenant: u32,
-    given: &[Vec<u8>],
-) -> Result<Answer, Trouble> {
+fn fill(alloc: Global, store: &mut TenantStore, given: &[Vec<u8>]) -> Result<Answer, Trouble> {
     let [count, bytes] = given else {
         return Err(Trouble::NoCase);
     };
     let count = as_number(count)?;
     for stored in 0..count {
         let name = given_name(alloc, format!(in alloc; "/fill/file-{stored}")?.as_bytes())?;
-        let told = put(alloc, store, tenant, &name, bytes)?;
+        let told = put(store, &name, bytes)?;
         if told != "stored" {
             return Ok(filled(alloc, stored, told));
         }
@@ -91,22 +91,17 @@ pub fn filled(alloc: Global, stored: u64, told: &str) -> Answer {
 
 /// `store CHANGE stopped TENANT ..`: the change under a limit of 1, 2, 3 .. steps until it isn't stopped. It
 /// gives whether each change that was stopped kept what it is about as it was, and the answer to the last.
-fn stopped(
-    alloc: Global,
-    store: &mut TenantStore,
-    tenant: u32,
-    change: &Change,
-) -> Result<Answer, Trouble> {
-    let was = change.subject(alloc, store, tenant)?;
+fn stopped(alloc: Global, store: &mut TenantStore, change: &Change) -> Result<Answer, Trouble> {
+    let was = change.subject(alloc, store)?;
     let mut is_kept = true;
     for limit in 1..MOST_LIMITS {
         store.limit_steps(Some(limit));
-        let told = change.make(alloc, store, tenant)?;
+        let told = change.make(alloc, store)?;
         store.limit_steps(None);
         if told != "Store" {
             return Ok(stops_answer(alloc, limit, is_kept, told));
         }
-        is_kept = is_kept && change.subject(alloc, store, tenant)?.is_same(&was)?;
+        is_kept = is_kept && change.subject(alloc, store)?.is_same(&was)?;
     }
     Err(Trouble::NoCase)
 }

@@ -1,5 +1,5 @@
--- The names of a tenant's files: what the query shows, put in order, are the keys of its map.
-use Rattle.std.proofs.Common.{◌≡◌, inl, inr, ℕ, pos, Bool, true, false, cond, T, ◌&&◌, ◌||◌, List, [], ◌∷◌, map, Option, Some, is_some, refl, sym, ap, subst, ◌∙◌, codes, IsTrue, Result, Ok, Err, IfOk, IfErr, true≢false, Less}
+-- The names of the files: what the query shows, put in order, are the keys of the map.
+use Rattle.std.proofs.Common.{◌≡◌, inl, inr, ℕ, Bool, true, false, cond, T, ◌||◌, List, [], ◌∷◌, map, Option, Some, is_some, refl, sym, ap, subst, ◌∙◌, codes, IsTrue, Result, Ok, Err, IfOk, IfErr, true≢false, Less}
 use Rattle.std.specs.Prelude.{Vec}
 use Rattle.std.specs.declared.alloc.Global.{Global}
 use Rattle.std.specs.FinMap as finite
@@ -8,11 +8,10 @@ use Rattle.std.specs.Cmp.Lexicographic.{slice_cmp}
 use Rattle.std.specs.Ordering.{nat_cmp, eq_by_cmp, is_eq}
 use Rattle.std.specs.List.{AllByRecursion}
 use Rattle.std.specs.List.Sorted.{IsStrictlySortedBy}
-use Rattle.std.proofs.lemmas.Bool.{cases_Bool, and_parts}
+use Rattle.std.proofs.lemmas.Bool.{cases_Bool}
 use Rattle.std.proofs.lemmas.Cmp.{tied_itself, nat_list_cmp_total}
 use Rattle.std.proofs.Math.Bool.{or-true}
 use Rattle.general_facts.specs.Bools.{Less_from_is_lt, T-left, T-right}
-use Rattle.sqlite_value.specs.declared.value.Value.TheVariants.{Int}
 use Rattle.sqlite_value.specs.Order.{Row}
 use Rattle.sqlite_sql.specs.Term.{col}
 use Rattle.sqlite_rules.specs.Lists.{Has}
@@ -23,14 +22,14 @@ use Rattle.sqlite.proofs.Callers.{IsPlain}
 use Rattle.mk_paths.specs.World.{FileMap}
 use Rattle.text_parts.specs.Order.{in_order}
 use Rattle.text_parts.specs.Ordered.{by_bytes, among, among-in_order, in_order-sorted, same_in_order}
-use Rattle.tenant_store.specs.Holdings.{files_in, files_of}
+use Rattle.tenant_store.specs.Holdings.{map_of}
 use Rattle.table_facts.specs.Filled.{AreFilled}
-use Rattle.tenant_store.specs.Tables.{IsFileRow, file_of, file_key, is_file, name_in, held_in, store_schema, select_names, AreNames, IsFormed}
+use Rattle.tenant_store.specs.Tables.{IsFileRow, file_of, file_key, is_named, name_in, held_in, store_schema, select_names, AreNames, IsFormed}
 use Rattle.table_facts.specs.States.{IsSettled, Stays}
-use Rattle.table_facts.proofs.Statements.{AreSeen, seen as columns, shows, shown_stays, query_fails_stays}
+use Rattle.table_facts.proofs.Statements.{AreSeen, shows, shown_stays, query_fails_stays}
 use Rattle.table_facts.proofs.Tests.{text_is}
 use Rattle.tenant_store.proofs.Answering.{get_file, get_no_file}
-use Rattle.tenant_store.proofs.Fixed.{of_tenant, passes_file_of, names_text}
+use Rattle.tenant_store.proofs.Fixed.{names_text}
 
 -- ---- among a list of names
 
@@ -57,54 +56,41 @@ has_among q (y ∷ rows) x (inr later) same =
 
 -- ---- what the query shows
 
-module _ (tenant : ℕ) (rows given : List Row) (filled : AreFilled IsFileRow file_key rows) (seen : AreSeen of_tenant (col 1 2 ∷ []) (Int (pos tenant) ∷ []) rows given) where
-  shown_name : (x r : Row) → Has rows r → x ≡ columns (col 1 2 ∷ []) (Int (pos tenant) ∷ []) r → name_in x ≡ (file_of r).name
-  shown_name x r h is = ap name_in is
-
-  both : (a b : Bool) → a ≡ true → b ≡ true → (a && b) ≡ true
-  both true b p q = q
-  both false b p q = absurd (true≢false (sym p))
-
-  there : (name : List ℕ) → among name (map name_in given) ≡ true → finite.contains_key (files_in tenant (map file_of rows)) name ≡ true
+module _ (rows given : List Row) (filled : AreFilled IsFileRow file_key rows) (seen : AreSeen [] (col 1 1 ∷ []) [] rows given) where
+  there : (name : List ℕ) → among name (map name_in given) ≡ true → finite.contains_key (map_of (map file_of rows)) name ≡ true
   there name e =
       let x = among_has name given e in
       let r = seen.sound x.0 x.1 in
-      let owned = sym (passes_file_of tenant [] r.0 (filled.formed r.0 r.1)) ∙ r.2 in
-      let same : name ≡ (file_of r.0).name = x.2 ∙ shown_name x.0 r.0 r.1 r.3 in
-      let named : is_eq (slice_cmp nat_cmp name (file_of r.0).name) ≡ true = subst (λ n. is_eq (slice_cmp nat_cmp name n) ≡ true) same (same_itself name) in
-      ap is_some (get_file tenant name rows filled r.0 r.1 (both _ _ owned named))
+      let same : name ≡ (file_of r.0).name = x.2 ∙ ap name_in r.3 in
+      ap is_some (get_file name rows filled r.0 r.1 (subst (λ n. is_eq (slice_cmp nat_cmp name n) ≡ true) same (same_itself name)))
 
-  absent : (name : List ℕ) → among name (map name_in given) ≡ false → finite.contains_key (files_in tenant (map file_of rows)) name ≡ false
-  absent name e = ap is_some (get_no_file tenant name rows filled (λ r h. elim (cases_Bool (is_file tenant name (file_of r))) [
-    | inl ok ↦
-        let parts = and_parts _ _ ok in
-        let shown = seen.complete r h (passes_file_of tenant [] r (filled.formed r h) ∙ parts.0) in
-        absurd (true≢false (sym (has_among name given _ shown (text_is name (file_of r).name parts.1)) ∙ e))
+  absent : (name : List ℕ) → among name (map name_in given) ≡ false → finite.contains_key (map_of (map file_of rows)) name ≡ false
+  absent name e = ap is_some (get_no_file name rows filled (λ r h. elim (cases_Bool (is_named name (file_of r))) [
+    | inl ok ↦ absurd (true≢false (sym (has_among name given _ (seen.complete r h refl) (text_is name (file_of r).name ok)) ∙ e))
     | inr fails ↦ fails
   ]))
 
-  pub are_names : AreNames (files_in tenant (map file_of rows)) (map name_in given)
+  pub are_names : AreNames (map_of (map file_of rows)) (map name_in given)
   are_names name = elim (cases_Bool (among name (map name_in given))) [
     | inl is ↦ is ∙ sym (there name is)
     | inr is ↦ is ∙ sym (absent name is)
   ]
 
-pub names_shown : (tenant : ℕ) (old new : State) (rows : List Row) → IsFormed old.now → Shown select_names (Int (pos tenant) ∷ []) old new rows
-    → AreNames (files_of tenant (held_in old)) (map name_in rows) × Stays old new
-names_shown tenant old new rows formed h =
-    let params = Int (pos tenant) ∷ [] in
-    let seen = shows select_names params old new store_schema 0 of_tenant (col 1 2 ∷ []) [] (codes "name" ∷ []) formed.schema names_text.0 names_text.1 names_text.2 refl rows h in (
-      are_names tenant (old.now.trees 0) rows formed.files seen,
-      shown_stays select_names params old new rows (subst (λ s. IsPlain (understood s select_names)) (sym formed.schema) names_text.1) h,
+pub names_shown : (old new : State) (rows : List Row) → IsFormed old.now → Shown select_names [] old new rows
+    → AreNames (map_of (held_in old).files) (map name_in rows) × Stays old new
+names_shown old new rows formed h =
+    let seen = shows select_names [] old new store_schema 0 [] (col 1 1 ∷ []) [] (codes "name" ∷ []) formed.schema names_text.0 names_text.1 names_text.2 refl rows h in (
+      are_names (old.now.trees 0) rows formed.files seen,
+      shown_stays select_names [] old new rows (subst (λ s. IsPlain (understood s select_names)) (sym formed.schema) names_text.1) h,
     )
 
 -- however the query ends, what it shows is right, and it leaves all as it was
-pub names_end : (tenant : ℕ) (old new : State) (result : Result (Vec Row Global) Error) → IsFormed old.now → IsSettled old → IsTrue new.is_open
-    → IfOk result (λ rows. Shown select_names (Int (pos tenant) ∷ []) old new rows.items) → IfErr result (FailsToQuery select_names (Int (pos tenant) ∷ []) old new)
-    → IfOk result (λ rows. AreNames (files_of tenant (held_in old)) (map name_in rows.items)) × Stays old new
-names_end tenant old new (Ok rows) formed at live ok err = names_shown tenant old new rows.items formed ok
-names_end tenant old new (Err e) formed at live ok err =
-    (tt, query_fails_stays select_names (Int (pos tenant) ∷ []) old new e (subst (λ s. IsPlain (understood s select_names)) (sym formed.schema) names_text.1) at live err)
+pub names_end : (old new : State) (result : Result (Vec Row Global) Error) → IsFormed old.now → IsSettled old → IsTrue new.is_open
+    → IfOk result (λ rows. Shown select_names [] old new rows.items) → IfErr result (FailsToQuery select_names [] old new)
+    → IfOk result (λ rows. AreNames (map_of (held_in old).files) (map name_in rows.items)) × Stays old new
+names_end old new (Ok rows) formed at live ok err = names_shown old new rows.items formed ok
+names_end old new (Err e) formed at live ok err =
+    (tt, query_fails_stays select_names [] old new e (subst (λ s. IsPlain (understood s select_names)) (sym formed.schema) names_text.1) at live err)
 
 -- ---- the keys of a map
 

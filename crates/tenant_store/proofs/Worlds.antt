@@ -11,7 +11,8 @@ use Rattle.std.proofs.lemmas.List.{nil_from_length}
 use Rattle.general_facts.specs.Bools.{Less_from_is_lt, T-left, T-right}
 use Rattle.general_facts.specs.Maps.{same_map}
 use Rattle.mk_paths.specs.World.{FileMap}
-use Rattle.tenant_store.specs.Holdings.{bytes_of, files_with, bytes_with}
+use Rattle.mk_files.specs.Limits.{bytes_of, files_with, bytes_with}
+use Rattle.tenant_store.specs.Holdings.{map_of}
 
 abbrev cmp : List ℕ → List ℕ → Ordering
 cmp = slice_cmp nat_cmp
@@ -21,6 +22,10 @@ Entry = List ℕ × List ℕ
 
 abbrev total : List Entry → ℕ
 total es = sum_by length (map (λ (e : Entry). e.1) es)
+
+-- without a file the map is empty
+pub no_files : map_of [] ≡ finite.empty
+no_files = refl
 
 pub bytes_of-empty : bytes_of finite.empty ≡ 0
 bytes_of-empty = ap total (nil_from_length (finite.entries finite.empty) (sym (finite.len-entries finite.empty) ∙ finite.len-empty cmp (List ℕ)))

@@ -1,4 +1,4 @@
-// Work over a tenant's files that leaves the store as it was.
+// Work over the files that leaves the store as it was.
 ghost use Rattle.std.specs.Prelude.{◌≡◌};
 ghost use Rattle.tenant_store.specs.TenantWorld.{view_of, name_of, held_by, opened_files};
 
@@ -9,7 +9,7 @@ use mk_files::Listing;
 use std::alloc::Global;
 use std::marker::Brand;
 
-/// Work that reads and lists the files of one tenant, over any world of files, and keeps its answer.
+/// Work that reads and lists files, over any world of files, and keeps its answer.
 ///
 /// `ready` says when it may begin over files, and `answered` what it then leaves.
 pub trait Asker {
@@ -26,14 +26,13 @@ pub trait Asker {
 }
 
 impl TenantStore {
-    /// Does this work over the files of a tenant. Whatever the work asks, nothing that is held of any
-    /// tenant changes.
-    pub fn ask<A: Asker>(&mut self, alloc: Global, tenant: u32, asker: &mut A)
-        requires { A.ready asker.old (opened_files tenant self.old) }
-        ensures answered { A.answered asker.old (opened_files tenant self.old) asker.new }
+    /// Does this work over the files. Whatever the work asks, nothing that is held changes.
+    pub fn ask<A: Asker>(&mut self, alloc: Global, asker: &mut A)
+        requires { A.ready asker.old (opened_files self.old) }
+        ensures answered { A.answered asker.old (opened_files self.old) asker.new }
         ensures same { self.new ≡ self.old }
     {
-        let files = TenantFiles::new(alloc, self, tenant);
+        let files = TenantFiles::new(alloc, self);
         let _files = ask_over::<Brand, A>(files, asker);
     }
 }

@@ -1,12 +1,13 @@
 // What the calls of the store do over its statements.
 ghost use Rattle.std.specs.Prelude.{◌≡◌, false, IfOk, OnOk, OnErr, IsTrue, map, ◌++◌, length, option_map, string_bytes};
 ghost use Rattle.std.specs.Option.{option_map_or};
-ghost use Rattle.std.specs.FinMap.{get, insert, remove, contains_key};
+ghost use Rattle.std.specs.FinMap.{get, contains_key};
 ghost use Rattle.mk_paths.specs.SearchPath.{trees_of, colon};
+ghost use Rattle.mk_paths.specs.World.{files_in, with_file, without_file, with_search_path, with_profile};
+ghost use Rattle.mk_files.specs.Limits.{is_over};
 ghost use Rattle.text_parts.specs.Laws.{after_marks};
-ghost use Rattle.tenant_store.specs.Holdings.{files_of, is_over, ChangesFiles, ChangesPath, ChangesProfile};
 ghost use Rattle.tenant_store.specs.Accounts.{IsAccountOf};
-ghost use Rattle.tenant_store.specs.Tables.{IsKept, holdings_of};
+ghost use Rattle.tenant_store.specs.Tables.{Holds, IsKept, world_of};
 ghost use Rattle.table_facts.specs.States.{Stays, state_of};
 
 use crate::reading::{Account, account_of, content_of};
@@ -17,74 +18,39 @@ use mk_text::Profile;
 use sqlite::{Connection, Error, MemStore};
 use std::alloc::{AllocError, Global};
 
-/// The account of a tenant; if it has none, an account with no file, the standard path and the first profile.
-pub(crate) fn account_or_new(
-    conn: &mut Connection<MemStore>,
-    alloc: Global,
-    tenant: u32,
-) -> Result<Account, Error>
-    requires { IsKept (state_of conn.old) }
-    ensures account { IfOk result (IsAccountOf tenant (holdings_of conn.old)) }
-    ensures stays { Stays (state_of conn.old) (state_of conn.new) }
-{
-    match account_of(conn, tenant)? {
-        Some(account) => Ok(account),
-        None => Ok(Account {
-            files: 0,
-            bytes: 0,
-            path: String::from_str(alloc, "/ports:/mystuff")?,
-            profile: Profile::One,
-        }),
-    }
-}
-
-// The length of a tenant's file, if it is there, and the tenant's account.
-fn look_up(
-    conn: &mut Connection<MemStore>,
-    alloc: Global,
-    tenant: u32,
-    name: &str,
-) -> Result<(Option<usize>, Account), Error>
+// The length of the file of this name, if it is there, and the account.
+fn look_up(conn: &mut Connection<MemStore>, name: &str) -> Result<(Option<usize>, Account), Error>
     requires { IsKept (state_of conn.old) }
     ensures length { IfOk result (λ seen. seen.0
-        ≡ option_map length (get
-        (files_of tenant (holdings_of conn.old)) name.now)) }
-    ensures account { IfOk result (λ seen. IsAccountOf tenant
-        (holdings_of conn.old) seen.1) }
+        ≡ option_map length (get (files_in (world_of conn.old)) name.now)) }
+    ensures account { IfOk result (λ seen. IsAccountOf (world_of conn.old) seen.1) }
     ensures stays { Stays (state_of conn.old) (state_of conn.new) }
 {
-    let old = content_of(conn, tenant, name)?;
-    let account = account_or_new(conn, alloc, tenant)?;
+    let old = content_of(conn, name)?;
+    let account = account_of(conn)?;
     match old {
         Some(bytes) => Ok((Some(bytes.len()), account)),
         None => Ok((None, account)),
     }
 }
 
-/// Stores a file of a tenant, new or in place of the one of its name, and gives whether it fits.
+/// Stores a file, new or in place of the one of its name, and gives whether it fits.
 pub(crate) fn put(
     conn: &mut Connection<MemStore>,
-    alloc: Global,
-    tenant: u32,
     name: &str,
     content: &[u8],
 ) -> Result<bool, Error>
     requires { IsKept (state_of conn.old) }
     ensures stored { IfOk result (λ fits. IsTrue fits
-        → IsKept (state_of conn.new)
-        × ChangesFiles (holdings_of conn.old)
-        (holdings_of conn.new) tenant
-        (insert (files_of tenant (holdings_of conn.old)) name.now content.now)) }
+        → Holds (state_of conn.new) (with_file (world_of conn.old) name.now content.now)) }
     ensures fits { IfOk result (λ fits. IsTrue fits
-        → is_over (insert (files_of tenant
-        (holdings_of conn.old)) name.now content.now) ≡ false) }
+        → is_over (files_in (with_file (world_of conn.old) name.now content.now)) ≡ false) }
     ensures full { IfOk result (λ fits. fits ≡ false
-        → IsTrue (is_over (insert
-        (files_of tenant (holdings_of conn.old)) name.now content.now))
+        → IsTrue (is_over (files_in (with_file (world_of conn.old) name.now content.now)))
         × Stays (state_of conn.old) (state_of conn.new)) }
     ensures err { OnErr result (Stays (state_of conn.old) (state_of conn.new)) }
 {
-    let (old, account) = look_up(conn, alloc, tenant, name)?;
+    let (old, account) = look_up(conn, name)?;
     let Account {
         files,
         bytes,
@@ -100,7 +66,7 @@ pub(crate) fn put(
         path,
         profile,
     };
-    write(conn, tenant, stored_as(old, name, content), &next)?;
+    write(conn, stored_as(old, name, content), &next)?;
     Ok(true)
 }
 
@@ -116,73 +82,55 @@ fn stored_as<'x>(old: Option<usize>, name: &'x str, content: &'x [u8]) -> Change
     }
 }
 
-/// Removes a file of a tenant, and gives whether it was there.
-pub(crate) fn take(
-    conn: &mut Connection<MemStore>,
-    alloc: Global,
-    tenant: u32,
-    name: &str,
-) -> Result<bool, Error>
+/// Removes a file, and gives whether it was there.
+pub(crate) fn take(conn: &mut Connection<MemStore>, name: &str) -> Result<bool, Error>
     requires { IsKept (state_of conn.old) }
     ensures was_there { IfOk result (λ there. there
-        ≡ contains_key (files_of tenant (holdings_of conn.old)) name.now) }
-    ensures removed { IfOk result (λ there. IsTrue there
-        → IsKept (state_of conn.new)
-        × ChangesFiles (holdings_of conn.old)
-        (holdings_of conn.new) tenant
-        (remove (files_of tenant (holdings_of conn.old)) name.now)) }
-    ensures absent { IfOk result (λ there. there ≡ false
-        → Stays (state_of conn.old) (state_of conn.new)) }
+        ≡ contains_key (files_in (world_of conn.old)) name.now) }
+    ensures removed { OnOk result (Holds (state_of conn.new)
+        (without_file (world_of conn.old) name.now)) }
     ensures err { OnErr result (Stays (state_of conn.old) (state_of conn.new)) }
 {
-    let (old, account) = look_up(conn, alloc, tenant, name)?;
+    let (old, account) = look_up(conn, name)?;
     let Some(length) = old else {
         return Ok(false);
     };
     let next = account.without(length);
-    write(conn, tenant, Change::Remove(name), &next)?;
+    write(conn, Change::Remove(name), &next)?;
     Ok(true)
 }
 
-/// Gives a tenant this search path.
+/// Sets the search path.
 pub(crate) fn set_path(
     conn: &mut Connection<MemStore>,
     alloc: Global,
-    tenant: u32,
     path: &SearchPath,
 ) -> Result<(), Error>
     requires { IsKept (state_of conn.old) }
-    ensures path { OnOk result (IsKept (state_of conn.new)
-        × ChangesPath (holdings_of conn.old)
-        (holdings_of conn.new) tenant path.now) }
+    ensures path { OnOk result (Holds (state_of conn.new)
+        (with_search_path (world_of conn.old) path.now)) }
     ensures err { OnErr result (Stays (state_of conn.old) (state_of conn.new)) }
 {
-    let account = account_or_new(conn, alloc, tenant)?;
+    let account = account_of(conn)?;
     let next = Account {
         files: account.files,
         bytes: account.bytes,
         path: path_text(alloc, path)?,
         profile: account.profile,
     };
-    write(conn, tenant, Change::Keep, &next)
+    write(conn, Change::Keep, &next)
 }
 
-/// Gives a tenant this profile.
-pub(crate) fn set_profile(
-    conn: &mut Connection<MemStore>,
-    alloc: Global,
-    tenant: u32,
-    profile: Profile,
-) -> Result<(), Error>
+/// Sets the profile.
+pub(crate) fn set_profile(conn: &mut Connection<MemStore>, profile: Profile) -> Result<(), Error>
     requires { IsKept (state_of conn.old) }
-    ensures profile { OnOk result (IsKept (state_of conn.new)
-        × ChangesProfile (holdings_of conn.old)
-        (holdings_of conn.new) tenant profile) }
+    ensures profile { OnOk result (Holds (state_of conn.new)
+        (with_profile (world_of conn.old) profile)) }
     ensures err { OnErr result (Stays (state_of conn.old) (state_of conn.new)) }
 {
-    let account = account_or_new(conn, alloc, tenant)?;
+    let account = account_of(conn)?;
     let next = account.with_profile(profile);
-    write(conn, tenant, Change::Keep, &next)
+    write(conn, Change::Keep, &next)
 }
 
 // The trees of a search path, with colons between them.

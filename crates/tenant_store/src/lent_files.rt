@@ -1,7 +1,7 @@
-// The files of one tenant, in a store that is known not to change with any question.
+// The files of a store that is known not to change with any question.
 ghost use Rattle.std.specs.Prelude.{◌≡◌};
 ghost use Rattle.std.specs.Coded.{Coded-set};
-ghost use Rattle.tenant_store.specs.Holdings.{holdings_code};
+ghost use Rattle.mk_paths.specs.World.{world_code};
 ghost use Rattle.tenant_store.specs.TenantWorld.{view_of, name_of, held_by};
 
 use crate::tenant_files::TenantFiles;
@@ -14,29 +14,29 @@ use std::marker::{Brand, PhantomData};
 /// it passes `Brand`.
 pub(crate) trait Lent {
     ghost use Rattle.std.specs.Borrow.{GName};
-    ghost use Rattle.tenant_store.specs.Holdings.{Holdings};
+    ghost use Rattle.mk_paths.specs.World.{World};
 
     ghost name: { GName };
 
-    ghost held: { Holdings };
+    ghost held: { World };
 }
 
 impl Lent for Brand {
-    ghost use Rattle.tenant_store.specs.Holdings.{nothing};
+    ghost use Rattle.mk_paths.specs.World.{opening_world};
 
     ghost name = { 0 };
 
-    ghost held = { nothing };
+    ghost held = { opening_world };
 }
 
-/// The files of one tenant, over a store that holds the same as when it was lent, whatever was asked. So
+/// The files of a store that holds the same as when it was lent, whatever was asked. So
 /// after a function over any `Listing`, more is known of them than that function says.
 #[derive(Drop)]
 pub(crate) struct LentFiles<'s, L: Lent> {
     files: TenantFiles<'s>,
     lent: PhantomData<L>,
     ghost name: { name_of files ≡ L.name },
-    ghost held: { held_by files ≡ L.held } by { Coded-set holdings_code (held_by files) L.held },
+    ghost held: { held_by files ≡ L.held } by { Coded-set world_code (held_by files) L.held },
 }
 
 impl<'s, L: Lent> LentFiles<'s, L> {

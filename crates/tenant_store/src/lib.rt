@@ -1,4 +1,4 @@
-//! The files, the search path and the profile of each tenant, in one database in memory.
+//! The files, the search path and the profile of one tenant, in a database in memory.
 #![tactic(auto)]
 
 mod asking;

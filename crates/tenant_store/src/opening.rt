@@ -1,9 +1,9 @@
 // The database as it begins.
 ghost use Rattle.std.specs.Prelude.{◌≡◌, [], IfOk, OnOk, false};
-ghost use Rattle.tenant_store.specs.Holdings.{nothing};
-ghost use Rattle.tenant_store.specs.Tables.{IsKept, file_schema, holdings_of};
+ghost use Rattle.mk_paths.specs.World.{opening_world};
+ghost use Rattle.tenant_store.specs.Tables.{Holds, IsBare, file_schema};
 ghost use Rattle.table_facts.specs.Tables.{no_schema};
-ghost use Rattle.table_facts.specs.States.{state_of};
+ghost use Rattle.table_facts.specs.States.{IsSettled, state_of};
 
 use sqlite::{Connection, Error, MemStore};
 use std::alloc::Global;
@@ -16,34 +16,47 @@ fn create_files(conn: &mut Connection<MemStore>) -> Result<(), Error>
     ensures empty { OnOk result ((state_of conn.new).now.trees 0 ≡ []) }
 {
     conn.execute(
-        "CREATE TABLE file (tenant INTEGER NOT NULL, name TEXT NOT NULL, content BLOB NOT NULL, UNIQUE (tenant, name)) STRICT",
+        "CREATE TABLE file (name TEXT NOT NULL UNIQUE, content BLOB NOT NULL) STRICT",
         &[],
     )?;
     Ok(())
 }
 
-fn create_accounts(conn: &mut Connection<MemStore>) -> Result<(), Error>
+fn create_account(conn: &mut Connection<MemStore>) -> Result<(), Error>
     requires autocommit { (state_of conn.old).in_transaction ≡ false }
     requires schema { (state_of conn.old).now.schema ≡ file_schema }
     requires empty { (state_of conn.old).now.trees 0 ≡ [] }
-    ensures kept { OnOk result (IsKept (state_of conn.new)) }
-    ensures nothing { OnOk result (holdings_of conn.new ≡ nothing) }
+    ensures settled { OnOk result (IsSettled (state_of conn.new)) }
+    ensures bare { OnOk result (IsBare (state_of conn.new).now) }
 {
     conn.execute(
-        "CREATE TABLE account (tenant INTEGER NOT NULL UNIQUE, files INTEGER NOT NULL, bytes INTEGER NOT NULL, \
-         path TEXT NOT NULL, profile INTEGER NOT NULL) STRICT",
+        "CREATE TABLE account (files INTEGER NOT NULL, bytes INTEGER NOT NULL, path TEXT NOT NULL, \
+         profile INTEGER NOT NULL) STRICT",
         &[],
     )?;
     Ok(())
 }
 
-/// A database with the two tables, and no row.
+// The account of a tenant without a file, with the standard path and the first profile.
+fn insert_account(conn: &mut Connection<MemStore>) -> Result<(), Error>
+    requires settled { IsSettled (state_of conn.old) }
+    requires bare { IsBare (state_of conn.old).now }
+    ensures { OnOk result (Holds (state_of conn.new) opening_world) }
+{
+    conn.execute(
+        "INSERT INTO account (files, bytes, path, profile) VALUES (0, 0, '/ports:/mystuff', 1)",
+        &[],
+    )?;
+    Ok(())
+}
+
+/// A database with the two tables, no file, and the first account.
 pub(crate) fn open(alloc: Global) -> Result<Connection<MemStore>, Error>
-    ensures kept { IfOk result (λ conn. IsKept (state_of conn)) }
-    ensures nothing { IfOk result (λ conn. holdings_of conn ≡ nothing) }
+    ensures { IfOk result (λ conn. Holds (state_of conn) opening_world) }
 {
     let mut conn = Connection::open_in_memory(alloc)?;
     create_files(&mut conn)?;
-    create_accounts(&mut conn)?;
+    create_account(&mut conn)?;
+    insert_account(&mut conn)?;
     Ok(conn)
 }

@@ -1,37 +1,25 @@
 // The statements that read.
-ghost use Rattle.std.specs.Prelude.{◌≡◌, ◌+◌, ◌≤◌, ℕ, IfOk, map, option_map, string_bytes};
+ghost use Rattle.std.specs.Prelude.{◌≡◌, ◌+◌, ◌≤◌, IfOk, map, option_map, string_bytes};
 ghost use Rattle.std.specs.FinMap.{get, keys};
-ghost use Rattle.tenant_store.specs.Holdings.{files_of, account_in};
+ghost use Rattle.mk_paths.specs.World.{files_in};
 ghost use Rattle.table_facts.specs.States.{IsSettled, Stays, state_of};
-ghost use Rattle.tenant_store.specs.Tables.{IsFormed, Shows, IsContent, IsAccount, AreNames, name_in, holdings_of};
-ghost use Rattle.tenant_store.specs.Accounts.{shown_account};
+ghost use Rattle.tenant_store.specs.Tables.{IsFormed, IsKept, Shows, ShowAccount, IsContent, IsAccount, AreNames, name_in};
+ghost use Rattle.tenant_store.specs.Tables.{holdings_of, world_of};
+ghost use Rattle.tenant_store.specs.Accounts.{IsAccountOf, shown_account};
 
 use mk_text::Profile;
 use sqlite::{Connection, Error, MemStore, Row, params};
 use std::alloc::Global;
 use text_parts::put_in_order;
 
-/// The account of a tenant: how many files it has, the sum of their contents in bytes, its search path, and
-/// its profile.
+/// What is kept besides the files: how many there are, the sum of their contents in bytes, the search path, and
+/// the profile.
 #[derive(Debug, Drop)]
 pub(crate) struct Account {
     pub(crate) files: u32,
     pub(crate) bytes: u32,
     pub(crate) path: String,
     pub(crate) profile: Profile,
-}
-
-fn content_rows(conn: &mut Connection<MemStore>, tenant: u32, name: &str) -> Result<Vec<Row>, Error>
-    requires settled { IsSettled (state_of conn.old) }
-    requires formed { IsFormed (state_of conn.old).now }
-    ensures rows { IfOk result (λ rows. Shows IsContent rows.items
-        (get (files_of tenant (holdings_of conn.old)) name.now)) }
-    ensures stays { Stays (state_of conn.old) (state_of conn.new) }
-{
-    conn.query_all(
-        "SELECT content FROM file WHERE tenant = ?1 AND name = ?2",
-        params![tenant, name],
-    )
 }
 
 impl Account {
@@ -80,40 +68,45 @@ impl Account {
     }
 }
 
-/// The content of a tenant's file, if it is there.
+fn content_rows(conn: &mut Connection<MemStore>, name: &str) -> Result<Vec<Row>, Error>
+    requires settled { IsSettled (state_of conn.old) }
+    requires formed { IsFormed (state_of conn.old).now }
+    ensures rows { IfOk result (λ rows. Shows IsContent rows.items
+        (get (files_in (world_of conn.old)) name.now)) }
+    ensures stays { Stays (state_of conn.old) (state_of conn.new) }
+{
+    conn.query_all("SELECT content FROM file WHERE name = ?1", params![name])
+}
+
+/// The content of the file of this name, if it is there.
 pub(crate) fn content_of(
     conn: &mut Connection<MemStore>,
-    tenant: u32,
     name: &str,
 ) -> Result<Option<Vec<u8>>, Error>
     requires settled { IsSettled (state_of conn.old) }
     requires formed { IsFormed (state_of conn.old).now }
     ensures content { IfOk result (λ found. option_map (λ bytes. bytes.items) found
-        ≡ get (files_of tenant (holdings_of conn.old)) name.now) }
+        ≡ get (files_in (world_of conn.old)) name.now) }
     ensures stays { Stays (state_of conn.old) (state_of conn.new) }
 {
-    let rows = content_rows(conn, tenant, name)?;
+    let rows = content_rows(conn, name)?;
     match rows.first() {
         None => Ok(None),
         Some(row) => Ok(Some(row.get(0)?)),
     }
 }
 
-fn account_rows(conn: &mut Connection<MemStore>, tenant: u32) -> Result<Vec<Row>, Error>
+fn account_rows(conn: &mut Connection<MemStore>) -> Result<Vec<Row>, Error>
     requires settled { IsSettled (state_of conn.old) }
     requires formed { IsFormed (state_of conn.old).now }
-    ensures rows { IfOk result (λ rows. Shows (IsAccount tenant) rows.items
-        (account_in tenant (holdings_of conn.old).accounts)) }
+    ensures rows { IfOk result (λ rows. ShowAccount rows.items (holdings_of conn.old).account) }
     ensures stays { Stays (state_of conn.old) (state_of conn.new) }
 {
-    conn.query_all(
-        "SELECT files, bytes, path, profile FROM account WHERE tenant = ?1",
-        params![tenant],
-    )
+    conn.query_all("SELECT files, bytes, path, profile FROM account", &[])
 }
 
 fn account_from(row: &Row) -> Result<Account, Error>
-    ensures { IfOk result (λ a. (tenant : ℕ) → IsAccount tenant row.now (shown_account tenant a)) }
+    ensures { IfOk result (λ a. IsAccount row.now (shown_account a)) }
 {
     Ok(Account {
         files: row.get(0)?,
@@ -123,32 +116,23 @@ fn account_from(row: &Row) -> Result<Account, Error>
     })
 }
 
-/// The account of a tenant, if it has one.
-pub(crate) fn account_of(
-    conn: &mut Connection<MemStore>,
-    tenant: u32,
-) -> Result<Option<Account>, Error>
-    requires settled { IsSettled (state_of conn.old) }
-    requires formed { IsFormed (state_of conn.old).now }
-    ensures account { IfOk result (λ found. option_map (shown_account tenant) found
-        ≡ account_in tenant (holdings_of conn.old).accounts) }
+/// The account, which counts the files and has the settings.
+pub(crate) fn account_of(conn: &mut Connection<MemStore>) -> Result<Account, Error>
+    requires { IsKept (state_of conn.old) }
+    ensures account { IfOk result (IsAccountOf (world_of conn.old)) }
     ensures stays { Stays (state_of conn.old) (state_of conn.new) }
 {
-    let rows = account_rows(conn, tenant)?;
-    match rows.first() {
-        None => Ok(None),
-        Some(row) => Ok(Some(account_from(row)?)),
-    }
+    let rows = account_rows(conn)?;
+    account_from(&rows[0])
 }
 
-fn name_rows(conn: &mut Connection<MemStore>, tenant: u32) -> Result<Vec<Row>, Error>
+fn name_rows(conn: &mut Connection<MemStore>) -> Result<Vec<Row>, Error>
     requires settled { IsSettled (state_of conn.old) }
     requires formed { IsFormed (state_of conn.old).now }
-    ensures rows { IfOk result (λ rows. AreNames
-        (files_of tenant (holdings_of conn.old)) (map name_in rows.items)) }
+    ensures rows { IfOk result (λ rows. AreNames (files_in (world_of conn.old)) (map name_in rows.items)) }
     ensures stays { Stays (state_of conn.old) (state_of conn.new) }
 {
-    conn.query_all("SELECT name FROM file WHERE tenant = ?1", params![tenant])
+    conn.query_all("SELECT name FROM file", &[])
 }
 
 // The names that rows show.
@@ -162,19 +146,15 @@ fn names_in(alloc: Global, rows: &[Row]) -> Result<Vec<String>, Error>
     Ok(names)
 }
 
-/// The names of a tenant's files, in the order of their bytes.
-pub(crate) fn names_of(
-    conn: &mut Connection<MemStore>,
-    alloc: Global,
-    tenant: u32,
-) -> Result<Vec<String>, Error>
+/// The names of all files, in the order of their bytes.
+pub(crate) fn names_of(conn: &mut Connection<MemStore>, alloc: Global) -> Result<Vec<String>, Error>
     requires settled { IsSettled (state_of conn.old) }
     requires formed { IsFormed (state_of conn.old).now }
     ensures names { IfOk result (λ names. map string_bytes names.items
-        ≡ keys (files_of tenant (holdings_of conn.old))) }
+        ≡ keys (files_in (world_of conn.old))) }
     ensures stays { Stays (state_of conn.old) (state_of conn.new) }
 {
-    let rows = name_rows(conn, tenant)?;
+    let rows = name_rows(conn)?;
     let mut names = names_in(alloc, &rows)?;
     put_in_order(&mut names);
     Ok(names)

@@ -1,9 +1,11 @@
 // The store as its callers see it.
 ghost use Rattle.std.specs.Prelude.{◌≡◌, false, map, string_bytes, IfOk, IsErrOf, IsTrue, OnOk, OnErr};
-ghost use Rattle.std.specs.FinMap.{get, insert, keys, remove, contains_key};
+ghost use Rattle.std.specs.FinMap.{get, keys, contains_key};
 ghost use Rattle.mk_paths.specs.SearchPath.{trees_of};
-ghost use Rattle.tenant_store.specs.Holdings.{nothing, files_of, path_of, profile_of, is_over, ChangesFiles, ChangesPath, ChangesProfile};
-ghost use Rattle.tenant_store.specs.Tables.{IsKept, holdings_of};
+ghost use Rattle.mk_paths.specs.World.{files_in, opening_world, with_file, without_file};
+ghost use Rattle.mk_paths.specs.World.{search_path_of, profile_of, with_search_path, with_profile};
+ghost use Rattle.mk_files.specs.Limits.{is_over};
+ghost use Rattle.tenant_store.specs.Tables.{IsKept, world_of};
 ghost use Rattle.table_facts.specs.States.{Stays, state_of};
 
 use crate::changing::{put, set_path, set_profile, take};
@@ -17,35 +19,34 @@ use sqlite::{Connection, MemStore};
 use std::alloc::Global;
 use std::marker::Model;
 
-/// The files, the search path and the profile of each tenant, in one database in memory. Clauses see what it
-/// holds: each tenant's files as a map of names to contents (`files_of`), the trees of its search path
-/// (`path_of`), and its profile (`profile_of`).
+/// The files, the search path and the profile of one tenant, in a database in memory of its own. Clauses see the world
+/// that they are: the files as a map of names to contents, and the settings.
 #[derive(Drop)]
 pub struct TenantStore {
     conn: Connection<MemStore>,
 }
 
 impl Model for TenantStore {
+    ghost use Rattle.mk_paths.specs.World.{World, world_code};
     ghost use Rattle.sqlite.specs.Held.{state};
     ghost use Rattle.sqlite.specs.Steps.{over_memory};
-    ghost use Rattle.tenant_store.specs.Holdings.{Holdings, holdings_code};
-    ghost use Rattle.tenant_store.specs.Tables.{held_in, IsKept};
+    ghost use Rattle.tenant_store.specs.Tables.{world_at, IsKept};
 
-    ghost Value = { Holdings };
+    ghost Value = { World };
 
-    ghost coded = { holdings_code };
+    ghost coded = { world_code };
 
-    ghost view = { λ store. held_in (state over_memory store.conn) };
+    ghost view = { λ store. world_at (state over_memory store.conn) };
 
     ghost invariant = { λ store. IsKept (state over_memory store.conn) };
 }
 
 impl TenantStore {
-    /// A store in which no tenant has a file, and each has the path `/ports:/mystuff` and the first profile.
+    /// A store without a file, with the path `/ports:/mystuff` and the first profile.
     ///
     /// The error is `Store` if the database refuses a statement, and `Memory` if memory runs out.
     pub fn open_in_memory(alloc: Global) -> Result<TenantStore, FilesFault>
-        ensures { IfOk result (λ store. store ≡ nothing) }
+        ensures { IfOk result (λ store. store ≡ opening_world) }
     {
         match open(alloc) {
             Ok(conn) => Ok(TenantStore { conn }),
@@ -53,7 +54,7 @@ impl TenantStore {
         }
     }
 
-    /// Gives a tenant's file of this name this content, whether or not the file was there.
+    /// Gives the file of this name this content, whether or not the file was there.
     ///
     /// # Errors
     ///
@@ -62,140 +63,111 @@ impl TenantStore {
     /// that makes it more is never stored, but `Store` or `Memory` may come in place of `Full`.
     /// `Store` comes if the database refuses a statement, and `Memory` if memory runs out. After
     /// an error nothing has changed.
-    pub fn put_file(
-        &mut self,
-        alloc: Global,
-        tenant: u32,
-        name: &Name,
-        content: &[u8],
-    ) -> Result<(), PutFault>
-        ensures stored { OnOk result (ChangesFiles self.old self.new tenant
-            (insert (files_of tenant self.old) name.now content.now)) }
+    pub fn put_file(&mut self, name: &Name, content: &[u8]) -> Result<(), PutFault>
+        ensures stored { OnOk result (self.new ≡ with_file self.old name.now content.now) }
         ensures fits { OnOk result (is_over
-            (insert (files_of tenant self.old) name.now content.now) ≡ false) }
+            (files_in (with_file self.old name.now content.now)) ≡ false) }
         ensures full { IsErrOf result PutFault.Full
-            → IsTrue (is_over (insert (files_of tenant self.old) name.now content.now)) }
+            → IsTrue (is_over (files_in (with_file self.old name.now content.now))) }
         ensures err { OnErr result (self.new ≡ self.old) }
     {
-        match put(&mut self.conn, alloc, tenant, name.as_str(), content) {
+        match put(&mut self.conn, name.as_str(), content) {
             Ok(true) => Ok(()),
             Ok(false) => Err(PutFault::Full),
             Err(error) => Err(PutFault::from(fault_of(&error))),
         }
     }
 
-    /// Removes a tenant's file of this name, and gives whether it was there.
+    /// Removes the file of this name, and gives whether it was there.
     ///
     /// # Errors
     ///
     /// `Store` if the database refuses a statement, and `Memory` if memory runs out. After an error
     /// nothing has changed.
-    pub fn remove_file(
-        &mut self,
-        alloc: Global,
-        tenant: u32,
-        name: &Name,
-    ) -> Result<bool, FilesFault>
+    pub fn remove_file(&mut self, name: &Name) -> Result<bool, FilesFault>
         ensures was_there { IfOk result (λ there. there
-            ≡ contains_key (files_of tenant self.old) name.now) }
-        ensures removed { OnOk result (ChangesFiles self.old self.new tenant
-            (remove (files_of tenant self.old) name.now)) }
+            ≡ contains_key (files_in self.old) name.now) }
+        ensures removed { OnOk result (self.new ≡ without_file self.old name.now) }
         ensures err { OnErr result (self.new ≡ self.old) }
     {
-        match take(&mut self.conn, alloc, tenant, name.as_str()) {
+        match take(&mut self.conn, name.as_str()) {
             Ok(there) => Ok(there),
             Err(error) => Err(fault_of(&error)),
         }
     }
 
-    /// The content of a tenant's file of this name; `None` if it isn't there.
+    /// The content of the file of this name; `None` if it isn't there.
     ///
     /// # Errors
     ///
     /// `Store` if the database refuses a statement, and `Memory` if memory runs out.
-    pub fn get_file(
-        &mut self,
-        alloc: Global,
-        tenant: u32,
-        name: &Name,
-    ) -> Result<Option<Content>, FilesFault>
-        ensures content { IfOk result (λ content. content
-            ≡ get (files_of tenant self.old) name.now) }
+    pub fn get_file(&mut self, alloc: Global, name: &Name) -> Result<Option<Content>, FilesFault>
+        ensures content { IfOk result (λ content. content ≡ get (files_in self.old) name.now) }
         ensures same { self.new ≡ self.old }
     {
-        shared_content(&mut self.conn, alloc, tenant, name.as_str())
+        shared_content(&mut self.conn, alloc, name.as_str())
     }
 
-    /// The names of a tenant's files, in the order of their bytes.
+    /// The names of all files, in the order of their bytes.
     ///
     /// # Errors
     ///
     /// `Store` if the database refuses a statement, and `Memory` if memory runs out.
-    pub fn names(&mut self, alloc: Global, tenant: u32) -> Result<Vec<String>, FilesFault>
+    pub fn names(&mut self, alloc: Global) -> Result<Vec<String>, FilesFault>
         ensures names { IfOk result (λ names. map string_bytes names.items
-            ≡ keys (files_of tenant self.old)) }
+            ≡ keys (files_in self.old)) }
         ensures same { self.new ≡ self.old }
     {
-        match names_of(&mut self.conn, alloc, tenant) {
+        match names_of(&mut self.conn, alloc) {
             Ok(names) => Ok(names),
             Err(error) => Err(fault_of(&error)),
         }
     }
 
-    /// Gives a tenant this search path.
+    /// Sets the search path.
     ///
     /// # Errors
     ///
     /// `Store` if the database refuses a statement, and `Memory` if memory runs out. After an error
     /// nothing has changed.
-    pub fn set_path(
-        &mut self,
-        alloc: Global,
-        tenant: u32,
-        path: &SearchPath,
-    ) -> Result<(), FilesFault>
-        ensures path { OnOk result (ChangesPath self.old self.new tenant path.now) }
+    pub fn set_path(&mut self, alloc: Global, path: &SearchPath) -> Result<(), FilesFault>
+        ensures path { OnOk result (self.new ≡ with_search_path self.old path.now) }
         ensures err { OnErr result (self.new ≡ self.old) }
     {
-        match set_path(&mut self.conn, alloc, tenant, path) {
+        match set_path(&mut self.conn, alloc, path) {
             Ok(()) => Ok(()),
             Err(error) => Err(fault_of(&error)),
         }
     }
 
-    /// Gives a tenant this profile.
+    /// Sets the profile.
     ///
     /// # Errors
     ///
     /// `Store` if the database refuses a statement, and `Memory` if memory runs out. After an error
     /// nothing has changed.
-    pub fn set_profile(
-        &mut self,
-        alloc: Global,
-        tenant: u32,
-        profile: Profile,
-    ) -> Result<(), FilesFault>
-        ensures profile { OnOk result (ChangesProfile self.old self.new tenant profile) }
+    pub fn set_profile(&mut self, profile: Profile) -> Result<(), FilesFault>
+        ensures profile { OnOk result (self.new ≡ with_profile self.old profile) }
         ensures err { OnErr result (self.new ≡ self.old) }
     {
-        match set_profile(&mut self.conn, alloc, tenant, profile) {
+        match set_profile(&mut self.conn, profile) {
             Ok(()) => Ok(()),
             Err(error) => Err(fault_of(&error)),
         }
     }
 
-    /// The settings of a tenant: its search path, which is `/ports:/mystuff` until it sets one, and its
-    /// profile, which is the first until it sets one.
+    /// The settings: the search path, which is `/ports:/mystuff` until one is set, and the profile, which is
+    /// the first until one is set.
     ///
     /// # Errors
     ///
     /// `Store` if the database refuses a statement, and `Memory` if memory runs out.
-    pub fn settings(&mut self, alloc: Global, tenant: u32) -> Result<Settings, FilesFault>
-        ensures path { IfOk result (λ settings. settings.path ≡ path_of tenant self.old) }
-        ensures profile { IfOk result (λ settings. settings.profile ≡ profile_of tenant self.old) }
+    pub fn settings(&mut self, alloc: Global) -> Result<Settings, FilesFault>
+        ensures path { IfOk result (λ settings. settings.path ≡ search_path_of self.old) }
+        ensures profile { IfOk result (λ settings. settings.profile ≡ profile_of self.old) }
         ensures same { self.new ≡ self.old }
     {
-        settings_of(&mut self.conn, alloc, tenant)
+        settings_of(&mut self.conn, alloc)
     }
 
     /// Limits the steps of each later statement; with `None` they are no longer limited. If a statement
@@ -219,46 +191,34 @@ fn path_from(alloc: Global, text: &str) -> Result<SearchPath, FilesFault>
     }
 }
 
-// The content of a file of a tenant, if it is there, to be shared.
+// The content of a file, if it is there, to be shared.
 fn shared_content(
     conn: &mut Connection<MemStore>,
     alloc: Global,
-    tenant: u32,
     name: &str,
 ) -> Result<Option<Content>, FilesFault>
     requires { IsKept (state_of conn.old) }
-    ensures content { IfOk result (λ content. content
-        ≡ get (files_of tenant (holdings_of conn.old)) name.now) }
+    ensures content { IfOk result (λ content. content ≡ get (files_in (world_of conn.old)) name.now) }
     ensures stays { Stays (state_of conn.old) (state_of conn.new) }
 {
-    match content_of(conn, tenant, name) {
+    match content_of(conn, name) {
         Ok(Some(bytes)) => Ok(Some(Content::new(alloc, bytes)?)),
         Ok(None) => Ok(None),
         Err(error) => Err(fault_of(&error)),
     }
 }
 
-// The settings of a tenant.
-fn settings_of(
-    conn: &mut Connection<MemStore>,
-    alloc: Global,
-    tenant: u32,
-) -> Result<Settings, FilesFault>
+// The settings.
+fn settings_of(conn: &mut Connection<MemStore>, alloc: Global) -> Result<Settings, FilesFault>
     requires { IsKept (state_of conn.old) }
-    ensures path { IfOk result (λ settings. settings.path
-        ≡ path_of tenant (holdings_of conn.old)) }
-    ensures profile { IfOk result (λ settings. settings.profile
-        ≡ profile_of tenant (holdings_of conn.old)) }
+    ensures path { IfOk result (λ settings. settings.path ≡ search_path_of (world_of conn.old)) }
+    ensures profile { IfOk result (λ settings. settings.profile ≡ profile_of (world_of conn.old)) }
     ensures stays { Stays (state_of conn.old) (state_of conn.new) }
 {
-    match account_of(conn, tenant) {
-        Ok(Some(account)) => Ok(Settings {
+    match account_of(conn) {
+        Ok(account) => Ok(Settings {
             path: path_from(alloc, account.path.as_str())?,
             profile: account.profile,
-        }),
-        Ok(None) => Ok(Settings {
-            path: SearchPath::standard(alloc)?,
-            profile: Profile::One,
         }),
         Err(error) => Err(fault_of(&error)),
     }

@@ -1,4 +1,4 @@
-// The files of one tenant, as a world that can be read and listed.
+// The files of the store, as a world that can be read and listed.
 ghost use Rattle.std.specs.Prelude.{◌≡◌, map, string_bytes, IfOk, OnOk, OnErr};
 ghost use Rattle.std.specs.FinMap.{get, keys};
 ghost use Rattle.mk_paths.specs.FilesView.{Contents, Presence, Answers, Fails};
@@ -8,27 +8,25 @@ use mk_files::{Content, Files, Listing};
 use mk_paths::{FilesFault, Name, Names};
 use std::alloc::Global;
 
-/// The files of one tenant in the store, which keep no log, and how many readings of them failed.
+/// The files of the store, which keep no log, and how many readings of them failed.
 #[derive(Drop)]
 pub struct TenantFiles<'s> {
     store: &'s mut TenantStore,
     alloc: Global,
-    tenant: u32,
     failures: u64,
 }
 
 impl<'s> TenantFiles<'s> {
     ghost use Rattle.tenant_store.specs.TenantWorld.{view_of, opened_files, StaysOver, IsOverMemory};
 
-    /// The files of this tenant, with no failure yet.
-    pub fn new(alloc: Global, store: &'s mut TenantStore, tenant: u32) -> TenantFiles<'s>
-        ensures over { IsOverMemory result store.entry tenant }
-        ensures world { view_of result ≡ opened_files tenant store.old }
+    /// The files, with no failure yet.
+    pub fn new(alloc: Global, store: &'s mut TenantStore) -> TenantFiles<'s>
+        ensures over { IsOverMemory result store.entry }
+        ensures world { view_of result ≡ opened_files store.old }
     {
         TenantFiles {
             store,
             alloc,
-            tenant,
             failures: 0,
         }
     }
@@ -60,7 +58,7 @@ impl<'s> TenantFiles<'s> {
         ensures fault { OnErr result (Fails (view_of self.old) (view_of self.new)) }
         ensures stays { StaysOver self.old self.new }
     {
-        match self.store.get_file(self.alloc, self.tenant, name) {
+        match self.store.get_file(self.alloc, name) {
             Ok(content) => Ok(content),
             Err(fault) => Err(self.failed(fault)),
         }
@@ -74,7 +72,7 @@ impl<'s> TenantFiles<'s> {
         ensures fault { OnErr result (Fails (view_of self.old) (view_of self.new)) }
         ensures stays { StaysOver self.old self.new }
     {
-        match self.store.names(alloc, self.tenant) {
+        match self.store.names(alloc) {
             Ok(names) => Ok(names),
             Err(fault) => Err(self.failed(fault)),
         }

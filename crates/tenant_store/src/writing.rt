@@ -1,19 +1,19 @@
 // The statements that write, and the one transaction that they are in.
-ghost use Rattle.std.specs.Prelude.{◌≡◌, [], ◌∷◌, ◌++◌, map, filter, not, ◌==◌, if◌then◌else◌, IfOk, OnOk, OnErr, IsTrue, None};
+ghost use Rattle.std.specs.Prelude.{◌≡◌, [], ◌∷◌, ◌++◌, map, filter, not, if◌then◌else◌, OnOk, OnErr, IsTrue, None};
 ghost use Rattle.std.specs.FinMap.{get};
 ghost use Rattle.sqlite.specs.State.{ExecutesInside};
 ghost use Rattle.sqlite.specs.Values.{bound};
-ghost use Rattle.tenant_store.specs.Holdings.{files_in, account_in};
+ghost use Rattle.tenant_store.specs.Holdings.{map_of};
 ghost use Rattle.tenant_store.specs.Accounts.{shown_account};
 ghost use Rattle.table_facts.specs.States.{IsSettled, Stays, KeepsCommit, state_of};
-ghost use Rattle.tenant_store.specs.Tables.{IsFormed, Suits, file, is_file, files_after, accounts_after};
-ghost use Rattle.tenant_store.specs.Tables.{MakesFiles, MakesAccounts, Makes, holdings_of};
+ghost use Rattle.tenant_store.specs.Tables.{IsFormed, Suits, file, is_named, files_after};
+ghost use Rattle.tenant_store.specs.Tables.{MakesFiles, MakesAccount, Makes, holdings_of};
 
 use crate::reading::Account;
 use sqlite::types::ValueRef;
 use sqlite::{Connection, Error, MemStore, Transaction, params};
 
-/// What a call does to one file of a tenant.
+/// What a call does to one file.
 #[derive(Clone, Copy, Debug)]
 pub(crate) enum Change<'a> {
     /// No file is touched.
@@ -43,31 +43,27 @@ fn run(
 
 fn insert_file<'x>(
     tx: &mut Transaction<'_, MemStore>,
-    tenant: u32,
     name: &'x str,
     content: &'x [u8],
 ) -> Result<(), Error>
     requires inside { IsTrue (state_of tx.old.conn.now).in_transaction }
     requires formed { IsFormed (state_of tx.old.conn.now).now }
-    requires free { get (files_in tenant
-        (holdings_of tx.old.conn.now).files) name.now ≡ None }
+    requires free { get (map_of (holdings_of tx.old.conn.now).files) name.now ≡ None }
     ensures same_reference { tx.new.conn.ghost_name ≡ tx.old.conn.ghost_name }
     ensures kept { KeepsCommit (state_of tx.old.conn.now) (state_of tx.new.conn.now) }
     ensures made { OnOk result (MakesFiles (state_of tx.old.conn.now) (state_of tx.new.conn.now)
-        ((holdings_of tx.old.conn.now).files
-        ++ file tenant name.now content.now ∷ [])) }
+        ((holdings_of tx.old.conn.now).files ++ file name.now content.now ∷ [])) }
 {
     run(
         tx,
-        "INSERT INTO file (tenant, name, content) VALUES (?1, ?2, ?3)",
-        params![tenant, name, content],
+        "INSERT INTO file (name, content) VALUES (?1, ?2)",
+        params![name, content],
     )?;
     Ok(())
 }
 
 fn update_file<'x>(
     tx: &mut Transaction<'_, MemStore>,
-    tenant: u32,
     name: &'x str,
     content: &'x [u8],
 ) -> Result<(), Error>
@@ -76,67 +72,41 @@ fn update_file<'x>(
     ensures same_reference { tx.new.conn.ghost_name ≡ tx.old.conn.ghost_name }
     ensures kept { KeepsCommit (state_of tx.old.conn.now) (state_of tx.new.conn.now) }
     ensures made { OnOk result (MakesFiles (state_of tx.old.conn.now) (state_of tx.new.conn.now)
-        (map (λ f. if is_file tenant name.now f then file tenant name.now content.now else f)
+        (map (λ f. if is_named name.now f then file name.now content.now else f)
         (holdings_of tx.old.conn.now).files)) }
 {
     run(
         tx,
-        "UPDATE file SET content = ?3 WHERE tenant = ?1 AND name = ?2",
-        params![tenant, name, content],
+        "UPDATE file SET content = ?2 WHERE name = ?1",
+        params![name, content],
     )?;
     Ok(())
 }
 
-fn delete_file(tx: &mut Transaction<'_, MemStore>, tenant: u32, name: &str) -> Result<(), Error>
+fn delete_file(tx: &mut Transaction<'_, MemStore>, name: &str) -> Result<(), Error>
     requires inside { IsTrue (state_of tx.old.conn.now).in_transaction }
     requires formed { IsFormed (state_of tx.old.conn.now).now }
     ensures same_reference { tx.new.conn.ghost_name ≡ tx.old.conn.ghost_name }
     ensures kept { KeepsCommit (state_of tx.old.conn.now) (state_of tx.new.conn.now) }
     ensures made { OnOk result (MakesFiles (state_of tx.old.conn.now) (state_of tx.new.conn.now)
-        (filter (λ f. not (is_file tenant name.now f))
-        (holdings_of tx.old.conn.now).files)) }
+        (filter (λ f. not (is_named name.now f)) (holdings_of tx.old.conn.now).files)) }
 {
-    run(
-        tx,
-        "DELETE FROM file WHERE tenant = ?1 AND name = ?2",
-        params![tenant, name],
-    )?;
+    run(tx, "DELETE FROM file WHERE name = ?1", params![name])?;
     Ok(())
 }
 
-fn delete_account(tx: &mut Transaction<'_, MemStore>, tenant: u32) -> Result<(), Error>
+fn update_account(tx: &mut Transaction<'_, MemStore>, account: &Account) -> Result<(), Error>
     requires inside { IsTrue (state_of tx.old.conn.now).in_transaction }
     requires formed { IsFormed (state_of tx.old.conn.now).now }
     ensures same_reference { tx.new.conn.ghost_name ≡ tx.old.conn.ghost_name }
     ensures kept { KeepsCommit (state_of tx.old.conn.now) (state_of tx.new.conn.now) }
-    ensures made { OnOk result (MakesAccounts (state_of tx.old.conn.now) (state_of tx.new.conn.now)
-        (filter (λ a. not (a.tenant == tenant))
-        (holdings_of tx.old.conn.now).accounts)) }
-{
-    run(tx, "DELETE FROM account WHERE tenant = ?1", params![tenant])?;
-    Ok(())
-}
-
-fn insert_account(
-    tx: &mut Transaction<'_, MemStore>,
-    tenant: u32,
-    account: &Account,
-) -> Result<(), Error>
-    requires inside { IsTrue (state_of tx.old.conn.now).in_transaction }
-    requires formed { IsFormed (state_of tx.old.conn.now).now }
-    requires free { account_in tenant (holdings_of tx.old.conn.now).accounts
-        ≡ None }
-    ensures same_reference { tx.new.conn.ghost_name ≡ tx.old.conn.ghost_name }
-    ensures kept { KeepsCommit (state_of tx.old.conn.now) (state_of tx.new.conn.now) }
-    ensures made { OnOk result (MakesAccounts (state_of tx.old.conn.now) (state_of tx.new.conn.now)
-        ((holdings_of tx.old.conn.now).accounts
-        ++ (shown_account tenant account.now) ∷ [])) }
+    ensures made { OnOk result (MakesAccount (state_of tx.old.conn.now) (state_of tx.new.conn.now)
+        (shown_account account.now)) }
 {
     run(
         tx,
-        "INSERT INTO account (tenant, files, bytes, path, profile) VALUES (?1, ?2, ?3, ?4, ?5)",
+        "UPDATE account SET files = ?1, bytes = ?2, path = ?3, profile = ?4",
         params![
-            tenant,
             account.files,
             account.bytes,
             &account.path,
@@ -146,65 +116,41 @@ fn insert_account(
     Ok(())
 }
 
-fn change_files(
-    tx: &mut Transaction<'_, MemStore>,
-    tenant: u32,
-    change: Change<'_>,
-) -> Result<(), Error>
+fn change_files(tx: &mut Transaction<'_, MemStore>, change: Change<'_>) -> Result<(), Error>
     requires inside { IsTrue (state_of tx.old.conn.now).in_transaction }
     requires formed { IsFormed (state_of tx.old.conn.now).now }
-    requires suits { Suits tenant change (holdings_of tx.old.conn.now).files }
+    requires suits { Suits change (holdings_of tx.old.conn.now).files }
     ensures same_reference { tx.new.conn.ghost_name ≡ tx.old.conn.ghost_name }
     ensures kept { KeepsCommit (state_of tx.old.conn.now) (state_of tx.new.conn.now) }
     ensures made { OnOk result (MakesFiles (state_of tx.old.conn.now) (state_of tx.new.conn.now)
-        (files_after tenant change.entry (holdings_of tx.old.conn.now).files)) }
+        (files_after change.entry (holdings_of tx.old.conn.now).files)) }
 {
     match change {
         Change::Keep => Ok(()),
-        Change::Add(name, content) => insert_file(tx, tenant, name, content),
-        Change::Replace(name, content) => update_file(tx, tenant, name, content),
-        Change::Remove(name) => delete_file(tx, tenant, name),
+        Change::Add(name, content) => insert_file(tx, name, content),
+        Change::Replace(name, content) => update_file(tx, name, content),
+        Change::Remove(name) => delete_file(tx, name),
     }
 }
 
-fn change_account(
-    tx: &mut Transaction<'_, MemStore>,
-    tenant: u32,
-    account: &Account,
-) -> Result<(), Error>
-    requires inside { IsTrue (state_of tx.old.conn.now).in_transaction }
-    requires formed { IsFormed (state_of tx.old.conn.now).now }
-    ensures same_reference { tx.new.conn.ghost_name ≡ tx.old.conn.ghost_name }
-    ensures kept { KeepsCommit (state_of tx.old.conn.now) (state_of tx.new.conn.now) }
-    ensures made { OnOk result (MakesAccounts (state_of tx.old.conn.now) (state_of tx.new.conn.now)
-        (accounts_after (shown_account tenant account.now)
-        (holdings_of tx.old.conn.now).accounts)) }
-{
-    delete_account(tx, tenant)?;
-    insert_account(tx, tenant, account)
-}
-
-/// Makes the change to the files of a tenant, and writes its account anew. If it fails, nothing changes.
+/// Makes the change to the files, and writes the account. If it fails, nothing changes.
 pub(crate) fn write(
     conn: &mut Connection<MemStore>,
-    tenant: u32,
     change: Change<'_>,
     account: &Account,
 ) -> Result<(), Error>
     requires settled { IsSettled (state_of conn.old) }
     requires formed { IsFormed (state_of conn.old).now }
-    requires suits { Suits tenant change (holdings_of conn.old).files }
+    requires suits { Suits change (holdings_of conn.old).files }
     ensures ok { OnOk result (Makes (state_of conn.new)
         (record {
-          files = files_after tenant change.entry
-              (holdings_of conn.old).files;
-          accounts = accounts_after (shown_account tenant account.now)
-              (holdings_of conn.old).accounts;
+          files = files_after change.entry (holdings_of conn.old).files;
+          account = shown_account account.now;
         })) }
     ensures err { OnErr result (Stays (state_of conn.old) (state_of conn.new)) }
 {
     let mut tx = conn.transaction();
-    change_files(&mut tx, tenant, change)?;
-    change_account(&mut tx, tenant, account)?;
+    change_files(&mut tx, change)?;
+    update_account(&mut tx, account)?;
     tx.commit()
 }

@@ -25,7 +25,7 @@ use Rattle.kept_ports.specs.TurnsLeft.{open_turns, turns_before, turns_left}
 use Rattle.kept_ports.specs.declared.pending.UnderWay.{UnderWay}
 use Rattle.tenant_worlds.specs.declared.tenant.AskedRequest.{AskedRequest}
 use Rattle.tenant_worlds.specs.declared.tenant.TenantJob.{TenantJob}
-use Rattle.tenant_worlds.specs.Kept.{asked_by, asked_or, seen_job, turns_had, IsJobOver, IsTenantOf}
+use Rattle.tenant_worlds.specs.Kept.{asked_by, asked_or, seen_job, turns_had, IsJobOver, IsRight}
 
 abbrev under_way_of : Option TenantJob → Option UnderWay
 under_way_of job = option_map (λ (it : TenantJob). it.under_way) job
@@ -60,7 +60,7 @@ pending_is world other refresh request plain (Some job) under_way same is of_job
 
 -- a tenant whose keeper is right, and that has no job
 pub without_job : (world other : World) (keeper : Keeper (List Entry)) (job : Option TenantJob) → other ≡ world → job ≡ None → IsKept stored_by other keeper
-    → IsTenantOf world (record { keeper = keeper; job = job })
+    → IsRight (record { store = world; keeper = keeper; job = job })
 without_job world other keeper job same none kept = record {
   keeper = subst (λ (w : World). IsKept stored_by w keeper) same kept;
   pending = subst (λ (j : Option TenantJob). IfSome j (IsJobOver world (refresh_of stored_by keeper))) (sym none) tt;

@@ -1,30 +1,26 @@
--- The tenants' worlds, as the store holds them.
-use Rattle.std.proofs.Common.{◌≡◌, ◌≢◌, ◌<◌, ◌≤◌, ◌∙◌, ℕ, ◌+◌, ◌∷◌, length, map, true, false, inl, inr, Option, None, Some, Result, Ok, Err, IfOk, OnErr, refl, sym, ap, subst, arith, nat_lt, zero, suc}
-use Rattle.std.specs.Prelude.{slice_get, option_map, replicate, MatchBool, IfSome, IfNone, ◌==◌, ◌&&◌, Bool, nat_le, string_bytes}
-use Rattle.std.specs.List.{range_with_len, list_all}
-use Rattle.std.proofs.lemmas.List.{length-map}
+-- The tenants' worlds, after one of them has changed.
+use Rattle.std.proofs.Common.{◌≡◌, ◌≢◌, ◌<◌, ◌≤◌, ◌∙◌, ℕ, ◌+◌, List, [], ◌∷◌, ◌++◌, length, map, get_or, true, false, inl, inr, Option, None, Some, Result, Ok, Err, IfOk, OnErr, refl, sym, ap, ap₂, subst, arith, nat_lt, zero, suc}
+use Rattle.std.specs.Prelude.{slice_get, slice_set, option_map, unwrap_or, MatchBool, IfSome, IfNone, ◌==◌}
 use Rattle.std.proofs.lemmas.Bool.{cases_Bool}
 use Rattle.std.proofs.lemmas.Bool.Decides.{nat_tests}
-use Rattle.std.proofs.lemmas.List.FromFn.{length-range_with_len, length-map-range_with_len, get_or-range_with_len}
-use Rattle.std.proofs.lemmas.Option.{slice_get-map, slice_get-get_or, slice_get_past}
+use Rattle.std.proofs.lemmas.Option.{slice_get-map, slice_get-get_or}
 use Rattle.mk_paths.specs.World.{World, opening_world}
 use Rattle.mk_paths.specs.declared.search_path.Settings.{Settings}
 use Rattle.ports_http.specs.Messages.{RequestMessage, ReplyMessage}
 use Rattle.ports_plain.specs.declared.changing.Change.{Change}
 use Rattle.ports_plain.specs.Changing.{settle_change}
 use Rattle.ports_plain.specs.Plain.{PlainRequest, Served, plain, answer}
-use Rattle.tenant_store.specs.Holdings.{Holdings, nothing, files_of, path_of, profile_of}
 use Rattle.ports_core.specs.Answering.{Answers, AnswersFor, plain_request_of, plain_answer}
 use Rattle.ports_core.specs.Charging.{Spends, MayHaveHad, Charges, ChargesFor, GoesOn}
 use Rattle.ports_core.specs.Jobs.{TenantJob, had_by, one_turn_more, spent_on}
 use Rattle.ports_core.specs.declared.tenants.Answer.{Answer}
-use Rattle.ports_core.specs.Keys.{is_size, is_key, are_apart, key_texts, is_fit}
 use Rattle.ports_core.specs.Telling.{is_failure}
-use Rattle.ports_core.specs.declared.keys.Config.{Config}
 use Rattle.ports_index.specs.Spending.{no_spending, spent_together}
 use Rattle.ports_index.specs.declared.spending.Spent.{Spent}
-use Rattle.tenant_worlds.specs.Stored.{settings_in, world_in, worlds_in, KeepsOtherWorlds}
+use Rattle.tenant_worlds.specs.declared.tenant.Tenant.{Tenant}
+use Rattle.tenant_worlds.specs.Kept.{world_of, worlds_of, world_at, HaveOpeningWorlds}
 use Rattle.tenant_worlds.specs.Turning.{AnswersOver, ChargesOver}
+use Rattle.tenant_worlds.proofs.KeptLemmas.{get-set_same, some_same}
 
 pub if_ok : {A E : Type 0} {P Q : A → Type 0} (r : Result A E) → ((a : A) → P a → Q a) → IfOk r P → IfOk r Q
 if_ok (Ok a) f p = f a p
@@ -34,44 +30,9 @@ pub if_err : {A E P Q : Type 0} (r : Result A E) → (P → Q) → OnErr r P →
 if_err (Ok a) f p = tt
 if_err (Err e) f p = f p
 
--- settings whose parts are the tenant's
-pub settings_are : (held : Holdings) (tenant : ℕ) (settings found : Settings) → settings ≡ found → found.path ≡ path_of tenant held → found.profile ≡ profile_of tenant held
-    → settings ≡ settings_in held tenant
-settings_are held tenant settings found is path profile = is ∙ (let parts : found ≡ settings_in held tenant = λ i. record { path = path i; profile = profile i } in parts)
-
--- the world of a tenant's files and settings is the tenant's
-pub asked_world : (held asked_in : Holdings) (tenant : ℕ) (settings : Settings) → asked_in ≡ held → settings ≡ settings_in held tenant
-    → ◌≡◌ {A = World} ((world_in asked_in tenant).0, settings) (world_in held tenant)
-asked_world held asked_in tenant settings e is i = (files_of tenant (e i), is i)
-
--- what becomes of what was prepared over it is the plain answer over the tenant's world
-pub served : (held asked_in mid : Holdings) (tenant : ℕ) (settings : Settings) (request : RequestMessage) (reply : ReplyMessage) (change : Option Change) (end : Served)
-    → asked_in ≡ held → mid ≡ asked_in → settings ≡ settings_in held tenant → (reply, change) ≡ answer ((world_in asked_in tenant).0, settings) (plain_request_of request)
-    → settle_change (world_in mid tenant) reply change ≡ end → plain_answer (world_in held tenant) request ≡ end
-served held asked_in mid tenant settings request reply change end e0 e1 same was is =
-    let world : World = world_in held tenant in
-    let prepared = was ∙ ap (λ (w : World). answer w (plain_request_of request)) (asked_world held asked_in tenant settings e0 same) in
-    ap (λ (a : ReplyMessage × Option Change). settle_change world a.0 a.1) (sym prepared) ∙ ap (λ (h : Holdings). settle_change (world_in h tenant) reply change) (sym (e1 ∙ e0)) ∙ is
-
-opening_from : (first count : ℕ) → map (world_in nothing) (range_with_len first count) ≡ replicate count opening_world
-opening_from first zero = refl
-opening_from first (suc count) = ap (λ worlds. opening_world ∷ worlds) (opening_from (first + 1) count)
-
--- the worlds of a store that holds nothing
-pub opening_worlds : (count : ℕ) → worlds_in nothing count ≡ replicate count opening_world
-opening_worlds count = opening_from 0 count
-
-pub length-worlds_in : (held : Holdings) (count : ℕ) → length (worlds_in held count) ≡ count
-length-worlds_in held count = length-map-range_with_len (world_in held) 0 count
-
-zero_plus : (t : ℕ) → 0 + t ≡ t
-zero_plus t = omega arith
-
-pub world_there : (held : Holdings) (count t : ℕ) → t < count → slice_get (worlds_in held count) t ≡ Some (world_in held t)
-world_there held count t within =
-    let inside : t < length (range_with_len 0 count) = subst (λ n. t < n) (sym (length-range_with_len 0 count)) within in
-    slice_get-map (world_in held) (range_with_len 0 count) t
-    ∙ ap (option_map (world_in held)) (slice_get-get_or (range_with_len 0 count) t 0 inside ∙ ap Some (get_or-range_with_len 0 count t 0 within ∙ zero_plus t))
+pub if_none : {A P Q : Type 0} (o : Option A) → (P → Q) → IfNone o P → IfNone o Q
+if_none None f p = f p
+if_none (Some a) f p = tt
 
 pub within_is : (u count : ℕ) → nat_lt u count ≡ true → u < count
 within_is u count is = grind (arith, nat_tests)
@@ -79,80 +40,146 @@ within_is u count is = grind (arith, nat_tests)
 pub past_is : (u count : ℕ) → nat_lt u count ≡ false → count ≤ u
 past_is u count is = grind (arith, nat_tests)
 
-world_kept : (old new : Holdings) (count t u : ℕ) → KeepsOtherWorlds t old new → u ≢ t → slice_get (worlds_in new count) u ≡ slice_get (worlds_in old count) u
-world_kept old new count t u keeps ne = elim (cases_Bool (nat_lt u count)) [
-  | inl is ↦
-      let within = within_is u count is in
-      world_there new count u within ∙ ap Some (keeps u ne) ∙ sym (world_there old count u within)
-  | inr is ↦
-      let past = past_is u count is in
-      slice_get_past (worlds_in new count) u (subst (λ n. n ≤ u) (sym (length-worlds_in new count)) past)
-      ∙ sym (slice_get_past (worlds_in old count) u (subst (λ n. n ≤ u) (sym (length-worlds_in old count)) past))
-]
+-- ---- one world
 
-pub answers_for : (old new : Holdings) (count t : ℕ) (request : RequestMessage) (reply : ReplyMessage) → t < count → Answers (world_in old t) request reply (world_in new t) → KeepsOtherWorlds t old new
-    → AnswersFor t request reply (worlds_in old count) (worlds_in new count)
-answers_for old new count t request reply within answers keeps = record {
-  world = world_in old t;
-  was = world_there old count t within;
-  after = world_in new t;
-  becomes = world_there new count t within;
-  answers = answers;
-  others = λ u ne. world_kept old new count t u keeps ne;
-}
+-- settings whose parts are the tenant's
+pub settings_are : (world : World) (settings found : Settings) → settings ≡ found → found.path ≡ world.1.path → found.profile ≡ world.1.profile → settings ≡ world.1
+settings_are world settings found is path profile = is ∙ (let parts : found ≡ world.1 = λ i. record { path = path i; profile = profile i } in parts)
 
-some_same : {A : Type 0} {x y : A} → ◌≡◌ {A = Option A} (Some x) (Some y) → x ≡ y
-some_same e = cc
+-- the world of a tenant's files and settings is the tenant's
+pub asked_world : (world asked_in : World) (settings : Settings) → asked_in ≡ world → settings ≡ world.1 → ◌≡◌ {A = World} (asked_in.0, settings) world
+asked_world world asked_in settings e is i = ((e i).0, is i)
 
--- the world of a tenant is the one that the list has
-pub this_world : (held : Holdings) (count t : ℕ) (world : World) → t < count → slice_get (worlds_in held count) t ≡ Some world → world_in held t ≡ world
-this_world held count t world within there = some_same (sym (world_there held count t within) ∙ there)
+-- what becomes of what was prepared over it is the plain answer over the tenant's world
+pub served : (world asked_in mid : World) (settings : Settings) (request : RequestMessage) (reply : ReplyMessage) (change : Option Change) (end : Served)
+    → asked_in ≡ world → mid ≡ asked_in → settings ≡ world.1 → (reply, change) ≡ answer (asked_in.0, settings) (plain_request_of request)
+    → settle_change mid reply change ≡ end → plain_answer world request ≡ end
+served world asked_in mid settings request reply change end e0 e1 same was is =
+    let prepared = was ∙ ap (λ (w : World). answer w (plain_request_of request)) (asked_world world asked_in settings e0 same) in
+    ap (λ (a : ReplyMessage × Option Change). settle_change world a.0 a.1) (sym prepared) ∙ ap (λ (w : World). settle_change w reply change) (sym (e1 ∙ e0)) ∙ is
 
--- an answer is one that the tenants may give
-pub work_answers : (old new : Holdings) (count t : ℕ) (request : RequestMessage) (reply : Option Answer) → t < count
-    → AnswersOver (world_in old t) (world_in new t) request reply → KeepsOtherWorlds t old new
-    → IfSome reply (λ answer. AnswersFor t request answer.reply (worlds_in old count) (worlds_in new count))
-work_answers old new count t request None within answers keeps = tt
-work_answers old new count t request (Some answer) within answers keeps = answers_for old new count t request answer.reply within (inl answers) keeps
+-- ---- the worlds of all tenants
 
-charges : (world after : World) (request : RequestMessage) (reply : ReplyMessage) (before spent : Spent)
-    → ((world : World) (request : PlainRequest) → ((plain world request).0.status == 503) ≡ false)
-    → plain_answer world request ≡ (reply, after) → Spends world request (spent_together before spent) → Charges world request reply before spent
-charges world after request reply before spent never is spends =
-    let fine : is_failure reply.status ≡ false = ap (λ (end : Served). is_failure end.0.status) (sym is) ∙ never world (plain_request_of request) in
-    subst (λ failed. MatchBool failed (spent ≡ no_spending) (Spends world request (spent_together before spent))) (sym fine) spends
+abbrev world_in_place : Option Tenant → World
+world_in_place tenant = unwrap_or (option_map world_of tenant) opening_world
 
--- what was spent with an answer is what is told
-pub work_charges : (held : Holdings) (after : World) (count t : ℕ) (request : RequestMessage) (reply : Option Answer) (job : Option TenantJob) (spent : Spent) → t < count
-    → ((world : World) (request : PlainRequest) → ((plain world request).0.status == 503) ≡ false)
-    → AnswersOver (world_in held t) after request reply
-    → ChargesOver (world_in held t) request job reply spent
-    → IfSome reply (λ answer. ChargesFor t request answer.reply (spent_on job) spent (worlds_in held count))
-work_charges held after count t request None job spent within never answers charged = tt
-work_charges held after count t request (Some answer) job spent within never answers charged = λ world there.
-    subst (λ (w : World). Charges w request answer.reply (spent_on job) spent) (this_world held count t world within there)
-    (charges (world_in held t) after request answer.reply (spent_on job) spent never answers charged)
+world_at-is : (tenants : List Tenant) (t : ℕ) → world_at t tenants ≡ world_in_place (slice_get tenants t)
+world_at-is tenants t = ap (λ (world : Option World). unwrap_or world opening_world) (slice_get-map world_of tenants t)
 
--- without an answer no world changes, and the request has had no more than it may
-pub work_goes_on : (old new : Holdings) (count count_after t : ℕ) (request : RequestMessage) (reply : Option Answer) (job : Option TenantJob) (spent : Spent) → t < count → count_after ≡ count
-    → IfNone reply (new ≡ old)
-    → ChargesOver (world_in old t) request job reply spent
-    → IfNone reply (GoesOn t request (had_by job) spent (worlds_in old count) (worlds_in new count_after))
-work_goes_on old new count count_after t request None job spent within same silent charged = record {
-  worlds = ap (λ held. worlds_in held count_after) silent ∙ ap (worlds_in old) same;
-  within = λ world there. subst (λ (w : World). MayHaveHad w request (one_turn_more (had_by job) spent)) (this_world old count t world within there) charged;
-}
-work_goes_on old new count count_after t request (Some answer) job spent within same silent charged = tt
+-- the world of a tenant that was put at a place
+pub world_set : (tenants : List Tenant) (t : ℕ) (tenant : Tenant) → t < length tenants → world_at t (slice_set tenants t tenant) ≡ world_of tenant
+world_set tenants t tenant within = world_at-is (slice_set tenants t tenant) t ∙ ap world_in_place (get-set_same tenants t tenant within)
 
-few_of : (parses evals all apart : Bool) (n : ℕ) → (parses && evals && (nat_le 1 n && nat_le n 64 && all && apart)) ≡ true → n ≤ 64
-few_of true true true true n fit = grind (arith, nat_tests)
-few_of false evals all apart n fit = absurd cc
-few_of true false all apart n fit = absurd cc
-few_of true true false apart n fit = grind (arith, nat_tests)
-few_of true true true false n fit = grind (arith, nat_tests)
+-- the world of a tenant that is there
+pub world_there : (tenants : List Tenant) (t : ℕ) (any : Tenant) → t < length tenants → world_at t tenants ≡ world_of (get_or tenants t any)
+world_there tenants t any within = world_at-is tenants t ∙ ap world_in_place (slice_get-get_or tenants t any within)
 
--- a fit config has 64 keys at most
-pub few_keys : (config : Config) → is_fit config ≡ true → length config.keys.items ≤ 64
-few_keys config fit =
-    let few = few_of (is_size config.parses) (is_size config.evals) (list_all is_key (key_texts config.keys.items)) (are_apart (key_texts config.keys.items)) (length (key_texts config.keys.items)) fit in
-    omega (arith, few, length-map config.keys.items string_bytes)
+is_there : (worlds : List World) (t : ℕ) → t < length worlds → slice_get worlds t ≡ Some (unwrap_or (slice_get worlds t) opening_world)
+is_there [] t within = absurd omega (arith, within)
+is_there (first ∷ worlds) zero within = refl
+is_there (first ∷ worlds) (suc t) within = is_there worlds t (omega (arith, within))
+
+length-worlds : (tenants : List Tenant) → length (worlds_of tenants) ≡ length tenants
+length-worlds [] = refl
+length-worlds (first ∷ tenants) = ap suc (length-worlds tenants)
+
+-- a place of the worlds is one of the tenants
+pub place_is : (tenants : List Tenant) (t : ℕ) → t < length (worlds_of tenants) → t < length tenants
+place_is tenants t within = subst (λ n. t < n) (length-worlds tenants) within
+
+-- the world at a place is one of the worlds
+pub world_listed : (tenants : List Tenant) (t : ℕ) → t < length tenants → slice_get (worlds_of tenants) t ≡ Some (world_at t tenants)
+world_listed tenants t within = is_there (worlds_of tenants) t (subst (λ n. t < n) (sym (length-worlds tenants)) within)
+
+-- a tenant that is the same has the same world
+world_same : (old new : List Tenant) (u : ℕ) → slice_get new u ≡ slice_get old u → slice_get (worlds_of new) u ≡ slice_get (worlds_of old) u
+world_same old new u same = slice_get-map world_of new u ∙ ap (option_map world_of) same ∙ sym (slice_get-map world_of old u)
+
+-- lists with the same items at all places are the same
+same_items : {A : Type 0} (xs ys : List A) → ((t : ℕ) → slice_get xs t ≡ slice_get ys t) → xs ≡ ys
+same_items [] [] same = refl
+same_items [] (y ∷ ys) same = absurd (let e = same 0 in cc)
+same_items (x ∷ xs) [] same = absurd (let e = same 0 in cc)
+same_items {A} (x ∷ xs) (y ∷ ys) same = ap₂ (λ (z : A) (zs : List A). z ∷ zs) (some_same (same 0)) (same_items xs ys (λ t. same (suc t)))
+
+-- no world changes, if one tenant changes and its world doesn't
+pub worlds_kept : (tenants : List Tenant) (t : ℕ) (any tenant : Tenant) → t < length tenants → world_of tenant ≡ world_of (get_or tenants t any) → worlds_of (slice_set tenants t tenant) ≡ worlds_of tenants
+worlds_kept [] t any tenant within same = absurd omega (arith, within)
+worlds_kept (first ∷ tenants) zero any tenant within same = ap (λ (world : World). world ∷ worlds_of tenants) same
+worlds_kept (first ∷ tenants) (suc t) any tenant within same = ap (λ (worlds : List World). world_of first ∷ worlds) (worlds_kept tenants t any tenant (omega (arith, within)) same)
+
+head_same : {A : Type 0} {x y : A} {xs ys : List A} → x ∷ xs ≡ y ∷ ys → x ≡ y
+head_same e = cc
+
+tail_same : {A : Type 0} {x y : A} {xs ys : List A} → x ∷ xs ≡ y ∷ ys → xs ≡ ys
+tail_same e = cc
+
+-- one tenant more with the world with which each begins
+pub opening_added : (tenants : List Tenant) (tenant : Tenant) → HaveOpeningWorlds tenants → world_of tenant ≡ opening_world → HaveOpeningWorlds (tenants ++ tenant ∷ [])
+opening_added [] tenant all opening = ap (λ (world : World). world ∷ []) opening
+opening_added (first ∷ tenants) tenant all opening =
+    ap₂ (λ (world : World) (worlds : List World). world ∷ worlds) (head_same all) (opening_added tenants tenant (tail_same all) opening)
+
+-- ---- what a turn tells
+
+module _ (old new : List Tenant) (t : ℕ) (within : t < length old) (count : length new ≡ length old) (others : (u : ℕ) → u ≢ t → slice_get new u ≡ slice_get old u) where
+  abbrev was : slice_get (worlds_of old) t ≡ Some (world_at t old)
+  was = world_listed old t within
+
+  abbrev becomes : slice_get (worlds_of new) t ≡ Some (world_at t new)
+  becomes = world_listed new t (omega (arith, within, count))
+
+  pub answers_for : (request : RequestMessage) (reply : ReplyMessage) → Answers (world_at t old) request reply (world_at t new) → AnswersFor t request reply (worlds_of old) (worlds_of new)
+  answers_for request reply answers = record {
+    world = world_at t old;
+    was = was;
+    after = world_at t new;
+    becomes = becomes;
+    answers = answers;
+    others = λ u ne. world_same old new u (others u ne);
+  }
+
+  -- an answer is one that the tenants may give
+  pub work_answers : (request : RequestMessage) (reply : Option Answer) → AnswersOver (world_at t old) (world_at t new) request reply
+      → IfSome reply (λ answer. AnswersFor t request answer.reply (worlds_of old) (worlds_of new))
+  work_answers request None answers = tt
+  work_answers request (Some answer) answers = answers_for request answer.reply (inl answers)
+
+  -- the world of the tenant is the one that the list has
+  this_world : (world : World) → slice_get (worlds_of old) t ≡ Some world → world_at t old ≡ world
+  this_world world there = some_same (sym was ∙ there)
+
+  charges : (request : RequestMessage) (reply : ReplyMessage) (before spent : Spent)
+      → ((world : World) (request : PlainRequest) → ((plain world request).0.status == 503) ≡ false)
+      → plain_answer (world_at t old) request ≡ (reply, world_at t new) → Spends (world_at t old) request (spent_together before spent) → Charges (world_at t old) request reply before spent
+  charges request reply before spent never is spends =
+      let fine : is_failure reply.status ≡ false = ap (λ (end : Served). is_failure end.0.status) (sym is) ∙ never (world_at t old) (plain_request_of request) in
+      subst (λ failed. MatchBool failed (spent ≡ no_spending) (Spends (world_at t old) request (spent_together before spent))) (sym fine) spends
+
+  -- what was spent with an answer is what is told
+  pub work_charges : (request : RequestMessage) (reply : Option Answer) (job : Option TenantJob) (spent : Spent)
+      → ((world : World) (request : PlainRequest) → ((plain world request).0.status == 503) ≡ false)
+      → AnswersOver (world_at t old) (world_at t new) request reply → ChargesOver (world_at t old) request job reply spent
+      → IfSome reply (λ answer. ChargesFor t request answer.reply (spent_on job) spent (worlds_of old))
+  work_charges request None job spent never answers charged = tt
+  work_charges request (Some answer) job spent never answers charged = λ world there.
+      subst (λ (w : World). Charges w request answer.reply (spent_on job) spent) (this_world world there)
+      (charges request answer.reply (spent_on job) spent never answers charged)
+
+  same_worlds : world_at t new ≡ world_at t old → worlds_of new ≡ worlds_of old
+  same_worlds same = same_items (worlds_of new) (worlds_of old) (λ u. elim (cases_Bool (u == t)) [
+    | inl is ↦
+        let here : u ≡ t = grind (arith, nat_tests) in
+        subst (λ v. slice_get (worlds_of new) v ≡ slice_get (worlds_of old) v) (sym here) (becomes ∙ ap Some same ∙ sym was)
+    | inr not ↦ world_same old new u (others u (λ e. absurd grind (arith, nat_tests)))
+  ])
+
+  -- without an answer no world changes, and the request has had no more than it may
+  pub work_goes_on : (request : RequestMessage) (reply : Option Answer) (job : Option TenantJob) (spent : Spent)
+      → IfNone reply (world_at t new ≡ world_at t old) → ChargesOver (world_at t old) request job reply spent
+      → IfNone reply (GoesOn t request (had_by job) spent (worlds_of old) (worlds_of new))
+  work_goes_on request None job spent silent charged = record {
+    worlds = same_worlds silent;
+    within = λ world there. subst (λ (w : World). MayHaveHad w request (one_turn_more (had_by job) spent)) (this_world world there) charged;
+  }
+  work_goes_on request (Some answer) job spent silent charged = tt

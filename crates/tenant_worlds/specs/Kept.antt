@@ -1,7 +1,7 @@
--- The tenants: the indexes of their worlds, as their keepers have them, and what is under way for their requests.
-use Rattle.std.specs.Prelude.{◌≡◌, ℕ, ◌≤◌, ◌<◌, ◌+◌, List, length, map, replicate, slice_get, string_bytes}
-use Rattle.std.specs.Prelude.{Option, Some, None, option_map, IfSome}
-use Rattle.mk_paths.specs.World.{World}
+-- The tenants: their worlds, the indexes of these, as their keepers have them, and what is under way for their requests.
+use Rattle.std.specs.Prelude.{◌≡◌, ℕ, ◌<◌, ◌+◌, List, length, map, replicate, slice_get, string_bytes}
+use Rattle.std.specs.Prelude.{Option, Some, None, option_map, unwrap_or, IfSome}
+use Rattle.mk_paths.specs.World.{World, opening_world}
 use Rattle.ports_plain.specs.Plain.{PlainRequest, plain_request}
 use Rattle.ports_plain.specs.Questions.{question_of}
 use Rattle.ports_plain.specs.Resting.{most_turns}
@@ -12,13 +12,11 @@ use Rattle.ports_core.specs.Jobs.{job_in}
 use Rattle.index_store.specs.PortTable.{stored_by}
 use Rattle.index_keep.specs.Keeping.{IsKept, refresh_of}
 use Rattle.index_keep.specs.Turns.{RefreshView}
-use Rattle.tenant_store.specs.Holdings.{Holdings}
 use Rattle.kept_ports.specs.Pending.{IsPendingFor}
 use Rattle.kept_ports.specs.TurnsLeft.{turns_left}
 use Rattle.tenant_worlds.specs.declared.tenant.AskedRequest.{AskedRequest}
 use Rattle.tenant_worlds.specs.declared.tenant.TenantJob.{TenantJob}
 use Rattle.tenant_worlds.specs.declared.tenant.Tenant.{Tenant}
-use Rattle.tenant_worlds.specs.Stored.{world_in}
 
 -- what a request asks of the plain service, by its copy
 abbrev pub asked_by : AskedRequest → PlainRequest
@@ -56,14 +54,34 @@ pub record IsJobOver (world : World) (refresh : RefreshView) (job : TenantJob) :
   pub in_time : job.turns + turns_left world refresh (question_of (asked_by job.asked)) job.under_way
       < most_turns world (asked_by job.asked)
 
--- The keeper is right about the tenant's world, and the job is one over this world.
-pub record IsTenantOf (world : World) (tenant : Tenant) : Type 0 where
-  pub keeper : IsKept stored_by world tenant.keeper
-  pub pending : IfSome tenant.job (IsJobOver world (refresh_of stored_by tenant.keeper))
+-- the world of a tenant: its files and its settings
+abbrev pub world_of : Tenant → World
+world_of tenant = tenant.store
 
--- each tenant is the one of its world
-abbrev pub AreTenantsOf : (ℕ → World) → List Tenant → Type 0
-AreTenantsOf worlds tenants = (t : ℕ) (tenant : Tenant) → slice_get tenants t ≡ Some tenant → IsTenantOf (worlds t) tenant
+-- The keeper is right about the tenant's world, and the job is one over this world.
+pub record IsRight (tenant : Tenant) : Type 0 where
+  pub keeper : IsKept stored_by (world_of tenant) tenant.keeper
+  pub pending : IfSome tenant.job (IsJobOver (world_of tenant) (refresh_of stored_by tenant.keeper))
+
+-- so is each tenant
+abbrev pub AreRight : List Tenant → Type 0
+AreRight tenants = (t : ℕ) (tenant : Tenant) → slice_get tenants t ≡ Some tenant → IsRight tenant
+
+-- the worlds of the tenants, by the tenants' numbers
+abbrev pub worlds_of : List Tenant → List World
+worlds_of tenants = map world_of tenants
+
+-- the world of the tenant with this number; that of a tenant that isn't there is the one with which each begins
+abbrev pub world_at : ℕ → List Tenant → World
+world_at number tenants = unwrap_or (slice_get (worlds_of tenants) number) opening_world
+
+-- each tenant has the world with which it begins
+abbrev pub HaveOpeningWorlds : List Tenant → Type 0
+HaveOpeningWorlds tenants = worlds_of tenants ≡ replicate (length tenants) opening_world
+
+-- no world changes
+abbrev pub KeepWorlds : List Tenant → List Tenant → Type 0
+KeepWorlds old new = worlds_of new ≡ worlds_of old
 
 -- the jobs of the tenants, by the tenants' numbers
 abbrev pub jobs_of : List Tenant → List (Option jobs.TenantJob)
@@ -80,8 +98,3 @@ HaveNoJob tenants = jobs_of tenants ≡ replicate (length tenants) None
 -- no job changes
 abbrev pub KeepJobs : List Tenant → List Tenant → Type 0
 KeepJobs old new = jobs_of new ≡ jobs_of old
-
--- there are few tenants, and each is the one of its world
-pub record IsKeptBy (held : Holdings) (tenants : List Tenant) : Type 0 where
-  pub few : length tenants ≤ 64
-  pub each : AreTenantsOf (world_in held) tenants

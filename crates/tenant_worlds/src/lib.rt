@@ -1,5 +1,4 @@
-//! The worlds of all tenants, in one store, with an index of each that is kept, and a request answered over
-//! one of them.
+//! The worlds of all tenants, with an index of each that is kept, and a request answered over one of them.
 #![tactic(auto)]
 
 mod asking;

@@ -1,4 +1,4 @@
-//! One tenant: the keeper of its index, and what is under way for its first request.
+//! One tenant: its world, the keeper of its index, and what is under way for its first request.
 ghost use Rattle.std.specs.Prelude.{◌≡◌, ◌+◌, IfOk, option_map};
 ghost use Rattle.ports_core.specs.Answering.{plain_request_of};
 ghost use Rattle.ports_core.specs.Jobs.{had_by};
@@ -11,10 +11,12 @@ use kept_ports::UnderWay;
 use ports_core::Job;
 use ports_http::{Method, Request};
 use std::alloc::{AllocError, Global};
+use tenant_store::TenantStore;
 
-/// The keeper of a tenant's index, and the tenant's job, if there is one.
+/// The files and settings of a tenant, the keeper of its index, and its job, if there is one.
 #[derive(Drop)]
 pub(crate) struct Tenant {
+    pub(crate) store: TenantStore,
     pub(crate) keeper: Keeper<IndexStore>,
     pub(crate) job: Option<TenantJob>,
 }

@@ -1,10 +1,8 @@
 //! The tenants, by their numbers.
-ghost use Rattle.std.specs.Prelude.{◌≡◌, ◌≢◌, ◌<◌, ◌≤◌, ℕ, [], ◌∷◌, ◌++◌, None, length, slice_get};
+ghost use Rattle.std.specs.Prelude.{◌≡◌, ◌≢◌, ◌<◌, ℕ, [], ◌∷◌, ◌++◌, None, length, slice_get};
 ghost use Rattle.std.specs.Prelude.{IfOk, IfNone, OnOk, OnErr};
-ghost use Rattle.mk_paths.specs.World.{World};
 ghost use Rattle.ports_core.specs.Jobs.{IsForRequest};
-ghost use Rattle.tenant_worlds.specs.Stored.{world_in, KeepsOtherWorlds};
-ghost use Rattle.tenant_worlds.specs.Kept.{AreTenantsOf, HaveNoJob, KeepJobs, job_at};
+ghost use Rattle.tenant_worlds.specs.Kept.{AreRight, HaveNoJob, HaveOpeningWorlds, KeepJobs, KeepWorlds, job_at, world_at};
 ghost use Rattle.tenant_worlds.specs.Turning.{WorksOn};
 
 use crate::tenant::Tenant;
@@ -17,19 +15,28 @@ use ports_core::Worked;
 use std::alloc::{AllocError, Global};
 use tenant_store::TenantStore;
 
-/// So many tenants, whose indexes have no row yet, without a job. Each index has a database in memory of its own.
+/// So many tenants without a file, whose indexes have no row yet, and without a job. Each tenant's files and each
+/// index have a database in memory of their own.
 ///
 /// It fails if one isn't opened, or if memory runs out.
 pub(crate) fn open_tenants(alloc: Global, count: usize) -> Result<Vec<Tenant>, FilesFault>
     ensures count { IfOk result (λ tenants. length tenants.items ≡ count) }
-    ensures right { IfOk result (λ tenants.
-        (worlds : ℕ → World) → AreTenantsOf worlds tenants.items) }
+    ensures right { IfOk result (λ tenants. AreRight tenants.items) }
+    ensures worlds { IfOk result (λ tenants. HaveOpeningWorlds tenants.items) }
     ensures jobs { IfOk result (λ tenants. HaveNoJob tenants.items) }
 {
     let mut tenants = Vec::with_capacity(alloc, count)?;
     for _ in 0..count {
+        let store = TenantStore::open_in_memory(alloc)?;
         let keeper = Keeper::new(alloc, IndexStore::open_in_memory(alloc)?);
-        add_tenant(&mut tenants, Tenant { keeper, job: None })?;
+        add_tenant(
+            &mut tenants,
+            Tenant {
+                store,
+                keeper,
+                job: None,
+            },
+        )?;
     }
     Ok(tenants)
 }
@@ -42,14 +49,16 @@ fn add_tenant(tenants: &mut Vec<Tenant>, tenant: Tenant) -> Result<(), AllocErro
     Ok(())
 }
 
-/// Limits the steps of each later statement of all indexes, or removes the limit. No job changes.
+/// Limits the steps of each later statement over all files and indexes, or removes the limit. No world and no job
+/// changes.
 pub(crate) fn limit_tenants(tenants: &mut [Tenant], limit: Option<u64>)
     ensures count { length tenants.new ≡ length tenants.old }
-    ensures right { (worlds : ℕ → World)
-        → AreTenantsOf worlds tenants.old → AreTenantsOf worlds tenants.new }
+    ensures right { AreRight tenants.old → AreRight tenants.new }
+    ensures worlds { KeepWorlds tenants.old tenants.new }
     ensures jobs { KeepJobs tenants.old tenants.new }
 {
     for tenant in tenants.iter_mut() {
+        tenant.store.limit_steps(limit);
         tenant.keeper.limit_steps(limit);
     }
 }
@@ -57,33 +66,25 @@ pub(crate) fn limit_tenants(tenants: &mut [Tenant], limit: Option<u64>)
 /// A turn of a request of the tenant with this number, as `take_turn` takes it. No other tenant changes.
 pub(crate) fn turn_at(
     alloc: Global,
-    store: &mut TenantStore,
     tenants: &mut [Tenant],
     cache: &mut EvalCache,
     number: usize,
     incoming: &Incoming,
 ) -> Result<Worked, FilesFault>
     requires there { number < length tenants.old }
-    requires few { length tenants.old ≤ 64 }
-    requires right { AreTenantsOf (world_in store.old) tenants.old }
+    requires right { AreRight tenants.old }
     requires for_request { IsForRequest incoming.now.request.now (job_at number tenants.old) }
-    ensures works { IfOk result (WorksOn (world_in store.old number) (world_in store.new number)
+    ensures works { IfOk result (WorksOn (world_at number tenants.old)
+        (world_at number tenants.new)
         incoming.now (job_at number tenants.old) (job_at number tenants.new)) }
-    ensures silent { IfOk result (λ worked. IfNone worked.reply (store.new ≡ store.old)) }
-    ensures others { OnOk result (KeepsOtherWorlds number store.old store.new) }
-    ensures err { OnErr result (store.new ≡ store.old) }
+    ensures silent { IfOk result (λ worked. IfNone worked.reply
+        (world_at number tenants.new ≡ world_at number tenants.old)) }
+    ensures err { OnErr result (world_at number tenants.new ≡ world_at number tenants.old) }
     ensures dropped { OnErr result (job_at number tenants.new ≡ None) }
     ensures count { length tenants.new ≡ length tenants.old }
-    ensures right { AreTenantsOf (world_in store.new) tenants.new }
+    ensures right { AreRight tenants.new }
     ensures same { (other : ℕ) → other ≢ number
         → slice_get tenants.new other ≡ slice_get tenants.old other }
 {
-    take_turn(
-        alloc,
-        store,
-        &mut tenants[number],
-        cache,
-        number as u32,
-        incoming,
-    )
+    take_turn(alloc, &mut tenants[number], cache, incoming)
 }

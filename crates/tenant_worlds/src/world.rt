@@ -1,5 +1,6 @@
-//! A request over the world of one tenant in the store.
+//! A request over the world of one tenant.
 ghost use Rattle.std.specs.Prelude.{◌≡◌, false, None, IfOk, IfSome, IfNone, IsErrOf, IsTrue, OnOk, OnErr};
+ghost use Rattle.mk_paths.specs.World.{files_in};
 ghost use Rattle.ports_plain.specs.Changing.{changed, overfills, settle_change};
 ghost use Rattle.ports_core.specs.Answering.{plain_request_of, AreBytesOf};
 ghost use Rattle.ports_core.specs.Jobs.{IsForRequest};
@@ -8,9 +9,8 @@ ghost use Rattle.index_keep.specs.Keeping.{IsKept, refresh_of};
 ghost use Rattle.kept_ports.specs.Calls.{request_of};
 ghost use Rattle.kept_ports.specs.Pending.{IsPendingFor, TurnsRequest, spent_before};
 ghost use Rattle.kept_ports.specs.TurnsLeft.{LeavesFewerFor, SpendsFew};
-ghost use Rattle.tenant_worlds.specs.Kept.{IsTenantOf, job_of};
+ghost use Rattle.tenant_worlds.specs.Kept.{IsRight, job_of, world_of};
 ghost use Rattle.tenant_worlds.specs.Turning.{WorksOn};
-ghost use Rattle.tenant_worlds.specs.Stored.{world_in, KeepsOtherWorlds};
 
 use crate::asking::{Asking, Turn};
 use crate::tenant::{Tenant, TenantJob};
@@ -35,42 +35,42 @@ pub(crate) struct Incoming<'a> {
 
 /// A turn of a request over a tenant's world. Without an answer, what is under way for the request is the tenant's job.
 /// With one there is no job any more, and the world is the one after it. The answer's bytes say whether the connection
-/// closes, and are made before the world changes. No other tenant's world changes.
+/// closes, and are made before the world changes.
 ///
 /// It fails if the store of the files or that of the index fails, or if memory runs out; then the world has
 /// not changed, and there is no job. Whatever happens, the tenant's keeper is right about the world.
 pub(crate) fn take_turn(
     alloc: Global,
-    store: &mut TenantStore,
     tenant: &mut Tenant,
     cache: &mut EvalCache,
-    number: u32,
     incoming: &Incoming,
 ) -> Result<Worked, FilesFault>
-    requires tenant { IsTenantOf (world_in store.old number) tenant.old }
+    requires right { IsRight tenant.old }
     requires for_request { IsForRequest incoming.now.request.now (job_of tenant.old) }
-    ensures works { IfOk result (WorksOn (world_in store.old number) (world_in store.new number)
+    ensures works { IfOk result (WorksOn (world_of tenant.old) (world_of tenant.new)
         incoming.now (job_of tenant.old) (job_of tenant.new)) }
-    ensures silent { IfOk result (λ worked. IfNone worked.reply (store.new ≡ store.old)) }
-    ensures others { OnOk result (KeepsOtherWorlds number store.old store.new) }
-    ensures err { OnErr result (store.new ≡ store.old) }
+    ensures silent { IfOk result (λ worked. IfNone worked.reply
+        (world_of tenant.new ≡ world_of tenant.old)) }
+    ensures err { OnErr result (world_of tenant.new ≡ world_of tenant.old) }
     ensures dropped { OnErr result (job_of tenant.new ≡ None) }
-    ensures tenant { IsTenantOf (world_in store.new number) tenant.new }
+    ensures right { IsRight tenant.new }
 {
     questions_have_the_answers();
     let (asked, turns, under_way) = TenantJob::parts(tenant.job.take());
-    let settings = store.settings(alloc, number)?;
+    let settings = tenant.store.settings(alloc)?;
     let call = call_of(incoming.plain, &settings, incoming.request);
+    let store = &mut tenant.store;
     let keeper = &mut tenant.keeper;
-    match turn_over(alloc, store, keeper, cache, number, &call, under_way)? {
+    match turn_over(alloc, store, keeper, cache, &call, under_way)? {
         CallTurned::More(under_way, spent) => {
             let request = incoming.request;
             tenant.job = Some(TenantJob::going_on(alloc, asked, turns, request, under_way)?);
             Ok(Worked { reply: None, spent })
         }
         CallTurned::Done(prepared, spent) => {
+            let store = &mut tenant.store;
             let keeper = &mut tenant.keeper;
-            let answer = settle(alloc, store, keeper, number, prepared, incoming.close)?;
+            let answer = settle(alloc, store, keeper, prepared, incoming.close)?;
             let reply = Some(answer);
             Ok(Worked { reply, spent })
         }
@@ -84,25 +84,19 @@ fn turn_over<'x>(
     store: &mut TenantStore,
     keeper: &'x mut Keeper<IndexStore>,
     cache: &mut EvalCache,
-    tenant: u32,
     call: &'x PlainCall<'x>,
     under_way: Option<UnderWay>,
 ) -> Result<CallTurned, FilesFault>
-    requires kept { IsKept stored_by
-        ((world_in store.old tenant).0, call.now.settings.now) keeper.old }
-    requires pending { IfSome under_way (IsPendingFor
-        ((world_in store.old tenant).0, call.now.settings.now)
+    requires kept { IsKept stored_by (files_in store.old, call.now.settings.now) keeper.old }
+    requires pending { IfSome under_way (IsPendingFor (files_in store.old, call.now.settings.now)
         (refresh_of stored_by keeper.old) (request_of call.now)) }
-    ensures turned { IfOk result (TurnsRequest
-        ((world_in store.old tenant).0, call.now.settings.now)
+    ensures turned { IfOk result (TurnsRequest (files_in store.old, call.now.settings.now)
         (refresh_of stored_by keeper.new) (request_of call.now) (spent_before under_way)) }
-    ensures fewer { IfOk result (LeavesFewerFor
-        ((world_in store.old tenant).0, call.now.settings.now)
+    ensures fewer { IfOk result (LeavesFewerFor (files_in store.old, call.now.settings.now)
         (refresh_of stored_by keeper.old) (refresh_of stored_by keeper.new)
         (request_of call.now) under_way) }
     ensures short { IfOk result SpendsFew }
-    ensures kept { IsKept stored_by
-        ((world_in store.old tenant).0, call.now.settings.now) keeper.new }
+    ensures kept { IsKept stored_by (files_in store.old, call.now.settings.now) keeper.new }
     ensures same { store.new ≡ store.old }
 {
     let mut turn = Turn {
@@ -116,7 +110,7 @@ fn turn_over<'x>(
         keeper,
         turn: &mut turn,
     };
-    asking.ask_tenant(store, tenant);
+    asking.ask_tenant(store);
     turn.turned
 }
 
@@ -141,25 +135,22 @@ fn settle(
     alloc: Global,
     store: &mut TenantStore,
     keeper: &mut Keeper<IndexStore>,
-    tenant: u32,
     prepared: Prepared,
     close: bool,
 ) -> Result<Answer, FilesFault>
-    requires { IsKept stored_by (world_in store.old tenant) keeper.old }
-    ensures settle_change { IfOk result (λ answer. settle_change
-        (world_in store.old tenant) prepared.reply prepared.change
-        ≡ (answer.reply, world_in store.new tenant)) }
-    ensures others { OnOk result (KeepsOtherWorlds tenant store.old store.new) }
+    requires { IsKept stored_by store.old keeper.old }
+    ensures settle_change { IfOk result (λ answer. settle_change store.old prepared.reply
+        prepared.change ≡ (answer.reply, store.new)) }
     ensures bytes { IfOk result (λ answer. AreBytesOf answer.reply close answer.bytes) }
     ensures err { OnErr result (store.new ≡ store.old) }
-    ensures kept { IsKept stored_by (world_in store.new tenant) keeper.new }
+    ensures kept { IsKept stored_by store.new keeper.new }
 {
     let Prepared { reply, change } = prepared;
     let answer = answer_with_bytes(alloc, reply, close)?;
     let Some(change) = change else {
         return Ok(answer);
     };
-    match carry_out(alloc, store, keeper, tenant, change) {
+    match carry_out(alloc, store, keeper, change) {
         Ok(()) => Ok(answer),
         Err(PutFault::Full) => Ok(answer_with_bytes(alloc, full(alloc)?, close)?),
         Err(PutFault::Store) => Err(FilesFault::Store),
@@ -183,36 +174,32 @@ fn carry_out(
     alloc: Global,
     store: &mut TenantStore,
     keeper: &mut Keeper<IndexStore>,
-    tenant: u32,
     change: Change,
 ) -> Result<(), PutFault>
-    requires { IsKept stored_by (world_in store.old tenant) keeper.old }
-    ensures fits { OnOk result (overfills (world_in store.old tenant) change ≡ false) }
-    ensures changes { OnOk result (world_in store.new tenant
-        ≡ changed (world_in store.old tenant) change) }
-    ensures others { OnOk result (KeepsOtherWorlds tenant store.old store.new) }
-    ensures full { IsErrOf result PutFault.Full
-        → IsTrue (overfills (world_in store.old tenant) change) }
+    requires { IsKept stored_by store.old keeper.old }
+    ensures fits { OnOk result (overfills store.old change ≡ false) }
+    ensures changes { OnOk result (store.new ≡ changed store.old change) }
+    ensures full { IsErrOf result PutFault.Full → IsTrue (overfills store.old change) }
     ensures err { OnErr result (store.new ≡ store.old) }
-    ensures kept { IsKept stored_by (world_in store.new tenant) keeper.new }
+    ensures kept { IsKept stored_by store.new keeper.new }
 {
     match change {
         Change::PutFile(name, content) => {
             keeper.note_change(alloc, &name)?; // first, since the write may fail
-            store.put_file(alloc, tenant, &name, content.as_slice())
+            store.put_file(&name, content.as_slice())
         }
         Change::RemoveFile(name) => {
             keeper.note_change(alloc, &name)?;
-            let _was_there = store.remove_file(alloc, tenant, &name)?;
+            let _was_there = store.remove_file(&name)?;
             Ok(())
         }
         Change::SetPath(path) => {
             keeper.note_path(alloc)?;
-            Ok(store.set_path(alloc, tenant, &path)?)
+            Ok(store.set_path(alloc, &path)?)
         }
         Change::SetProfile(profile) => {
             keeper.note_path(alloc)?; // every row is stale under other settings
-            Ok(store.set_profile(alloc, tenant, profile)?)
+            Ok(store.set_profile(profile)?)
         }
     }
 }

@@ -1,4 +1,4 @@
-//! The tenants' worlds in one store, and the plain service over them.
+//! The tenants, and the plain service over their worlds.
 use crate::tenant::Tenant;
 use crate::tenants::{limit_tenants, open_tenants, turn_at};
 use crate::world::Incoming;
@@ -10,26 +10,23 @@ use ports_index::Spent;
 use ports_plain::{Plain, never_answers_503};
 use std::alloc::Global;
 use std::marker::Model;
-use tenant_store::TenantStore;
 
-/// The world of each tenant, by the tenants' numbers, all in one store, and the plain service that answers
-/// over one of them. The index of each world is kept in a database of its own. Parses and evaluations are kept
-/// in one cache, which all tenants share. Each tenant has at most one job: what is under way for its first request. A
-/// contract sees the worlds and the jobs.
+/// The world of each tenant, by the tenants' numbers, and the plain service that answers over one of them. Each
+/// world and the index of each are in a database of their own. Parses and evaluations are kept in one cache, which
+/// all tenants share. Each tenant has at most one job: what is under way for its first request. A contract sees
+/// the worlds and the jobs.
 #[derive(Drop)]
 pub struct StoredTenants {
-    store: TenantStore,
     tenants: Vec<Tenant>,
     cache: EvalCache,
     plain: Plain,
 }
 
 impl Model for StoredTenants {
-    ghost use Rattle.std.specs.Prelude.{List, Option, length, map};
+    ghost use Rattle.std.specs.Prelude.{List, Option};
     ghost use Rattle.mk_paths.specs.World.{World};
     ghost use Rattle.ports_core.specs.Jobs.{TenantJob};
-    ghost use Rattle.tenant_worlds.specs.Stored.{worlds_in};
-    ghost use Rattle.tenant_worlds.specs.Kept.{IsKeptBy, job_of};
+    ghost use Rattle.tenant_worlds.specs.Kept.{AreRight, jobs_of, worlds_of};
 
     ghost Value = { List World × List (Option TenantJob) };
 
@@ -39,9 +36,9 @@ impl Model for StoredTenants {
 
     ghost coded = { coded× (coded_list world_code) jobs_code };
 
-    ghost view = { λ w. (worlds_in w.store (length w.tenants.items), map job_of w.tenants.items) };
+    ghost view = { λ w. (worlds_of w.tenants.items, jobs_of w.tenants.items) };
 
-    ghost invariant = { λ w. IsKeptBy w.store w.tenants.items };
+    ghost invariant = { λ w. AreRight w.tenants.items };
 }
 
 impl Tenants for StoredTenants {
@@ -50,12 +47,10 @@ impl Tenants for StoredTenants {
     ghost jobs = { λ w. w.1 };
 
     fn new(alloc: Global, config: &Config) -> Result<StoredTenants, FilesFault> {
-        let store = TenantStore::open_in_memory(alloc)?;
         let tenants = open_tenants(alloc, config.keys.len())?;
         let cache = EvalCache::new(alloc, config.parses as usize, config.evals as usize)?;
         let plain = Plain::new(alloc)?;
         Ok(StoredTenants {
-            store,
             tenants,
             cache,
             plain,
@@ -69,14 +64,7 @@ impl Tenants for StoredTenants {
             request,
             close,
         };
-        match turn_at(
-            alloc,
-            &mut self.store,
-            &mut self.tenants,
-            &mut self.cache,
-            tenant,
-            &incoming,
-        ) {
+        match turn_at(alloc, &mut self.tenants, &mut self.cache, tenant, &incoming) {
             Ok(worked) => worked,
             Err(_refused) => Worked {
                 reply: Some(Answer {
@@ -96,7 +84,6 @@ impl Tenants for StoredTenants {
     }
 
     fn limit_steps(&mut self, limit: Option<u64>) {
-        self.store.limit_steps(limit);
         limit_tenants(&mut self.tenants, limit);
     }
 }

@@ -15,7 +15,7 @@ pub struct Subjects<'a, N: Net> {
     alloc: Global,
     net: &'a N,
     setup: Setup,
-    store: Option<TenantStore>,
+    stores: Option<Vec<TenantStore>>,
     rows: Option<IndexStore>,
     service: Option<StoredService>,
 }
@@ -26,7 +26,7 @@ impl<'a, N: Net> Subjects<'a, N> {
             alloc,
             net,
             setup: Setup::new(alloc)?,
-            store: None,
+            stores: None,
             rows: None,
             service: None,
         })
@@ -54,8 +54,8 @@ impl<'a, N: Net> Subjects<'a, N> {
     }
 
     fn answer_of_store(&mut self, call: &str, given: &[Vec<u8>]) -> Result<Answer, Trouble> {
-        match &mut self.store {
-            Some(store) => store_cases::answer(self.alloc, store, call, given),
+        match &mut self.stores {
+            Some(stores) => store_cases::answer(self.alloc, stores, call, given),
             None => Err(Trouble::NoCase),
         }
     }
@@ -71,7 +71,7 @@ impl<'a, N: Net> Subjects<'a, N> {
 impl<N: Net> Bench for Subjects<'_, N> {
     fn clear(&mut self) -> Result<(), AllocError> {
         self.setup = Setup::new(self.alloc)?;
-        self.store = None;
+        self.stores = None;
         self.rows = None;
         self.service = None;
         Ok(())
@@ -79,7 +79,7 @@ impl<N: Net> Bench for Subjects<'_, N> {
 
     fn set_up(&mut self, call: &str, given: &[Vec<u8>]) -> Result<(), Trouble> {
         match call {
-            "empty store" => self.store = Some(store_cases::empty(self.alloc)?),
+            "empty stores" => self.stores = Some(store_cases::empty(self.alloc)?),
             "empty rows" => self.rows = Some(store_cases::rows::empty(self.alloc)?),
             "new service" => self.service = Some(served::new(self.alloc, given)?),
             _ => self.setup.set_up(call, given)?,

@@ -3,16 +3,16 @@ use Rattle.std.proofs.Common.{subst}
 use Rattle.sqlite.specs.Held.{state}
 use Rattle.sqlite.specs.Steps.{over_memory}
 use Rattle.tenant_store.specs.Accounts.{IsAccountOf}
-use Rattle.tenant_store.proofs.Keeping.{still_kept, still_held}
+use Rattle.tenant_store.proofs.Keeping.{still_kept, same_world}
 use Rattle.tenant_store.proofs.changing.look_up.Goals as goal
 
-pub account_or_new-requires : goal.account_or_new-requires
-account_or_new-requires c = still_kept (state over_memory c.args.conn.now) (state over_memory c.content_of.new.conn) c.requires c.content_of.ensures.stays
+pub account_of-requires : goal.account_of-requires
+account_of-requires c = still_kept (state over_memory c.args.conn.now) (state over_memory c.content_of.new.conn) c.requires c.content_of.ensures.stays
 
 pub returns-in-Some-clause-account : goal.returns-in-Some-clause-account
 returns-in-Some-clause-account c =
-    subst (λ h. IsAccountOf c.args.tenant h c.in_ok-account.account) (still_held (state over_memory c.args.conn.now) (state over_memory c.content_of.new.conn) c.content_of.ensures.stays) c.in_ok-account.ensures.account
+    subst (λ w. IsAccountOf w c.in_ok-account.account) (same_world (state over_memory c.args.conn.now) (state over_memory c.content_of.new.conn) c.content_of.ensures.stays) c.in_ok-account.ensures.account
 
 pub returns-in-None-clause-account : goal.returns-in-None-clause-account
 returns-in-None-clause-account c =
-    subst (λ h. IsAccountOf c.args.tenant h c.in_ok-account.account) (still_held (state over_memory c.args.conn.now) (state over_memory c.content_of.new.conn) c.content_of.ensures.stays) c.in_ok-account.ensures.account
+    subst (λ w. IsAccountOf w c.in_ok-account.account) (same_world (state over_memory c.args.conn.now) (state over_memory c.content_of.new.conn) c.content_of.ensures.stays) c.in_ok-account.ensures.account

@@ -9,7 +9,5 @@ use Rattle.tenant_store.proofs.reading.name_rows.Goals as goal
 pub returns : goal.returns
 returns c =
     let new = c.query_all.new.self in
-    let both =
-    names_end c.args.tenant (state over_memory c.args.conn.now) (state over_memory new) c.query_all.result c.requires.formed c.requires.settled refl
-    (rw c.params-to_sql.ensures at (c.query_all.ensures.ok (memory_is_clean new))) (rw c.params-to_sql.ensures at (c.query_all.ensures.err (memory_is_clean new))) in
+    let both = names_end (state over_memory c.args.conn.now) (state over_memory new) c.query_all.result c.requires.formed c.requires.settled refl (c.query_all.ensures.ok (memory_is_clean new)) (c.query_all.ensures.err (memory_is_clean new)) in
     record { rows = both.0; stays = both.1 }

@@ -6,6 +6,6 @@ use Rattle.tenant_store.proofs.writing.delete_file.Goals as goal
 pub returns-clause-made : goal.returns-clause-made
 returns-clause-made c =
     let new = c.run.new.tx.conn.now in
-    let ran = rw (c.params-to_sql.ensures, c.params-to_sql-2.ensures) at (c.in_ok-run.ensures.ran) in
-    let made = deletes_file c.args.tenant c.args.name.now (state_of c.args.tx.now.conn.now) (state_of new) c.requires.formed c.in_ok-run.field-0 ran.0 in
+    let ran = rw c.params-to_sql.ensures at (c.in_ok-run.ensures.ran) in
+    let made = deletes_file c.args.name.now (state_of c.args.tx.now.conn.now) (state_of new) c.requires.formed c.in_ok-run.field-0 ran.0 in
     record { on = record { inside = ran.1.mode; formed = made.0 }; made = made.1 }

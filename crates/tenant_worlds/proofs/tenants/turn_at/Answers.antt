@@ -1,17 +1,17 @@
 -- The tenant with this number is the one that changes.
-use Rattle.std.proofs.Common.{◌∙◌, subst, sym, get_or, Option}
+use Rattle.std.proofs.Common.{◌≡◌, ◌∙◌, subst, sym, get_or, Option}
+use Rattle.std.specs.Prelude.{slice_set, IfNone}
+use Rattle.mk_paths.specs.World.{World}
 use Rattle.ports_core.specs.Jobs.{TenantJob, IsForRequest}
-use Rattle.std.specs.Prelude.{slice_set}
-use Rattle.tenant_worlds.specs.Kept.{job_of, job_at}
-use Rattle.tenant_worlds.specs.Stored.{world_in}
+use Rattle.tenant_worlds.specs.Kept.{job_of, job_at, world_of, world_at}
 use Rattle.tenant_worlds.specs.Turning.{WorksOn}
-use Rattle.tenant_worlds.proofs.KeptLemmas.{get-set_other, right_after, right_at, others_stay}
+use Rattle.tenant_worlds.proofs.KeptLemmas.{get-set_other, right_at, set_right}
 use Rattle.tenant_worlds.proofs.JobLemmas.{job_set, job_there}
-use Rattle.tenant_worlds.proofs.WorldLemmas.{if_ok, if_err}
+use Rattle.tenant_worlds.proofs.WorldLemmas.{if_ok, if_err, if_none, world_set, world_there}
 use Rattle.tenant_worlds.proofs.tenants.turn_at.Goals as goal
 
-pub take_turn-requires-clause-tenant : goal.take_turn-requires-clause-tenant
-take_turn-requires-clause-tenant c = right_at (world_in c.args.store.now) c.args.tenants.now c.args.number c.index-tenants-number.result c.requires.there c.requires.right
+pub take_turn-requires-clause-right : goal.take_turn-requires-clause-right
+take_turn-requires-clause-right c = right_at c.args.tenants.now c.args.number c.index-tenants-number.result c.requires.there c.requires.right
 
 pub take_turn-requires-clause-for_request : goal.take_turn-requires-clause-for_request
 take_turn-requires-clause-for_request c =
@@ -19,24 +19,37 @@ take_turn-requires-clause-for_request c =
 
 pub returns-clause-works : goal.returns-clause-works
 returns-clause-works c =
-    let old = world_in c.args.store.now c.args.number in
-    let new = world_in c.take_turn.new.store c.args.number in
+    let tenants = c.args.tenants.now in
+    let number = c.args.number in
+    let any = c.index-tenants-number.result in
+    let old = get_or tenants number any in
+    let new = c.take_turn.new.tenant in
+    let incoming = c.args.incoming.now in
     if_ok c.take_turn.result
     (λ worked works.
-    subst (λ (job : Option TenantJob). WorksOn old new c.args.incoming.now job (job_at c.args.number (slice_set c.args.tenants.now c.args.number c.take_turn.new.tenant)) worked)
-    (sym (job_there c.args.tenants.now c.args.number c.index-tenants-number.result c.requires.there))
-    (subst (λ (job : Option TenantJob). WorksOn old new c.args.incoming.now (job_of (get_or c.args.tenants.now c.args.number c.index-tenants-number.result)) job worked)
-    (sym (job_set c.args.tenants.now c.args.number c.take_turn.new.tenant c.requires.there)) works))
+    subst (λ (w : World). WorksOn w (world_at number (slice_set tenants number new)) incoming (job_at number tenants) (job_at number (slice_set tenants number new)) worked) (sym (world_there tenants number any c.requires.there))
+    (subst (λ (w : World). WorksOn (world_of old) w incoming (job_at number tenants) (job_at number (slice_set tenants number new)) worked) (sym (world_set tenants number new c.requires.there))
+    (subst (λ (job : Option TenantJob). WorksOn (world_of old) (world_of new) incoming job (job_at number (slice_set tenants number new)) worked) (sym (job_there tenants number any c.requires.there))
+    (subst (λ (job : Option TenantJob). WorksOn (world_of old) (world_of new) incoming (job_of old) job worked) (sym (job_set tenants number new c.requires.there)) works))))
     c.take_turn.ensures.works
+
+pub returns-clause-silent : goal.returns-clause-silent
+returns-clause-silent c =
+    let same = λ (is : world_of c.take_turn.new.tenant ≡ world_of (get_or c.args.tenants.now c.args.number c.index-tenants-number.result)).
+    world_set c.args.tenants.now c.args.number c.take_turn.new.tenant c.requires.there ∙ is ∙ sym (world_there c.args.tenants.now c.args.number c.index-tenants-number.result c.requires.there) in
+    if_ok c.take_turn.result (λ worked silent. if_none worked.reply same silent) c.take_turn.ensures.silent
+
+pub returns-clause-err : goal.returns-clause-err
+returns-clause-err c =
+    if_err c.take_turn.result
+    (λ is. world_set c.args.tenants.now c.args.number c.take_turn.new.tenant c.requires.there ∙ is ∙ sym (world_there c.args.tenants.now c.args.number c.index-tenants-number.result c.requires.there)) c.take_turn.ensures.err
 
 pub returns-clause-dropped : goal.returns-clause-dropped
 returns-clause-dropped c =
     if_err c.take_turn.result (λ none. job_set c.args.tenants.now c.args.number c.take_turn.new.tenant c.requires.there ∙ none) c.take_turn.ensures.dropped
 
 pub returns-clause-right : goal.returns-clause-right
-returns-clause-right c =
-    right_after c.args.store.now c.take_turn.new.store c.args.tenants.now c.args.number c.take_turn.new.tenant c.requires.there c.requires.right
-    (others_stay c.take_turn.result c.args.number c.args.store.now c.take_turn.new.store c.take_turn.ensures.others c.take_turn.ensures.err) c.take_turn.ensures.tenant
+returns-clause-right c = set_right c.args.tenants.now c.args.number c.take_turn.new.tenant c.requires.there c.requires.right c.take_turn.ensures.right
 
 pub returns-clause-same : goal.returns-clause-same
 returns-clause-same c = λ other apart. get-set_other c.args.tenants.now c.args.number other c.take_turn.new.tenant apart

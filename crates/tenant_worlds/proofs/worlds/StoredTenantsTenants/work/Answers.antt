@@ -1,22 +1,16 @@
 -- The world and the job of the tenant are those that change.
-use Rattle.std.proofs.Common.{◌≡◌, ◌<◌, ◌≢◌, ◌∙◌, ℕ, List, length, take, drop, ◌++◌, map, subst, sym, ap, arith, inl, inr, Option, None, Some}
-use Rattle.std.specs.Prelude.{IfSome, IfNone, slice_get}
-use Rattle.std.proofs.lemmas.List.{length-map}
+use Rattle.std.proofs.Common.{◌≡◌, ◌<◌, ◌≢◌, ◌∙◌, ℕ, List, length, take, drop, ◌++◌, subst, sym, ap, arith, inr, Option}
+use Rattle.std.specs.Prelude.{slice_get, IfNone}
 use Rattle.mk_paths.specs.World.{World}
 use Rattle.ports_http.specs.Messages.{ReplyMessage}
-use Rattle.ports_core.specs.Charging.{Charges, ChargesFor, FitsTurn, GoesOn}
-use Rattle.ports_core.specs.Answering.{AnswersFor}
-use Rattle.ports_core.specs.Jobs.{TenantJob, IsForRequest, job_in, job_after, spent_on, BecomesJob}
-use Rattle.ports_core.specs.declared.tenants.Answer.{Answer}
-use Rattle.ports_core.specs.declared.tenants.Worked.{Worked}
-use Rattle.tenant_store.specs.Holdings.{Holdings}
+use Rattle.ports_core.specs.Charging.{Charges, FitsTurn}
+use Rattle.ports_core.specs.Jobs.{TenantJob, IsForRequest, job_in, job_after, spent_on}
 use Rattle.tenant_worlds.specs.declared.tenant.Tenant.{Tenant}
-use Rattle.tenant_worlds.specs.Kept.{AreTenantsOf, IsKeptBy, job_at}
-use Rattle.tenant_worlds.specs.Stored.{world_in, worlds_in}
-use Rattle.tenant_worlds.specs.Turning.{ChargesOver}
+use Rattle.tenant_worlds.specs.Kept.{AreRight, job_at, world_at}
+use Rattle.tenant_worlds.specs.Turning.{AnswersOver, ChargesOver}
 use Rattle.tenant_worlds.proofs.KeptLemmas.{refill_same}
 use Rattle.tenant_worlds.proofs.JobLemmas.{job_same}
-use Rattle.tenant_worlds.proofs.WorldLemmas.{answers_for, work_answers, work_charges, work_goes_on, length-worlds_in}
+use Rattle.tenant_worlds.proofs.WorldLemmas.{answers_for, work_answers, work_charges, work_goes_on, place_is, if_none}
 use Rattle.tenant_worlds.proofs.worlds.StoredTenantsTenants.work.Goals as goal
 use Rattle.tenant_worlds.proofs.worlds.StoredTenantsTenants.work.Goals.{in-Ok, in-Err}
 
@@ -24,12 +18,11 @@ pub turn_at-requires-clause-there : goal.turn_at-requires-clause-there
 turn_at-requires-clause-there c =
     let items = c.self.inside.tenants.items in
     let within : c.args.tenant < length items =
-    subst (λ n. c.args.tenant < n) (length-worlds_in c.self.inside.store (length items)) (subst (λ (v : List World × List (Option TenantJob)). c.args.tenant < length v.0) (sym c.self.view_is) c.requires.there)
-    in
+    place_is items c.args.tenant (subst (λ (v : List World × List (Option TenantJob)). c.args.tenant < length v.0) (sym c.self.view_is) c.requires.there) in
     subst (λ n. c.args.tenant < n) (sym (ap length c.deref_mut.ensures.value)) within
 
 pub turn_at-requires-clause-right : goal.turn_at-requires-clause-right
-turn_at-requires-clause-right c = subst (AreTenantsOf (world_in c.self.inside.store)) (sym c.deref_mut.ensures.value) c.self.invariant.each
+turn_at-requires-clause-right c = subst AreRight (sym c.deref_mut.ensures.value) c.self.invariant
 
 pub turn_at-requires-clause-for_request : goal.turn_at-requires-clause-for_request
 turn_at-requires-clause-for_request c =
@@ -39,53 +32,55 @@ turn_at-requires-clause-for_request c =
 pub returns-clause-answers : goal.returns-clause-answers
 returns-clause-answers c =
     let items = c.self.inside.tenants.items in
-    let old = c.self.inside.store in
-    let new = c.turn_at.new.store in
+    let slice = c.deref_mut.ensures.value in
     let within : c.args.tenant < length items =
-    subst (λ n. c.args.tenant < n) (length-worlds_in old (length items)) (subst (λ (v : List World × List (Option TenantJob)). c.args.tenant < length v.0) (sym c.self.view_is) c.requires.there)
-    in
-    let lent = c.turn_at.ensures.count ∙ ap length c.deref_mut.ensures.value in
-    let count = ap length (refill_same c.self.inside.tenants.len items c.turn_at.new.tenants lent (omega (arith, c.self.inside.tenants.ok))) ∙ lent in
+    place_is items c.args.tenant (subst (λ (v : List World × List (Option TenantJob)). c.args.tenant < length v.0) (sym c.self.view_is) c.requires.there) in
+    let lent = c.turn_at.ensures.count ∙ ap length slice in
+    let refill = refill_same c.self.inside.tenants.len items c.turn_at.new.tenants lent (omega (arith, c.self.inside.tenants.ok)) in
+    let count = ap length refill ∙ lent in
+    let others = λ (u : ℕ) (ne : u ≢ c.args.tenant). ap (λ (ts : List Tenant). slice_get ts u) refill ∙ c.turn_at.ensures.same u ne ∙ ap (λ (ts : List Tenant). slice_get ts u) slice in
     rw (← c.self.view_is)
-    (subst (λ n. IfSome c.match-turn_at.result.reply (λ (answer : Answer). AnswersFor c.args.tenant c.args.request.now answer.reply (worlds_in old (length items)) (worlds_in new n))) (sym count)
     (elim c.match-turn_at.branch [
-      | in-Ok w ↦ rw w.result-is (work_answers old new (length items) c.args.tenant c.args.request.now _ within w.in-Ok.ensures.works.answers w.in-Ok.ensures.others)
-      | in-Err w ↦ rw w.result-is (answers_for old new (length items) c.args.tenant c.args.request.now _ within (inr (w.store_failed.ensures.value, ap (λ (h : Holdings). world_in h c.args.tenant) w.in-Err.ensures.err)) (λ other ne. ap (λ (h : Holdings). world_in h other) w.in-Err.ensures.err))
-    ]))
+      | in-Ok w ↦ rw w.result-is (work_answers items _ c.args.tenant within count others c.args.request.now _ (subst (λ (ts : List Tenant). AnswersOver (world_at c.args.tenant items) (world_at c.args.tenant ts) c.args.request.now w.in-Ok.worked.reply) (sym refill)
+          (subst (λ (ts : List Tenant). AnswersOver (world_at c.args.tenant ts) (world_at c.args.tenant c.turn_at.new.tenants) c.args.request.now w.in-Ok.worked.reply) slice w.in-Ok.ensures.works.answers)))
+      | in-Err w ↦ rw w.result-is (answers_for items _ c.args.tenant within count others c.args.request.now _
+          (inr (w.store_failed.ensures.value, ap (world_at c.args.tenant) refill ∙ w.in-Err.ensures.err ∙ ap (world_at c.args.tenant) slice)))
+    ])
 
 pub returns-clause-charges : goal.returns-clause-charges
 returns-clause-charges c =
     let items = c.self.inside.tenants.items in
-    let old = c.self.inside.store in
-    let new = c.turn_at.new.store in
+    let slice = c.deref_mut.ensures.value in
     let within : c.args.tenant < length items =
-    subst (λ n. c.args.tenant < n) (length-worlds_in old (length items)) (subst (λ (v : List World × List (Option TenantJob)). c.args.tenant < length v.0) (sym c.self.view_is) c.requires.there)
-    in
+    place_is items c.args.tenant (subst (λ (v : List World × List (Option TenantJob)). c.args.tenant < length v.0) (sym c.self.view_is) c.requires.there) in
+    let new = c.turn_at.new.tenants in
+    let lent = c.turn_at.ensures.count ∙ ap length slice in
+    let others = λ (u : ℕ) (ne : u ≢ c.args.tenant). c.turn_at.ensures.same u ne ∙ ap (λ (ts : List Tenant). slice_get ts u) slice in
     rw (← c.self.view_is)
     (elim c.match-turn_at.branch [
       | in-Ok w ↦ rw w.result-is
-          (let charges = subst (λ (ts : List Tenant). ChargesOver (world_in old c.args.tenant) c.args.request.now (job_at c.args.tenant ts) w.in-Ok.worked.reply w.in-Ok.worked.spent)
-          c.deref_mut.ensures.value w.in-Ok.ensures.works.charges in
-          work_charges old (world_in new c.args.tenant) (length items) c.args.tenant c.args.request.now w.in-Ok.worked.reply (job_at c.args.tenant items) w.in-Ok.worked.spent within c.never_answers_503.ensures w.in-Ok.ensures.works.answers charges)
+          (work_charges items new c.args.tenant within lent others c.args.request.now w.in-Ok.worked.reply (job_at c.args.tenant items) w.in-Ok.worked.spent c.never_answers_503.ensures
+          (subst (λ (ts : List Tenant). AnswersOver (world_at c.args.tenant ts) (world_at c.args.tenant new) c.args.request.now w.in-Ok.worked.reply) slice w.in-Ok.ensures.works.answers)
+          (subst (λ (ts : List Tenant). ChargesOver (world_at c.args.tenant ts) c.args.request.now (job_at c.args.tenant ts) w.in-Ok.worked.reply w.in-Ok.worked.spent) slice w.in-Ok.ensures.works.charges))
       | in-Err w ↦ rw w.result-is (λ world there. subst (λ (reply : ReplyMessage). Charges world c.args.request.now reply (spent_on (job_at c.args.tenant items)) w.nothing.result) (sym w.store_failed.ensures.value) w.nothing.ensures)
     ])
 
 pub returns-clause-goes_on : goal.returns-clause-goes_on
 returns-clause-goes_on c =
     let items = c.self.inside.tenants.items in
-    let old = c.self.inside.store in
-    let new = c.turn_at.new.store in
+    let slice = c.deref_mut.ensures.value in
     let within : c.args.tenant < length items =
-    subst (λ n. c.args.tenant < n) (length-worlds_in old (length items)) (subst (λ (v : List World × List (Option TenantJob)). c.args.tenant < length v.0) (sym c.self.view_is) c.requires.there)
-    in
-    let lent = c.turn_at.ensures.count ∙ ap length c.deref_mut.ensures.value in
-    let count = ap length (refill_same c.self.inside.tenants.len items c.turn_at.new.tenants lent (omega (arith, c.self.inside.tenants.ok))) ∙ lent in
+    place_is items c.args.tenant (subst (λ (v : List World × List (Option TenantJob)). c.args.tenant < length v.0) (sym c.self.view_is) c.requires.there) in
+    let lent = c.turn_at.ensures.count ∙ ap length slice in
+    let refill = refill_same c.self.inside.tenants.len items c.turn_at.new.tenants lent (omega (arith, c.self.inside.tenants.ok)) in
+    let count = ap length refill ∙ lent in
+    let others = λ (u : ℕ) (ne : u ≢ c.args.tenant). ap (λ (ts : List Tenant). slice_get ts u) refill ∙ c.turn_at.ensures.same u ne ∙ ap (λ (ts : List Tenant). slice_get ts u) slice in
     rw (← c.self.view_is)
     (elim c.match-turn_at.branch [
       | in-Ok w ↦ rw w.result-is
-          (let charges = subst (λ (ts : List Tenant). ChargesOver (world_in old c.args.tenant) c.args.request.now (job_at c.args.tenant ts) w.in-Ok.worked.reply w.in-Ok.worked.spent)
-          c.deref_mut.ensures.value w.in-Ok.ensures.works.charges in
-          work_goes_on old new (length items) _ c.args.tenant c.args.request.now w.in-Ok.worked.reply (job_at c.args.tenant items) w.in-Ok.worked.spent within count w.in-Ok.ensures.silent charges)
+          (work_goes_on items _ c.args.tenant within count others c.args.request.now w.in-Ok.worked.reply (job_at c.args.tenant items) w.in-Ok.worked.spent
+          (if_none w.in-Ok.worked.reply (λ same. ap (world_at c.args.tenant) refill ∙ same ∙ ap (world_at c.args.tenant) slice) w.in-Ok.ensures.silent)
+          (subst (λ (ts : List Tenant). ChargesOver (world_at c.args.tenant ts) c.args.request.now (job_at c.args.tenant ts) w.in-Ok.worked.reply w.in-Ok.worked.spent) slice w.in-Ok.ensures.works.charges))
       | in-Err w ↦ rw w.result-is tt
     ])
 
@@ -114,11 +109,7 @@ invariant_of-self c =
     let items = c.self.inside.tenants.items in
     let new = c.turn_at.new.tenants in
     let lent = c.turn_at.ensures.count ∙ ap length c.deref_mut.ensures.value in
-    let kept : IsKeptBy c.turn_at.new.store new = record {
-      few = omega (arith, c.self.invariant.few, lent);
-      each = c.turn_at.ensures.right;
-    } in
-    subst (λ (tenants : List Tenant). IsKeptBy c.turn_at.new.store tenants) (sym (refill_same c.self.inside.tenants.len items new lent (omega (arith, c.self.inside.tenants.ok)))) kept
+    subst AreRight (sym (refill_same c.self.inside.tenants.len items new lent (omega (arith, c.self.inside.tenants.ok)))) c.turn_at.ensures.right
 
 pub returns-clause-short : goal.returns-clause-short
 returns-clause-short c =
