@@ -22,7 +22,7 @@ STATUSES = (200, 404, 422)
 LONGEST, MOST = 120, 4_000_000_000
 # each question here is answered within so many turns
 TURNS = 1000
-LARGEST = 65536
+LARGEST = 131072
 
 
 def makefile(path, text):

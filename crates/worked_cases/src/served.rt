@@ -93,6 +93,7 @@ pub fn answer(
         "PUT stopped by" => stopped(alloc, service, Method::Put, given),
         "DELETE stopped by" => stopped(alloc, service, Method::Delete, given),
         "GET stopped by" => stopped(alloc, service, Method::Get, given),
+        "GET stopped longer than" => stopped_longer(alloc, service, given),
         "GET stopped at each turn after PUT" | "GET stopped at each turn after GET" => {
             turns::stopped_at_each(alloc, service, given)
         }
@@ -252,6 +253,37 @@ fn stopped_by(
         }
         let is_same = ask(alloc, service, probe)?.body() == was.body();
         is_kept = is_kept && told.is_free_at_last() && is_same;
+    }
+    Err(Trouble::NoCase)
+}
+
+/// `service GET stopped TENANT TARGET longer than TARGET`: `longer`, if the first GET is answered 503 under a
+/// limit of more steps than the second, and else `no longer`.
+fn stopped_longer(
+    alloc: Global,
+    service: &mut StoredService,
+    given: &[Vec<u8>],
+) -> Result<Answer, Trouble> {
+    let [tenant, target, other] = given else {
+        return Err(Trouble::NoCase);
+    };
+    let first = CaseRequest::read(Method::Get, tenant, target, &[])?;
+    let other = CaseRequest::read(Method::Get, tenant, other, &[])?;
+    let is_longer = steps_needed(alloc, service, first)? > steps_needed(alloc, service, other)?;
+    Ok(Answer::of_word(alloc, if is_longer { "longer" } else { "no longer" }))
+}
+
+/// The least limit of steps under which a request isn't answered 503.
+fn steps_needed(
+    alloc: Global,
+    service: &mut StoredService,
+    request: CaseRequest<'_>,
+) -> Result<u64, Trouble> {
+    for steps in 1..MOST_LIMITS {
+        let told = ask_within(alloc, service, request, Limit::InAll(steps))?;
+        if told.reply.status != StatusCode::SERVICE_UNAVAILABLE {
+            return Ok(steps);
+        }
     }
     Err(Trouble::NoCase)
 }
