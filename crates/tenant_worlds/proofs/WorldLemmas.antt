@@ -1,5 +1,5 @@
 -- The tenants' worlds, after one of them has changed.
-use Rattle.std.proofs.Common.{◌≡◌, ◌≢◌, ◌<◌, ◌≤◌, ◌∙◌, ℕ, ◌+◌, List, [], ◌∷◌, ◌++◌, length, map, get_or, true, false, inl, inr, Option, None, Some, Result, Ok, Err, IfOk, OnErr, refl, sym, ap, ap₂, subst, arith, nat_lt, zero, suc}
+use Rattle.std.proofs.Common.{◌≡◌, ◌≢◌, ◌<◌, ◌≤◌, ◌∙◌, ℕ, List, [], ◌∷◌, ◌++◌, length, get_or, true, false, inl, inr, Option, None, Some, Result, Ok, Err, IfOk, OnErr, refl, sym, ap, ap₂, subst, arith, nat_lt, zero, suc}
 use Rattle.std.specs.Prelude.{slice_get, slice_set, option_map, unwrap_or, MatchBool, IfSome, IfNone, ◌==◌}
 use Rattle.std.proofs.lemmas.Bool.{cases_Bool}
 use Rattle.std.proofs.lemmas.Bool.Decides.{nat_tests}

@@ -1,6 +1,6 @@
 -- The tenant with this number is the one that changes.
 use Rattle.std.proofs.Common.{◌≡◌, ◌∙◌, subst, sym, get_or, Option}
-use Rattle.std.specs.Prelude.{slice_set, IfNone}
+use Rattle.std.specs.Prelude.{slice_set}
 use Rattle.mk_paths.specs.World.{World}
 use Rattle.ports_core.specs.Jobs.{TenantJob, IsForRequest}
 use Rattle.tenant_worlds.specs.Kept.{job_of, job_at, world_of, world_at}

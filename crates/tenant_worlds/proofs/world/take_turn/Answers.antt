@@ -1,8 +1,7 @@
 -- What is under way is for the request, and what was prepared is settled.
-use Rattle.std.proofs.Common.{◌≡◌, ◌+◌, ◌∙◌, ap, refl, sym, subst, Some, None, Option}
+use Rattle.std.proofs.Common.{◌+◌, ◌∙◌, ap, refl, sym, subst, Some, Option}
 use Rattle.std.specs.Prelude.{option_map}
 use Rattle.mk_paths.specs.World.{World, files_in}
-use Rattle.ports_core.specs.Answering.{plain_request_of}
 use Rattle.ports_core.specs.Jobs as jobs
 use Rattle.ports_index.specs.PathOutcomes.{counted}
 use Rattle.index_store.specs.PortTable.{stored_by}
@@ -10,7 +9,6 @@ use Rattle.index_keep.specs.Keeping.{IsKept, refresh_of}
 use Rattle.kept_ports.specs.Calls.{request_of}
 use Rattle.kept_ports.specs.Pending.{TurnsRequest, spent_before}
 use Rattle.kept_ports.specs.TurnsLeft.{LeavesFewerFor, SpendsFew}
-use Rattle.kept_ports.specs.declared.pending.CallTurned.TheVariants.{More, Done}
 use Rattle.tenant_worlds.specs.declared.tenant.TenantJob.{TenantJob}
 use Rattle.tenant_worlds.specs.Kept.{seen_job, turns_had, IsRight}
 use Rattle.tenant_worlds.proofs.WorldLemmas.{settings_are, asked_world, served}

@@ -1,6 +1,5 @@
 -- The limits change no world, no row and no job.
-use Rattle.std.proofs.Common.{◌∙◌, List, length, ap, subst, sym, arith}
-use Rattle.tenant_worlds.specs.declared.tenant.Tenant.{Tenant}
+use Rattle.std.proofs.Common.{◌∙◌, length, ap, subst, sym, arith}
 use Rattle.tenant_worlds.specs.Kept.{AreRight}
 use Rattle.tenant_worlds.proofs.KeptLemmas.{refill_same}
 use Rattle.tenant_worlds.proofs.worlds.StoredTenantsTenants.limit_steps.Goals as goal

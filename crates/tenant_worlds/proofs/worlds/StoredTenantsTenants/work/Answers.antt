@@ -1,6 +1,6 @@
 -- The world and the job of the tenant are those that change.
-use Rattle.std.proofs.Common.{◌≡◌, ◌<◌, ◌≢◌, ◌∙◌, ℕ, List, length, take, drop, ◌++◌, subst, sym, ap, arith, inr, Option}
-use Rattle.std.specs.Prelude.{slice_get, IfNone}
+use Rattle.std.proofs.Common.{◌<◌, ◌≢◌, ◌∙◌, ℕ, List, length, subst, sym, ap, arith, inr, Option}
+use Rattle.std.specs.Prelude.{slice_get}
 use Rattle.mk_paths.specs.World.{World}
 use Rattle.ports_http.specs.Messages.{ReplyMessage}
 use Rattle.ports_core.specs.Charging.{Charges, FitsTurn}
