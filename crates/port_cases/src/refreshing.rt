@@ -1,5 +1,6 @@
 //! Indexes that are refreshed turn by turn.
-ghost use Rattle.std.specs.Prelude.{OnOk};
+ghost use Rattle.std.specs.Prelude.{OnOk, IfOk};
+ghost use Rattle.mk_paths.specs.World as worlds;
 ghost use Rattle.std.specs.Result.{result_err};
 ghost use Rattle.mk_paths.specs.FilesView.{world_of};
 ghost use Rattle.index_store.specs.PortTable.{stored_by};
@@ -73,7 +74,7 @@ fn refresh(
         settings,
         ..
     } = world;
-    let mut keeper = Keeper::new(alloc, IndexStore::open_in_memory(alloc)?);
+    let mut keeper = new_keeper(alloc)?;
     let mut recorder = Recorder::new(alloc, files, Trace::new(alloc));
     let turns = turns_of(
         alloc,
@@ -84,10 +85,31 @@ fn refresh(
         units,
         Limit::Never,
     )?;
+    let roots = roots_of(alloc, cache, &mut keeper, &mut recorder, settings)?;
     tell_turns(answer, &turns.ok_or(Trouble::NoCase)?);
-    let (roots, _spent) = keeper.select(alloc, cache, &mut recorder, settings)?;
-    answer.number(roots.len() as u64);
+    answer.number(roots);
     Ok(())
+}
+
+/// The keeper of an index without a row.
+fn new_keeper(alloc: Global) -> Result<Keeper<IndexStore>, FilesFault>
+    ensures { IfOk result (λ keeper. (world : worlds.World) → IsKept stored_by world keeper) }
+{
+    Ok(Keeper::new(alloc, IndexStore::open_in_memory(alloc)?))
+}
+
+/// How many roots an index has.
+fn roots_of<F: Listing + Drop>(
+    alloc: Global,
+    cache: &mut EvalCache,
+    keeper: &mut Keeper<IndexStore>,
+    files: &mut Recorder<F>,
+    settings: &Settings,
+) -> Result<u64, FilesFault>
+    requires { IsKept stored_by (world_of (view_of F.view files.old) settings.now) keeper.old }
+{
+    let (roots, _spent) = keeper.select(alloc, cache, files, settings)?;
+    Ok(roots.len() as u64)
 }
 
 /// `refreshed failing by UNITS`: what each turn of a refresh tells that is given so many units, in files that fail at each
@@ -122,12 +144,10 @@ impl Asking for Refreshing<'_> {
         alloc: Global,
         files: &mut FailingFiles<'_>,
     ) -> Result<Result<Answer, Trouble>, FilesFault> {
-        let mut cache = EvalCache::new(alloc, 16, 16)?;
-        let mut keeper = Keeper::new(alloc, IndexStore::open_in_memory(alloc)?);
+        let mut keeper = new_keeper(alloc)?;
         let mut recorder = Recorder::new(alloc, files, Trace::new(alloc));
-        let turns = turns_of(
+        let turns = turns_of_new_cache(
             alloc,
-            &mut cache,
             &mut keeper,
             &mut recorder,
             self.settings,
@@ -199,21 +219,33 @@ fn turns_of_stale(
     units: u64,
     limit: Limit,
 ) -> Result<Option<Vec<Refreshed>>, FilesFault> {
-    let mut keeper = Keeper::new(alloc, IndexStore::open_in_memory(alloc)?);
+    let mut keeper = new_keeper(alloc)?;
     let mut recorder = Recorder::new(alloc, files, Trace::new(alloc));
-    let mut cache = EvalCache::new(alloc, 16, 16)?;
-    let (_roots, _spent) = keeper.select(alloc, &mut cache, &mut recorder, settings)?;
-    keeper.note_path(alloc)?;
-    let mut cache = EvalCache::new(alloc, 16, 16)?;
-    turns_of(
+    let _filled = turns_of_new_cache(
         alloc,
-        &mut cache,
         &mut keeper,
         &mut recorder,
         settings,
-        units,
-        limit,
-    )
+        u64::MAX,
+        Limit::Never,
+    )?;
+    keeper.note_path(alloc)?;
+    turns_of_new_cache(alloc, &mut keeper, &mut recorder, settings, units, limit)
+}
+
+/// What each turn of a refresh tells that is given so many units, with a new cache. `None` if it has no end.
+fn turns_of_new_cache<F: Listing + Drop>(
+    alloc: Global,
+    keeper: &mut Keeper<IndexStore>,
+    files: &mut Recorder<F>,
+    settings: &Settings,
+    units: u64,
+    limit: Limit,
+) -> Result<Option<Vec<Refreshed>>, FilesFault>
+    requires { IsKept stored_by (world_of (view_of F.view files.old) settings.now) keeper.old }
+{
+    let mut cache = EvalCache::new(alloc, 16, 16)?;
+    turns_of(alloc, &mut cache, keeper, files, settings, units, limit)
 }
 
 /// What each turn of a refresh tells that is given so many units. `None` if it has no end.

@@ -2,4 +2,4 @@
 use Rattle.port_cases.proofs.refreshing.refresh.Goals as goal
 
 pub turns_of-requires : goal.turns_of-requires
-turns_of-requires c = c.new-keeper.ensures _
+turns_of-requires c = c.in_ok-keeper.ensures _
