@@ -95,7 +95,8 @@ fn refresh(
 fn new_keeper(alloc: Global) -> Result<Keeper<IndexStore>, FilesFault>
     ensures { IfOk result (λ keeper. (world : worlds.World) → IsKept stored_by world keeper) }
 {
-    Ok(Keeper::new(alloc, IndexStore::open_in_memory(alloc)?))
+    let keeper = Keeper::new(alloc, IndexStore::open_in_memory(alloc)?);
+    Ok(keeper)
 }
 
 /// How many roots an index has.
