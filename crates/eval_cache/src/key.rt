@@ -6,6 +6,7 @@ ghost use Rattle.eval_cache.specs.Keys.{key_of, key_for};
 use mk_paths::{Name, Settings};
 use mk_text::Profile;
 use std::alloc::{AllocError, Global};
+use text_parts::clones_of;
 
 /// Which evaluation is meant: that of the makefile of this name under these settings, with these flavors
 /// or with none given. Keys with the same texts are equal, so the same flavors in another order make
@@ -31,7 +32,7 @@ impl EvalKey {
     {
         Ok(EvalKey {
             profile: settings.profile,
-            trees: copies_of(alloc, settings.path.trees())?,
+            trees: clones_of(alloc, settings.path.trees())?,
             name: String::from_str(alloc, name.as_str())?,
             flavors: copy_flavors(alloc, flavors)?,
         })
@@ -47,18 +48,7 @@ fn copy_flavors(
         ≡ flavors_in flavors.entry) }
 {
     match flavors {
-        Some(flavors) => Ok(Some(copies_of(alloc, flavors)?)),
+        Some(flavors) => Ok(Some(clones_of(alloc, flavors)?)),
         None => Ok(None),
     }
-}
-
-// The same texts, in order.
-fn copies_of(alloc: Global, texts: &[String]) -> Result<Vec<String>, AllocError>
-    ensures { IfOk result (λ copies. map string_bytes copies.items ≡ map string_bytes texts.now) }
-{
-    let mut copies = Vec::with_capacity(alloc, texts.len())?;
-    for text in texts {
-        copies.push(String::from_str(alloc, text.as_str())?)?;
-    }
-    Ok(copies)
 }

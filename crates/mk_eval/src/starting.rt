@@ -7,7 +7,7 @@ ghost use Rattle.mk_eval.specs.Views.{flavors_in};
 use mk_env::Env;
 use mk_paths::{Name, Settings};
 use std::alloc::{AllocError, Global};
-use text_parts::put_in_order;
+use text_parts::{clones_of, put_in_order};
 
 /// The variables with which the evaluation of the named makefile begins.
 pub fn start(
@@ -64,18 +64,7 @@ fn flavor_text(alloc: Global, flavors: &[String]) -> Result<String, AllocError>
     ensures { IfOk result (λ text. string_bytes text
         ≡ starts.between (codes " ") (in_order (map string_bytes flavors.now))) }
 {
-    let mut texts = copies_of(alloc, flavors)?;
+    let mut texts = clones_of(alloc, flavors)?;
     put_in_order(&mut texts);
     texts.as_slice().join(alloc, " ")
-}
-
-/// The same texts once more.
-fn copies_of(alloc: Global, texts: &[String]) -> Result<Vec<String>, AllocError>
-    ensures { IfOk result (λ copies. map string_bytes copies.items ≡ map string_bytes texts.now) }
-{
-    let mut copies = Vec::with_capacity(alloc, texts.len())?;
-    for text in texts {
-        copies.push(String::from_str(alloc, text.as_str())?)?;
-    }
-    Ok(copies)
 }

@@ -10,7 +10,7 @@ use crate::file_name::is_plain_byte;
 use mk_text::Profile;
 use std::alloc::{AllocError, Global};
 use std::marker::Model;
-use text_parts::{copies_of, split_at};
+use text_parts::{clones_of, copies_of, split_at};
 use thiserror::Error;
 
 /// The most trees of a search path.
@@ -85,7 +85,7 @@ impl SearchPath {
         ensures { IfOk result (λ path. path ≡ self.now) }
     {
         Ok(SearchPath {
-            trees: same_texts(alloc, self.trees())?,
+            trees: clones_of(alloc, self.trees())?,
         })
     }
 
@@ -105,17 +105,6 @@ pub struct Settings {
     pub path: SearchPath,
     /// The make language of the makefiles.
     pub profile: Profile,
-}
-
-// The same texts once more.
-fn same_texts(alloc: Global, texts: &[String]) -> Result<Vec<String>, AllocError>
-    ensures { IfOk result (λ copies. map string_bytes copies.items ≡ map string_bytes texts.now) }
-{
-    let mut copies = Vec::with_capacity(alloc, texts.len())?;
-    for text in texts {
-        copies.push(String::from_str(alloc, text.as_str())?)?;
-    }
-    Ok(copies)
 }
 
 // Whether the texts are one to eight trees.

@@ -6,6 +6,7 @@ ghost use Rattle.pkg_path.specs.Seen.{flavors_seen};
 
 use std::alloc::{AllocError, Global};
 use std::fmt;
+use text_parts::clones_of;
 
 /// The flavors that a path chooses.
 #[derive(Debug, Drop, PartialEq, Eq)]
@@ -40,19 +41,8 @@ pub(crate) fn copy_flavors(alloc: Global, flavors: &Flavors) -> Result<Flavors, 
 {
     match flavors {
         Flavors::Default => Ok(Flavors::Default),
-        Flavors::Explicit(names) => Ok(Flavors::Explicit(copy_names(alloc, names)?)),
+        Flavors::Explicit(names) => Ok(Flavors::Explicit(clones_of(alloc, names)?)),
     }
-}
-
-// The same names, in the same order.
-fn copy_names(alloc: Global, names: &[String]) -> Result<Vec<String>, AllocError>
-    ensures { IfOk result (λ copied. map string_bytes copied.items ≡ map string_bytes names.now) }
-{
-    let mut copied = Vec::with_capacity(alloc, names.len())?;
-    for name in names {
-        copied.push(String::from_str(alloc, name.as_str())?)?;
-    }
-    Ok(copied)
 }
 
 // Writes flavors as a path has them, each after a comma.

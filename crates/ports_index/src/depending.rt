@@ -10,12 +10,12 @@ ghost use Rattle.ports_index.specs.Seen.{row_seen, known_row, known_in, item_see
 
 use crate::evaluating::Row;
 use crate::keeping::Rows;
-use crate::naming::{add_found, append, copies_of};
+use crate::naming::{add_found, append};
 use mk_base::Fault;
 use port_deps::{Found, Item, Root, RootEdge, Wanted, items, read_wanted, resolve};
 use port_rules::{Depend, PortRecord};
 use std::alloc::{AllocError, Global};
-use text_parts::put_in_order;
+use text_parts::{clones_of, put_in_order};
 
 /// An item of the port at a path.
 #[derive(Debug, Drop)]
@@ -218,7 +218,7 @@ pub fn needed_among<R: Rows>(
     ensures { IfOk result (λ found. map string_bytes found.items
         ≡ needed_among (known_in (R.entries rows.now)) (map string_bytes listed.now)) }
 {
-    let mut paths = copies_of(alloc, listed)?;
+    let mut paths = clones_of(alloc, listed)?;
     append(&mut paths, targets_among(alloc, listed, rows)?)?;
     put_in_order(&mut paths);
     Ok(paths)

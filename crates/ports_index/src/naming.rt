@@ -118,17 +118,6 @@ pub fn listed<R: Rows>(
     Ok(paths)
 }
 
-/// A copy of each of these texts, in the same order.
-pub(crate) fn copies_of(alloc: Global, texts: &[String]) -> Result<Vec<String>, AllocError>
-    ensures { IfOk result (λ copies. map string_bytes copies.items ≡ map string_bytes texts.now) }
-{
-    let mut copies = Vec::with_capacity(alloc, texts.len())?;
-    for text in texts {
-        copies.push(String::from_str(alloc, text)?)?;
-    }
-    Ok(copies)
-}
-
 /// Adds more texts after these.
 pub(crate) fn append(texts: &mut Vec<String>, more: Vec<String>) -> Result<(), AllocError>
     ensures { OnOk result (texts.new.items ≡ texts.old.items ++ more.items) }

@@ -1,13 +1,13 @@
 //! The command line.
 ghost use Rattle.std.specs.Prelude.{◌≡◌, IfOk, map, false, string_bytes};
 ghost use Rattle.clap.specs.Words.{FailsBy, app_of, fault_of, found_of, rows_of, rule_of};
-ghost use Rattle.ports_core.specs.Keys.{key_texts};
 ghost use Rattle.ports_program.specs.CommandLine.{AsksFor, Gives, GivesServing, keys_argument, port_argument, portsd};
 ghost use Rattle.ports_program.specs.CommandLine.{replay, serve, size_argument, turns_argument};
 
 use clap::{Arg, ArgAction, ArgMatches, Command, Error};
 use ports_core::Config;
 use std::alloc::{AllocError, Global};
+use text_parts::copies_of;
 
 /// The most parses, and the most evaluations, that may be kept.
 const MOST_KEPT: u32 = 65_536;
@@ -79,21 +79,10 @@ fn config_given(alloc: Global, given: &ArgMatches<'_>) -> Result<Config, AllocEr
     ensures { IfOk result (Gives (rows_of (found_of given.now))) }
 {
     Ok(Config {
-        keys: copies(alloc, given.get_strs("keys").unwrap_or(&[]))?,
+        keys: copies_of(alloc, given.get_strs("keys").unwrap_or(&[]))?,
         parses: given.get_one::<u32>("parses").unwrap_or(PARSES),
         evals: given.get_one::<u32>("evals").unwrap_or(EVALS),
     })
-}
-
-/// Copies of the texts, in their order.
-fn copies(alloc: Global, texts: &[&str]) -> Result<Vec<String>, AllocError>
-    ensures { IfOk result (λ copies. key_texts copies.items ≡ map (λ text. text.now) texts.now) }
-{
-    let mut copies = Vec::new(alloc);
-    for text in texts {
-        copies.push(String::from_str(alloc, text)?)?;
-    }
-    Ok(copies)
 }
 
 fn portsd_command<'a>(alloc: Global) -> Result<Command<'a>, AllocError>

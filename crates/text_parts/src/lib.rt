@@ -10,4 +10,4 @@ mod parts;
 pub use cutting::cut_where;
 pub use laws::{cut_is_its_text, parts_are_between, written_is_cut_again, written_parts_may_occur};
 pub use ordering::put_in_order;
-pub use parts::{copies_of, split_at};
+pub use parts::{clones_of, copies_of, split_at};

@@ -26,3 +26,10 @@ pub fn copies_of(alloc: Global, texts: &[&str]) -> Result<Vec<String>, AllocErro
     }
     Ok(copies)
 }
+
+/// The same texts once more, in the same order. It fails only if memory runs out.
+pub fn clones_of(alloc: Global, texts: &[String]) -> Result<Vec<String>, AllocError>
+    ensures { IfOk result (λ clones. map string_bytes clones.items ≡ map string_bytes texts.now) }
+{
+    Vec::from_clones(alloc, texts)
+}

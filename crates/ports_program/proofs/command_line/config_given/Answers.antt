@@ -10,7 +10,7 @@ use Rattle.ports_program.proofs.command_line.config_given.Goals as goal
 pub returns : goal.returns
 returns c =
     let found = found_of c.args.given.now in (
-      c.in_ok-copies.ensures
+      c.in_ok-copies_of.ensures
           ∙ ap (λ s. map (λ v. v.now) s.now) c.unwrap_or.ensures
           ∙ made_or (λ s. map (λ v. v.now) s.now) c.get_strs.result _ [] _ (c.get_strs.ensures ∙ raw_values-rows found (codes "keys")) refl,
       c.unwrap_or-2.ensures

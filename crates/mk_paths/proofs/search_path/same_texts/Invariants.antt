@@ -1,7 +1,0 @@
--- The copies so far are the texts up to here.
-use Rattle.std.proofs.Common.{◌≡◌, map, take}
-use Rattle.std.specs.String.{string_bytes}
-use Rattle.mk_paths.proofs.search_path.same_texts.Given as goal
-
-abbrev pub invariant-loop-text : goal.invariant-loop-text
-invariant-loop-text l = map string_bytes l.copies.items ≡ map string_bytes (take l.text-index l.texts)

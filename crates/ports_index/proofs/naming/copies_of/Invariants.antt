@@ -1,6 +1,0 @@
--- The copies so far are of the texts up to here.
-use Rattle.std.proofs.Common.{◌≡◌, map, take, string_bytes}
-use Rattle.ports_index.proofs.naming.copies_of.Given as goal
-
-abbrev pub invariant-loop-text : goal.invariant-loop-text
-invariant-loop-text l = map string_bytes l.copies.items ≡ map string_bytes (take l.text-index l.texts)
