@@ -1,10 +1,8 @@
 // The statements on the two tables of the rows.
-ghost use Rattle.std.specs.Prelude.{◌≡◌, ◌∷◌, [], ◌++◌, None, Some, map, find, is_some, IfOk, OnOk, OnErr, IsTrue, false};
+ghost use Rattle.std.specs.Prelude.{◌≡◌, ◌∷◌, [], ◌++◌, None, Some, map, find, is_some, IfOk, OnOk, OnErr, false};
 ghost use Rattle.mk_text.specs.Profiles.{profile_number};
-ghost use Rattle.sqlite.specs.State.{ExecutesInside};
-ghost use Rattle.sqlite.specs.Values.{bound};
 ghost use Rattle.table_facts.specs.Tables.{no_schema};
-ghost use Rattle.table_facts.specs.States.{KeepsCommit, Stays, state_of};
+ghost use Rattle.table_facts.specs.States.{IsOpen, KeepsCommit, Stays, state_of};
 ghost use Rattle.index_store.specs.Entries.{AreRowsOf, ArePathsOf};
 ghost use Rattle.index_store.specs.PortTable.{IsKept, IsFormed, Holds, HoldsInside, Rows, rows_of, stored_by, no_rows};
 ghost use Rattle.index_store.specs.PortTable.{is_at, fresh_entry, replaced_at, marked_at, with_mark, staying_of, with_rows};
@@ -13,8 +11,8 @@ ghost use Rattle.index_store.specs.PortTable.{select_rows, select_paths, mark_ro
 ghost use Rattle.index_store.specs.Marking.{mark_number};
 
 use mk_text::Profile;
-use sqlite::types::ValueRef;
 use sqlite::{Connection, Error, MemStore, Row, Transaction, params};
+use table_facts::run;
 
 /// One of the two tables.
 #[derive(Clone, Copy, Debug)]
@@ -147,32 +145,15 @@ pub(crate) fn all_paths(conn: &mut Connection<MemStore>, part: Part) -> Result<V
     conn.query_all(part.paths_query(), &[])
 }
 
-// Runs one statement of a transaction. What was committed last stays as it was.
-fn run(
-    tx: &mut Transaction<'_, MemStore>,
-    sql: &str,
-    params: &[ValueRef<'_>],
-) -> Result<usize, Error>
-    requires { IsTrue (state_of tx.old.conn.now).in_transaction }
-    ensures same_reference { tx.new.conn.ghost_name ≡ tx.old.conn.ghost_name }
-    ensures kept { KeepsCommit (state_of tx.old.conn.now) (state_of tx.new.conn.now) }
-    ensures ran { ExecutesInside 0 sql.now (bound params.now) (state_of tx.old.conn.now)
-        (state_of tx.new.conn.now) result }
-{
-    tx.execute(sql, params)
-}
-
 /// Adds the row of a path that has none, as the release before wrote it.
 pub(crate) fn insert_earlier<'x>(
     tx: &mut Transaction<'_, MemStore>,
     path: &'x str,
     text: &'x [u8],
 ) -> Result<(), Error>
-    requires inside { IsTrue (state_of tx.old.conn.now).in_transaction }
-    requires formed { IsFormed (state_of tx.old.conn.now).now }
+    requires open { IsOpen IsFormed (state_of tx.old.conn.now) }
     requires free { find (is_at path.now) (rows_of tx.old.conn.now Part.Earlier) ≡ None }
-    ensures same_reference { tx.new.conn.ghost_name ≡ tx.old.conn.ghost_name }
-    ensures kept { KeepsCommit (state_of tx.old.conn.now) (state_of tx.new.conn.now) }
+    ensures kept { KeepsCommit tx.old.conn tx.new.conn }
     ensures made { OnOk result (HoldsInside (state_of tx.new.conn.now)
         (with_rows Part.Earlier
         (rows_of tx.old.conn.now Part.Earlier ++ fresh_entry path.now None text.now ∷ [])
@@ -193,11 +174,9 @@ pub(crate) fn insert_current<'x>(
     profile: Profile,
     text: &'x [u8],
 ) -> Result<(), Error>
-    requires inside { IsTrue (state_of tx.old.conn.now).in_transaction }
-    requires formed { IsFormed (state_of tx.old.conn.now).now }
+    requires open { IsOpen IsFormed (state_of tx.old.conn.now) }
     requires free { find (is_at path.now) (rows_of tx.old.conn.now Part.Current) ≡ None }
-    ensures same_reference { tx.new.conn.ghost_name ≡ tx.old.conn.ghost_name }
-    ensures kept { KeepsCommit (state_of tx.old.conn.now) (state_of tx.new.conn.now) }
+    ensures kept { KeepsCommit tx.old.conn tx.new.conn }
     ensures made { OnOk result (HoldsInside (state_of tx.new.conn.now)
         (with_rows Part.Current
         (rows_of tx.old.conn.now Part.Current
@@ -220,10 +199,8 @@ pub(crate) fn replace_current<'x>(
     profile: Profile,
     text: &'x [u8],
 ) -> Result<bool, Error>
-    requires inside { IsTrue (state_of tx.old.conn.now).in_transaction }
-    requires formed { IsFormed (state_of tx.old.conn.now).now }
-    ensures same_reference { tx.new.conn.ghost_name ≡ tx.old.conn.ghost_name }
-    ensures kept { KeepsCommit (state_of tx.old.conn.now) (state_of tx.new.conn.now) }
+    requires { IsOpen IsFormed (state_of tx.old.conn.now) }
+    ensures kept { KeepsCommit tx.old.conn tx.new.conn }
     ensures was_there { IfOk result (λ there. there
         ≡ is_some (find (is_at path.now) (rows_of tx.old.conn.now Part.Current))) }
     ensures made { OnOk result (HoldsInside (state_of tx.new.conn.now)
@@ -242,10 +219,8 @@ pub(crate) fn replace_current<'x>(
 
 /// Marks all rows of a table stale.
 pub(crate) fn mark_table(tx: &mut Transaction<'_, MemStore>, part: Part) -> Result<(), Error>
-    requires inside { IsTrue (state_of tx.old.conn.now).in_transaction }
-    requires formed { IsFormed (state_of tx.old.conn.now).now }
-    ensures same_reference { tx.new.conn.ghost_name ≡ tx.old.conn.ghost_name }
-    ensures kept { KeepsCommit (state_of tx.old.conn.now) (state_of tx.new.conn.now) }
+    requires { IsOpen IsFormed (state_of tx.old.conn.now) }
+    ensures kept { KeepsCommit tx.old.conn tx.new.conn }
     ensures made { OnOk result (HoldsInside (state_of tx.new.conn.now)
         (with_rows part (map (with_mark stale_mark) (rows_of tx.old.conn.now part))
         (rows_of tx.old.conn.now))) }
@@ -261,10 +236,8 @@ pub(crate) fn set_mark(
     path: &str,
     mark: Mark,
 ) -> Result<(), Error>
-    requires inside { IsTrue (state_of tx.old.conn.now).in_transaction }
-    requires formed { IsFormed (state_of tx.old.conn.now).now }
-    ensures same_reference { tx.new.conn.ghost_name ≡ tx.old.conn.ghost_name }
-    ensures kept { KeepsCommit (state_of tx.old.conn.now) (state_of tx.new.conn.now) }
+    requires { IsOpen IsFormed (state_of tx.old.conn.now) }
+    ensures kept { KeepsCommit tx.old.conn tx.new.conn }
     ensures made { OnOk result (HoldsInside (state_of tx.new.conn.now)
         (with_rows part (marked_at (mark_number mark) path.now (rows_of tx.old.conn.now part))
         (rows_of tx.old.conn.now))) }
@@ -275,10 +248,8 @@ pub(crate) fn set_mark(
 
 /// Takes out the rows of a table that are marked so.
 pub(crate) fn delete_leaving(tx: &mut Transaction<'_, MemStore>, part: Part) -> Result<(), Error>
-    requires inside { IsTrue (state_of tx.old.conn.now).in_transaction }
-    requires formed { IsFormed (state_of tx.old.conn.now).now }
-    ensures same_reference { tx.new.conn.ghost_name ≡ tx.old.conn.ghost_name }
-    ensures kept { KeepsCommit (state_of tx.old.conn.now) (state_of tx.new.conn.now) }
+    requires { IsOpen IsFormed (state_of tx.old.conn.now) }
+    ensures kept { KeepsCommit tx.old.conn tx.new.conn }
     ensures made { OnOk result (HoldsInside (state_of tx.new.conn.now)
         (with_rows part (staying_of (rows_of tx.old.conn.now part))
         (rows_of tx.old.conn.now))) }

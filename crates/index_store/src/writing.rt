@@ -1,7 +1,7 @@
 // The calls that write, each in one transaction.
-ghost use Rattle.std.specs.Prelude.{◌≡◌, map, string_bytes, OnOk, OnErr, IfOk, IsTrue, None, Some};
+ghost use Rattle.std.specs.Prelude.{◌≡◌, map, string_bytes, OnOk, OnErr, IfOk, None, Some};
 ghost use Rattle.mk_text.specs.Profiles.{profile_number};
-ghost use Rattle.table_facts.specs.States.{KeepsCommit, Stays, state_of};
+ghost use Rattle.table_facts.specs.States.{IsOpen, KeepsCommit, Stays, state_of};
 ghost use Rattle.index_store.specs.Entries.{PutsRow, SameRows, Marks, MarksAll, TakesOut};
 ghost use Rattle.index_store.specs.Entries.{PutsProfile, SameProfiles, TakesProfilesOut};
 ghost use Rattle.index_store.specs.PortTable.{IsKept, IsFormed, Holds, HoldsInside, rows_of, stored_in, profiles_in, no_rows};
@@ -43,10 +43,8 @@ pub(crate) fn open(alloc: Global) -> Result<Connection<MemStore>, Error>
 
 // Gives the row of a path this mark, in whichever table it is.
 fn mark_path(tx: &mut Transaction<'_, MemStore>, path: &str, mark: Mark) -> Result<(), Error>
-    requires inside { IsTrue (state_of tx.old.conn.now).in_transaction }
-    requires formed { IsFormed (state_of tx.old.conn.now).now }
-    ensures same_reference { tx.new.conn.ghost_name ≡ tx.old.conn.ghost_name }
-    ensures kept { KeepsCommit (state_of tx.old.conn.now) (state_of tx.new.conn.now) }
+    requires { IsOpen IsFormed (state_of tx.old.conn.now) }
+    ensures kept { KeepsCommit tx.old.conn tx.new.conn }
     ensures made { OnOk result (HoldsInside (state_of tx.new.conn.now)
         (λ part. marked_at (mark_number mark) path.now (rows_of tx.old.conn.now part))) }
 {
@@ -56,10 +54,8 @@ fn mark_path(tx: &mut Transaction<'_, MemStore>, path: &str, mark: Mark) -> Resu
 
 // Takes out the rows that are marked so, of both tables.
 fn take_leaving(tx: &mut Transaction<'_, MemStore>) -> Result<(), Error>
-    requires inside { IsTrue (state_of tx.old.conn.now).in_transaction }
-    requires formed { IsFormed (state_of tx.old.conn.now).now }
-    ensures same_reference { tx.new.conn.ghost_name ≡ tx.old.conn.ghost_name }
-    ensures kept { KeepsCommit (state_of tx.old.conn.now) (state_of tx.new.conn.now) }
+    requires { IsOpen IsFormed (state_of tx.old.conn.now) }
+    ensures kept { KeepsCommit tx.old.conn tx.new.conn }
     ensures made { OnOk result (HoldsInside (state_of tx.new.conn.now)
         (λ part. staying_of (rows_of tx.old.conn.now part))) }
 {
@@ -69,10 +65,8 @@ fn take_leaving(tx: &mut Transaction<'_, MemStore>) -> Result<(), Error>
 
 // Takes the row of a path out of the table of the release before, if there is one.
 fn take_earlier(tx: &mut Transaction<'_, MemStore>, path: &str) -> Result<(), Error>
-    requires inside { IsTrue (state_of tx.old.conn.now).in_transaction }
-    requires formed { IsFormed (state_of tx.old.conn.now).now }
-    ensures same_reference { tx.new.conn.ghost_name ≡ tx.old.conn.ghost_name }
-    ensures kept { KeepsCommit (state_of tx.old.conn.now) (state_of tx.new.conn.now) }
+    requires { IsOpen IsFormed (state_of tx.old.conn.now) }
+    ensures kept { KeepsCommit tx.old.conn tx.new.conn }
     ensures made { OnOk result (HoldsInside (state_of tx.new.conn.now)
         (with_rows Part.Earlier (without path.now (rows_of tx.old.conn.now Part.Earlier))
         (rows_of tx.old.conn.now))) }
@@ -88,10 +82,8 @@ fn put_current<'x>(
     profile: Profile,
     text: &'x [u8],
 ) -> Result<(), Error>
-    requires inside { IsTrue (state_of tx.old.conn.now).in_transaction }
-    requires formed { IsFormed (state_of tx.old.conn.now).now }
-    ensures same_reference { tx.new.conn.ghost_name ≡ tx.old.conn.ghost_name }
-    ensures kept { KeepsCommit (state_of tx.old.conn.now) (state_of tx.new.conn.now) }
+    requires { IsOpen IsFormed (state_of tx.old.conn.now) }
+    ensures kept { KeepsCommit tx.old.conn tx.new.conn }
     ensures made { OnOk result (HoldsInside (state_of tx.new.conn.now)
         (with_rows Part.Current
         (with_row path.now (Some (profile_number profile)) text.now
@@ -111,10 +103,8 @@ fn put<'x>(
     profile: Profile,
     text: &'x [u8],
 ) -> Result<(), Error>
-    requires inside { IsTrue (state_of tx.old.conn.now).in_transaction }
-    requires formed { IsFormed (state_of tx.old.conn.now).now }
-    ensures same_reference { tx.new.conn.ghost_name ≡ tx.old.conn.ghost_name }
-    ensures kept { KeepsCommit (state_of tx.old.conn.now) (state_of tx.new.conn.now) }
+    requires { IsOpen IsFormed (state_of tx.old.conn.now) }
+    ensures kept { KeepsCommit tx.old.conn tx.new.conn }
     ensures made { OnOk result (HoldsInside (state_of tx.new.conn.now)
         (rows_after (Change.Put path.entry profile text.entry) (rows_of tx.old.conn.now))) }
 {
@@ -128,10 +118,8 @@ fn put_earlier<'x>(
     path: &'x str,
     text: &'x [u8],
 ) -> Result<(), Error>
-    requires inside { IsTrue (state_of tx.old.conn.now).in_transaction }
-    requires formed { IsFormed (state_of tx.old.conn.now).now }
-    ensures same_reference { tx.new.conn.ghost_name ≡ tx.old.conn.ghost_name }
-    ensures kept { KeepsCommit (state_of tx.old.conn.now) (state_of tx.new.conn.now) }
+    requires { IsOpen IsFormed (state_of tx.old.conn.now) }
+    ensures kept { KeepsCommit tx.old.conn tx.new.conn }
     ensures made { OnOk result (HoldsInside (state_of tx.new.conn.now)
         (rows_after (Change.PutEarlier path.entry text.entry) (rows_of tx.old.conn.now))) }
 {
@@ -142,10 +130,8 @@ fn put_earlier<'x>(
 
 // Gives the rows of these paths this mark, in whichever table they are.
 fn set_marks(tx: &mut Transaction<'_, MemStore>, paths: &[String], mark: Mark) -> Result<(), Error>
-    requires inside { IsTrue (state_of tx.old.conn.now).in_transaction }
-    requires formed { IsFormed (state_of tx.old.conn.now).now }
-    ensures same_reference { tx.new.conn.ghost_name ≡ tx.old.conn.ghost_name }
-    ensures kept { KeepsCommit (state_of tx.old.conn.now) (state_of tx.new.conn.now) }
+    requires { IsOpen IsFormed (state_of tx.old.conn.now) }
+    ensures kept { KeepsCommit tx.old.conn tx.new.conn }
     ensures made { OnOk result (HoldsInside (state_of tx.new.conn.now)
         (λ part. marked_among (mark_number mark) (map string_bytes paths.now)
         (rows_of tx.old.conn.now part))) }
@@ -158,10 +144,8 @@ fn set_marks(tx: &mut Transaction<'_, MemStore>, paths: &[String], mark: Mark) -
 
 // Marks all rows of both tables stale.
 fn mark_tables(tx: &mut Transaction<'_, MemStore>) -> Result<(), Error>
-    requires inside { IsTrue (state_of tx.old.conn.now).in_transaction }
-    requires formed { IsFormed (state_of tx.old.conn.now).now }
-    ensures same_reference { tx.new.conn.ghost_name ≡ tx.old.conn.ghost_name }
-    ensures kept { KeepsCommit (state_of tx.old.conn.now) (state_of tx.new.conn.now) }
+    requires { IsOpen IsFormed (state_of tx.old.conn.now) }
+    ensures kept { KeepsCommit tx.old.conn tx.new.conn }
     ensures made { OnOk result (HoldsInside (state_of tx.new.conn.now)
         (rows_after Change.MarkAll (rows_of tx.old.conn.now))) }
 {
@@ -171,10 +155,8 @@ fn mark_tables(tx: &mut Transaction<'_, MemStore>) -> Result<(), Error>
 
 // Takes out the rows of these paths, of both tables.
 fn take_out(tx: &mut Transaction<'_, MemStore>, paths: &[String]) -> Result<(), Error>
-    requires inside { IsTrue (state_of tx.old.conn.now).in_transaction }
-    requires formed { IsFormed (state_of tx.old.conn.now).now }
-    ensures same_reference { tx.new.conn.ghost_name ≡ tx.old.conn.ghost_name }
-    ensures kept { KeepsCommit (state_of tx.old.conn.now) (state_of tx.new.conn.now) }
+    requires { IsOpen IsFormed (state_of tx.old.conn.now) }
+    ensures kept { KeepsCommit tx.old.conn tx.new.conn }
     ensures made { OnOk result (HoldsInside (state_of tx.new.conn.now)
         (rows_after (Change.TakeOut paths.entry) (rows_of tx.old.conn.now))) }
 {
@@ -184,10 +166,8 @@ fn take_out(tx: &mut Transaction<'_, MemStore>, paths: &[String]) -> Result<(), 
 
 // The statements of a change.
 fn make(tx: &mut Transaction<'_, MemStore>, change: Change<'_>) -> Result<(), Error>
-    requires inside { IsTrue (state_of tx.old.conn.now).in_transaction }
-    requires formed { IsFormed (state_of tx.old.conn.now).now }
-    ensures same_reference { tx.new.conn.ghost_name ≡ tx.old.conn.ghost_name }
-    ensures kept { KeepsCommit (state_of tx.old.conn.now) (state_of tx.new.conn.now) }
+    requires { IsOpen IsFormed (state_of tx.old.conn.now) }
+    ensures kept { KeepsCommit tx.old.conn tx.new.conn }
     ensures made { OnOk result (HoldsInside (state_of tx.new.conn.now)
         (rows_after change.entry (rows_of tx.old.conn.now))) }
 {

@@ -1,5 +1,7 @@
 -- The state of a database in memory, and what a statement leaves as it was.
-use Rattle.std.specs.Prelude.{◌≡◌, false}
+use Rattle.std.specs.Prelude.{◌≡◌, false, IsTrue}
+use Rattle.std.specs.Borrow.{MutBor}
+use Rattle.sqlite.specs.Effect.{Database}
 use Rattle.sqlite.specs.Held.{Held, state}
 use Rattle.sqlite.specs.State.{State}
 use Rattle.sqlite.specs.Steps.{over_memory}
@@ -20,6 +22,12 @@ pub record Stays (old new : State) : Type 0 where
   pub committed : new.committed ≡ old.committed
   pub mode : new.in_transaction ≡ old.in_transaction
 
--- the last commit is as it was
-pub record KeepsCommit (old new : State) : Type 0 where
-  pub committed : new.committed ≡ old.committed
+-- in a transaction, with tables of this form
+pub record IsOpen (IsFormed : Database → Type 0) (s : State) : Type 0 where
+  pub inside : IsTrue s.in_transaction
+  pub formed : IsFormed s.now
+
+-- a transaction is still that of its connection, and the last commit is as it was
+pub record KeepsCommit (old new : MutBor (Held MemStore)) : Type 0 where
+  pub same_reference : new.ghost_name ≡ old.ghost_name
+  pub committed : (state_of new.now).committed ≡ (state_of old.now).committed

@@ -1,5 +1,5 @@
 -- The tables of the store, and what their rows mean.
-use Rattle.std.specs.Prelude.{◌≡◌, ℕ, ℤ, pos, ◌≤◌, not, if◌then◌else◌, Bool, true, codes, List, [], ◌∷◌}
+use Rattle.std.specs.Prelude.{◌≡◌, ℕ, ℤ, pos, ◌≤◌, not, if◌then◌else◌, Bool, codes, List, [], ◌∷◌}
 use Rattle.std.specs.Prelude.{◌++◌, length, map, filter, Option, None, Some, get_or}
 use Rattle.std.specs.Ordering.{is_eq, nat_cmp}
 use Rattle.std.specs.Cmp.Lexicographic.{slice_cmp}
@@ -22,7 +22,7 @@ use Rattle.sqlite.specs.State.{State}
 use Rattle.sqlite_trees.specs.declared.memory.MemStore.{MemStore}
 use Rattle.table_facts.specs.Tables.{filled, keyed, no_schema}
 use Rattle.table_facts.specs.Filled.{AreFilled, number_in, bytes_in}
-use Rattle.table_facts.specs.States.{IsSettled, state_of}
+use Rattle.table_facts.specs.States.{IsOpen, IsSettled, state_of}
 use Rattle.tenant_store.specs.Holdings.{File, Account, Holdings, map_of, world_in}
 use Rattle.tenant_store.specs.declared.writing.Change.{Change}
 use Rattle.tenant_store.specs.declared.writing.Change.TheVariants.{Keep, Add, Replace, Remove}
@@ -225,19 +225,14 @@ Suits _ files = Unit {0}
 
 -- ---- in a transaction
 
--- the transaction goes on after the statement
-pub record GoesOn (old new : State) : Type 0 where
-  pub inside : new.in_transaction ≡ true
-  pub formed : IsFormed new.now
-
 -- the files are these, and the account is as it was
 pub record MakesFiles (old new : State) (files : List File) : Type 0 where
-  pub on : GoesOn old new
+  pub on : IsOpen IsFormed new
   pub made : held_in new ≡ record (held_in old) { files = files }
 
 -- the account is this, and the files are as they were
 pub record MakesAccount (old new : State) (account : Account) : Type 0 where
-  pub on : GoesOn old new
+  pub on : IsOpen IsFormed new
   pub made : held_in new ≡ record (held_in old) { account = account }
 
 -- all is committed, and this is what is held

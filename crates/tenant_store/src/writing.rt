@@ -1,17 +1,15 @@
 // The statements that write, and the one transaction that they are in.
-ghost use Rattle.std.specs.Prelude.{◌≡◌, [], ◌∷◌, ◌++◌, map, filter, not, if◌then◌else◌, OnOk, OnErr, IsTrue, None};
+ghost use Rattle.std.specs.Prelude.{◌≡◌, [], ◌∷◌, ◌++◌, map, filter, not, if◌then◌else◌, OnOk, OnErr, None};
 ghost use Rattle.std.specs.FinMap.{get};
-ghost use Rattle.sqlite.specs.State.{ExecutesInside};
-ghost use Rattle.sqlite.specs.Values.{bound};
 ghost use Rattle.tenant_store.specs.Holdings.{map_of};
 ghost use Rattle.tenant_store.specs.Accounts.{shown_account};
-ghost use Rattle.table_facts.specs.States.{IsSettled, Stays, KeepsCommit, state_of};
+ghost use Rattle.table_facts.specs.States.{IsOpen, IsSettled, KeepsCommit, Stays, state_of};
 ghost use Rattle.tenant_store.specs.Tables.{IsFormed, Suits, file, is_named, files_after};
 ghost use Rattle.tenant_store.specs.Tables.{MakesFiles, MakesAccount, Makes, holdings_of};
 
 use crate::reading::Account;
-use sqlite::types::ValueRef;
 use sqlite::{Connection, Error, MemStore, Transaction, params};
+use table_facts::run;
 
 /// What a call does to one file.
 #[derive(Clone, Copy, Debug)]
@@ -26,31 +24,14 @@ pub(crate) enum Change<'a> {
     Remove(&'a str),
 }
 
-// Runs one statement of a transaction. What was committed last stays as it was.
-fn run(
-    tx: &mut Transaction<'_, MemStore>,
-    sql: &str,
-    params: &[ValueRef<'_>],
-) -> Result<usize, Error>
-    requires { IsTrue (state_of tx.old.conn.now).in_transaction }
-    ensures same_reference { tx.new.conn.ghost_name ≡ tx.old.conn.ghost_name }
-    ensures kept { KeepsCommit (state_of tx.old.conn.now) (state_of tx.new.conn.now) }
-    ensures ran { ExecutesInside 0 sql.now (bound params.now) (state_of tx.old.conn.now)
-        (state_of tx.new.conn.now) result }
-{
-    tx.execute(sql, params)
-}
-
 fn insert_file<'x>(
     tx: &mut Transaction<'_, MemStore>,
     name: &'x str,
     content: &'x [u8],
 ) -> Result<(), Error>
-    requires inside { IsTrue (state_of tx.old.conn.now).in_transaction }
-    requires formed { IsFormed (state_of tx.old.conn.now).now }
+    requires open { IsOpen IsFormed (state_of tx.old.conn.now) }
     requires free { get (map_of (holdings_of tx.old.conn.now).files) name.now ≡ None }
-    ensures same_reference { tx.new.conn.ghost_name ≡ tx.old.conn.ghost_name }
-    ensures kept { KeepsCommit (state_of tx.old.conn.now) (state_of tx.new.conn.now) }
+    ensures kept { KeepsCommit tx.old.conn tx.new.conn }
     ensures made { OnOk result (MakesFiles (state_of tx.old.conn.now) (state_of tx.new.conn.now)
         ((holdings_of tx.old.conn.now).files ++ file name.now content.now ∷ [])) }
 {
@@ -67,10 +48,8 @@ fn update_file<'x>(
     name: &'x str,
     content: &'x [u8],
 ) -> Result<(), Error>
-    requires inside { IsTrue (state_of tx.old.conn.now).in_transaction }
-    requires formed { IsFormed (state_of tx.old.conn.now).now }
-    ensures same_reference { tx.new.conn.ghost_name ≡ tx.old.conn.ghost_name }
-    ensures kept { KeepsCommit (state_of tx.old.conn.now) (state_of tx.new.conn.now) }
+    requires { IsOpen IsFormed (state_of tx.old.conn.now) }
+    ensures kept { KeepsCommit tx.old.conn tx.new.conn }
     ensures made { OnOk result (MakesFiles (state_of tx.old.conn.now) (state_of tx.new.conn.now)
         (map (λ f. if is_named name.now f then file name.now content.now else f)
         (holdings_of tx.old.conn.now).files)) }
@@ -84,10 +63,8 @@ fn update_file<'x>(
 }
 
 fn delete_file(tx: &mut Transaction<'_, MemStore>, name: &str) -> Result<(), Error>
-    requires inside { IsTrue (state_of tx.old.conn.now).in_transaction }
-    requires formed { IsFormed (state_of tx.old.conn.now).now }
-    ensures same_reference { tx.new.conn.ghost_name ≡ tx.old.conn.ghost_name }
-    ensures kept { KeepsCommit (state_of tx.old.conn.now) (state_of tx.new.conn.now) }
+    requires { IsOpen IsFormed (state_of tx.old.conn.now) }
+    ensures kept { KeepsCommit tx.old.conn tx.new.conn }
     ensures made { OnOk result (MakesFiles (state_of tx.old.conn.now) (state_of tx.new.conn.now)
         (filter (λ f. not (is_named name.now f)) (holdings_of tx.old.conn.now).files)) }
 {
@@ -96,10 +73,8 @@ fn delete_file(tx: &mut Transaction<'_, MemStore>, name: &str) -> Result<(), Err
 }
 
 fn update_account(tx: &mut Transaction<'_, MemStore>, account: &Account) -> Result<(), Error>
-    requires inside { IsTrue (state_of tx.old.conn.now).in_transaction }
-    requires formed { IsFormed (state_of tx.old.conn.now).now }
-    ensures same_reference { tx.new.conn.ghost_name ≡ tx.old.conn.ghost_name }
-    ensures kept { KeepsCommit (state_of tx.old.conn.now) (state_of tx.new.conn.now) }
+    requires { IsOpen IsFormed (state_of tx.old.conn.now) }
+    ensures kept { KeepsCommit tx.old.conn tx.new.conn }
     ensures made { OnOk result (MakesAccount (state_of tx.old.conn.now) (state_of tx.new.conn.now)
         (shown_account account.now)) }
 {
@@ -117,11 +92,9 @@ fn update_account(tx: &mut Transaction<'_, MemStore>, account: &Account) -> Resu
 }
 
 fn change_files(tx: &mut Transaction<'_, MemStore>, change: Change<'_>) -> Result<(), Error>
-    requires inside { IsTrue (state_of tx.old.conn.now).in_transaction }
-    requires formed { IsFormed (state_of tx.old.conn.now).now }
+    requires open { IsOpen IsFormed (state_of tx.old.conn.now) }
     requires suits { Suits change (holdings_of tx.old.conn.now).files }
-    ensures same_reference { tx.new.conn.ghost_name ≡ tx.old.conn.ghost_name }
-    ensures kept { KeepsCommit (state_of tx.old.conn.now) (state_of tx.new.conn.now) }
+    ensures kept { KeepsCommit tx.old.conn tx.new.conn }
     ensures made { OnOk result (MakesFiles (state_of tx.old.conn.now) (state_of tx.new.conn.now)
         (files_after change.entry (holdings_of tx.old.conn.now).files)) }
 {

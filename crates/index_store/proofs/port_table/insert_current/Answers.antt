@@ -11,5 +11,5 @@ returns-clause-made c =
     let old = state_of c.args.tx.now.conn.now in
     let new = state_of c.run.new.tx.conn.now in
     let ran = rw (c.params-to_sql.ensures, c.params-to_sql-2.ensures, c.params-to_sql-3.ensures, c.number.ensures) at (c.in_ok-run.ensures.ran) in
-    let made = inserts_current old new c.requires.formed c.args.path.now c.args.text.now (profile_number c.args.profile) (is_free Current c.args.path.now (old.now.trees 2) c.requires.free) c.in_ok-run.field-0 ran.0 in
+    let made = inserts_current old new c.requires.open.formed c.args.path.now c.args.text.now (profile_number c.args.profile) (is_free Current c.args.path.now (old.now.trees 2) c.requires.free) c.in_ok-run.field-0 ran.0 in
     record { inside = ran.1.mode; formed = made.0; are = made.1 }

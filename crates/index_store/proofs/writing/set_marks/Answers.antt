@@ -7,8 +7,7 @@ use Rattle.index_store.proofs.writing.set_marks.Goals as goal
 
 pub loop-path-init : goal.loop-path-init
 loop-path-init c = record {
-  same_reference = refl;
-  kept = record { committed = refl };
+  kept = record { same_reference = refl; committed = refl };
   made = record { inside = c.requires.inside; formed = c.requires.formed; are = λ part. sym (marked_none (mark_number c.args.mark) (rows_of c.args.tx.now.conn.now part)) };
 }
 
@@ -19,8 +18,10 @@ loop-path-preserved c =
     let now = c.in_ok-mark_path.ensures.made in
     let path_is = c.as_str.ensures.value ∙ ap string_bytes c.path-item.is in
     record {
-      same_reference = c.in_ok-mark_path.ensures.same_reference ∙ before.same_reference;
-      kept = record { committed = c.in_ok-mark_path.ensures.kept.committed ∙ before.kept.committed };
+      kept = record {
+        same_reference = c.in_ok-mark_path.ensures.kept.same_reference ∙ before.kept.same_reference;
+        committed = c.in_ok-mark_path.ensures.kept.committed ∙ before.kept.committed;
+      };
       made = record {
         inside = now.inside;
         formed = now.formed;

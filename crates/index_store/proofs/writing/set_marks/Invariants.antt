@@ -1,5 +1,5 @@
 -- The rows of the paths up to here have the mark.
-use Rattle.std.proofs.Common.{◌≡◌, map, take, string_bytes}
+use Rattle.std.proofs.Common.{map, take, string_bytes}
 use Rattle.table_facts.specs.States.{KeepsCommit, state_of}
 use Rattle.index_store.specs.Marking.{mark_number}
 use Rattle.index_store.specs.PortTable.{HoldsInside, rows_of, marked_among}
@@ -7,7 +7,6 @@ use Rattle.index_store.proofs.writing.set_marks.Given as goal
 
 abbrev pub invariant-loop-path : goal.invariant-loop-path
 invariant-loop-path l = record {
-  same_reference : l.tx.conn.ghost_name ≡ l.fn.tx.conn.ghost_name;
-  kept : KeepsCommit (state_of l.fn.tx.conn.now) (state_of l.tx.conn.now);
+  kept : KeepsCommit l.fn.tx.conn l.tx.conn;
   made : HoldsInside (state_of l.tx.conn.now) (λ part. marked_among (mark_number l.mark) (map string_bytes (take l.path-index l.paths)) (rows_of l.fn.tx.conn.now part));
 }
