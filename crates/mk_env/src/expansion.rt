@@ -8,7 +8,7 @@ use crate::Env;
 use crate::insides::mention_of;
 use crate::reading::read_modifiers;
 use crate::references::{apply_modifiers, expand_named, expand_reference, expand_text};
-use crate::scope::{Active, ExpansionScope, Undefined};
+use crate::scope::{ExpansionScope, Undefined};
 use mk_base::{Budget, FaultKind, PureStop};
 use std::alloc::Global;
 
@@ -43,13 +43,7 @@ pub fn expand(
     ensures gives { GivesPurely string_bytes result budget.new
         (meaning.expand variables.now text.now budget.old) }
 {
-    let scope = ExpansionScope {
-        variables,
-        active: Active::Nothing,
-        levels: REFERENCE_LEVELS,
-        undefined: Undefined::Empty,
-    };
-    expand_text(alloc, scope, text, budget)
+    expand_text(alloc, ExpansionScope::outermost(variables), text, budget)
 }
 
 /// What `:=` stores. It is the same as `expand`, except for a reference in the text itself whose name,
@@ -66,10 +60,8 @@ pub fn expand_now(
         (meaning.expand_now variables.now text.now budget.old) }
 {
     let scope = ExpansionScope {
-        variables,
-        active: Active::Nothing,
-        levels: REFERENCE_LEVELS,
         undefined: Undefined::Kept,
+        ..ExpansionScope::outermost(variables)
     };
     expand_text(alloc, scope, text, budget)
 }
@@ -87,12 +79,7 @@ pub fn expand_variable(
         (meaning.variable variables.now name.now budget.old) }
 {
     budget.pay()?;
-    let scope = ExpansionScope {
-        variables,
-        active: Active::Nothing,
-        levels: REFERENCE_LEVELS - 1,
-        undefined: Undefined::Empty,
-    };
+    let scope = ExpansionScope::outermost(variables).inside();
     expand_named(alloc, scope, name, None, budget)
 }
 
@@ -113,13 +100,7 @@ pub fn expand_inside(
         (meaning.inside variables.now inside.now budget.old) }
 {
     let mention = mention_of(alloc, inside)?;
-    let scope = ExpansionScope {
-        variables,
-        active: Active::Nothing,
-        levels: REFERENCE_LEVELS,
-        undefined: Undefined::Empty,
-    };
-    expand_reference(alloc, scope, mention, budget)
+    expand_reference(alloc, ExpansionScope::outermost(variables), mention, budget)
 }
 
 /// What these modifiers, which follow the colon of a reference, make of a text. The text is given in
@@ -141,11 +122,6 @@ pub fn modify(
 {
     let modifiers = read_modifiers(alloc, Some(modifiers), variables.profile())?;
     let text = String::from_str(alloc, text)?;
-    let scope = ExpansionScope {
-        variables,
-        active: Active::Nothing,
-        levels: REFERENCE_LEVELS - 1,
-        undefined: Undefined::Empty,
-    };
+    let scope = ExpansionScope::outermost(variables).inside();
     apply_modifiers(alloc, scope, text, modifiers.as_slice(), budget)
 }

@@ -1,11 +1,13 @@
 //! What the references of a text are expanded with.
 ghost use Rattle.std.specs.Prelude.{◌≡◌, ◌-◌, ◌≢◌};
+ghost use Rattle.mk_env.specs.declared.scope.Active.TheVariants as active;
 ghost use Rattle.mk_env.specs.declared.scope.Undefined.TheVariants as kept;
 ghost use Rattle.mk_env.specs.Texts.{text_in};
 ghost use Rattle.mk_env.specs.Expansion as meaning;
 ghost use Rattle.mk_env.specs.ActiveNames.{names_of};
 
 use crate::Env;
+use crate::expansion::REFERENCE_LEVELS;
 
 /// What becomes of a reference to a variable that isn't defined.
 #[derive(Clone, Copy, Debug, PartialEq, Eq)]
@@ -48,6 +50,21 @@ pub(crate) struct ExpansionScope<'a> {
 }
 
 impl<'a> ExpansionScope<'a> {
+    /// The scope of a text that is inside no reference.
+    pub(crate) fn outermost(variables: &'a Env) -> ExpansionScope<'a>
+        ensures variables { result.variables ≡ variables.entry }
+        ensures active { result.active ≡ active.Nothing }
+        ensures levels { result.levels ≡ 32 }
+        ensures undefined { result.undefined ≡ kept.Empty }
+    {
+        ExpansionScope {
+            variables,
+            active: Active::Nothing,
+            levels: REFERENCE_LEVELS,
+            undefined: Undefined::Empty,
+        }
+    }
+
     /// The scope of what is inside a reference: its name and its modifiers.
     pub(crate) fn inside(self) -> ExpansionScope<'a>
         requires { self.levels ≢ 0 }

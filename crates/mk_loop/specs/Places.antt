@@ -16,8 +16,10 @@ use Rattle.mk_env.specs.Expansion.{modified_by}
 use Rattle.mk_loop.specs.LoopWords.{LoopWords, is_reference}
 use Rattle.mk_loop.specs.Putting.{SoFar, nothing, as_written, with_word, finished, put_unit, put}
 use Rattle.mk_loop.specs.Joinings.{so_far}
+use Rattle.mk_loop.specs.Scopes.{words_in}
 use Rattle.mk_loop.specs.declared.passing.Around.{Around}
 use Rattle.mk_loop.specs.declared.passing.Around.TheVariants as v
+use Rattle.mk_loop.specs.declared.passing.Body.{Body}
 use Rattle.mk_loop.specs.declared.passing.Pass.{Pass}
 
 -- A reference that a place is in. One that stays has the mark that closes it. One that is replaced, with the
@@ -124,6 +126,13 @@ GoesOn words variables line pass left m (Ok next) m' =
     (more : Left)
     × (HasLeft line next more × (goes words variables left (here line pass) m ≡ goes words variables more (here line next) m'))
 GoesOn words variables line pass left m (Err stop) m' = StopsPurelyAt stop m' (goes words variables left (here line pass) m)
+
+-- a step of a pass over the line of a body, whatever is left of the line
+abbrev pub StepsOn : Body → Pass → Meter → Result Pass (PureStop FaultKind) → Meter → Type 0
+StepsOn body pass m result m' =
+    (left : Left)
+    → HasLeft body.line.now pass left
+    → GoesOn (words_in body.loops.now) body.variables.now body.line.now pass left m result m'
 
 -- The name of a reference ends at this index, and there is no reference in the name. The reference has these
 -- units inside, the first of them at `start`, and this rest follows its mark.

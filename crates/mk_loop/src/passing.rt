@@ -8,10 +8,9 @@ ghost use Rattle.mk_ref.specs.declared.opening.Opening.TheVariants as openings;
 ghost use Rattle.mk_ref.specs.Units.{opening_of};
 ghost use Rattle.mk_loop.specs.declared.passing.Around.TheVariants as v;
 ghost use Rattle.mk_loop.specs.Putting as putting;
-ghost use Rattle.mk_loop.specs.Scopes.{words_in};
 ghost use Rattle.mk_loop.specs.Joinings.{so_far};
-ghost use Rattle.mk_loop.specs.Places.{Left, Changing, mark_of, surround_of, here, close_reference, closes, text_of};
-ghost use Rattle.mk_loop.specs.Places.{HasAsciiMark, IsPlaced, PaysFor, HasLeft, GoesOn};
+ghost use Rattle.mk_loop.specs.Places.{Changing, mark_of, surround_of, here, close_reference, closes, text_of};
+ghost use Rattle.mk_loop.specs.Places.{HasAsciiMark, IsPlaced, PaysFor, StepsOn};
 
 use crate::joining::Joined;
 use crate::names::name_end;
@@ -111,8 +110,7 @@ impl Pass {
         ensures placed { IfOk result (λ next. IsPlaced body.entry.line.now next) }
         ensures onward { IfOk result (λ next. self.at < next.at) }
         ensures paid { IfOk result (λ next. PaysFor self budget.old next budget.new) }
-        ensures goes { (left : Left) → HasLeft body.entry.line.now self left
-            → GoesOn (words_in body.entry.loops.now) body.entry.variables.now body.entry.line.now self left budget.old result budget.new }
+        ensures goes { StepsOn body.entry self budget.old result budget.new }
     {
         let bytes = body.line.as_bytes();
         if self.closes(bytes[self.at]) {
@@ -162,8 +160,7 @@ impl Pass {
         ensures placed { IfOk result (λ next. IsPlaced body.entry.line.now next) }
         ensures onward { IfOk result (λ next. self.at < next.at) }
         ensures paid { IfOk result (λ next. PaysFor self budget.old next budget.new) }
-        ensures goes { (left : Left) → HasLeft body.entry.line.now self left
-            → GoesOn (words_in body.entry.loops.now) body.entry.variables.now body.entry.line.now self left budget.old result budget.new }
+        ensures goes { StepsOn body.entry self budget.old result budget.new }
     {
         let end = self.at + 2;
         match word_in(body.loops, &body.line[self.at + 1..end]) {
@@ -191,8 +188,7 @@ impl Pass {
         ensures placed { IfOk result (λ next. IsPlaced body.entry.line.now next) }
         ensures onward { IfOk result (λ next. self.at < next.at) }
         ensures paid { IfOk result (λ next. PaysFor self budget.old next budget.new) }
-        ensures goes { (left : Left) → HasLeft body.entry.line.now self left
-            → GoesOn (words_in body.entry.loops.now) body.entry.variables.now body.entry.line.now self left budget.old result budget.new }
+        ensures goes { StepsOn body.entry self budget.old result budget.new }
     {
         let bytes = body.line.as_bytes();
         let start = self.at + 2;
@@ -303,8 +299,7 @@ impl Pass {
         ensures placed { IfOk result (λ next. IsPlaced body.entry.line.now next) }
         ensures onward { IfOk result (λ next. self.at < next.at) }
         ensures paid { IfOk result (λ next. PaysFor self budget.old next budget.new) }
-        ensures goes { (left : Left) → HasLeft body.entry.line.now self left
-            → GoesOn (words_in body.entry.loops.now) body.entry.variables.now body.entry.line.now self left budget.old result budget.new }
+        ensures goes { StepsOn body.entry self budget.old result budget.new }
     {
         let Pass {
             joined,
