@@ -24,11 +24,11 @@ use std::alloc::Global;
 ///
 /// # Errors
 ///
-/// At its line, the faults are those of `perform`. If the line asks for a file, `Include` comes next, if
-/// its text names none in one of the forms. Then come `IncludeDepth` if more than 16 files would include
-/// one another, `Include` if a name in quotes is no file name, `Questions` for the 257th question, and
-/// `Include` if the file is missing, and may not be. If the files fail, their fault is returned as it is.
-/// It is also `Memory` if memory runs out.
+/// At its line, the faults are those of `perform`. If the line asks for a file, these come next, in this
+/// order. It is `Include` if its text names no file in one of the forms. It is `IncludeDepth` if more than
+/// 16 files would include one another. It is `Include` if a name in quotes is no file name. It is
+/// `Questions` for the 257th question. It is `Include` if the file is missing and may not be. If the files
+/// fail, their fault is returned as it is. It is also `Memory` if memory runs out.
 pub fn open_line<F: Files>(
     alloc: Global,
     here: ExecutedFile<'_>,

@@ -76,9 +76,10 @@ pub fn equal_slices_are_told_alike()
     ensures { EqualSlicesAreToldAlike }
 {}
 
-/// Each request is told its reply within a number of its tenant's own turns. That number is 1, and one for each
-/// makefile on which the reply rests, and one for each 1,000 of the units that it costs and of the checks that may
-/// come, 1,028 for each makefile. The world is the one over which the request is answered.
+/// Each request is told its reply within a number of its tenant's own turns. That number is 1, and one more for
+/// each makefile on which the reply rests. To this comes one for each 1,000 of the units that the reply costs and
+/// of the checks that may come, of which 1,028 are counted for each makefile. The world is the one over which the
+/// request is answered.
 ///
 /// Take a run from any state in which the first request of a tenant has had fewer turns. If no reply is told to
 /// the tenant, these turns and the tenant's own turns in the run are fewer together. This holds whatever else happens,
