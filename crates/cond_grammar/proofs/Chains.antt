@@ -14,10 +14,6 @@ Shrinks read = (tokens : List Token) → IfSome (read tokens) (λ x. length x.1 
 abbrev pub TakesSome : (List Token → Option (List Token)) → Type 0
 TakesSome sign = (tokens : List Token) → IfSome (sign tokens) (λ rest. length rest < length tokens)
 
-unadded : {A : Type 0} (x : Option (List A × List Token)) → option_map {U = List A × List Token} (λ later. ([] ++ later.0, later.1)) x ≡ x
-unadded None = refl
-unadded (Some later) = refl
-
 one_more : {A : Type 0} (done : List A) (next : A) (later : Option (List A × List Token))
     → option_map {U = List A × List Token} (λ p. (done ++ p.0, p.1)) (option_map {U = List A × List Token} (λ p. (next ∷ p.0, p.1)) later)
     ≡ option_map {U = List A × List Token} (λ p. ((done ++ next ∷ []) ++ p.0, p.1)) later
@@ -57,10 +53,6 @@ module _ {A : Type 0} (sign : List Token → Option (List Token)) (read : Reader
   operands_from : (tokens : List Token) (behind : Option (List Token)) → sign tokens ≡ behind
       → operands sign read tokens ≡ operands_after (λ rest. operand_on (operands sign read) (read rest)) tokens behind
   operands_from tokens behind is = operands-next tokens ∙ ap (operands_after (λ rest. operand_on (operands sign read) (read rest)) tokens) is
-
-  -- nothing is read yet
-  pub continued-begins : (rest : List Token) → continued sign read [] rest ≡ operands sign read rest
-  continued-begins rest = unadded (operands sign read rest)
 
   -- no sign stands first
   pub continued-ends : (done : List A) (rest : List Token) → sign rest ≡ None → continued sign read done rest ≡ Some (done, rest)

@@ -1,5 +1,5 @@
 -- What an evaluation that is asked for has come to.
-use Rattle.std.proofs.Common.{◌≡◌, ◌≤◌, ◌<◌, ◌+◌, ap, arith, refl, if◌then◌else◌, ℕ, zero, suc, Bool, true, false, None, Result, Ok, Err}
+use Rattle.std.proofs.Common.{◌≡◌, ◌≤◌, ◌<◌, ◌+◌, ap, arith, refl, ℕ, zero, suc, None, Result, Ok, Err}
 use Rattle.mk_paths.specs.World.{FileMap}
 use Rattle.mk_eval.specs.Sharing.{cost_of}
 use Rattle.mk_base.specs.FaultAt.{FaultAt}
@@ -10,35 +10,15 @@ use Rattle.mk_eval.specs.Meaning.{evaluated, evaluation, fresh}
 use Rattle.mk_eval.specs.declared.state.EvalState.{EvalState}
 use Rattle.mk_eval.proofs.SharedEvaluation.{shared-evaluation}
 use Rattle.mk_step.proofs.Coming.{spends}
-use Rattle.eval_cache.specs.Cache.{CacheValue}
 use Rattle.eval_cache.specs.Keys.{Key}
 use Rattle.eval_cache.specs.Right.{evaluation_of}
-use Rattle.ports_index.specs.declared.spending.Spent.{Spent}
-use Rattle.index_keep.specs.Asking.{is_held, key_in, spent_in, spent_so_far, total_of, CanGoOn, HasComeTo, IsAnswerTo, IsAskedOf}
+use Rattle.index_keep.specs.Asking.{key_in, spent_in, spent_so_far, total_of, CanGoOn, HasComeTo, IsAnswerTo}
 use Rattle.index_keep.specs.Asking.{IsShortTurn, TurnsAsk}
 use Rattle.index_keep.specs.declared.asking.Ask.{Ask}
 use Rattle.index_keep.specs.declared.asking.Looked.{Looked}
 use Rattle.index_keep.specs.declared.asking.Asked.{Asked}
 use Rattle.index_keep.specs.declared.asking.AskTurned.{AskTurned}
 use Rattle.index_keep.specs.declared.asking.AskTurned.TheVariants as ask
-
-whole_if : (held : Bool) (units cost : ℕ) → units ≡ (if held then 0 else cost) → 1 ≤ units → units ≡ cost
-whole_if true units cost is some = absurd (omega (arith, is, some))
-whole_if false units cost is some = is
-
-unchecked_if : (held : Bool) (units cost checks : ℕ) → units ≡ (if held then 0 else cost) → (held ≡ true → 1 ≤ checks) → checks ≡ 0 → units ≡ cost
-unchecked_if true units cost checks is some none = absurd (omega (arith, some refl, none))
-unchecked_if false units cost checks is some none = is
-
--- it was asked for at once
-pub IsAnswerTo-asked : (files : FileMap) (cache : CacheValue) (key : Key) (asked : Asked) → IsAskedOf files cache key asked → IsAnswerTo files key asked
-IsAnswerTo-asked files cache key asked is = record {
-  evaluation = is.evaluation;
-  answered = is.answered;
-  few = is.few;
-  whole = whole_if (is_held files cache key) asked.units (cost_of (evaluation_of files key).outcome) is.units;
-  unchecked = unchecked_if (is_held files cache key) asked.units (cost_of (evaluation_of files key).outcome) asked.checks is.units is.some;
-}
 
 -- what was spent is no more than the evaluation costs
 pub within-answer : (files : FileMap) (key : Key) (asked : Asked) → IsAnswerTo files key asked → asked.units ≤ cost_of (evaluation_of files key).outcome
@@ -78,6 +58,3 @@ short-ask files units old (ask.Done asked) turns = omega (arith, turns.0.units, 
 pub short-turn : (files : FileMap) (units : ℕ) (old : Ask) (came : AskTurned) → 0 < units → TurnsAsk files units old came
     → IsShortTurn units (spent_so_far old) (spent_in came)
 short-turn files units old came some turns = record { none = λ zero. absurd (omega (arith, zero, some)); few = short-ask files units old came turns }
-
-pub short-same : (units : ℕ) (before : Spent) → IsShortTurn units before before
-short-same units before = record { none = λ zero. omega arith; few = omega arith }

@@ -27,7 +27,7 @@ use Rattle.row_text.specs.Rows.{RowValue, row_of}
 use Rattle.index_store.specs.Entries.{StoredValue, Entries, SameRows}
 use Rattle.index_keep.specs.declared.keeper.Progress.{Progress}
 use Rattle.index_keep.specs.declared.keeper.Progress.TheVariants.{Changed, Walking, Asking, Current}
-use Rattle.index_keep.specs.Shown.{ShownRow, ShownRows, shown, show_row, show_stored, asked_one, no_name, fresh, fresh_outcome, stale_if_asked, made_stale, ShowsSame}
+use Rattle.index_keep.specs.Shown.{ShownRow, ShownRows, shown, show_row, show_stored, asked_one, no_name, fresh, fresh_outcome, stale_if_asked, ShowsSame}
 use Rattle.index_keep.specs.Right.{names_in, row_with, IsRightRow, AreKept, AreCurrent, HaveFresh, DifferAt, RenewsOneOf, fresh_row}
 use Rattle.ports_index.specs.Spending.{no_spending}
 use Rattle.index_keep.specs.Turns.{DropsTurn, refresh_at}
@@ -118,16 +118,6 @@ IsKept-same entries world rows other progress same kept =
       rows = subst (λ (stored : Entries). AreKept world (shown (changed_in progress) stored)) (sym whole) kept.rows;
       progress = subst (λ (stored : Entries). IsProgress world (shown (changed_in progress) stored) progress) (sym whole) kept.progress;
     }
-
-pub AreKept-stale : (world : World) (old new : ShownRows) → ((path : List ℕ) → new path ≡ option_map made_stale (old path)) → AreKept world new
-AreKept-stale world old new all = record { right = λ path row is fresh. at path (old path) refl row is fresh }
-  where
-    at : (path : List ℕ) (before : Option ShownRow) → old path ≡ before → (row : ShownRow) → new path ≡ Some row → row.stale ≡ false → IsRightRow world path row.row
-    at path None was row is fresh = let none : new path ≡ None = all path ∙ ap (option_map made_stale) was in absurd cc
-    at path (Some before) was row is fresh =
-        let there : new path ≡ Some (made_stale before) = all path ∙ ap (option_map made_stale) was in
-        let same : made_stale before ≡ row = cc in
-        absurd (false≢true (sym (ap (λ (r : ShownRow). r.stale) same ∙ fresh)))
 
 -- ---- names that are known to have changed
 
@@ -298,12 +288,6 @@ module _ (old new : Entries) (before after nothing : Progress) (none : HasForgot
   IsProgress-taken world rows = subst (λ (p : Progress). IsProgress world rows p) (sym is) (IsProgress-forgotten world rows nothing none)
 
 -- ---- rows that are right say what the index is
-
--- what is fresh of current rows is right for each needed path
-pub have-current : (world : World) (rows : ShownRows) (known : List ℕ → Option PathOutcome) → AreCurrent world rows → ((path : List ℕ) → known path ≡ fresh rows path)
-    → HaveRows world known (needed_paths world)
-have-current world rows known current knows path is =
-    knows path ∙ ap (option_and_then fresh_outcome) (current.each path ∙ ap (λ (b : Bool). if b then Some (fresh_row world path) else None) is)
 
 module _ (enough : KnownRowsAreEnough) (world : World) (known : List ℕ → Option PathOutcome) (have : HaveRows world known (needed_paths world))
     (paths : List (List ℕ)) (are : paths ≡ listed_paths world) where

@@ -1,9 +1,8 @@
 -- Lists of names and paths.
-use Rattle.std.proofs.Common.{◌≡◌, ◌∙◌, sym, ap, refl, ℕ, ◌+◌, ◌<◌, Bool, true, false, cond, ◌||◌, ◌&&◌, not, if◌then◌else◌, List, [], ◌∷◌, ◌++◌, map, take, length, get_or, Option, Some, None, is_some, option_map, slice_get, String, string_bytes, Global}
+use Rattle.std.proofs.Common.{◌≡◌, ◌∙◌, sym, ap, refl, ℕ, ◌+◌, ◌<◌, Bool, true, false, cond, ◌||◌, ◌&&◌, not, if◌then◌else◌, List, [], ◌∷◌, ◌++◌, map, take, length, get_or, Option, Some, None, is_some, option_map, String, string_bytes, Global}
 use Rattle.std.proofs.lemmas.Bool.{false≢true}
 use Rattle.std.proofs.lemmas.List.{take_more, take-map}
 use Rattle.ports_index.specs.PathOutcomes.{PathOutcome}
-use Rattle.std.proofs.lemmas.Option.{slice_get-map, slice_get-get_or}
 use Rattle.std.proofs.lemmas.Slice.Eq.{bytes_eq-Decides}
 use Rattle.std.specs.List.{list_any}
 use Rattle.std.specs.Str.{bytes_eq}
@@ -96,9 +95,3 @@ known-more seen known texts place text at found inside is e finds some passed pa
     by false true e1 e2 either =
         ap (λ p. is_some (known p)) (sym ((bytes_eq-Decides (string_bytes text) path).0 e2)) ∙ ap (λ p. is_some (known p)) (sym e) ∙ some_known seen found (known at) finds some
     by false false e1 e2 either = absurd (false≢true (sym (ap (λ b. b || bytes_eq (string_bytes text) path) e1 ∙ e2) ∙ either))
-
--- the text at a place
-pub slice_get-text : (texts : List (String Global)) (place : ℕ) (text : String Global) (at : List ℕ) → place < length texts → text ≡ get_or texts place text → at ≡ string_bytes text
-    → slice_get (map string_bytes texts) place ≡ Some at
-slice_get-text texts place text at inside is e =
-    slice_get-map string_bytes texts place ∙ ap (option_map string_bytes) (slice_get-get_or texts place text inside ∙ ap Some (sym is)) ∙ ap Some (sym e)

@@ -56,12 +56,6 @@ module _ (first : FilesView) (settings : Settings) (directory : List ℕ) (befor
   asked_first : found ≡ noted (with_trace first []) (places_asked first.files settings.path directory)
   asked_first = subst (λ (view : FilesView). found ≡ noted view (places_asked view.files settings.path directory)) nothing asks
 
-  pub files-placed : found.files ≡ first.files
-  files-placed = ap (λ (view : FilesView). view.files) asked_first
-
-  pub placed-is : (trace : List Question) → found.log ≡ Some trace → trace ≡ places_asked first.files settings.path directory
-  placed-is trace logs = some_same (sym logs ∙ ap (λ (view : FilesView). view.log) asked_first)
-
 -- what is spent on an evaluation and on what is made of it
 spent_by : (cost evaluation units checks : ℕ) → (1 ≤ units → units ≡ evaluation) → (checks ≡ 0 → units ≡ evaluation)
     → (cost - (evaluation - units) ≡ cost) ⊎ ((1 ≤ checks) × (cost - (evaluation - units) ≡ cost - evaluation))

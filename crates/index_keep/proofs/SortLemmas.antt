@@ -1,5 +1,5 @@
 -- Stored rows that are sorted, one after another.
-use Rattle.std.proofs.Common.{◌≡◌, ◌∙◌, sym, ap, subst, refl, ℕ, Bool, true, false, ◌||◌, ◌&&◌, if◌then◌else◌, List, [], ◌∷◌, ◌++◌, map, Option, Some, None, is_some, option_and_then, append_assoc, All, suc, arith}
+use Rattle.std.proofs.Common.{◌≡◌, ◌∙◌, sym, ap, subst, refl, ℕ, Bool, true, false, ◌||◌, ◌&&◌, if◌then◌else◌, List, [], ◌∷◌, ◌++◌, map, Option, Some, None, option_and_then, append_assoc, All, suc, arith}
 use Rattle.std.proofs.lemmas.Slice.Eq.{bytes_eq-Decides}
 use Rattle.std.specs.Option.{option_map_or}
 use Rattle.std.specs.Str.{bytes_eq}
@@ -108,25 +108,6 @@ module _ (test : List ℕ → Bool) (entries : Entries) where
           one_of-append path paths (outdated_in test row)
           ∙ outdated_by path (bytes_eq row.path path) (is_one_of path (map path_of rows)) (is_outdated (judge test (value_in row))) refl refl (lists path)
           ∙ sym (ap (λ b. b && outdated_at test entries path) (is_one-more path (bytes_eq row.path path) refl))
-
-  -- all rows
-  module _ (rows : List SeenRow) (are : AreRowsOf entries rows) where
-    known_by_entry : (path : List ℕ) (stored : Option StoredValue) → entries path ≡ stored
-        → (if is_some stored then fresh_at test entries path else None) ≡ fresh_at test entries path
-    known_by_entry path None e = sym (ap (λ (found : Option StoredValue). option_and_then (λ (stored : StoredValue). outcome_of (judge test stored)) found) e)
-    known_by_entry path (Some stored) e = refl
-
-    pub KnowsRows-all : (known : List ℕ → Option PathOutcome) → KnowsRows rows known → (path : List ℕ) → known path ≡ fresh_at test entries path
-    KnowsRows-all known knows path =
-        knows path ∙ ap (λ (b : Bool). if b then fresh_at test entries path else None) (sym (are.all path)) ∙ known_by_entry path (entries path) refl
-
-    outdated_by_entry : (path : List ℕ) (stored : Option StoredValue) → entries path ≡ stored → (is_some stored && outdated_at test entries path) ≡ outdated_at test entries path
-    outdated_by_entry path None e = sym (ap (λ (found : Option StoredValue). option_map_or (λ (stored : StoredValue). is_outdated (judge test stored)) found false) e)
-    outdated_by_entry path (Some stored) e = refl
-
-    pub ListsOutdated-all : (paths : List (List ℕ)) → ListsOutdated rows paths → (path : List ℕ) → is_one_of path paths ≡ outdated_at test entries path
-    ListsOutdated-all paths lists path =
-        lists path ∙ ap (λ b. b && outdated_at test entries path) (sym (are.all path)) ∙ outdated_by_entry path (entries path) refl
 
 -- a row among others
 pub each-at : (P : SeenRow → Type 0) (before : List SeenRow) (row : SeenRow) (after : List SeenRow) → All P (before ++ row ∷ after) → P row

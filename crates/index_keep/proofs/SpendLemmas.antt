@@ -21,11 +21,6 @@ pub record SpendsSoFar (cost evaluations : ℕ) (spent : Spent) (cost_left evalu
   pub bound : spent.units ≤ 2 ^ 64 - 1
   pub whole : spent.checks ≡ 0 → counted (spent.units + cost_left) ≡ counted cost
 
-pub SpendsSoFar-none : (cost evaluations : ℕ) → SpendsSoFar cost evaluations (record { units = 0; checks = 0 }) cost evaluations
-SpendsSoFar-none cost evaluations =
-    let same : 0 + cost ≡ cost = omega arith in
-    record { few = omega arith; within = omega arith; bound = omega arith; whole = λ none. ap counted same }
-
 evaluations_one : (pair : Option Pair) → length (filter_map (λ (p : Option Pair). p) (pair ∷ [])) ≡ length (option_to_list pair)
 evaluations_one None = refl
 evaluations_one (Some pair) = refl
@@ -80,15 +75,6 @@ pub record SoFar (cost evaluations : ℕ) (first begun spent : Spent) (cost_left
 
 spent_same : (one other : Spent) → one.units ≡ other.units → one.checks ≡ other.checks → one ≡ other
 spent_same one other units checks = ap₂ (λ units checks. let spent : Spent = record { units = units; checks = checks } in spent) units checks
-
-pub SoFar-none : (cost evaluations : ℕ) (first : Spent) → SoFar cost evaluations first first no_spending cost evaluations
-SoFar-none cost evaluations first = record {
-  total = no_spending;
-  so_far = SpendsSoFar-none cost evaluations;
-  same = spent_same (spent_together no_spending first) (spent_together first no_spending) (omega arith) (omega arith);
-  units = omega arith;
-  checks = omega arith;
-}
 
 same_sum : (most total begun first spent more : ℕ) → min (total + begun) most ≡ min (first + spent) most
     → min (min (total + (begun + more)) most + 0) most ≡ min (first + min (spent + more) most) most

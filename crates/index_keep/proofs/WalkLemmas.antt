@@ -1,5 +1,5 @@
 -- A refresh that goes through paths.
-use Rattle.std.proofs.Common.{String, Global, Vec, map, string_bytes, ◌≡◌, ◌∙◌, sym, ap, subst, refl, ℕ, zero, suc, Bool, true, false, ◌||◌, ◌⊎◌, inl, inr, if◌then◌else◌, List, [], ◌∷◌, ◌++◌, take, Option, Some, None, is_some, option_and_then, slice_get}
+use Rattle.std.proofs.Common.{string_bytes, ◌≡◌, ◌∙◌, sym, ap, subst, refl, ℕ, zero, suc, Bool, true, false, ◌||◌, ◌⊎◌, inl, inr, if◌then◌else◌, List, [], ◌∷◌, ◌++◌, take, Option, Some, None, is_some, option_and_then, slice_get}
 use Rattle.std.proofs.lemmas.Bool.{false≢true, or_right}
 use Rattle.std.proofs.lemmas.Slice.Eq.{bytes_eq-Decides}
 use Rattle.std.specs.List.{filter_map, flat_map}
@@ -8,13 +8,12 @@ use Rattle.text_parts.specs.Ordered.{among-in_order}
 use Rattle.mk_paths.specs.World.{World, files_in}
 use Rattle.mk_paths.specs.FilesView.{FilesView, failed}
 use Rattle.mk_paths.specs.declared.asking.FilesFault.{FilesFault}
-use Rattle.mk_paths.specs.declared.asking.FilesFault.TheVariants as faults
 use Rattle.ports_index.specs.Depending.{items_among, target_of}
 use Rattle.ports_index.specs.Filling.{is_one_of}
 use Rattle.ports_index.specs.Index.{listed_paths, needed_among, needed_paths}
-use Rattle.ports_index.specs.Keeping.{Counts, Keeps}
+use Rattle.ports_index.specs.Keeping.{Keeps}
 use Rattle.ports_index.specs.Naming.{directories, listed_from, named_at}
-use Rattle.ports_index.specs.PathOutcomes.{PathOutcome, outcome_at}
+use Rattle.ports_index.specs.PathOutcomes.{outcome_at}
 use Rattle.ports_index.specs.Spending.{SpendsOnPath}
 use Rattle.ports_index.specs.declared.spending.Spent.{Spent}
 use Rattle.row_text.specs.Rows.{RowValue}
@@ -23,10 +22,10 @@ use Rattle.ports_index.specs.Seen.{entries_in, known_in}
 use Rattle.index_keep.specs.declared.walking.Stage.{Stage}
 use Rattle.index_keep.specs.declared.walking.LastStage.{LastStage}
 use Rattle.index_keep.specs.Shown.{ShownRow, ShownRows, fresh, fresh_outcome}
-use Rattle.index_keep.specs.Right.{IsRightRow, AreKept, AreCurrent, right_row, fresh_row, LeavesFiles, RenewsRow}
+use Rattle.index_keep.specs.Right.{IsRightRow, AreKept, right_row, fresh_row, LeavesFiles, RenewsRow}
 use Rattle.index_keep.specs.Keeping.{IsReadyFor}
 use Rattle.index_keep.specs.Paths.{IsMade}
-use Rattle.index_keep.specs.Walking.{IsStage, IsLacking, HasRowMore, KnowsRow, HasPassed, paths_of, LacksNone, IsLackingAt, ListsPaths, NeedsPaths}
+use Rattle.index_keep.specs.Walking.{IsStage, IsLacking, HasRowMore, paths_of, LacksNone, IsLackingAt, ListsPaths, NeedsPaths}
 use Rattle.index_keep.specs.declared.evaluating.MadeRow.{MadeRow}
 use Rattle.index_keep.specs.declared.walking.Walk.{Walk}
 use Rattle.row_text.specs.Seen.{row_seen}
@@ -82,17 +81,6 @@ module _ (world : World) (rows : ShownRows) (kept : AreKept world rows) where
     current_at path true is = row-fresh path (needed path is)
     current_at path false is = refl
 
-    pub AreCurrent-left : AreCurrent world new
-    AreCurrent-left = record { each = λ path. left path ∙ current_at path (is_one_of path (needed_paths world)) refl }
-
-    right_at : (path : List ℕ) (is : Bool) → is_one_of path (needed_paths world) ≡ is → (row : ShownRow) → new path ≡ Some row → row.stale ≡ false → IsRightRow world path row.row
-    right_at path true is row e stale = kept.right path row (sym (left path ∙ ap (λ (b : Bool). if b then rows path else None) is) ∙ e) stale
-    right_at path false is row e stale =
-        let none : new path ≡ None = left path ∙ ap (λ (b : Bool). if b then rows path else None) is in absurd cc
-
-    pub AreKept-left : AreKept world new
-    AreKept-left = record { right = λ path row e stale. right_at path (is_one_of path (needed_paths world)) refl row e stale }
-
   -- a path has its row now
   module _ (path : List ℕ) (right : IsRightRow world path (right_row world path)) (new : ShownRows)
       (put : (other : List ℕ) → new other ≡ (if bytes_eq path other then Some (fresh_row world path) else rows other)) where
@@ -112,13 +100,6 @@ module _ (world : World) (rows : ShownRows) (kept : AreKept world rows) where
 
     pub fresh-put : (other : List ℕ) → fresh new other ≡ (if bytes_eq path other then Some (outcome_at world path) else fresh rows other)
     fresh-put other = ap (option_and_then fresh_outcome) (put other) ∙ fresh_by other (bytes_eq path other)
-
-    still_by : (other : List ℕ) (same : Bool) → is_some (fresh rows other) ≡ true → is_some (if same then Some (outcome_at world path) else fresh rows other) ≡ true
-    still_by other true some = refl
-    still_by other false some = some
-
-    pub still-fresh : (other : List ℕ) → is_some (fresh rows other) ≡ true → is_some (fresh new other) ≡ true
-    still-fresh other some = ap is_some (fresh-put other) ∙ still_by other (bytes_eq path other) some
 
   -- ---- one stage after another
 
@@ -161,28 +142,9 @@ pub LeavesFiles-on : (fault : Option FilesFault) (first middle last : FilesView)
 LeavesFiles-on None first middle last one more = record { files = more.files ∙ one.files; failures = more.failures ∙ one.failures }
 LeavesFiles-on (Some fault) first middle last one more = (more.0 ∙ one.files, counts_on fault first middle last one.failures more.1)
 
-counted : (fault : FilesFault) (old new : FilesView) → Counts (Some fault) old new → (new.failures ≡ old.failures) ⊎ (new.failures ≡ (failed old).failures)
-counted faults.Store old new counts = inr counts
-counted faults.Memory old new counts = counts
-
--- files that failed, or that work found no memory for
-pub LeavesFiles-failed : (fault : Option FilesFault) (old new : FilesView) → Keeps fault old new → LeavesFiles fault old new
-LeavesFiles-failed None old new keeps = keeps
-LeavesFiles-failed (Some fault) old new keeps = (keeps.files, counted fault old new keeps.failures)
-
--- work that went well with the files, and then failed otherwise
-pub LeavesFiles-other : (fault : FilesFault) (old new : FilesView) → Keeps None old new → LeavesFiles (Some fault) old new
-LeavesFiles-other fault old new keeps = (keeps.files, inl keeps.failures)
-
-pub Keeps-nothing : (view : FilesView) → Keeps None view view
-Keeps-nothing view = record { files = refl; failures = refl }
-
 -- ---- the next path of a stage
 
 module _ (rows : ShownRows) (paths : List (List ℕ)) (stage : Stage) (is : IsStage (fresh rows) paths stage) where
-  pub has-passed : HasPassed stage
-  has-passed path one = ap is_some (is.knows path) ∙ is.passed path (ap (λ at. is_one_of path (take stage.place at)) (sym is.through) ∙ one)
-
   module _ (place : ℕ) (found : IsLackingAt stage place) where
     -- a stage that has come to it
     pub stage-at : (more : Stage) → more ≡ record stage { place = place } → IsStage (fresh rows) paths more
@@ -197,19 +159,6 @@ module _ (rows : ShownRows) (paths : List (List ℕ)) (stage : Stage) (is : IsSt
     lacking-at world needed path at = record {
       needed = needed path (ap (is_one_of path) (sym is.through) ∙ one_of-at (paths_of stage) place path at);
       lacking = sym (is.knows path) ∙ found.lacking path at;
-    }
-
-  -- one more row is fresh
-  module _ (path : List ℕ) (outcome : PathOutcome) (new : ShownRows) (more : HasRowMore path outcome rows new) where
-    still_known : (known : Option PathOutcome) (same : Bool) → is_some known ≡ true → is_some (if same then Some outcome else known) ≡ true
-    still_known known true some = refl
-    still_known known false some = some
-
-    pub stage-row : (after : Stage) → KnowsRow path outcome stage after → IsStage (fresh new) paths after
-    stage-row after knows = record {
-      through = ap (λ (paths : Vec (String Global) Global). map string_bytes paths.items) knows.paths ∙ is.through;
-      knows = λ other. knows.known other ∙ ap (λ known. if bytes_eq path other then Some outcome else known) (is.knows other) ∙ sym (more other);
-      passed = λ other one. ap is_some (more other) ∙ still_known (fresh rows other) (bytes_eq path other) (is.passed other (ap (λ place. is_one_of other (take place paths)) (sym knows.place) ∙ one));
     }
 
 -- ---- the row of a path is made, and written

@@ -16,10 +16,6 @@ holds_as s these those same h = record { inside = h.inside; formed = h.formed; a
 pub both_changed : (f : List Entry → List Entry) (was mid : Rows) (s : State) → ((part : Part) → mid part ≡ with_rows Earlier (f (was Earlier)) was part) → HoldsInside s (with_rows Current (f (mid Current)) mid) → HoldsInside s (λ part. f (was part))
 both_changed f was mid s are h = holds_as s (with_rows Current (f (mid Current)) mid) (λ part. f (was part)) (each_part (λ part. with_rows Current (f (mid Current)) mid part ≡ f (was part)) (are Earlier) (ap f (are Current))) h
 
--- a change of each table, after one before
-pub then_changed : (f : List Entry → List Entry) (was mid : Rows) (s : State) → ((part : Part) → mid part ≡ was part) → HoldsInside s (λ part. f (mid part)) → HoldsInside s (λ part. f (was part))
-then_changed f was mid s are h = holds_as s (λ part. f (mid part)) (λ part. f (was part)) (λ part. ap f (are part)) h
-
 -- a row is put in place of the one there, or as the last
 module _ (path : List ℕ) (profile : Option ℕ) (text : List ℕ) (was : Rows) (s : State) where
   pub was_replaced : is_some (find (is_at path) (was Current)) ≡ true → HoldsInside s (with_rows Current (replaced_at path profile text (was Current)) was) → HoldsInside s (with_rows Current (with_row path profile text (was Current)) was)

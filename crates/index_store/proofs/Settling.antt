@@ -35,9 +35,6 @@ none_left : (b : Bool) (o : Option Entry) → o ≡ None → cond b None o ≡ N
 none_left true o none = refl
 none_left false o none = none
 
-abbrev is_there : List ℕ → List Entry → Bool
-is_there path entries = is_some (find (is_at path) entries)
-
 pub after_settled : (change : Change) (rows : Rows) → AreSettled rows → AreSettled (rows_after change rows)
 after_settled (Put path profile text) rows settled = record {
   staying = each_part (λ part. list_all is_staying (rows_after (Put path profile text) rows part) ≡ true) (staying_left (marked_at leaving_mark path.now (rows Earlier))) (staying_with_row path.now (Some (profile_number profile)) text.now (rows Current) (settled.staying Current));

@@ -1,5 +1,5 @@
 -- What is taken from the evaluation of a port's makefile.
-use Rattle.std.proofs.Common.{◌≡◌, ◌≤◌, ◌∙◌, ℕ, zero, suc, ◌+◌, ◌-◌, ◌*◌, ◌^◌, min, List, length, Some, None, Result, Ok, Err, refl, sym, ap, subst, arith, inl}
+use Rattle.std.proofs.Common.{◌≡◌, ◌≤◌, ◌∙◌, ℕ, zero, suc, ◌+◌, ◌-◌, ◌*◌, ◌^◌, min, List, length, Some, None, Result, Ok, Err, refl, sym, ap, subst, arith}
 use Rattle.std.specs.Prelude.{option_map, option_to_list}
 use Rattle.mk_paths.specs.Place.{place}
 use Rattle.mk_paths.specs.World.{World, FileMap, files_in}
@@ -14,11 +14,10 @@ use Rattle.eval_cache.specs.Keys.{Key, key_for}
 use Rattle.eval_cache.specs.Right.{evaluation_of}
 use Rattle.pkg_path.specs.Paths.{PathValue}
 use Rattle.ports_index.specs.Pairs.{Pair}
-use Rattle.ports_index.specs.Spending.{no_spending, spent_together, evaluation_cost, evaluations_of, ChecksFew, SpendsOnOne}
+use Rattle.ports_index.specs.Spending.{spent_together, evaluation_cost, evaluations_of, ChecksFew, SpendsOnOne}
 use Rattle.ports_index.specs.declared.spending.Spent.{Spent}
 use Rattle.ports_plain.specs.Answers.{answer_to}
 use Rattle.ports_plain.specs.Plain.{Answer, reply_alone, variable_at, port_at}
-use Rattle.ports_plain.specs.Replies.{no_port}
 use Rattle.ports_plain.specs.Resting.{need_of, cost_if_there, value_cost_of, record_cost_of, record_cost_by}
 use Rattle.ports_plain.specs.Spending.{SpendsFor}
 use Rattle.ports_plain.specs.declared.changing.Prepared.{Prepared}
@@ -43,12 +42,6 @@ pub answered : (world : World) (sought : Sought) (makefile : List ℕ) → place
 answered world (Value asked) makefile placed = sym (ap (λ p. reply_alone (variable_at world asked.name asked.path.flavors p)) placed)
 answered world (Record path) makefile placed = sym (ap (λ p. reply_alone (port_at world path p)) placed)
 
--- and if none is there
-pub unanswered : (world : World) (sought : Sought) → place world (path_sought sought).directory ≡ None
-    → ◌≡◌ {A = Answer} (reply_alone no_port) (answer_to world (question_sought sought))
-unanswered world (Value asked) none = sym (ap (λ p. reply_alone (variable_at world asked.name asked.path.flavors p)) none)
-unanswered world (Record path) none = sym (ap (λ p. reply_alone (port_at world path p)) none)
-
 -- what is spent on the evaluation of the makefile that is there, and on what is sought
 pub spends : (world : World) (sought : Sought) (makefile : List ℕ) (spent : Spent) → place world (path_sought sought).directory ≡ Some makefile
     → SpendsOnOne (cost_sought sought makefile (means world makefile (path_sought sought).flavors)) (cost_of (means world makefile (path_sought sought).flavors)) 1 spent
@@ -59,18 +52,6 @@ spends world (Value asked) makefile spent placed is =
 spends world (Record path) makefile spent placed is =
     subst (λ p. SpendsOnOne (cost_if_there (option_map (record_cost_of world path) p)) (evaluation_cost world (option_map (pair_with path) p))
     (evaluations_of (option_map (pair_with path) p)) spent) (sym placed) is
-
-no_cost : SpendsOnOne 0 0 0 no_spending
-no_cost = record { few = omega arith; paid = inl refl }
-
--- nothing, if none is there
-pub spends-none : (world : World) (sought : Sought) → place world (path_sought sought).directory ≡ None → SpendsFor world (need_of (question_sought sought)) no_spending
-spends-none world (Value asked) none =
-    subst (λ p. SpendsOnOne (cost_if_there (option_map (value_cost_of world asked) p)) (evaluation_cost world (option_map (pair_with asked.path) p))
-    (evaluations_of (option_map (pair_with asked.path) p)) no_spending) (sym none) no_cost
-spends-none world (Record path) none =
-    subst (λ p. SpendsOnOne (cost_if_there (option_map (record_cost_of world path) p)) (evaluation_cost world (option_map (pair_with path) p))
-    (evaluations_of (option_map (pair_with path) p)) no_spending) (sym none) no_cost
 
 with_more : (most units cost more : ℕ) → units ≤ most → units ≤ cost → units ≤ min (cost + more) most
 with_more most units cost more small less = omega (arith, small, less)

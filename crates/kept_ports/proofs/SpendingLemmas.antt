@@ -227,13 +227,6 @@ one_fewer after before is = omega (arith, is)
 pub fewer : RefreshingPays → (world : World) (old new : RefreshView) (spent : Spent) → RenewsOne world old new spent → count_left world new.rows < count_left world old.rows
 fewer law world old new spent renewed = one_fewer (count_left world new.rows) (count_left world old.rows) (law.fewer world old new spent renewed)
 
--- nothing was spent before
-pub after_nothing : (spent : Spent) → spent.units ≤ 2 ^ 64 - 1 → spent.checks ≤ 2 ^ 64 - 1 → spent_together no_spending spent ≡ spent
-after_nothing spent units checks = λ i. record { units = capped spent.units units i; checks = capped spent.checks checks i }
-  where
-    capped : (n : ℕ) → n ≤ 2 ^ 64 - 1 → min (0 + n) (2 ^ 64 - 1) ≡ n
-    capped n small = omega (arith, small)
-
 -- nothing is spent after
 pub nothing_more : (spent more : Spent) → more ≡ no_spending → spent.units ≤ 2 ^ 64 - 1 → spent.checks ≤ 2 ^ 64 - 1 → spent ≡ spent_together spent more
 nothing_more spent more none units checks =
@@ -241,11 +234,3 @@ nothing_more spent more none units checks =
   where
     whole : (n : ℕ) → n ≤ 2 ^ 64 - 1 → n ≡ min (n + 0) (2 ^ 64 - 1)
     whole n small = omega (arith, small)
-
--- what isn't about the index is spent as without rows
-pub kept_is : (world : World) (refresh : RefreshView) (need : Need) (spent : Spent) → is_of_index need ≡ false → SpendsOnKept world refresh need spent → SpendsFor world need spent
-kept_is world refresh NoNeed spent other is = is
-kept_is world refresh (ValueNeed asked) spent other is = is
-kept_is world refresh (RecordNeed path) spent other is = is
-kept_is world refresh RootsNeed spent other is = absurd cc
-kept_is world refresh IndexNeed spent other is = absurd cc

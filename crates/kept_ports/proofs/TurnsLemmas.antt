@@ -1,7 +1,5 @@
 -- How many turns may follow, and what one of them spends.
-use Rattle.std.proofs.Common.{◌≡◌, ◌≤◌, ◌<◌, ◌+◌, ◌-◌, ◌*◌, ℕ, zero, suc, true, false, List, [], length, Some, Result, Ok, Err, IfOk, sym, ap, subst, refl, arith}
-use Rattle.std.specs.Prelude.{option_map, option_to_list}
-use Rattle.mk_paths.specs.Place.{place}
+use Rattle.std.proofs.Common.{◌≡◌, ◌≤◌, ◌<◌, ◌+◌, ◌-◌, ◌*◌, ℕ, zero, suc, true, false, List, [], length, Result, Ok, Err, IfOk, sym, ap, subst, refl, arith}
 use Rattle.mk_paths.specs.World.{World}
 use Rattle.mk_eval.specs.Costs.{CostFew, value_units}
 use Rattle.mk_eval.specs.Meaning.{value_of}
@@ -26,7 +24,7 @@ use Rattle.index_keep.specs.Shown.{ShownRows}
 use Rattle.index_keep.specs.declared.asking.Asked.{Asked}
 use Rattle.index_keep.specs.declared.asking.AskTurned.{AskTurned}
 use Rattle.index_keep.specs.declared.asking.AskTurned.TheVariants.{More, Done}
-use Rattle.kept_ports.specs.Evaluating.{HasLooked, cost_sought, is_of_port, path_sought, question_sought}
+use Rattle.kept_ports.specs.Evaluating.{HasLooked, cost_sought, is_of_port}
 use Rattle.kept_ports.specs.Pending.{StaysWithin}
 use Rattle.kept_ports.specs.Spending.{SpendsOnKept, spent_between}
 use Rattle.kept_ports.specs.TurnsLeft.{LeavesFewer, open_turns, turns_after, turns_of_refresh}
@@ -34,7 +32,6 @@ use Rattle.kept_ports.specs.declared.pending.CallTurned.{CallTurned}
 use Rattle.kept_ports.specs.declared.pending.CallTurned.TheVariants as turned
 use Rattle.kept_ports.specs.declared.sought.Sought.{Sought}
 use Rattle.kept_ports.specs.declared.sought.Sought.TheVariants.{Value, Record}
-use Rattle.kept_ports.proofs.PortLemmas.{pair_with}
 use Rattle.kept_ports.proofs.SpendingLemmas.{left_costs_no_more, left_takes_no_more}
 
 pub if_ok : {A E : Type 0} {P Q : A → Type 0} (result : Result A E) → ((value : A) → P value → Q value) → IfOk result P → IfOk result Q
@@ -48,21 +45,6 @@ pub open_less : (evaluations cost before after : ℕ) → before + 1000 ≤ afte
     → open_turns evaluations cost after < open_turns evaluations cost before
 open_less evaluations cost before after more within = omega (arith, more, within)
 
-open_some : (evaluations cost spent : ℕ) → evaluations ≡ 1 → 0 < open_turns evaluations cost spent
-open_some evaluations cost spent one = omega (arith, one)
-
-one_rests : (world : World) (sought : Sought) (makefile : List ℕ) → place world (path_sought sought).directory ≡ Some makefile
-    → length (rests_for world (need_of (question_sought sought))) ≡ 1
-one_rests world (Value asked) makefile placed = subst (λ p. length (option_to_list (option_map (pair_with asked.path) p)) ≡ 1) (sym placed) refl
-one_rests world (Record path) makefile placed = subst (λ p. length (option_to_list (option_map (pair_with path) p)) ≡ 1) (sym placed) refl
-
--- one turn at least may follow, if the makefile is there
-pub some-after : (world : World) (sought : Sought) (makefile : List ℕ) (spent : ℕ) → place world (path_sought sought).directory ≡ Some makefile
-    → 0 < turns_after world (question_sought sought) spent
-some-after world sought makefile spent placed =
-    let question = question_sought sought in
-    open_some (length (rests_for world (need_of question))) (cost_for world (need_of question)) spent (one_rests world sought makefile placed)
-
 -- an evaluation that went on, or waits for the next turn
 pub fewer-after : (world : World) (question : Question) (before after : Spent) → total_of before + 1000 ≤ total_of after → StaysWithin world question after
     → turns_after world question (total_of after) < turns_after world question (total_of before)
@@ -73,10 +55,6 @@ fewer-after world question before after more within =
 pub all-acted : (before after spent : Spent) → IsUpFrom before after → spent ≡ spent_between before after → 1000 ≤ total_of spent → total_of before + 1000 ≤ total_of after
 all-acted before after spent up is enough =
     omega (arith, up.units, up.checks, ap (λ (s : Spent). s.units) is, ap (λ (s : Spent). s.checks) is, enough)
-
-pub few-between : (most : ℕ) (before after spent : Spent) → spent ≡ spent_between before after → total_of after ≤ total_of before + most → IsUpFrom before after → total_of spent ≤ most
-few-between most before after spent is few up =
-    omega (arith, ap (λ (s : Spent). s.units) is, ap (λ (s : Spent). s.checks) is, few, up.units, up.checks)
 
 -- ---- a turn of an evaluation, after a look in the same turn
 
@@ -199,9 +177,6 @@ fewer-still world refresh question turns more (turned.More under_way spent) up f
 fewer-still world refresh question turns more (turned.Done prepared spent) up fewer = tt
 
 -- ---- what the answer spends
-
-none_left : (units cost checks count : ℕ) → cost ≡ 0 → count ≡ 0 → units ≤ cost → checks ≤ 1028 * count → units + checks ≤ 51000
-none_left units cost checks count free none few less = omega (arith, free, none, few, less)
 
 rows_few : (world : World) (refresh : RefreshView) (spent : Spent) → paths_left world refresh.rows ≡ [] → SpendsOnRows world refresh spent → total_of spent ≤ 51000
 rows_few world refresh spent none spends =

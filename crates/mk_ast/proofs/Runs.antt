@@ -1,32 +1,10 @@
 -- The run of passing bytes that a text begins with.
-use Rattle.std.proofs.Common.{◌≡◌, ◌&&◌, nat_le, true≢false, ℕ, zero, suc, ◌+◌, ◌<◌, ◌≤◌, ⊎_elim, add-one, Bool, true, false, List, [], ◌∷◌, length, drop, get_or, IsUtf8, IsCharBoundary, sym, ap, subst, ◌∙◌, arith}
+use Rattle.std.proofs.Common.{◌≡◌, ◌&&◌, nat_le, true≢false, ℕ, zero, suc, ◌+◌, ◌<◌, ◌≤◌, ⊎_elim, add-one, Bool, true, false, List, [], ◌∷◌, length, get_or, IsUtf8, IsCharBoundary, sym, subst, arith}
 use Rattle.std.proofs.lemmas.Bool.{cond-true, cond-false, cases_Bool, or_cases, leb-true}
 use Rattle.std.proofs.lemmas.Str.{IsCharBoundary-start, IsCharBoundary-after_ascii}
 use Rattle.std.specs.Char.{is_ascii_alphabetic}
 use Rattle.std.specs.Int.{is_in_range}
-use Rattle.std.proofs.lemmas.List.{drop_more, drop_all}
 use Rattle.std.specs.List.{prefix_len}
-
--- the bytes in front of a place all pass
-abbrev pub RunsTo : (ℕ → Bool) → List ℕ → ℕ → Type 0
-RunsTo p text at = prefix_len p text ≡ at + prefix_len p (drop at text)
-
-pub run-next : (p : ℕ → Bool) (text : List ℕ) (at : ℕ) → at < length text → p (get_or text at 0) ≡ true → RunsTo p text at → RunsTo p text (at + 1)
-run-next p text at near passes so_far =
-    let step : prefix_len p (drop at text) ≡ 1 + prefix_len p (drop (at + 1) text) =
-    ap (prefix_len p) (drop_more text at 0 near) ∙ cond-true (p (get_or text at 0)) (1 + prefix_len p (drop (at + 1) text)) 0 passes in
-    omega (arith, so_far, step)
-
-pub run-stops : (p : ℕ → Bool) (text : List ℕ) (at : ℕ) → at < length text → p (get_or text at 0) ≡ false → RunsTo p text at → at ≡ prefix_len p text
-run-stops p text at near fails so_far =
-    let step : prefix_len p (drop at text) ≡ 0 =
-    ap (prefix_len p) (drop_more text at 0 near) ∙ cond-false (p (get_or text at 0)) (1 + prefix_len p (drop (at + 1) text)) 0 fails in
-    omega (arith, so_far, step)
-
-pub run-ends : (p : ℕ → Bool) (text : List ℕ) (at : ℕ) → length text ≤ at → RunsTo p text at → at ≡ prefix_len p text
-run-ends p text at far so_far =
-    let step : prefix_len p (drop at text) ≡ 0 = ap (prefix_len p) (drop_all at text far) in
-    omega (arith, so_far, step)
 
 run-within : (p : ℕ → Bool) (text : List ℕ) → prefix_len p text ≤ length text
 run-within p [] = omega arith

@@ -1,6 +1,4 @@
-use Rattle.std.specs.Prelude.{◌≡◌, ◌⊎◌, ℕ, List, Result, Err}
-use Rattle.std.proofs.Common.{inl, inr}
-use Rattle.mk_base.specs.Stopping.{StopsAt, StopsPurelyAt}
+use Rattle.std.specs.Prelude.{◌≡◌, ◌⊎◌, ℕ, List}
 use Rattle.mk_base.specs.declared.stopping.PureStop.{PureStop}
 use Rattle.mk_base.specs.declared.stopping.PureStop.TheVariants as pure
 use Rattle.mk_base.specs.declared.stopping.Stop.{Stop}
@@ -15,21 +13,7 @@ IsBlamed name line (stops.Fault kind) stop = (stop ≡ stops.Fault (fault_at kin
 IsBlamed name line stops.Store stop = stop ≡ stops.Store
 IsBlamed name line stops.Memory stop = stop ≡ stops.Memory
 
--- If work ends in a fault with its place, then the stop that `IsBlamed` gives for this fault is a stop of
--- the work.
-pub StopsAt-blamed : {A M : Type 0} (name : List ℕ) (line : ℕ) (kind : FaultKind) (stop : Stop FaultAt) (state : M)
-    (outcome : Result (A × M) (FaultAt × M)) → IsBlamed name line (stops.Fault kind) stop
-    → outcome ≡ Err (fault_at kind name line, state) → StopsAt stop state outcome
-StopsAt-blamed name line kind stop state outcome blamed ends =
-    elim blamed [ inl is ↦ rw is ends | inr is ↦ rw is tt ]
-
 -- the same for work that looks at no file
 abbrev pub IsBlamedPurely : List ℕ → ℕ → PureStop FaultKind → PureStop FaultAt → Type 0
 IsBlamedPurely name line (pure.Fault kind) stop = (stop ≡ pure.Fault (fault_at kind name line)) ⊎ (stop ≡ pure.Memory)
 IsBlamedPurely name line pure.Memory stop = stop ≡ pure.Memory
-
-pub StopsPurelyAt-blamed : {A M : Type 0} (name : List ℕ) (line : ℕ) (kind : FaultKind) (stop : PureStop FaultAt) (state : M)
-    (outcome : Result (A × M) (FaultAt × M)) → IsBlamedPurely name line (pure.Fault kind) stop
-    → outcome ≡ Err (fault_at kind name line, state) → StopsPurelyAt stop state outcome
-StopsPurelyAt-blamed name line kind stop state outcome blamed ends =
-    elim blamed [ inl is ↦ rw is ends | inr is ↦ rw is tt ]

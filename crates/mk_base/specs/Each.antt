@@ -48,29 +48,3 @@ module _ {M F S X Y : Type 0} (turn : S → X → Work M F S) (view : Y → X) w
   -- a walk with no item left gives the value that it has
   pub each-end : (s : S) (items : List Y) (m : M) → each turn s (from items (length items)) m ≡ Ok (s, m)
   each-end s items m = ap (λ xs. each turn s (map view xs) m) (drop-length items) ∙ each-nil s m
-
-map-id : {X : Type 0} (xs : List X) → map (λ x. x) xs ≡ xs
-map-id [] = refl
-map-id (x ∷ xs) = ap (λ rest. x ∷ rest) (map-id xs)
-
--- the same if the items are taken as they are
-module _ {M F S X : Type 0} (turn : S → X → Work M F S) where
-  plain : (s : S) (items : List X) (i : ℕ) (m : M) → each turn s (drop i items) m ≡ each turn s (from turn (λ x. x) items i) m
-  plain s items i m = ap (λ xs. each turn s xs m) (sym (map-id (drop i items)))
-
-  -- if the turn of the next item gives a value, the walk goes on after that item
-  pub each-item : (s next : S) (items : List X) (i : ℕ) (default item : X) (m m' : M) → i < length items
-      → item ≡ get_or items i default → turn s item m ≡ Ok (next, m')
-      → each turn s (drop i items) m ≡ each turn next (drop (i + 1) items) m'
-  each-item s next items i default item m m' below is value =
-      plain s items i m ∙ each-value turn (λ x. x) s next items i default item m m' below is value ∙ sym (plain next items (i + 1) m')
-
-  -- if the turn of the next item stops, so does the walk
-  pub each-item-stop : (s : S) (items : List X) (i : ℕ) (default item : X) (m : M) (stop : F × M) → i < length items
-      → item ≡ get_or items i default → turn s item m ≡ Err stop → each turn s (drop i items) m ≡ Err stop
-  each-item-stop s items i default item m stop below is stops =
-      plain s items i m ∙ each-stop turn (λ x. x) s items i default item m stop below is stops
-
-  -- a walk with no item left gives the value that it has
-  pub each-all : (s : S) (items : List X) (i : ℕ) (m : M) → i ≡ length items → each turn s (drop i items) m ≡ Ok (s, m)
-  each-all s items i m end = ap (λ k. each turn s (drop k items) m) end ∙ plain s items (length items) m ∙ each-end turn (λ x. x) s items m

@@ -1,4 +1,3 @@
-mod Blaming
 mod Costs
 mod Joining
 pub mod Searching

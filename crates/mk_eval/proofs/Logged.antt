@@ -41,13 +41,6 @@ module _ (files other : FileMap) (settings : Settings) (name : List ℕ) (flavor
   abbrev spending : ℕ
   spending = (left (both.ends (full UNITS))).spent
 
-  -- the meaning, beside any log
-  means-beside : (log : Option (List Question)) → evaluated (evaluation (files, settings) name flavors (fresh UNITS log)) ≡ means (files, settings) name flavors
-  means-beside log =
-      ap evaluated (both.is (full UNITS) log)
-      ∙ evaluated-beside (with_questions log (both.asks (full UNITS))) (with_questions None (both.asks (full UNITS))) (both.ends (full UNITS))
-      ∙ sym (ap evaluated (both.is (full UNITS) None))
-
   asked-is : (limit : ℕ) → questions_asked (files, settings) name flavors limit ≡ both.asks (full limit)
   asked-is limit =
       ap (λ (end : Result (EvalState × Account) (FaultAt × Account)). unwrap_or (left end).log []) (both.is (full limit) (Some []))
@@ -58,17 +51,6 @@ module _ (files other : FileMap) (settings : Settings) (name : List ℕ) (flavor
   asked-whole =
       let few : spending ≤ UNITS = both.steady.within (full UNITS) (omega arith) in
       sym (both.same (full UNITS) spending few (omega arith)) ∙ sym (asked-is spending)
-
-  -- what is left of a log
-  log-left : (log : Option (List Question)) (end : Result (EvalState × Account) (FaultAt × Account)) → evaluation (files, settings) name flavors (fresh UNITS log) ≡ end
-      → (left end).log ≡ with_questions log (questions_asked (files, settings) name flavors (left end).meter.spent)
-  log-left log end is =
-      let whole = sym is ∙ both.is (full UNITS) log in
-      let left_by = with_questions log (both.asks (full UNITS)) in
-      let spends : (left end).meter.spent ≡ spending = ap (λ (end : Result (EvalState × Account) (FaultAt × Account)). (left end).meter.spent) whole ∙ ap (λ (m : Meter). m.spent) (meter-beside left_by (both.ends (full UNITS))) in
-      ap (λ (end : Result (EvalState × Account) (FaultAt × Account)). (left end).log) whole
-      ∙ log-beside left_by (both.ends (full UNITS))
-      ∙ ap (with_questions log) (asked-whole ∙ ap (questions_asked (files, settings) name flavors) (sym spends))
 
   cost-is : cost_of (means (files, settings) name flavors) ≡ spending
   cost-is = ap (λ end. cost_of (evaluated end)) (both.is (full UNITS) None) ∙ cost-beside (with_questions None (both.asks (full UNITS))) (both.ends (full UNITS))

@@ -1,6 +1,6 @@
 -- The search for a file in the trees of a search path.
-use Rattle.std.proofs.Common.{◌≡◌, ◌<◌, ◌≤◌, ◌+◌, ◌∙◌, ℕ, List, ◌∷◌, map, drop, length, get_or, option_map, false, is_some, Option, Some, None, Result, Ok, String, string_bytes, Global, refl, sym, ap}
-use Rattle.std.proofs.lemmas.List.{drop_more, drop_all}
+use Rattle.std.proofs.Common.{◌≡◌, ◌<◌, ◌+◌, ◌∙◌, ℕ, List, ◌∷◌, map, drop, length, get_or, option_map, false, is_some, Option, Some, None, Result, Ok, String, string_bytes, Global, refl, sym, ap}
+use Rattle.std.proofs.lemmas.List.{drop_more}
 use Rattle.mk_base.specs.declared.faults.FaultKind.{FaultKind}
 use Rattle.mk_base.specs.Meter.{Meter}
 use Rattle.mk_base.specs.Outcome.{after}
@@ -29,9 +29,6 @@ module _ (place : Place) (trees : List (String Global)) (file : List ℕ) (state
       ≡ after (open_if_there place state (resolved (name_under (string_bytes tree) file)) a) (opened_or (open_first place (names_in_trees (map string_bytes (drop (index + 1) trees)) (Some file))))
   first-more index tree within is =
       ap (λ left. open_first place (names_in_trees (map string_bytes left) (Some file)) state a) (drop_more trees index tree within ∙ ap (λ one. one ∷ drop (index + 1) trees) (sym is))
-
-  pub first-none : (index : ℕ) → length trees ≤ index → from_tree place trees file index state a ≡ Ok ((state, None), a)
-  first-none index past = ap (λ left. open_first place (names_in_trees (map string_bytes left) (Some file)) state a) (drop_all index trees past)
 
 none-found : (found : Option Included) → is_some found ≡ false → found ≡ None
 none-found None is = refl

@@ -49,12 +49,6 @@ abbrev pub with_units : ℕ → PureStop FaultAt → PureStop Failed
 with_units cost (pure.Fault fault) = pure.Fault (record { fault = fault; cost = cost })
 with_units cost pure.Memory = pure.Memory
 
--- the stop; a fault gets the units that were spent
-abbrev pub with_cost : ℕ → Stop FaultAt → Stop Failed
-with_cost cost (stops.Fault fault) = stops.Fault (record { fault = fault; cost = cost })
-with_cost cost stops.Store = stops.Store
-with_cost cost stops.Memory = stops.Memory
-
 -- What an evaluation left of a world of files. At its end, and at a fault, these questions were asked
 -- and answered: those in a budget of the units that were spent. It stops at `Store` only if the files
 -- failed with that. It stops at `Memory` if the files failed with that, or if there was no memory for

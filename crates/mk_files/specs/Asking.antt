@@ -1,14 +1,10 @@
 -- Asking about files, and what it costs. Which questions are counted, and how many there may be, is this
 -- project's choice.
 use Rattle.std.specs.Prelude.{ℕ, Bool, List, [], ◌∷◌, ◌++◌, Option, option_map, Result, Ok, Err}
-use Rattle.std.proofs.Common.{ap}
 use Rattle.std.specs.FinMap.{get, contains_key}
-use Rattle.mk_base.specs.declared.stopping.Stop.{Stop}
-use Rattle.mk_base.specs.declared.stopping.Stop.TheVariants as stops
 use Rattle.mk_base.specs.declared.faults.FaultKind.{FaultKind}
 use Rattle.mk_base.specs.Meter.{Meter, question}
 use Rattle.mk_base.specs.Outcome.{Work, ◌>>=◌}
-use Rattle.mk_base.specs.Stopping.{Gives}
 use Rattle.mk_paths.specs.World.{FileMap}
 use Rattle.mk_paths.specs.FilesView.{Reply, Presence, Contents, Question, FilesView}
 
@@ -51,12 +47,3 @@ ask_has files name = quietly question >>= λ _. look_has files name
 -- the question for the content of the file of this name, if it is there, counted in the same way
 abbrev pub ask_read : FileMap → List ℕ → Work Account FaultKind (Option (List ℕ))
 ask_read files name = quietly question >>= λ _. look_read files name
-
--- a call that does exactly some work over the meter does exactly that work over the account, with any log
-pub Gives-quietly : {R A F : Type 0} (view : R → A) (result : Result R (Stop F)) (meter : Meter)
-    (log : Option (List Question)) (outcome : Result (A × Meter) (F × Meter)) → Gives view result meter outcome
-    → Gives view result (record { meter = meter; log = log }) (beside log outcome)
-Gives-quietly view (Ok x) meter log outcome is = ap (beside log) is
-Gives-quietly view (Err (stops.Fault fault)) meter log outcome is = ap (beside log) is
-Gives-quietly view (Err stops.Store) meter log outcome is = tt
-Gives-quietly view (Err stops.Memory) meter log outcome is = tt

@@ -2,11 +2,8 @@
 use Rattle.std.specs.Prelude.{◌≡◌, ◌⊎◌, List, [], ◌∷◌, ◌++◌, ℕ}
 use Rattle.std.proofs.Common.{ap, ◌∙◌, inl, inr}
 use Rattle.std.specs.FinMap.{get}
-use Rattle.mk_base.specs.declared.stopping.PureStop.{PureStop}
-use Rattle.mk_base.specs.declared.stopping.PureStop.TheVariants as pure
 use Rattle.mk_base.specs.declared.stopping.Stop.{Stop}
 use Rattle.mk_base.specs.declared.stopping.Stop.TheVariants as stops
-use Rattle.mk_base.specs.Stopping.{stop_of_pure}
 use Rattle.mk_paths.specs.declared.asking.FilesFault.{FilesFault}
 use Rattle.mk_paths.specs.declared.asking.FilesFault.TheVariants as faults
 use Rattle.mk_paths.specs.FilesView.{Contents, Question, FilesView, noted, failed, noted-twice, noted-nothing}
@@ -51,10 +48,6 @@ abbrev pub LeavesAtStop : {F : Type 0} → (FilesFault → Type 0) → FilesView
 LeavesAtStop may old new (stops.Fault fault) = AfterQuestions old new
 LeavesAtStop may old new stops.Store = may faults.Store × AfterFailedQuestion old new
 LeavesAtStop may old new stops.Memory = AfterQuestions old new ⊎ (may faults.Memory × AfterFailedQuestion old new)
-
--- nothing was asked
-pub AfterQuestions-nothing : (world : FilesView) → AfterQuestions world world
-AfterQuestions-nothing world = record { questions = []; in_log = noted-nothing world }
 
 -- a question that was answered
 pub AfterQuestions-one : (old new : FilesView) (question : Question) → new ≡ noted old (question ∷ []) → AfterQuestions old new
@@ -101,9 +94,3 @@ pub LeavesAtStop-one : {F : Type 0} (may : FilesFault → Type 0) (old new : Fil
 LeavesAtStop-one may old new (stops.Fault fault) asks = record { questions = []; in_log = asks ∙ noted-nothing old }
 LeavesAtStop-one may old new stops.Store asks = (asks.0, vain old new asks.1)
 LeavesAtStop-one may old new stops.Memory asks = inr (asks.0, vain old new asks.1)
-
--- work that looks at no file never stops at `Store`
-pub LeavesAtStop-nothing : {F : Type 0} (may : FilesFault → Type 0) (world : FilesView) (stop : PureStop F)
-    → LeavesAtStop may world world (stop_of_pure stop)
-LeavesAtStop-nothing may world (pure.Fault fault) = AfterQuestions-nothing world
-LeavesAtStop-nothing may world pure.Memory = inl (AfterQuestions-nothing world)

@@ -1,32 +1,19 @@
 -- What a function that does work on makefiles leaves.
-use Rattle.std.specs.Prelude.{◌≡◌, [], ◌∷◌, Result, Ok, Err, IfOk, IfErr}
-use Rattle.std.proofs.Common.{sym, subst}
+use Rattle.std.specs.Prelude.{◌≡◌, Result, Ok, Err}
 use Rattle.mk_base.specs.Meter.{Meter, IsLater, IsLater-on}
 use Rattle.mk_base.specs.Outcome.{Work}
 use Rattle.mk_base.specs.Stopping.{Gives, StopsAt-whole}
 use Rattle.mk_base.specs.declared.stopping.Stop.{Stop}
 use Rattle.mk_paths.specs.declared.asking.FilesFault.{FilesFault}
-use Rattle.mk_paths.specs.FilesView.{Question, FilesView, noted}
+use Rattle.mk_paths.specs.FilesView.{FilesView}
 use Rattle.mk_files.specs.Asking.{Account, account}
-use Rattle.mk_files.specs.Looking.{AfterQuestions, AfterQuestions-one, AfterQuestions-on, AsksAndStops}
-use Rattle.mk_files.specs.Looking.{LeavesAtStop, LeavesAtStop-one, LeavesAtStop-on}
+use Rattle.mk_files.specs.Looking.{AfterQuestions}
+use Rattle.mk_files.specs.Looking.{LeavesAtStop, LeavesAtStop-on}
 
 -- The questions that work asked: the files answered them, or failed as they may, where it stopped.
 abbrev pub Asks : {R F : Type 0} → (FilesFault → Type 0) → Result R (Stop F) → FilesView → FilesView → Type 0
 Asks may (Ok x) old new = AfterQuestions old new
 Asks may (Err stop) old new = LeavesAtStop may old new stop
-
--- some questions, and then those of more work
-pub Asks-on : {R F : Type 0} (may : FilesFault → Type 0) (result : Result R (Stop F)) (old middle new : FilesView)
-    → AfterQuestions old middle → Asks may result middle new → Asks may result old new
-Asks-on may (Ok x) old middle new first second = AfterQuestions-on old middle new first second
-Asks-on may (Err stop) old middle new first second = LeavesAtStop-on may old middle new stop first second
-
--- one question
-pub Asks-one : {R F : Type 0} (may : FilesFault → Type 0) (result : Result R (Stop F)) (old new : FilesView) (question : R → Question)
-    → IfOk result (λ answer. new ≡ noted old (question answer ∷ [])) → IfErr result (AsksAndStops may old new) → Asks may result old new
-Asks-one may (Ok answer) old new question answered stops = AfterQuestions-one old new (question answer) answered
-Asks-one may (Err stop) old new question answered stops = LeavesAtStop-one may old new stop stops
 
 -- A function did this work, and gave this result, seen by view. `old` is its budget and the files before,
 -- `new` is the same afterwards. The files may fail with these faults.
@@ -48,16 +35,5 @@ pub DoesWork-stops : {R S A B F : Type 0} (may : FilesFault → Type 0) (view : 
 DoesWork-stops may view part_view stop work part old middle new asked later passes last = record {
   gives = StopsAt-whole stop _ _ _ passes last.gives;
   asks = LeavesAtStop-on may old.1 middle.1 new.1 stop asked last.asks;
-  later = IsLater-on later last.later;
-}
-
--- some questions, and then the rest of the work
-pub DoesWork-rest : {R A F : Type 0} (may : FilesFault → Type 0) (view : R → A) (result : Result R (Stop F)) (work rest : Work Account F A)
-    (old middle new : Meter × FilesView) → AfterQuestions old.1 middle.1 → IsLater old.0 middle.0
-    → work (account old.0 old.1) ≡ rest (account middle.0 middle.1)
-    → DoesWork may view result rest middle new → DoesWork may view result work old new
-DoesWork-rest may view result work rest old middle new asked later same last = record {
-  gives = subst (λ outcome. Gives view result (account new.0 new.1) outcome) (sym same) last.gives;
-  asks = Asks-on may result old.1 middle.1 new.1 asked last.asks;
   later = IsLater-on later last.later;
 }

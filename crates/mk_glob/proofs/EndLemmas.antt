@@ -160,13 +160,6 @@ pub UnclosedWithin-after : (pattern rest : List PatternSign) (n : ℕ) → EndsI
 UnclosedWithin-after pattern rest n ends known = λ front part e h.
     known (ends.front ++ front) part (ends.joins ∙ ap (λ t. ends.front ++ t) e ∙ sym (append_assoc ends.front front part)) h
 
-none_left : (part : List PatternSign) → widths part ≤ 0 → bracket part ≡ None
-none_left [] h = refl
-none_left (sign ∷ rest) h = absurd (omega (arith, width_positive sign))
-
-pub UnclosedWithin-start : (pattern : List PatternSign) → UnclosedWithin pattern 0
-UnclosedWithin-start pattern = λ front part e h. none_left part h
-
 -- what is learnt at an end holds for the whole
 pub UnclosedWithin-learnt : (pattern rest : List PatternSign) (old new : ℕ) → EndsIn pattern rest → Learns rest old new → UnclosedWithin pattern old
     → UnclosedWithin pattern new

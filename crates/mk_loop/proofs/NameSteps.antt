@@ -14,7 +14,7 @@ use Rattle.mk_ref.specs.declared.opening.Opening.TheVariants.{Letter, Marked}
 use Rattle.mk_ref.specs.Units.{TextUnit, Byte, Reference, source, sources, is_colon, before_colon, following_colon, opening_of, marked_first, unit_before, with_more, up_to_mark, first_unit}
 use Rattle.mk_ref.proofs.UnitSteps.{up_to-nil, up_to-cons}
 use Rattle.mk_ref.proofs.ScanSteps.{up_to-unit, first-opening, first-marked}
-use Rattle.mk_ref.proofs.InsideSteps.{units_before, OccursAt, range_join, range_none, before-none, after-none}
+use Rattle.mk_ref.proofs.InsideSteps.{units_before, OccursAt, range_join, before-none, after-none}
 use Rattle.mk_loop.specs.LoopWords.{is_reference}
 use Rattle.mk_loop.specs.Places.{NameEnds, EndsName}
 
@@ -27,21 +27,6 @@ pub record NameSoFar (text : List ℕ) (start mark at : ℕ) : Type 0 where
   pub plain : list_any is_reference units ≡ false
   pub uncoloned : following_colon units ≡ None
   pub name : sources units ≡ slice_range text start at
-
-before-nothing : (read : Option (List TextUnit × List ℕ)) → read ≡ option_map (units_before []) read
-before-nothing None = refl
-before-nothing (Some x) = refl
-
-pub name-none : (text : List ℕ) (start mark : ℕ) → start ≤ length text → NameSoFar text start mark start
-name-none text start mark near = record {
-  units = [];
-  read = before-nothing (up_to_mark mark (drop start text));
-  later = omega arith;
-  within = near;
-  plain = refl;
-  uncoloned = refl;
-  name = sym (range_none text start);
-}
 
 before-one : (units : List TextUnit) (unit : TextUnit) (read : Option (List TextUnit × List ℕ))
     → option_map (units_before units) (option_map (unit_before unit) read) ≡ option_map (units_before (units ++ unit ∷ [])) read

@@ -1,19 +1,13 @@
 -- A pass at the beginning and at the end of a line.
-use Rattle.std.proofs.Common.{◌≡◌, ◌≢◌, ◌≤◌, ℕ, List, [], ◌∷◌, length, drop, map, reverse, Err, refl, sym, ap, subst, ◌∙◌}
+use Rattle.std.proofs.Common.{◌≡◌, ◌≤◌, ℕ, List, [], length, drop, map, reverse, sym, ap, subst, ◌∙◌}
 use Rattle.std.specs.Prelude.{slice_range}
 use Rattle.std.proofs.Math.ListN.{drop_of_length-le}
 use Rattle.std.proofs.lemmas.Option.{none-some}
-use Rattle.mk_base.specs.declared.faults.FaultKind.{FaultKind}
-use Rattle.mk_base.specs.declared.faults.FaultKind.TheVariants as kinds
-use Rattle.mk_base.specs.declared.stopping.PureStop.{PureStop}
-use Rattle.mk_base.specs.declared.stopping.PureStop.TheVariants as pure
 use Rattle.mk_base.specs.Meter.{Meter}
 use Rattle.mk_base.specs.Outcome.{after}
-use Rattle.mk_base.specs.Stopping.{StopsPurelyAt}
 use Rattle.mk_ref.specs.Units.{cut, cut_on, units_of, left_of}
 use Rattle.mk_ref.proofs.UnitSteps.{up_to-nil, cut-next, first-nil}
 use Rattle.mk_env.specs.Texts.{Variables}
-use Rattle.mk_env.specs.Refusals.{IsUncut}
 use Rattle.mk_loop.specs.declared.passing.Pass.{Pass}
 use Rattle.mk_loop.specs.LoopWords.{LoopWords}
 use Rattle.mk_loop.specs.Putting.{nothing, as_written, finished, where_closed, put_words}
@@ -40,15 +34,6 @@ module _ (words : LoopWords) (variables : Variables) where
   goes-first line pass m whole joined copied at =
       ap (λ l. where_closed words variables line l m) whole ∙ ap (λ r. after r finished) (put-units words variables nothing line m)
       ∙ ap (λ s. goes words variables (Outermost (units_of line)) s m) (sym (here-first line pass joined copied at))
-
-  left-over : (line left : List ℕ) (m : Meter) → left ≢ [] → where_closed words variables line left m ≡ Err (kinds.Reference, m)
-  left-over line [] m some = absurd (some refl)
-  left-over line (b ∷ left) m some = refl
-
-  -- a line in which a reference doesn't end
-  pub goes-unclosed : (line : List ℕ) (stop : PureStop FaultKind) (m : Meter) → IsUncut line stop → StopsPurelyAt stop m (put_words words variables line m)
-  goes-unclosed line (pure.Fault kind) m uncut = left-over line (left_of line) m uncut.1 ∙ ap (λ found. Err (found, m)) (sym uncut.0)
-  goes-unclosed line pure.Memory m uncut = tt
 
   left-end : (left : Left) → IsLeft left [] → left ≡ Outermost []
   left-end (Outermost units) is = ap (λ x. Outermost x.0) (sym is ∙ cut-next [] ∙ ap (cut_on cut []) first-nil)

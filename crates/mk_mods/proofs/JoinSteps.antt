@@ -2,7 +2,7 @@
 use Rattle.std.proofs.Common.{◌≡◌, Bool, true, false, ℕ, ◌+◌, ◌<◌, ◌≤◌, List, [], ◌∷◌, ◌++◌, length, get_or, drop, map, refl, sym, ap, subst, ◌∙◌, arith, append_assoc, length-append, Option, Some, None}
 use Rattle.std.specs.Prelude.{filter}
 use Rattle.std.specs.List.{join_with_byte}
-use Rattle.std.proofs.lemmas.List.{drop_more, drop_all, drop-map, length-map}
+use Rattle.std.proofs.lemmas.List.{drop_more, drop-map}
 use mathlib.Core.Bool.{beq}
 use Rattle.mk_mods.specs.Applied.{kept}
 use Rattle.mk_text.specs.declared.splitting.Span.{Span}
@@ -67,18 +67,12 @@ pub joining-over : (limit : ℕ) (whole made word : List ℕ) (rest later : List
 joining-over limit whole made word rest later so_far e =
     omega (arith, onto-grows (with_word made word) later, ap length (sym (ap (onto made) e) ∙ so_far.goes))
 
-pub joining-all : (limit : ℕ) (whole made : List ℕ) (rest : List (List ℕ)) → Joining limit whole made rest → rest ≡ [] → (length made ≤ limit) × (made ≡ whole)
-joining-all limit whole made rest so_far e = (so_far.small, sym (ap (onto made) e) ∙ so_far.goes)
-
 -- the next word, by its place
 pub next-word : (text : List ℕ) (spans : List Span) (words : List (List ℕ)) (at : ℕ) (d : Span) → map (span_text text) spans ≡ words → at < length spans
     → drop at words ≡ span_text text (get_or spans at d) ∷ drop (at + 1) words
 next-word text spans words at d is near =
     ap (drop at) (sym is) ∙ drop-map (span_text text) at spans ∙ ap (map (span_text text)) (drop_more spans at d near)
     ∙ ap (λ l. span_text text (get_or spans at d) ∷ l) (sym (drop-map (span_text text) (at + 1) spans) ∙ ap (drop (at + 1)) is)
-
-pub no-word : (text : List ℕ) (spans : List Span) (words : List (List ℕ)) (at : ℕ) → map (span_text text) spans ≡ words → length spans ≤ at → drop at words ≡ []
-no-word text spans words at is far = drop_all at words (omega (arith, ap length is, length-map spans (span_text text)))
 
 -- what is at least as long as a text that is too long
 pub too_long-over : (text whole : List ℕ) (fault : TextFault) → length text ≤ length whole → IsTooLong text fault → IsTooLong whole fault

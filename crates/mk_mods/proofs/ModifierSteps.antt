@@ -1,6 +1,6 @@
 -- Modifiers read from marks, one on.
-use Rattle.std.proofs.Common.{◌≡◌, ℕ, zero, suc, ◌<◌, ◌≤◌, ◌++◌, true, false, List, [], ◌∷◌, length, Option, Some, None, option_map, refl, sym, ap, ◌∙◌, arith, append_assoc, append-nil}
-use Rattle.std.proofs.lemmas.Bool.{cond-true, cond-false}
+use Rattle.std.proofs.Common.{◌≡◌, ℕ, zero, suc, ◌<◌, ◌≤◌, ◌++◌, true, List, [], ◌∷◌, length, Option, Some, None, option_map, refl, sym, ap, ◌∙◌, arith, append_assoc}
+use Rattle.std.proofs.lemmas.Bool.{cond-true}
 use Rattle.mk_mods.specs.Actions.{Action}
 use Rattle.mk_text.specs.declared.profile.Profile.{Profile}
 use Rattle.mk_mods.specs.declared.reading.ModsFault.{ModsFault}
@@ -33,10 +33,6 @@ reads-first profile (mark ∷ marks) behind action is shorter = record {
   read = ap (and_later (modifiers_by profile (length marks))) is;
 }
 
-pub reads-none : (profile : Profile) (marks : List TextMark) → first_modifier profile marks ≡ None → modifiers_in profile marks ≡ None
-reads-none profile [] none = refl
-reads-none profile (mark ∷ marks) none = ap (and_later (modifiers_by profile (length marks))) none
-
 more-by : (profile : Profile) (marks : List TextMark) (done : List Action) (action : Action) (mark : TextMark) (later rest : List TextMark) (fuel : ℕ) → length (mark ∷ later) ≤ fuel
     → modifiers_in profile marks ≡ actions_after done (after_colon (modifiers_by profile fuel) (mark ∷ later)) → is_char 58 mark ≡ true → first_modifier profile later ≡ Some (action, rest)
     → length rest < length later → ReadsOn profile marks (done ++ action ∷ []) rest
@@ -53,26 +49,6 @@ pub reads-more : (profile : Profile) (marks : List TextMark) (done : List Action
 reads-more profile marks done behind action mark later rest so_far next colon is shorter =
     more-by profile marks done action mark later rest so_far.fuel (omega (arith, so_far.enough, ap length next))
     (so_far.read ∙ ap (λ l. actions_after done (after_colon (modifiers_by profile so_far.fuel) l)) next) colon is shorter
-
-pub reads-other : (profile : Profile) (marks : List TextMark) (done : List Action) (behind : List TextMark) (mark : TextMark) (later : List TextMark) → ReadsOn profile marks done behind
-    → behind ≡ mark ∷ later → is_char 58 mark ≡ false → modifiers_in profile marks ≡ None
-reads-other profile marks done behind mark later so_far next other =
-    so_far.read ∙ ap (λ l. actions_after done (after_colon (modifiers_by profile so_far.fuel) l)) next
-    ∙ ap (actions_after done) (cond-false (is_char 58 mark) (modifiers_by profile so_far.fuel later) None other)
-
-by-none : (profile : Profile) (fuel : ℕ) (marks : List TextMark) → first_modifier profile marks ≡ None → modifiers_by profile fuel marks ≡ None
-by-none profile zero marks none = refl
-by-none profile (suc fuel) marks none = ap (and_later (modifiers_by profile fuel)) none
-
-pub reads-bad : (profile : Profile) (marks : List TextMark) (done : List Action) (behind : List TextMark) (mark : TextMark) (later : List TextMark) → ReadsOn profile marks done behind
-    → behind ≡ mark ∷ later → is_char 58 mark ≡ true → first_modifier profile later ≡ None → modifiers_in profile marks ≡ None
-reads-bad profile marks done behind mark later so_far next colon none =
-    so_far.read ∙ ap (λ l. actions_after done (after_colon (modifiers_by profile so_far.fuel) l)) next
-    ∙ ap (actions_after done) (cond-true (is_char 58 mark) (modifiers_by profile so_far.fuel later) None colon ∙ by-none profile so_far.fuel later none)
-
-pub reads-all : (profile : Profile) (marks : List TextMark) (done : List Action) (behind : List TextMark) → ReadsOn profile marks done behind → behind ≡ [] → modifiers_in profile marks ≡ Some done
-reads-all profile marks done behind so_far none =
-    so_far.read ∙ ap (λ l. actions_after done (after_colon (modifiers_by profile so_far.fuel) l)) none ∙ ap Some (append-nil done)
 
 -- a text without marks, and one whose marks aren't modifiers
 pub modifiers-unmarked : (profile : Profile) (text : List ℕ) (fault : ModsFault) → IsUnread (marks_of text) fault → IsUnread (modifiers_of profile text) fault

@@ -25,10 +25,6 @@ pattern-all whole front escaped mark rest marks so_far next ends =
     ∙ ap (pattern_after front) (cond-true (is_char 58 mark && not escaped) ([], mark ∷ marks) (in_pattern mark (pattern_from (is_char 92 mark) marks)) ends)
     ∙ ap₂ (λ l m. (l, m)) (append-nil front) (sym next)
 
-pub pattern-end : (whole : List ℕ × List TextMark) (front : List ℕ) (escaped : Bool) (rest : List TextMark) → whole ≡ pattern_after front (pattern_from escaped rest) → rest ≡ []
-    → whole ≡ (front, [])
-pattern-end whole front escaped rest so_far none = so_far ∙ ap (λ l. pattern_after front (pattern_from escaped l)) none ∙ ap (λ l. (l, [])) (append-nil front)
-
 -- flags with those that were read before
 abbrev pub flags_after : Bool → Bool → Flags → Flags
 flags_after every once flags = record { every = every || flags.every; once = once || flags.once; behind = flags.behind }
@@ -64,8 +60,3 @@ flags-all whole every once mark rest marks so_far next other more =
     ∙ cond-false (is_char 49 mark) (record later { once = true }) none more)
     ∙ ap₂ (λ a b. record { every = a; once = b; behind = mark ∷ marks }) (or-false every) (or-false once)
     ∙ ap (λ l. record { every = every; once = once; behind = l }) (sym next)
-
-pub flags-end : (whole : Flags) (every once : Bool) (rest : List TextMark) → whole ≡ flags_after every once (flags_of rest) → rest ≡ []
-    → whole ≡ record { every = every; once = once; behind = [] }
-flags-end whole every once rest so_far none =
-    so_far ∙ ap (λ l. flags_after every once (flags_of l)) none ∙ ap₂ (λ a b. record { every = a; once = b; behind = [] }) (or-false every) (or-false once)

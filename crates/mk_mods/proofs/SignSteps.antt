@@ -17,9 +17,6 @@ same : (o : Option (List TextSign × List TextMark)) → o ≡ option_map (signs
 same None = refl
 same (Some read) = refl
 
-pub read-none : (delimiter : ℕ) (marks : List TextMark) → ReadAs delimiter marks [] 0
-read-none delimiter marks = same (signs_from zero delimiter marks)
-
 one_more : (front : List TextSign) (sign : TextSign) (o : Option (List TextSign × List TextMark))
     → option_map (signs_after front) (option_map (sign_before sign) o) ≡ option_map (signs_after (front ++ sign ∷ [])) o
 one_more front sign None = refl
@@ -64,9 +61,6 @@ read-all delimiter marks front at mark so_far next same =
     ∙ ap (λ l. option_map (signs_after front) (signs_from zero delimiter l)) next
     ∙ ap (option_map (signs_after front)) (cond-true (is_char delimiter mark) (Some ([], rest)) (option_map (sign_before found.0) (signs_from (found.1 - 1) delimiter rest)) same)
     ∙ ap (λ l. Some (l, rest)) (append-nil front)
-
-pub read-end : (delimiter : ℕ) (marks : List TextMark) (front : List TextSign) (at : ℕ) → ReadAs delimiter marks front at → drop at marks ≡ [] → signs_from zero delimiter marks ≡ None
-read-end delimiter marks front at so_far none = so_far ∙ ap (λ l. option_map (signs_after front) (signs_from zero delimiter l)) none
 
 -- signs that end in one, with the anchor or without it
 pub without_end-anchor : (front : List TextSign) (last : TextSign) → is_bare 36 last ≡ true → without_end (front ++ last ∷ []) ≡ (true, front)

@@ -1,13 +1,12 @@
 -- The search for a directory's makefile, one tree after another.
-use Rattle.std.proofs.Common.{◌≡◌, ◌∙◌, sym, ap, refl, ℕ, Bool, true, false, cond, List, [], ◌∷◌, ◌++◌, map, Some, None, append_assoc}
-use Rattle.std.proofs.lemmas.List.{append-nil}
+use Rattle.std.proofs.Common.{◌≡◌, ◌∙◌, sym, ap, refl, ℕ, Bool, true, false, cond, List, [], ◌∷◌, ◌++◌, map, Some, append_assoc}
 use Rattle.std.specs.List.{find, cons_option}
 use Rattle.std.specs.Result.{result_ok}
 use Rattle.std.specs.FinMap.{contains_key}
 use Rattle.mk_paths.specs.FileName.{resolved}
 use Rattle.mk_paths.specs.World.{FileMap}
 use Rattle.mk_paths.specs.FilesView.{Presence, Question, FilesView, Answers, noted, noted-twice, noted-nothing}
-use Rattle.mk_paths.specs.Place.{makefile_in, candidates, place_among, up_to_first, places_asked, AsksPlaces}
+use Rattle.mk_paths.specs.Place.{makefile_in, candidates, place_among, up_to_first, places_asked}
 
 -- the search has these trees before it: what was asked, and what is to be asked and found, are those of all trees
 pub record IsUnderway (old now : FilesView) (trees all : List (List ℕ)) (directory : List ℕ) : Type 0 where
@@ -21,9 +20,6 @@ begins old all directory = record { asked = []; state = noted-nothing old; rest 
 
 -- the candidates of the trees, the first tree's first
 module _ (files : FileMap) (tree : List ℕ) (trees : List (List ℕ)) (directory : List ℕ) where
-  no_candidate : result_ok (resolved (makefile_in tree directory)) ≡ None → candidates (tree ∷ trees) directory ≡ candidates trees directory
-  no_candidate none = ap (λ o. cons_option o (candidates trees directory)) none
-
   one_candidate : (name : List ℕ) → result_ok (resolved (makefile_in tree directory)) ≡ Some name → candidates (tree ∷ trees) directory ≡ name ∷ candidates trees directory
   one_candidate name some = ap (λ o. cons_option o (candidates trees directory)) some
 
@@ -49,17 +45,6 @@ found_from : (files : FileMap) (name : List ℕ) (names : List (List ℕ)) (ther
     → find (contains_key files) (name ∷ names) ≡ cond there (Some name) (find (contains_key files) names)
 found_from files name names there is = ap (λ b. cond b (Some name) (find (contains_key files) names)) (sym is)
 
-pub passes : {old now : FilesView} {all : List (List ℕ)} (tree : List ℕ) (trees : List (List ℕ)) (directory : List ℕ) → result_ok (resolved (makefile_in tree directory)) ≡ None → IsUnderway old now (tree ∷ trees) all directory → IsUnderway old now trees all directory
-unfolding asked_of
-passes {old} {now} {all} tree trees directory none h =
-    let same = no_candidate old.files tree trees directory none in
-    record {
-      asked = h.asked;
-      state = h.state;
-      rest = ap (λ names. h.asked ++ asked_of old.files names) (sym same) ∙ h.rest;
-      finds = ap (find (contains_key old.files)) (sym same) ∙ h.finds;
-    }
-
 pub misses : {old now new : FilesView} {all : List (List ℕ)} (tree : List ℕ) (trees : List (List ℕ)) (directory name : List ℕ) → result_ok (resolved (makefile_in tree directory)) ≡ Some name → Answers now new name (Presence false)
     → IsUnderway old now (tree ∷ trees) all directory → IsUnderway old new trees all directory
 unfolding asked_of
@@ -74,17 +59,3 @@ misses {old} {now} {new} {all} tree trees directory name some answer h =
           ∙ ap (λ more. h.asked ++ more) (sym (ap (asked_of old.files) one ∙ asked_from old.files name names false next.0)) ∙ h.rest;
       finds = sym (ap (find (contains_key old.files)) one ∙ found_from old.files name names false next.0) ∙ h.finds;
     }
-
-pub hits : {old now new : FilesView} {all : List (List ℕ)} (tree : List ℕ) (trees : List (List ℕ)) (directory name : List ℕ) → result_ok (resolved (makefile_in tree directory)) ≡ Some name → Answers now new name (Presence true)
-    → IsUnderway old now (tree ∷ trees) all directory → (Some name ≡ place_among old.files all directory) × AsksPlaces old new all directory
-unfolding asked_of
-hits {old} {now} {new} {all} tree trees directory name some answer h =
-    let one = one_candidate old.files tree trees directory name some in
-    let names = candidates trees directory in
-    let next = asked_next old now new h.asked name true h.state answer in (
-      sym (ap (find (contains_key old.files)) one ∙ found_from old.files name names true next.0) ∙ h.finds,
-      next.1 ∙ ap (noted old) (ap (λ more. h.asked ++ more) (sym (ap (asked_of old.files) one ∙ asked_from old.files name names true next.0)) ∙ h.rest),
-    )
-
-pub ends : {old now : FilesView} {all : List (List ℕ)} (directory : List ℕ) → IsUnderway old now [] all directory → (None ≡ place_among old.files all directory) × AsksPlaces old now all directory
-ends {old} {now} {all} directory h = (h.finds, h.state ∙ ap (noted old) (sym (append-nil h.asked) ∙ h.rest))

@@ -59,10 +59,6 @@ module _ (files : FileMap) (makefile : List ℕ) (site : Site) (block : Block) (
   abbrev left_by : Left → Work Account FaultAt Left
   left_by done = give (done.0, done.1 ++ Lines site block ∷ frames)
 
-  -- the lines after it, and then the rest
-  abbrev follow : EvalState → Work Account FaultAt EvalState
-  follow s = execute works block site.loops s >>= rest files makefile frames
-
   -- the frames that a line leaves, before those of its block
   appended : (modules : List Frame) (r : Result ((EvalState × Option Frame) × Account) (FaultAt × Account))
       → after (after (after r (λ done. give (done.0, before done.1 modules))) left_by) (onward files makefile)

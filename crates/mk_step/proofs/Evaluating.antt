@@ -38,10 +38,6 @@ module _ (files : FileMap) (settings : Settings) (name : List ℕ) (flavors : Op
       ap (λ end. cost_of (evaluated end)) (whole.is (full UNITS) None) ∙ cost-beside (with_questions None (whole.asks (full UNITS))) (whole.ends (full UNITS)) in
       omega (arith, cost, whole.steady.within (full UNITS) (omega arith))
 
-  -- no machine that is under way has spent more
-  pub not-more : (asked : List Question) (machine : Machine) → IsUnderWay (files, settings) name flavors asked machine → UNITS + 1 ≤ machine.budget.spent → ⊥
-  not-more asked machine under spent = let within = under.within in omega (arith, within, spent)
-
 module _ (may : FilesFault → Type 0) (old new : FilesView) (settings : Settings) (name : List ℕ) (flavors : Option (List (List ℕ))) where
   -- what a whole evaluation leaves, by what it means
   pub asked-all : (answer : Result Evaluated Failed) → means (old.files, settings) name flavors ≡ answer → AsksMore old new (λ more. questions_of old.files settings name flavors ≡ [] ++ more)

@@ -1,6 +1,6 @@
 -- The search for the next module among words.
-use Rattle.std.proofs.Common.{◌≡◌, ◌<◌, ◌≤◌, ◌+◌, ◌∙◌, ℕ, Vec, true, false, is_some, List, ◌∷◌, map, drop, length, get_or, option_map, Option, Some, None, Result, Ok, String, string_bytes, Global, refl, sym, ap}
-use Rattle.std.proofs.lemmas.List.{drop_more, drop_all}
+use Rattle.std.proofs.Common.{◌≡◌, ◌<◌, ◌+◌, ◌∙◌, ℕ, Vec, true, false, is_some, List, ◌∷◌, map, drop, length, get_or, option_map, Option, Some, None, Result, Ok, String, string_bytes, Global, refl, sym, ap}
+use Rattle.std.proofs.lemmas.List.{drop_more}
 use Rattle.mk_base.specs.FaultAt.{FaultAt}
 use Rattle.mk_base.specs.Outcome.{after}
 use Rattle.mk_paths.specs.FilesView.{FilesView}
@@ -31,11 +31,6 @@ module _ (place : Place) (line : ℕ) (words : List (String Global)) (s : EvalSt
       → from_word place line words s next a ≡ after (blamed place line (open_module place s (string_bytes word)) a) (later next)
   word-first next word within is =
       ap (λ left. next_module place line (map string_bytes left) s a) (drop_more words next word within ∙ ap (λ one. one ∷ drop (next + 1) words) (sym is))
-
-  pub word-none : (next : ℕ) → length words ≤ next → from_word place line words s next a ≡ Ok (((s, None), map string_bytes (drop next words)), a)
-  word-none next past =
-      ap (λ left. next_module place line (map string_bytes left) s a) (drop_all next words past)
-      ∙ ap (λ left. let found : Found = Ok (((s, None), map string_bytes left), a) in found) (sym (drop_all next words past))
 
 -- a module looked for among files that were only asked questions since
 module _ (here : ExecutedFile) (line : ℕ) (words : List (String Global)) (s : EvalState) (first view : FilesView) (asked : AfterQuestions first view) (a : Account) where

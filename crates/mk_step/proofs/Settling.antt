@@ -11,7 +11,7 @@ use Rattle.mk_loop.specs.LoopWords.{LoopWords}
 use Rattle.mk_eval.specs.Execution.{execute, turn_of}
 use Rattle.mk_eval.specs.Meaning.{include_module}
 use Rattle.mk_step.specs.Machine.{Site, Frame, Lines, Later, Turns, Searches, place_at, works_in, entering_in, numbered, rest}
-use Rattle.mk_step.specs.Paying.{Costs, weight}
+use Rattle.mk_step.specs.Paying.{Costs}
 use Rattle.mk_step.specs.Points.{AreAlike}
 use Rattle.mk_step.proofs.Advancing.{each-nil}
 
@@ -60,8 +60,3 @@ pub over-searches : (site : Site) (line : ℕ) (words : List (String Global)) (n
 over-searches site line words next others past files makefile s a =
     ap (λ left. rest files makefile (Searches site line (map string_bytes left) ∷ others) s a) (drop_all next words past)
     ∙ ap (λ r. after r (rest files makefile others)) (each-nil (include_module (entering_in files makefile site) (place_at files makefile site) line) s a)
-
--- none weighs more than some
-pub lighter-searches : (site : Site) (line : ℕ) (words : List (List ℕ)) (others : List Frame) → weight others ≤ weight (Searches site line words ∷ others)
-lighter-searches site line [] others = omega arith
-lighter-searches site line (word ∷ words) others = omega arith

@@ -1,5 +1,5 @@
 -- What the code's steps do.
-use Rattle.std.proofs.Common.{◌≡◌, ◌<◌, ◌+◌, ◌-◌, ◌∙◌, ℕ, suc, zero, Bool, List, [], ◌∷◌, ◌++◌, drop, length, get_or, map, option_map, Option, Some, None, Result, Ok, Err, if◌then◌else◌, refl, sym, ap, subst, arith}
+use Rattle.std.proofs.Common.{◌≡◌, ◌<◌, ◌+◌, ◌-◌, ◌∙◌, ℕ, suc, zero, Bool, List, [], ◌∷◌, drop, length, get_or, map, option_map, Option, Some, None, Result, Ok, Err, if◌then◌else◌, refl, sym, ap, subst, arith}
 use Rattle.std.proofs.lemmas.List.{drop_more}
 use Rattle.mk_base.specs.FaultAt.{FaultAt}
 use Rattle.mk_base.specs.Meter.{Meter, pay}
@@ -36,7 +36,6 @@ use Rattle.mk_eval.specs.Views.{loops_of, place_of, file_of}
 use Rattle.mk_eval.proofs.Stepping.{tree-branch}
 use Rattle.mk_step.specs.Machine.{Site, Frame, Lines, Later, Turns, Modules, Searches, Left, place_at, works_in, numbered, read_lines, file_lines, opened_lines, next_module, do_line, do_tree, before, modules_at, advance}
 use Rattle.mk_step.specs.Views.{later_from}
-use Rattle.mk_step.proofs.Skipping.{block-more}
 
 -- what the code calls at a site is what the machine does there
 module _ (here : ExecutedFile) (files : FileMap) (makefile : List ℕ) (site : Site) (loops : List Iteration) (placed : place_of here files ≡ place_at files makefile site) (looped : loops_of loops ≡ site.loops) where
@@ -60,12 +59,6 @@ module _ (files : FileMap) (makefile : List ℕ) (site : Site) (frames : List Fr
   later-first items next item otherwise within is =
       ap (λ left. advance files makefile (Later site (branches_from (map branch_of left) (last_branch (option_map block_of otherwise)))) frames s a) (drop_more items next item within ∙ ap (λ x. x ∷ drop (next + 1) items) (sym is))
       ∙ ap (λ branch. advance files makefile (Later site (branches_from (branch ∷ map branch_of (drop (next + 1) items)) (last_branch (option_map block_of otherwise)))) frames s a) (tree-branch item)
-
-  -- the lines from a place on
-  pub lines-first : (items : List Node) (next : ℕ) (item : Node) → next < length items → item ≡ get_or items next item
-      → advance files makefile (Lines site (block_of (drop next items))) frames s a
-      ≡ after (do_tree files makefile site (tree_of item) s a) (λ done. give (done.0, done.1 ++ Lines site (block_of (drop (next + 1) items)) ∷ frames))
-  lines-first items next item within is = ap (λ block. advance files makefile (Lines site block) frames s a) (block-more items next item within is)
 
   -- the iterations from a place on
   pub turns-first : (line : ℕ) (body : Block) (turns : List LoopWords) (next : ℕ) → next < length turns
@@ -140,12 +133,6 @@ module _ (here : ExecutedFile) (files : FileMap) (makefile : List ℕ) (site : S
   modules-stop (pure.Fault fault) end stops = expanded ∙ ap (λ r. after r left_expanded) (told-stops (at here.file.now line) log (module_words s.variables m) fault end stops)
   modules-stop pure.Memory end stops = tt
 
-  pub modules-go : (words : List (List ℕ)) (end : Meter) (frames' : List Frame) → tell (at here.file.now line) (module_words s.variables m) ≡ Ok (words, end) → Searches site line words ∷ frames ≡ frames'
-      → advance files makefile (Modules site line) frames s (record { meter = m; log = log }) ≡ Ok ((s, frames'), record { meter = end; log = log })
-  modules-go words end frames' gives left =
-      expanded ∙ ap (λ r. after r left_expanded) (told-found (at here.file.now line) log (module_words s.variables m) words end gives)
-      ∙ ap (λ frames. let outcome : Result (Left × Account) (FaultAt × Account) = Ok ((s, frames), record { meter = end; log = log }) in outcome) left
-
 -- a stop of work that looks at no file, as a stop of any work
 pub stops-purely : {A M : Type 0} (stop : PureStop FaultAt) (end : M) (outcome : Result (A × M) (FaultAt × M)) → StopsPurelyAt stop end outcome → StopsAt (stop_of_pure stop) end outcome
 stops-purely (pure.Fault fault) end outcome stops = stops
@@ -203,9 +190,6 @@ may-open levels levels' old new found included same is opens none = let may = su
 pub found-some : (r : Result (Opened × Account) (FaultAt × Account)) (s : EvalState) (found : Option Included) (end : Account) (one : Option Included) → found ≡ one → r ≡ Ok ((s, option_map file_of found), end) → r ≡ Ok ((s, option_map file_of one), end)
 found-some r s found end one is gives = gives ∙ ap (λ found. let outcome : Result (Opened × Account) (FaultAt × Account) = Ok ((s, option_map file_of found), end) in outcome) is
 
-pub StopsPurelyAt-same : {A M : Type 0} (stop : PureStop FaultAt) (end : M) (whole part : Result (A × M) (FaultAt × M)) → whole ≡ part → StopsPurelyAt stop end part → StopsPurelyAt stop end whole
-StopsPurelyAt-same stop end whole part same stops = subst (StopsPurelyAt stop end) (sym same) stops
-
 -- the tree of a choice
 choice-tree : (head : LogicalLine) (body : Rc (Vec Node Global) Global) (branches : Rc (Vec Branch Global) Global) (otherwise : Option (Rc (Vec Node Global) Global)) → tree_of (Choice head body branches otherwise) ≡ ChoiceTree head (block_of body.value.items) (later_from branches.value.items 0 (option_map (λ block. block.value.items) otherwise))
 choice-tree head body branches None = ap tree_of (sym (rolls-Choice head body branches None)) ∙ fold-roll-Node Tree (LogicalLine × Block) node_step branch_step (Node-F.Choice head body branches None)
@@ -254,12 +238,6 @@ module _ (here : ExecutedFile) (files : FileMap) (makefile : List ℕ) (site : S
   pub loop-stops : (stop : PureStop FaultAt) (end : Meter) → StopsPurelyAt stop end reading → StopsAt (stop_of_pure stop) (record { meter = end; log = log }) (do_tree files makefile site (tree_of node) s (record { meter = m; log = log }))
   loop-stops (pure.Fault fault) end stops = reads ∙ ap (λ r. after r left_read) (told-stops (at here.file.now head.line) log (turns s.variables (loops_of loops) head.text m) fault end stops)
   loop-stops pure.Memory end stops = tt
-
-  pub loop-goes : (found : List LoopWords) (end : Meter) (frames : List Frame) → reading ≡ Ok (found, end) → Turns site head.line (block_of body.value.items) found ∷ [] ≡ frames
-      → do_tree files makefile site (tree_of node) s (record { meter = m; log = log }) ≡ Ok ((s, frames), record { meter = end; log = log })
-  loop-goes found end frames gives left =
-      reads ∙ ap (λ r. after r left_read) (told-found (at here.file.now head.line) log (turns s.variables (loops_of loops) head.text m) found end gives)
-      ∙ ap (λ frames. let outcome : Result (Left × Account) (FaultAt × Account) = Ok ((s, frames), record { meter = end; log = log }) in outcome) left
 
 pub may-search : (levels levels' : ℕ) (found : Option Included) (included : Included) → levels ≡ levels' → found ≡ Some included → MayOpen levels found → levels' ≡ 0 → ⊥
 may-search levels levels' found included same is opens none = let may = subst (MayOpen levels) is opens in may (same ∙ none)

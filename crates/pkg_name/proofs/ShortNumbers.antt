@@ -1,6 +1,6 @@
 -- Texts whose numbers have at most 18 digits, and their pieces.
-use Rattle.std.proofs.Common.{◌≡◌, ◌≤◌, ◌+◌, ℕ, suc, ◌<◌, Bool, true, false, ◌&&◌, List, [], ◌∷◌, ◌++◌, length, take, drop, nat_le, ap, refl, sym, ◌∙◌, arith, inl, inr, zero-add}
-use Rattle.std.proofs.lemmas.Bool.{cases_Bool, and_from, and_left, leb-true, le-leb, lt-leb}
+use Rattle.std.proofs.Common.{◌≡◌, ◌≤◌, ◌+◌, ℕ, suc, Bool, true, false, ◌&&◌, List, [], ◌∷◌, ◌++◌, length, take, drop, nat_le, ap, refl, sym, ◌∙◌, arith, inl, inr, zero-add}
+use Rattle.std.proofs.lemmas.Bool.{cases_Bool, and_from, leb-true, le-leb}
 use Rattle.std.proofs.lemmas.List.{take-append-drop}
 use Rattle.std.specs.List.{list_all, prefix_len}
 use Rattle.std.specs.Char.{is_ascii_digit}
@@ -104,11 +104,6 @@ unfolding has_short_numbers
 fits_after-other digits byte rest other few =
     let fits : nat_le (digits + 0) 18 ≡ true = le-leb (digits + 0) 18 (omega arith) in
     rw (other, fits) (sym (fits_after-none rest))
-
--- too many digits
-pub fits_after-many : (digits : ℕ) (text : List ℕ) → 18 < digits → fits_after digits text ≡ false
-fits_after-many digits text many =
-    and_left (nat_le (digits + digit_count text) 18) (has_short_numbers text) (lt-leb (digits + digit_count text) 18 (omega arith))
 
 -- nothing behind them
 pub fits_after-end : (digits : ℕ) → digits ≤ 18 → fits_after digits [] ≡ true

@@ -1,7 +1,6 @@
 -- What a text is, where its elements are known.
 use Rattle.std.proofs.Common.{◌≡◌, ◌∙◌, sym, ap, refl, ℕ, ◌<◌, ◌≤◌, Bool, true, false, cond, eqb, ltb, List, [], ◌∷◌, length, Ok, Err, arith}
 use Rattle.std.proofs.lemmas.Grind.{common_steps}
-use Rattle.std.proofs.lemmas.List.Splits.{length-slice_split}
 use Rattle.std.specs.Borrow.{Bor}
 use Rattle.std.specs.List.{filter, find}
 use Rattle.pkg_path.specs.Paths.{PathValue, elements_of, is_subpackage, has_two_subpackages, is_well_cut, is_well_written, directory_of, choices_of, flavors_of, value_of, path_of}
@@ -15,11 +14,6 @@ counted false x y xs ys e = e
 count_now : (choices : List (Bor (List ℕ))) → length (filter is_subpackage (now_all choices)) ≡ length (filter (λ choice. is_subpackage choice.now) choices)
 count_now [] = refl
 count_now (choice ∷ choices) = counted (is_subpackage choice.now) choice.now choice (filter is_subpackage (now_all choices)) (filter (λ choice. is_subpackage choice.now) choices) (count_now choices)
-
--- there is always an element
-pub some_element : {P : Type 0} (text : List ℕ) (elements : List (Bor (List ℕ))) → now_all elements ≡ elements_of text → length elements ≡ 0 → P
-some_element text [] e none = absurd (let known = length-slice_split (λ byte. eqb byte 44) text in let same : length (elements_of text) ≡ 0 = sym (ap length e) in omega arith)
-some_element text (element ∷ elements) e none = absurd (omega arith)
 
 pub is_empty : (text : List ℕ) → eqb (length text) 0 ≡ true → path_of text ≡ Err Empty
 unfolding path_of

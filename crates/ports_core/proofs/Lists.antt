@@ -30,11 +30,6 @@ slice_get-set_other (y ∷ xs) zero (suc j) x ne = refl
 slice_get-set_other (y ∷ xs) (suc i) zero x ne = refl
 slice_get-set_other (y ∷ xs) (suc i) (suc j) x ne = slice_get-set_other xs i j x (λ e. ne (ap suc e))
 
-pub slice_get-map : {X Y : Type 0} (f : X → Y) (xs : List X) (i : ℕ) → slice_get (map f xs) i ≡ option_map f (slice_get xs i)
-slice_get-map f [] i = refl
-slice_get-map f (x ∷ xs) zero = refl
-slice_get-map f (x ∷ xs) (suc i) = slice_get-map f xs i
-
 -- all that is left is taken
 pub take-rest : {X : Type 0} (n : ℕ) (xs : List X) → take (length xs - n) (drop n xs) ≡ drop n xs
 take-rest n xs = rw (← length-drop n xs) (take-length (drop n xs))

@@ -1,5 +1,5 @@
 -- The fields of a `Conn` and what is seen of them.
-use Rattle.std.proofs.Common.{◌≡◌, ℕ, ◌+◌, ◌-◌, ◌<◌, ◌≤◌, Bool, true, false, MatchBool, if◌then◌else◌, List, ◌++◌, length, take, drop, refl, ap, subst, inl, inr, nat_lt, ◌∙◌, arith, length-append, Vec, vec_len, vec_capacity}
+use Rattle.std.proofs.Common.{◌≡◌, ℕ, ◌+◌, ◌-◌, ◌≤◌, Bool, true, false, MatchBool, if◌then◌else◌, List, ◌++◌, length, take, drop, refl, ap, subst, inl, inr, nat_lt, ◌∙◌, arith, length-append, Vec, vec_len, vec_capacity}
 use Rattle.std.proofs.lemmas.List.{length-drop, drop-append-le, take_rest}
 use Rattle.std.specs.declared.alloc.Global.{Global}
 use Rattle.ports_http.specs.declared.conn.Conn.TheInside.{Inside}
@@ -67,11 +67,6 @@ missing_on stream bytes missing (inr some) = by_test (nat_lt (length bytes) miss
           },
           omega (arith, some.1, fewer, size),
         )
-
--- where bytes are missing the stream waits
-pub missing_waits : (stream : List ℕ) (missing : ℕ) → 0 < missing → IsMissing stream missing → Waits stream
-missing_waits stream missing some (inl none) = absurd (omega (arith, none))
-missing_waits stream missing some (inr lacks) = inr lacks.0
 
 -- and the fields stay right
 pub fed_ok : (c : Inside) (buffer new : Vec ℕ Global) (start missing : ℕ) (bytes : List ℕ) → IsConn c

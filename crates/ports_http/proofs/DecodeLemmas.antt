@@ -1,5 +1,5 @@
 -- A stream that is decoded one request after another.
-use Rattle.std.proofs.Common.{◌≡◌, ◌≢◌, ℕ, zero, suc, ◌==◌, ◌+◌, ◌<◌, Bool, true, false, if◌then◌else◌, MatchBool, List, [], ◌∷◌, ◌++◌, length, take, flat_map, get_or, refl, ap, sym, subst, arith, length-append, append-nil, Some, None, Result, Ok, Err}
+use Rattle.std.proofs.Common.{◌≡◌, ◌≢◌, ℕ, zero, suc, ◌==◌, ◌+◌, ◌<◌, Bool, true, false, if◌then◌else◌, MatchBool, List, [], ◌∷◌, ◌++◌, length, take, flat_map, get_or, refl, ap, sym, subst, arith, length-append, append-nil, Some, Result, Ok, Err}
 use Rattle.std.proofs.lemmas.List.{take_more}
 use Rattle.std.proofs.lemmas.Grind.{flat_map-append}
 use Rattle.httparse.specs.Grammar.{RequestHead, print_request}
@@ -71,16 +71,6 @@ so_far_on stream old new (Err fault) requests end takes so_far =
     let cut = cuts_on stream requests old.unread [] (refused fault) before.1 takes.1 in
     subst (λ (n : Incoming). DecodedSoFar stream n requests (ends.Refused fault)) (sym takes.2)
     (λ e. cc, subst (λ l. Cuts stream l (refused fault)) (append-nil requests) cut)
-
--- where nothing more is found, the connection is settled
-pub nothing_settles : (old new : Incoming) → Takes old None new → IsSettled new
-nothing_settles old new takes = subst IsSettled (sym takes.0) takes.1
-
--- and what was decoded stays
-pub nothing_stays : (stream : List ℕ) (old new : Incoming) (requests : List RequestMessage) (end : StreamEnd)
-    → Takes old None new → DecodedSoFar stream old requests end → DecodedSoFar stream new requests end
-nothing_stays stream old new requests end takes so_far =
-    subst (λ (n : Incoming). DecodedSoFar stream n requests end) (sym takes.0) so_far
 
 -- a connection that has settled and isn't over has room
 pub settled_has_room : (incoming : Incoming) → incoming.over ≡ false → IsSettled incoming → 0 < room_of incoming

@@ -9,7 +9,7 @@ use Rattle.text_parts.specs.Ordered.{among, in_order-again, in_order-sorted, amo
 use Rattle.mk_paths.specs.World.{World}
 use Rattle.ports_index.specs.declared.effort.Effort.{Effort}
 use Rattle.ports_index.specs.PathOutcomes.{PathOutcome, Absent, Faulty, Port, BadPort, Lists, BadList, FlavoredList, Other, Finding, counted, finding_at, outcome_at, cost_at}
-use Rattle.ports_index.specs.Efforts.{evaluations_at, evaluations_for, no_effort, effort_of, both, effort_over, lacking}
+use Rattle.ports_index.specs.Efforts.{evaluations_at, evaluations_for, effort_of, both, effort_over, lacking}
 use Rattle.ports_index.specs.Filling.{is_one_of, Fills}
 use Rattle.ports_index.proofs.Filled.{Entries, one_of-absorbed}
 use Rattle.ports_index.proofs.Totals.{unless, sum-joined, sum-filter}
@@ -75,14 +75,6 @@ one_of_two entries path none is = ap (λ (b : Bool). if b then path ∷ [] else 
 pub is_none-seen : {X : Type 0} (seen : X → PathOutcome) (found : Option X) (row : Option PathOutcome) → option_map seen found ≡ row → is_some found ≡ false → is_some row ≡ false
 is_none-seen seen None row e none = ap is_some (sym e)
 is_none-seen seen (Some x) row e none = absurd cc
-
--- a path that has its row takes no work
-pub Effort-there : (world : World) (entries : Entries) (path : List ℕ) → is_some (entries path) ≡ true → no_effort ≡ effort_over world (lacking entries (path ∷ []))
-Effort-there world entries path is = sym (ap (effort_over world) (one_of_two entries path false (by (entries path) is)))
-  where
-    by : (row : Option PathOutcome) → is_some row ≡ true → is_none row ≡ false
-    by None is = absurd cc
-    by (Some row) is = refl
 
 -- a path that has none takes the work for it
 pub Effort-one : (world : World) (entries : Entries) (path : List ℕ) (found : Finding) → is_some (entries path) ≡ false → found ≡ finding_at world path

@@ -1,5 +1,5 @@
 -- Rows that are filled in, path after path.
-use Rattle.std.proofs.Common.{◌≡◌, ◌∙◌, sym, ap, subst, refl, ℕ, Bool, true, false, ◌||◌, if◌then◌else◌, List, [], ◌∷◌, ◌++◌, Option, Some, None, is_some}
+use Rattle.std.proofs.Common.{◌≡◌, ◌∙◌, sym, ap, refl, ℕ, Bool, true, false, ◌||◌, if◌then◌else◌, List, [], ◌∷◌, ◌++◌, Option, Some, None, is_some}
 use Rattle.std.proofs.lemmas.Bool.{false≢true, or_right}
 use Rattle.std.proofs.lemmas.Slice.Eq.{bytes_eq-Decides}
 use Rattle.std.specs.List.{AllByRecursion}
@@ -18,15 +18,8 @@ Entries = List ℕ → Option PathOutcome
 abbrev pub AreKnown : World → Entries → List (List ℕ) → Type 0
 AreKnown world entries paths = AllByRecursion (λ path. entries path ≡ Some (outcome_at world path)) paths
 
-pub Stay-nothing : (entries : Entries) → Stay entries entries
-Stay-nothing entries = record { stay = λ path row is. is }
-
 pub Stay-on : (first middle last : Entries) → Stay first middle → Stay middle last → Stay first last
 Stay-on first middle last one more = record { stay = λ path row is. more.stay path row (one.stay path row is) }
-
--- rows that no path lost or got
-pub Stay-same : (old new : Entries) → ((path : List ℕ) → new path ≡ old path) → Stay old new
-Stay-same old new same = record { stay = λ path row is. same path ∙ is }
 
 regroup : (a b c : Bool) → (a || (b || c)) ≡ ((a || b) || c)
 regroup true b c = refl
@@ -59,9 +52,6 @@ in_turn false true row old middle new first second = second
 in_turn false false row old middle new first second = second ∙ first
 
 module _ (world : World) where
-  pub Fills-nothing : (entries : Entries) → Fills world [] entries entries
-  Fills-nothing entries = record { filled = λ path. refl }
-
   pub Fills-on : (paths more : List (List ℕ)) (old middle new : Entries) → Fills world paths old middle → Fills world more middle new → Fills world (paths ++ more) old new
   Fills-on paths more old middle new first second = record {
     filled = λ path.
@@ -101,15 +91,6 @@ module _ (world : World) (entries : Entries) (right : AreRight world entries) (p
   there None e is = absurd (false≢true is)
   there (Some row) e is = e ∙ ap Some (right path row e)
 
-  there-at : (other : List ℕ) (same : Bool) → bytes_eq path other ≡ same → entries path ≡ Some (outcome_at world path)
-      → entries other ≡ (if same || false then Some (outcome_at world other) else entries other)
-  there-at other true same is = subst (λ at. entries at ≡ Some (outcome_at world at)) ((bytes_eq-Decides path other).0 same) is
-  there-at other false same is = refl
-
-  -- a path that has its row
-  pub Fills-there : is_some (entries path) ≡ true → Fills world (path ∷ []) entries entries
-  Fills-there is = record { filled = λ other. there-at other (bytes_eq path other) refl (there (entries path) refl is) }
-
   -- a path that is given its row
   module _ (new : Entries) (row : PathOutcome) (is : row ≡ outcome_at world path) (put : (other : List ℕ) → new other ≡ (if bytes_eq path other then Some row else entries other)) where
     right-at : (other : List ℕ) (same : Bool) → bytes_eq path other ≡ same → (found : PathOutcome) → new other ≡ Some found → found ≡ outcome_at world other
@@ -119,21 +100,5 @@ module _ (world : World) (entries : Entries) (right : AreRight world entries) (p
         the_row ∙ is ∙ ap (outcome_at world) ((bytes_eq-Decides path other).0 same)
     right-at other false same found e = right other found (sym (put other ∙ ap (λ b. if b then Some row else entries other) same) ∙ e)
 
-    stay-at : (other : List ℕ) (same : Bool) → bytes_eq path other ≡ same → (found : PathOutcome) → entries other ≡ Some found → new other ≡ Some found
-    stay-at other true same found e =
-        put other ∙ ap (λ b. if b then Some row else entries other) same
-        ∙ ap Some (is ∙ ap (outcome_at world) ((bytes_eq-Decides path other).0 same) ∙ sym (right other found e))
-    stay-at other false same found e = put other ∙ ap (λ b. if b then Some row else entries other) same ∙ e
-
-    put-at : (other : List ℕ) (same : Bool) → bytes_eq path other ≡ same → (if same then Some row else entries other) ≡ (if same || false then Some (outcome_at world other) else entries other)
-    put-at other true same = ap Some (is ∙ ap (outcome_at world) ((bytes_eq-Decides path other).0 same))
-    put-at other false same = refl
-
     pub AreRight-put : AreRight world new
     AreRight-put other found e = right-at other (bytes_eq path other) refl found e
-
-    pub Stay-put : Stay entries new
-    Stay-put = record { stay = λ other found e. stay-at other (bytes_eq path other) refl found e }
-
-    pub Fills-put : Fills world (path ∷ []) entries new
-    Fills-put = record { filled = λ other. put other ∙ put-at other (bytes_eq path other) refl }

@@ -1,5 +1,5 @@
 -- What work leaves of the files, one piece after another.
-use Rattle.std.proofs.Common.{◌≡◌, ◌∙◌, ◌+◌, ◌-◌, ◌^◌, min, ap, refl, inl, inr, Option, Some, None}
+use Rattle.std.proofs.Common.{◌≡◌, ◌∙◌, ◌+◌, ◌-◌, ◌^◌, min, ap, inl, inr, Option, Some, None}
 use Rattle.mk_paths.specs.FilesView.{FilesView}
 use Rattle.mk_paths.specs.declared.asking.FilesFault.{FilesFault}
 use Rattle.mk_paths.specs.declared.asking.FilesFault.TheVariants as faults
@@ -14,6 +14,3 @@ counts (Some faults.Memory) first middle last same more =
 -- work that went well, and then more
 pub Keeps-on : (fault : Option FilesFault) (first middle last : FilesView) → Keeps None first middle → Keeps fault middle last → Keeps fault first last
 Keeps-on fault first middle last one more = record { files = more.files ∙ one.files; failures = counts fault first middle last one.failures more.failures }
-
-pub Keeps-nothing : (world : FilesView) → Keeps None world world
-Keeps-nothing world = record { files = refl; failures = refl }

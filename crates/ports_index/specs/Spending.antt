@@ -44,10 +44,3 @@ SpendsOn world cost pair spent = SpendsOnOne cost (evaluation_cost world pair) (
 -- what is spent to learn what a path leads to
 abbrev pub SpendsOnPath : World → List ℕ → Spent → Type 0
 SpendsOnPath world path spent = SpendsOn world (cost_at world path) (pair_at world path) spent
-
--- What is spent to learn what costs so many units and takes so many evaluations: at most these units, and all of them
--- if no answer was checked.
-pub record SpendsOnAll (cost evaluations : ℕ) (spent : Spent) : Type 0 where
-  pub few : ChecksFew evaluations spent.checks
-  pub within : spent.units ≤ cost
-  pub whole : spent.checks ≡ 0 → spent.units ≡ cost

@@ -9,10 +9,6 @@ use Rattle.ports_plain.specs.Routes.{under, table, route_of}
 use Rattle.ports_plain.specs.RouteRows.{row, rows}
 use Rattle.ports_plain.proofs.LiteralRoutes.{row_of, seek_literal}
 
--- the value of a route
-value_of : RouteOf Route → Route
-value_of found = found.value
-
 picks : (here : Bool) (entry : List ℕ × Route) (others : Option (RouteOf Route)) (later : Option Route)
     → option_map (λ (found : RouteOf Route). found.value) others ≡ later
     → option_map (λ (found : RouteOf Route). found.value) (if here then Some (row entry).1 else others) ≡ (if here then Some entry.1 else later)

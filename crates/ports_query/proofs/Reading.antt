@@ -10,10 +10,6 @@ use Rattle.ports_query.specs.declared.conditions.Condition.{Condition}
 abbrev pub in_front : List ConditionValue → Option (List ConditionValue) → Option (List ConditionValue)
 in_front front more = option_map (λ conditions. front ++ conditions) more
 
-pub in_front-none : (more : Option (List ConditionValue)) → in_front [] more ≡ more
-in_front-none None = refl
-in_front-none (Some more) = refl
-
 in_front-one : (front : List ConditionValue) (one : ConditionValue) (more : Option (List ConditionValue))
     → in_front front (option_map (λ conditions. one ∷ conditions) more) ≡ in_front (front ++ one ∷ []) more
 in_front-one front one None = refl

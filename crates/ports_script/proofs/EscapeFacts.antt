@@ -40,9 +40,6 @@ pub IsShorter-first_meant : (byte : ℕ) (rest : List ℕ) → IsShorter (first_
 IsShorter-first_meant byte rest =
     IsShorter-cond (eqb byte 92) (escape_of rest) (Some (byte, rest)) (length rest) (IsShorter-escape_of rest (length rest) (omega arith)) (omega arith)
 
-pub first_meant-shorter : (byte : ℕ) (rest : List ℕ) (meant : ℕ) (left : List ℕ) → first_meant byte rest ≡ Some (meant, left) → length left ≤ length rest
-first_meant-shorter byte rest meant left e = rw e at (IsShorter-first_meant byte rest)
-
 -- what a first byte is in front of
 abbrev in_front : ℕ → Option (ℕ × List ℕ) → Option (List ℕ)
 in_front most first = option_and_then (λ f. option_map (λ later. f.0 ∷ later) (unescaped_within most f.1)) first

@@ -32,10 +32,6 @@ pub stays : (a b c : Option (List ℕ)) (bytes : List ℕ) (done after : ℕ) �
 stays a b c bytes done after e written kept =
     subst (λ (n : ℕ). Appends a c (take n bytes)) (sym e) (Appends-kept a b c (take done bytes) written kept)
 
--- a front was written, and the write behind it failed, or took nothing
-pub stops : (a b c : Option (List ℕ)) (bytes : List ℕ) (done : ℕ) → done < length bytes → Appends a b (take done bytes) → Keeps b c → AppendsFront a c bytes
-stops a b c bytes done within written kept = (done, within, Appends-kept a b c (take done bytes) written kept)
-
 -- a front of the first of two texts is one of both
 pub front_of_first : (a b : Option (List ℕ)) (first second : List ℕ) → AppendsFront a b first → AppendsFront a b (first ++ second)
 front_of_first a b first second front =

@@ -58,11 +58,6 @@ module _ {A : Type 0} (read : Read A) where
   pub record Written (things : List A) (i : ℕ) (start out : List ℕ) : Type 0 where
     pub then_all : (new : List ℕ) → Adds (items read (length things - i)) out new (drop i things) → Adds (items read (length things)) start new things
 
-  pub Written-start : (things : List A) (start : List ℕ) → Written things 0 start start
-  Written-start things start = record {
-    then_all = λ new more. subst (λ n. Adds (items read n) start new things) (let e : length things - 0 ≡ length things = omega arith in e) more;
-  }
-
   pub Written-more : (things : List A) (i : ℕ) (start out more : List ℕ) (x default : A) → i < length things → x ≡ get_or things i default → Adds read out more x
       → Written things i start out → Written things (i + 1) start more
   unfolding items

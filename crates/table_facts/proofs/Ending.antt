@@ -2,13 +2,11 @@
 use Rattle.std.proofs.Common.{◌≡◌, inl, inr, ℕ, true, false, cond, Result, Ok, Err, OnOk, OnErr, IfOk, IfErr, IsTrue, List, [], Option, sym, ap, ◌∙◌, true≢false}
 use Rattle.sqlite_value.specs.Order.{Row}
 use Rattle.sqlite.specs.declared.error.Error.{Error}
-use Rattle.sqlite.specs.State.{State, Executes, ExecutesIn, ExecutesInside, IsRolledBack, IsNotRun, Shows, KeepsCounts, Writes, shows_rows}
+use Rattle.sqlite.specs.State.{State, ExecutesInside, IsRolledBack, Shows, KeepsCounts, Writes}
 use Rattle.sqlite_schema.specs.declared.command.Command.{Command}
 use Rattle.sqlite_schema.specs.declared.command.Returning.{Returning}
 use Rattle.sqlite.specs.Steps.{FailsToCommit}
-use Rattle.std.proofs.lemmas.Bool.{cases_Bool}
 use Rattle.table_facts.specs.States.{IsSettled, Stays}
-use Rattle.table_facts.proofs.Statements.{unchanged_stays, rolled_stays}
 
 -- ---- in a transaction
 
@@ -62,13 +60,3 @@ writes_settled old new returning command text params count at h = record {
   autocommit = h.shown.mode ∙ at.autocommit;
   committed = h.shown.committed_is ∙ ap (λ b. cond b old.committed new.now) at.autocommit;
 }
-
--- a statement that is refused leaves all as it was
-pub refused_stays : (sql : List ℕ) (params : Row) (old new : State) (e : Error) → IsSettled old → IsTrue new.is_open → Executes sql params old new (Err e) → Stays old new
-unfolding ExecutesIn IsNotRun
-refused_stays sql params old new e at live (inl (inl h)) = unchanged_stays old new h.1
-refused_stays sql params old new e at live (inl (inr h)) = rolled_stays old new at live h.3
-refused_stays sql params old new e at live (inr h) = elim (cases_Bool (shows_rows false h.0)) [
-  | inl shows ↦ unchanged_stays old new (rw shows at h.2).1
-  | inr runs ↦ elim (rw runs at h.2) [ inl same ↦ unchanged_stays old new same.1 | inr fails ↦ rolled_stays old new at live fails.3 ]
-]

@@ -1,5 +1,5 @@
 -- What tests of a column against a parameter say.
-use Rattle.std.proofs.Common.{◌≡◌, ℕ, pos, Bool, true, false, ◌&&◌, eqb, List, Some, is_eq, refl, ap, ◌∙◌, arith}
+use Rattle.std.proofs.Common.{◌≡◌, ℕ, pos, Bool, true, false, ◌&&◌, List, Some, is_eq, refl, ap, ◌∙◌, arith}
 use Rattle.std.specs.Prelude.{◌==◌}
 use Rattle.std.specs.Ordering.{nat_cmp}
 use Rattle.std.specs.Cmp.{eq_by_cmp_equiv}
@@ -35,9 +35,6 @@ same_text a b = truth_of _ ∙ ap is_eq (value_cmp-Text a b) ∙ (eq_by_cmp_equi
 -- the texts that tie are one
 pub text_is : (a b : List ℕ) → is_eq (slice_cmp nat_cmp a b) ≡ true → a ≡ b
 text_is a b e = finite.slice_cmp-IsAntisymmetric finite.nat_cmp-IsAntisymmetric a b (Equal_from_is_eq _ e)
-
-pub number_is : (a b : ℕ) → eqb a b ≡ true → a ≡ b
-number_is a b e = grind (arith, nat_tests)
 
 -- a test that stands alone
 pub alone : (a : Bool) → (a && true) ≡ a

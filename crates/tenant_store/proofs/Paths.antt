@@ -1,5 +1,5 @@
 -- The text of a search path is cut into its trees again.
-use Rattle.std.proofs.Common.{◌≡◌, ◌∙◌, ℕ, ◌≤◌, Bool, true, ◌&&◌, not, List, [], ◌∷◌, ◌++◌, length, map, drop, get_or, String, string_bytes, refl, sym, ap, arith, true≢false}
+use Rattle.std.proofs.Common.{◌≡◌, ◌∙◌, ℕ, Bool, true, ◌&&◌, not, List, [], ◌∷◌, ◌++◌, length, map, drop, get_or, String, string_bytes, refl, sym, ap, arith, true≢false}
 use Rattle.std.specs.declared.alloc.Global.{Global}
 use Rattle.std.specs.Prelude.{◌==◌, nat_le}
 use Rattle.std.specs.List.{list_all}
@@ -35,10 +35,6 @@ pub path_trees : (first : List ℕ) (more : List (List ℕ)) → IsSearchPath (f
 path_trees first more h =
     let parts = and_parts (nat_le 1 (length (first ∷ more)) && nat_le (length (first ∷ more)) 8) (list_all is_tree (first ∷ more)) h in
     written_is_cut_again colon any first more (all_bytes (first ∷ more) parts.1)
-
-pub path_has_one : (trees : List (List ℕ)) → IsSearchPath trees → 1 ≤ length trees
-path_has_one [] h = absurd (true≢false (sym h))
-path_has_one (tree ∷ trees) h = omega arith
 
 pub text_trees : (trees : List (String Global)) (d : String Global) (text : List ℕ) → IsSearchPath (map string_bytes trees) → text ≡ string_bytes (get_or trees 0 d) ++ after_marks colon (map string_bytes (drop 1 trees)) → trees_of text ≡ map string_bytes trees
 text_trees [] d text h e = absurd (true≢false (sym h))
