@@ -54,7 +54,7 @@ module _ {A : Type 0} (sign : List Token → Option (List Token)) (read : Reader
       → operands sign read tokens ≡ operands_after (λ rest. operand_on (operands sign read) (read rest)) tokens behind
   operands_from tokens behind is = operands-next tokens ∙ ap (operands_after (λ rest. operand_on (operands sign read) (read rest)) tokens) is
 
-  -- no sign stands first
+  -- no sign comes first
   pub continued-ends : (done : List A) (rest : List Token) → sign rest ≡ None → continued sign read done rest ≡ Some (done, rest)
   continued-ends done rest is = ap (option_map (λ later. (done ++ later.0, later.1))) (operands_from rest None is) ∙ ap (λ l. Some (l, rest)) (append-nil done)
 

@@ -7,7 +7,7 @@ use Rattle.cond_grammar.specs.Reading.{after_or, after_and, first_comparison, op
 use Rattle.cond_grammar.proofs.Chains.{operands-next}
 use Rattle.cond_grammar.proofs.Sound.{Takes, not-sound, or-sound, and-takes, or-takes, not-shrinks, and-shrinks}
 
--- the terms, and the conjunctions, that are read behind the first
+-- the terms, and the conjunctions, that are read after the first
 abbrev read_nots : ℕ → List Token → Option (LaterNots × List Token)
 read_nots levels tokens = option_map (λ x. (later_nots x.0, x.1)) (operands after_and (read_not levels) tokens)
 
@@ -64,7 +64,7 @@ ands_more levels tokens left and is =
     (operands-next after_or (read_and levels) or-takes (and-shrinks levels) (t.Or ∷ tokens) ∙ ap (operand_on (operands after_or (read_and levels))) is)
     ∙ more_ands and (operands after_or (read_and levels) left)
 
--- what may stand behind a term, and behind a conjunction
+-- what may follow a term, and a conjunction
 nots_follow : (more : LaterNots) (rest : List Token) → first_comparison rest ≡ None → first_comparison (later_not_tokens more ++ rest) ≡ None
 nots_follow NoNots rest is = is
 nots_follow (MoreNots not more) rest is = refl

@@ -15,7 +15,7 @@ use Rattle.cond_grammar.specs.declared.tokens.Token.TheVariants as t
 use Rattle.cond_grammar.specs.Tokens.{is_stop, call_of}
 use Rattle.cond_grammar.specs.Scanning.{first_at, first_or_end, closing_place, word_token, word_at, blanks_end, begins, call_token, quoted_side, sign_at, pair_at, token_at, token_before, walk}
 
--- a byte that ends a side stands there
+-- a byte that ends a side is there
 pub record StopAt (bytes : List ℕ) (at : ℕ) : Type 0 where
   pub inside : at < length bytes
   pub stop : is_stop (get_or bytes at 0) ≡ true
@@ -101,7 +101,7 @@ module _ (bytes : List ℕ) where
         ])
       ]
 
-  -- the places in a token are edges, and the place behind it is one
+  -- the places in a token are edges, and the place after it is one
   abbrev pub Edged : Token → Type 0
   Edged (t.Side (Quoted span)) = IsEdge bytes span.start × IsEdge bytes span.end × (span.start ≤ span.end)
   Edged (t.Side (Bare span)) = IsEdge bytes span.start × IsEdge bytes span.end × (span.start ≤ span.end)
@@ -135,7 +135,7 @@ module _ (bytes : List ℕ) where
         ])
       ]
 
-  -- a token that was found, with the place behind it
+  -- a token that was found, with the place after it
   abbrev pub Found : ℕ → Token × ℕ → Type 0
   Found at x = Edged x.0 × IsEdge bytes x.1 × (at < x.1)
 

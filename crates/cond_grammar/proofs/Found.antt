@@ -1,4 +1,4 @@
--- A text's tree, from the tree of what stands outside its references.
+-- A text's tree, from the tree of what is outside its references.
 use Rattle.std.proofs.Common.{◌≡◌, ◌≢◌, ◌↔◌, ℕ, List, [], length, Option, Some, None, refl, sym, ap, ◌∙◌, arith, length-drop}
 use Rattle.mk_ref.specs.Units.{left_of}
 use Rattle.mk_ref.specs.Outside.{outside}

@@ -1,4 +1,4 @@
--- What stands one level deeper, and the nodes that terms are made of.
+-- What is one level deeper, and the nodes that terms are made of.
 use Rattle.std.proofs.Common.{◌≡◌, ℕ, zero, suc, ◌-◌, List, Option, None, refl, sym, ap, ◌∙◌, arith}
 use Rattle.cond_grammar.specs.declared.tokens.Token.{Token}
 use Rattle.cond_grammar.specs.Trees.{OrTree, NotTree}

@@ -1,4 +1,4 @@
--- Steps of the scans, where they stand at a place of the bytes.
+-- Steps of the scans, at a place of the bytes.
 use Rattle.std.proofs.Common.{◌≡◌, ◌<◌, ◌≤◌, ℕ, zero, suc, ◌+◌, ◌-◌, Bool, true, false, not, List, [], ◌∷◌, ◌++◌, length, take, drop, get_or, Option, Some, None, option_map, if◌then◌else◌, cond, refl, sym, ap, ◌∙◌, arith, add-one, drop-cons, drop-drop, append_assoc}
 use Rattle.mk_text.specs.Blanks.{is_blank}
 use Rattle.cond_grammar.specs.declared.tokens.Call.{Call}
@@ -22,11 +22,11 @@ pub end-low : (p : ℕ → Bool) (at : ℕ) (text : List ℕ) → at ≤ first_o
 end-low p at [] = omega arith
 end-low p at (b ∷ rest) = elim (p b) as (λ v. at ≤ cond v at (first_or_end p (at + 1) rest)) [ true ↦ omega arith | false ↦ omega (arith, end-low p (at + 1) rest) ]
 
--- what stands from a later place on
+-- what there is from a later place on
 pub dropped : (bytes : List ℕ) (at n : ℕ) → at ≤ n → drop (n - at) (drop at bytes) ≡ drop n bytes
 dropped bytes at n low = drop-drop (n - at) at bytes ∙ ap (λ k. drop k bytes) (omega arith)
 
--- the token of a word whose end is known, and the place behind the blanks that follow it
+-- the token of a word whose end is known, and the place after the blanks that follow it
 abbrev pub placed : List ℕ → ℕ → ℕ → ℕ → Option Call → Option (Token × ℕ)
 placed bytes at end left None = Some (t.Side (Bare (record { start = at; end = end })), end)
 placed bytes at end left (Some call) =

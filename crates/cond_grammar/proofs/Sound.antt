@@ -15,7 +15,7 @@ pub record Takes {A : Type 0} (written : A → List Token) (deep : A → ℕ) (l
 abbrev pub IsSound : {A : Type 0} → (A → List Token) → (A → ℕ) → ℕ → Reader A → Type 0
 IsSound written deep limit read = (tokens : List Token) → IfSome (read tokens) (Takes written deep limit tokens)
 
--- a sign stands in front of what is behind it
+-- a sign comes before what follows it
 abbrev pub IsSign : Token → (List Token → Option (List Token)) → Type 0
 IsSign token sign = (tokens : List Token) → IfSome (sign tokens) (λ rest. tokens ≡ token ∷ rest)
 

@@ -87,11 +87,11 @@ Made part old new entries = IsFormed new.now × ((other : Part) → rows_at new.
 otherwise : (part : Part) (old new : State) (xs ys : List Entry) → xs ≡ ys → Made part old new xs → Made part old new ys
 otherwise part old new xs ys same made = subst (Made part old new) same made
 
--- an entry is the same behind any rowid
+-- an entry is the same after any rowid
 abbrev IsBack : Part → Entry → Type 0
 IsBack part e = (id : Value) → entry_in part (row_with part id e) ≡ e
 
--- a row has its form behind another rowid
+-- a row has its form after another rowid
 form_with : (part : Part) (r : Row) (e : Entry) → IsBack part e → IsRowOf part r → IsRowOf part (row_with part (rowid r) e)
 form_with part r e back form = (form.0, ap (λ v. row_with part v e) (ap (λ y. column y 0) form.1) ∙ ap (row_with part (Int form.0)) (sym (back (rowid r))))
 

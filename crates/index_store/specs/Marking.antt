@@ -8,7 +8,7 @@ use Rattle.index_store.specs.declared.writing.Change.{Change}
 use Rattle.index_store.specs.declared.writing.Change.TheVariants.{Put, PutEarlier, Mark as MarkPaths, MarkAll, TakeOut}
 use Rattle.index_store.specs.PortTable.{Rows, stale_mark, leaving_mark, with_mark, fresh_entry, marked_among, staying_of, without, with_row}
 
--- the number that stands for a mark in the column `stale`
+-- the number of a mark in the column `stale`
 abbrev pub mark_number : Mark → ℕ
 mark_number Stale = stale_mark
 mark_number Leaving = leaving_mark

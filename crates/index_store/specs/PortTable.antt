@@ -207,7 +207,7 @@ abbrev pub profile_cells : Part → Entry → Row
 profile_cells Earlier e = []
 profile_cells Current e = Int (pos (unwrap_or e.profile 0)) ∷ []
 
--- the row of an entry behind a rowid
+-- the row of an entry after a rowid
 abbrev pub row_with : Part → Value → Entry → Row
 row_with part id e = id ∷ Text e.path ∷ Int (pos e.mark) ∷ Blob e.text ∷ profile_cells part e
 

@@ -17,12 +17,12 @@ read-line : (limit : ℕ) (held : ReadingState) (line : LogicalLine) (lines : Li
 unfolding read_on
 read-line limit held line lines next is = ap (go_on_from (λ held'. read_on limit held' lines) line.line) is
 
--- a line that can stand there
+-- a line that can be there
 pub read-next : (limit : ℕ) (held next : ReadingState) (line : LogicalLine) (lines : List LogicalLine) → step limit held (part_of line) ≡ Some next
     → read_on limit held (line ∷ lines) ≡ read_on limit next lines
 read-next limit held next line lines is = read-line limit held line lines (Some next) is
 
--- a line that stands wrong
+-- a line that is in a wrong place
 pub read-wrong : (limit : ℕ) (held : ReadingState) (line : LogicalLine) (lines : List LogicalLine) (error : ParseError) (reading : Result ReadingState ℕ)
     → reading ≡ read_on limit held (line ∷ lines) → Steps (Err error) line.line (step limit held (part_of line))
     → Answers (Err error) (λ answer. answer ≡ with_kind (whole_reading reading))

@@ -1,4 +1,4 @@
--- The trees of nodes, one behind another and one by one.
+-- The trees of nodes, one after another and one by one.
 use Rattle.std.proofs.Common.{◌≡◌, List, [], ◌∷◌, ◌++◌, refl, sym, ap, ◌∙◌}
 use Rattle.mk_text.specs.Lines.{LogicalLine}
 use Rattle.mk_ast.specs.declared.nodes.Node.{Node, Node-F, fold-roll-Node}

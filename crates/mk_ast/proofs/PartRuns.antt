@@ -1,4 +1,4 @@
--- Reading parts in a run: what is held behind them is theirs, and a block's parts add just that block.
+-- Reading parts in a run: what is held after them is theirs, and a block's parts add just that block.
 use Rattle.std.proofs.Common.{◌≡◌, ◌+◌, ◌<◌, ◌≤◌, ℕ, suc, List, [], ◌∷◌, ◌++◌, length, Option, Some, None, refl, sym, ap, subst, ◌∙◌, append_assoc, append-nil, arith}
 use Rattle.std.specs.Option.{option_and_then}
 use Rattle.std.proofs.lemmas.Bool.{cond_below}
@@ -71,7 +71,7 @@ state-run limit (part ∷ more) parts held is =
     state-then limit (parts ++ part ∷ more) (parts ++ part ∷ []) more (step limit held part) (state-step limit parts held part is)
     (λ next has. subst (λ l. IfStateAfter limit l (run limit next more)) (append_assoc parts (part ∷ []) more) (state-run limit more (parts ++ part ∷ []) next has))
 
--- a block with another behind it
+-- a block with another after it
 abbrev pub join : Block → Block → Block
 join EmptyBlock block = block
 join (MoreBlock tree front) block = MoreBlock tree (join front block)
@@ -100,7 +100,7 @@ begins : (limit : ℕ) (held : ReadingState) (line : LogicalLine) (stage : Stage
     → begin limit held line stage ≡ Some (state_as EmptyBlock (open_as held.current line stage ∷ held.stack))
 begins limit held line stage room = sym (cond_below (length held.stack) limit (Some (state_as EmptyBlock (open_as held.current line stage ∷ held.stack))) None room)
 
--- parts of a choice and of a loop, with more behind them
+-- parts of a choice and of a loop, with more after them
 choice_parts : (first end : Part) (body branches rest : List Part) → ((first ∷ body ++ branches) ++ end ∷ []) ++ rest ≡ first ∷ (body ++ (branches ++ end ∷ rest))
 choice_parts first end body branches rest =
     ap (λ l. first ∷ l) (append_assoc (body ++ branches) (end ∷ []) rest ∙ append_assoc body branches (end ∷ rest))
@@ -143,7 +143,7 @@ mutual
       ∙ run-block block limit (state_as (add held.current tree) held.stack) rest more
       ∙ ap (λ b. run limit (state_as b held.stack) rest) (join-add held.current tree block)
 
-  -- the branches behind the first
+  -- the branches after the first
   run-first : (branches : Branches) (limit : ℕ) (before : Block) (head : LogicalLine) (current : Block) (stack : List Open) (rest : List Part)
       → branch_depth branches + suc (length stack) ≤ limit
       → run limit (state_as current (open_as before head InIf ∷ stack)) (branch_parts branches ++ EndifPart ∷ rest)
@@ -164,7 +164,7 @@ mutual
       ∙ run-block block limit (state_as EmptyBlock opened) (EndifPart ∷ rest) fits
       ∙ run-step limit (state_as block opened) (state_as (add before (ChoiceTree head current (ElseBranch block))) stack) EndifPart rest refl
 
-  -- the branches behind one of `.elif`
+  -- the branches after one of `.elif`
   run-later : (branches : Branches) (limit : ℕ) (before : Block) (head : LogicalLine) (first : Block) (listed : List (LogicalLine × Block)) (last : LogicalLine) (current : Block) (stack : List Open) (rest : List Part)
       → branch_depth branches + suc (length stack) ≤ limit
       → run limit (state_as current (open_as before head (InElif first listed last) ∷ stack)) (branch_parts branches ++ EndifPart ∷ rest)

@@ -15,7 +15,7 @@ use Rattle.mk_ast.proofs.PartRuns.{run, run-nil, run-cons, run-step, run-append,
 starts : (limit : ℕ) → IsStateAfter limit [] start_state
 starts limit = record { made_of = refl; within = record { current = omega arith; below = tt } }
 
--- what is held behind some parts is theirs
+-- what is held after some parts is theirs
 pub state-of : (limit : ℕ) (parts : List Part) (held : ReadingState) → run limit start_state parts ≡ Some held → IsStateAfter limit parts held
 state-of limit parts held is = subst (IfStateAfter limit parts) is (state-run limit parts [] start_state (starts limit))
 

@@ -29,7 +29,7 @@ run-reads limit (line ∷ lines) from held is =
     on-reads limit lines line.line held (step limit from (part_of line)) (sym (run-cons limit from (part_of line) (parts_of lines)) ∙ is)
     (λ next. run-reads limit lines next held)
 
--- lines are read up to the first that stands wrong
+-- lines are read up to the first that is in a wrong place
 on-stops : (limit : ℕ) (front : List LogicalLine) (line : LogicalLine) (rest : List LogicalLine) (number : ℕ) (held : ReadingState) (first : Option ReadingState)
     → option_and_then (λ n. run limit n (parts_of front)) first ≡ Some held
     → ((next : ReadingState) → run limit next (parts_of front) ≡ Some held → read_on limit next (front ++ line ∷ rest) ≡ Err line.line)
@@ -114,7 +114,7 @@ head-part_effect = of-effect (λ head stage block part. EffectHead head) (record
   wrong = λ head stage block part. tt;
 })
 
--- Where one part more closes a tree behind what is held, which isn't a line alone, the innermost open block is that tree's.
+-- Where one part more closes a tree after what is held, which isn't a line alone, the innermost open block is that tree's.
 abbrev ClosesAt : LogicalLine → Block → List Open → Type 0
 ClosesAt head block stack = whole_block block stack ≡ Err head.line
 

@@ -14,7 +14,7 @@ run-within p (b ∷ text) =
     (λ f. omega (arith, cond-false (p b) (1 + prefix_len p text) 0 f))
     (cases_Bool (p b))
 
--- the byte in front of a place in the run passes
+-- the byte before a place in the run passes
 run-last : (p : ℕ → Bool) (text : List ℕ) (at : ℕ) → at < prefix_len p text → p (get_or text at 0) ≡ true
 run-last p [] at near = absurd (omega (arith, near))
 run-last p (b ∷ text) zero near =
@@ -42,6 +42,6 @@ boundary_by text (suc at) utf8 near =
     subst (IsCharBoundary text) (add-one at)
     (IsCharBoundary-after_ascii text at utf8 (omega (arith, near, run-within is_ascii_alphabetic text)) (letter_ascii (get_or text at 0) (run-last is_ascii_alphabetic text at (omega (arith, near)))))
 
--- a text may be cut behind the letters that it begins with
+-- a text may be cut after the letters that it begins with
 pub letters-boundary : (text : List ℕ) (end : ℕ) → IsUtf8 text → end ≡ prefix_len is_ascii_alphabetic text → IsCharBoundary text end
 letters-boundary text end utf8 is = boundary_by text end utf8 (omega (arith, is))

@@ -1,4 +1,4 @@
--- What is held behind some parts isn't deeper than the limit.
+-- What is held after some parts isn't deeper than the limit.
 use Rattle.std.proofs.Common.{◌≡◌, ◌+◌, ◌<◌, ◌≤◌, ℕ, suc, max, refl, Bool, true, false, nat_lt, cond, List, [], ◌∷◌, ◌++◌, length, Option, Some, None, arith}
 use Rattle.std.proofs.lemmas.Bool.{ltb-true}
 use Rattle.mk_text.specs.Lines.{LogicalLine}

@@ -1,4 +1,4 @@
--- What is held behind some parts is made of just these parts, and isn't too deep.
+-- What is held after some parts is made of just these parts, and isn't too deep.
 use Rattle.std.proofs.Common.{◌≡◌, ℕ, true, false, nat_lt, cond, List, [], ◌∷◌, ◌++◌, length, Option, Some, None, refl, ap, ◌∙◌, append_assoc, append-nil}
 use Rattle.mk_text.specs.Lines.{LogicalLine}
 use Rattle.mk_ast.specs.Parts.{Part, IfPart, ElifPart, ElsePart, EndifPart, ForPart, EndforPart, PlainPart}

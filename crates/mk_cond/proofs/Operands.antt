@@ -17,7 +17,7 @@ module _ (s : Surroundings) where
       → or_truth s (condition_tree condition) a ≡ after (and_truth s (conjunction_tree (out-Condition condition).first) a) (later_ands_truth s (later_ands (map conjunction_tree (out-Condition condition).more.items)))
   or_is condition a = ap (λ tree. or_truth s tree a) (tree-condition condition)
 
-  -- the first conjunction, and then those behind it
+  -- the first conjunction, and then those after it
   pub or-begins : (condition : Condition) (items : List Conjunction) (a b : Account) (held : Bool) → items ≡ (out-Condition condition).more.items
       → and_truth s (conjunction_tree (out-Condition condition).first) a ≡ Ok (held, b)
       → or_truth s (condition_tree condition) a ≡ later_ands_truth s (later_ands (map conjunction_tree items)) held b
@@ -57,7 +57,7 @@ module _ (s : Surroundings) where
       → and_truth s (conjunction_tree conjunction) a ≡ after (not_truth s (term_tree (out-Conjunction conjunction).first) a) (later_nots_truth s (later_nots (map term_tree (out-Conjunction conjunction).more.items)))
   and_is conjunction a = ap (λ tree. and_truth s tree a) (tree-conjunction conjunction)
 
-  -- the first term, and then those behind it
+  -- the first term, and then those after it
   pub and-begins : (conjunction : Conjunction) (items : List Term) (a b : Account) (held : Bool) → items ≡ (out-Conjunction conjunction).more.items
       → not_truth s (term_tree (out-Conjunction conjunction).first) a ≡ Ok (held, b)
       → and_truth s (conjunction_tree conjunction) a ≡ later_nots_truth s (later_nots (map term_tree items)) held b

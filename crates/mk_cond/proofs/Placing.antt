@@ -17,7 +17,7 @@ use Rattle.cond_grammar.specs.Reading.{later_ands, later_nots}
 use Rattle.cond_grammar.specs.Trees.{or_tokens, later_and_tokens, and_tokens, later_not_tokens, not_tokens}
 use Rattle.cond_grammar.specs.Views.{condition_tree, conjunction_tree, term_tree, tree-condition, tree-conjunction, tree-not, tree-group, tree-call, tree-compare, tree-side}
 
--- tokens that stand among others, one after another
+-- tokens that are among others, one after another
 pub record IsPart (part all : List Token) : Type 0 where
   pub before : List Token
   pub behind : List Token
@@ -81,7 +81,7 @@ later-not conjunction items i item same within is =
     (after_more (not_tokens (term_tree (out-Conjunction conjunction).first)) (not_tokens (term_tree item)) _
     (subst (λ more. IsPart (not_tokens (term_tree item)) (later_not_tokens (later_nots (map term_tree more)))) same (one_of_nots items i item within is)))
 
--- what stands in a term
+-- what is in a term
 pub in-turned : (term : Term) (inner : Box Term Global) → term ≡ v.Not inner → not_tokens (term_tree term) ≡ t.Not ∷ not_tokens (term_tree inner.value)
 in-turned term inner is = ap not_tokens (ap term_tree is ∙ tree-not inner)
 

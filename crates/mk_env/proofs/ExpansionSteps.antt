@@ -64,7 +64,7 @@ join-byte references old text b bytes m goes (inr small) =
     ap (λ end. after end (λ next. each (join_symbol references old) next (map Byte bytes))) (bounded-small (text ++ b ∷ []) m small)
     ∙ goes (text ++ b ∷ []) small ∙ ap (λ l. bounded l m) (append_assoc text (b ∷ []) bytes)
 
--- bytes as symbols stand for themselves, all together
+-- bytes as symbols mean themselves, all together
 pub join-bytes : (references : References) (old text bytes : List ℕ) (m : Meter) → length text ≤ TEXT_LIMIT
     → each (join_symbol references old) text (map Byte bytes) m ≡ bounded (text ++ bytes) m
 unfolding each
@@ -105,7 +105,7 @@ too-deep : (paid : Result (Unit {0} × Meter) (FaultKind × Meter)) → deep-tex
 too-deep (Ok end) = refl
 too-deep (Err stop) = refl
 
--- a reference that isn't paid for, or stands too deep, stops there
+-- a reference that isn't paid for, or is too deep, stops there
 pub reference-unbegun : (undefined_gives : Undefined) (levels : ℕ) (variables : Variables) (active : List (List ℕ)) (written name : List ℕ) (modifiers : Option (List ℕ))
     (m : Meter) (stop : FaultKind × Meter) → begin levels m ≡ Err stop → reference undefined_gives levels variables active written name modifiers m ≡ Err stop
 unfolding begin reference
@@ -143,7 +143,7 @@ plain-joined references [] m = each-nothing (join_piece references) [] m ∙ sym
 plain-joined references (b ∷ rest) m =
     ap (λ pieces. each (join_piece references) [] pieces m) (plain-pieces b rest) ∙ each-one (join_piece references) [] (LiteralPiece (b ∷ rest)) m
 
--- a text without a dollar stands for itself
+-- a text without a dollar means itself
 pub text_meaning-plain : (references : References) (text : List ℕ) (m : Meter) → list_any (λ b. b == 36) text ≡ false → text_meaning references text m ≡ bounded text m
 unfolding text_meaning
 text_meaning-plain references text m none =

@@ -69,7 +69,7 @@ first-place bytes at is = grind (arith, common_steps)
 no-place : (bytes : List ℕ) → position (λ b. nat_eq b 58) bytes ≡ None → length bytes ≤ prefix_len is_other bytes
 no-place bytes is = grind (arith, common_steps)
 
--- the first colon outside references is a colon of the text, behind the name of this inside and in front of its modifiers
+-- the first colon outside references is a colon of the text, after the name of this inside and before its modifiers
 pub record IsColon (text : List ℕ) (at : ℕ) : Type 0 where
   pub within : at < length text
   pub colon : get_or text at 0 ≡ 58
@@ -91,7 +91,7 @@ first-colon text at whole is =
       modifiers_are = ap (λ n. Some (drop (n + 1) text)) (sym place) ∙ parts.modifiers_are;
     }
 
--- where no colon stands outside references, the whole inside is the name
+-- if no colon is outside references, the whole inside is the name
 pub no-colon : (text : List ℕ) → left_of text ≡ [] → position (λ b. nat_eq b 58) (outside text) ≡ None → IsNameAlone (sources (before_colon (units_of text))) (option_map sources (following_colon (units_of text))) text
 no-colon text whole is =
     let name = sources (before_colon (units_of text)) in

@@ -1,4 +1,4 @@
--- What a map with texts as its keys holds, and the map of bytes that stands for it.
+-- What a map with texts as its keys holds, and its map of bytes.
 use Rattle.std.proofs.Common.{◌≡◌, ℕ, List, [], ◌∷◌, ◌++◌, if◌then◌else◌, Result, Ok, Err, is_ok, OnOk, OnErr, refl, sym, ◌∙◌, ap, cond, Option, None, Some, option_map, map, string_bytes, String, Bool, true, false, is_some}
 use Rattle.std.specs.List.{AllZip}
 use Rattle.std.specs.Ordering.{nat_cmp, is_eq}
@@ -34,7 +34,7 @@ option_map-cond : (b : Bool) (x o : Option (String Global)) → option_map strin
 option_map-cond true x o = refl
 option_map-cond false x o = refl
 
--- what stands for a map of texts, after one name was given a text or lost it
+-- the map of bytes of a map of texts, after one name was given a text or lost it
 get-changed : (old new : tree.BTreeMap (String Global) (String Global)) (name : List ℕ) (text : Option (String Global)) → tree.UpdatesBy string_cmp (λ key. slice_cmp nat_cmp name (string_bytes key)) old new text
     → (q : List ℕ) → finite.get (texts_of new.entries) q ≡ cond (is_eq (slice_cmp nat_cmp q name)) (option_map string_bytes text) (finite.get (texts_of old.entries) q)
 get-changed old new name text updates q =
@@ -44,7 +44,7 @@ get-changed old new name text updates q =
     ap (λ b. cond b (option_map string_bytes text) (text_at old.entries q)) (bytes_eq-sym name q ∙ sym (is_eq-slice_cmp q name)) ∙
     ap (cond (is_eq (slice_cmp nat_cmp q name)) (option_map string_bytes text)) (sym (get-texts_of old.entries q))
 
--- a map of texts in which one name was given another text stands for the map of bytes with that change
+-- the map of bytes of a map of texts in which one name was given another text is the old one with that change
 pub texts_of-put : (old new : tree.BTreeMap (String Global) (String Global)) (name : List ℕ) (text : String Global) → tree.UpdatesBy string_cmp (λ key. slice_cmp nat_cmp name (string_bytes key)) old new (Some text) → texts_of new.entries ≡ finite.insert (texts_of old.entries) name (string_bytes text)
 texts_of-put old new name text updates =
     same_map _ _ (λ q. get-changed old new name (Some text) updates q ∙ sym (finite.get-insert nat_list_cmp_total (texts_of old.entries) name (string_bytes text) q))
@@ -75,11 +75,11 @@ bytes_of-clones [] (f ∷ fs) same = absurd same
 bytes_of-clones (e ∷ es) [] same = absurd same
 bytes_of-clones (e ∷ es) (f ∷ fs) same = λ i. (same.0.0 i, same.0.1 i) ∷ bytes_of-clones es fs same.1 i
 
--- a clone of a map of texts stands for the same map of bytes
+-- a clone of a map of texts has the same map of bytes
 pub texts_of-clones : (entries clones : List (String Global × String Global)) → AllZip (λ e f. (string_bytes f.0 ≡ string_bytes e.0) × (string_bytes f.1 ≡ string_bytes e.1)) entries clones → texts_of clones ≡ texts_of entries
 texts_of-clones entries clones same = ap (λ pairs. finite.from_entries pairs) (bytes_of-clones entries clones same)
 
--- what stands for a map of texts answers as it does
+-- the map of bytes of a map of texts answers as it does
 pub get-view : (m : tree.BTreeMap (String Global) (String Global)) (view : TextMap) (q : List ℕ) → texts_of m.entries ≡ view → option_map string_bytes (tree.get_by_text m q) ≡ finite.get view q
 get-view m view q is = sym (get-texts_of m.entries q) ∙ ap (λ v. finite.get v q) is
 
@@ -98,7 +98,7 @@ module _ (old new : tree.BTreeMap (String Global) (String Global)) (view : TextM
   written : texts_of new.entries ≡ finite.insert view name (string_bytes after)
   written = texts_of-put old new name after updates ∙ ap (λ v. finite.insert v name (string_bytes after)) is
 
-  -- a space and a text stand behind the text that it had
+  -- a space and a text follow the text that it had
   pub texts_of-appended : (text : List ℕ) → string_bytes after ≡ string_bytes before ++ 32 ∷ text → texts_of new.entries ≡ finite.insert view name (appended (finite.get view name) text)
   texts_of-appended text longer = written ∙ ap (finite.insert view name) longer ∙ ap (λ had. finite.insert view name (appended had text)) (sym held_text)
 

@@ -1,4 +1,4 @@
--- Texts one behind another, by their bytes.
+-- Texts one after another, by their bytes.
 use Rattle.std.proofs.Common.{◌≡◌, ◌∙◌, ◌++◌, ℕ, List, [], ◌∷◌, map, refl, ap, IfOk, String, string_bytes, Result, Ok, Err}
 use Rattle.std.specs.List.{join_by, flat_map}
 use Rattle.std.specs.declared.alloc.Global.{Global}

@@ -1,4 +1,4 @@
--- Work that may ask about files, in two worlds: what it asks, and how it ends, depends on its meter alone, what it asks joins the log behind
+-- Work that may ask about files, in two worlds: what it asks, and how it ends, depends on its meter alone, what it asks joins the log after
 -- what is there, and where the other world gives the same answers the other work is the same.
 use Rattle.std.proofs.Common.{◌≡◌, ◌≤◌, ◌∙◌, ◌++◌, ℕ, Bool, true, false, List, [], ◌∷◌, Option, Some, None, option_map, Result, Ok, Err, if◌then◌else◌, refl, sym, ap, subst, arith, append-nil, append_assoc}
 use Rattle.mk_base.specs.Meter.{Meter}
@@ -10,7 +10,7 @@ use Rattle.mk_files.specs.Asking.{Account, beside, quietly, answered, look_read,
 use Rattle.mk_eval.specs.Sharing.{Agrees, Agrees-first, Agrees-rest}
 use Rattle.mk_eval.proofs.Steady.{Steady, steady-give, steady-fail, steady-question, steady-bind, steady-tell, told_left, first_within, under, lowered}
 
--- a log, if there is one, with these questions behind it
+-- a log, if there is one, with these questions after it
 abbrev pub with_questions : Option (List Question) → List Question → Option (List Question)
 with_questions log questions = option_map (λ log. log ++ questions) log
 
@@ -75,7 +75,7 @@ shared-answered other reply name answer again alike = record {
 }
 
 module _ {A B F : Type 0} (other : FileMap) (work again : Work Account F A) (next onward : A → Work Account F B) (first : Shared other work again) (second : (x : A) → Shared other (next x) (onward x)) where
-  -- what is asked behind the end of the first work
+  -- what is asked after the end of the first work
   abbrev behind : Result (A × Meter) (F × Meter) → List Question
   behind (Ok end) = (second end.0).asks end.1
   behind (Err end) = []

@@ -1,4 +1,4 @@
--- What a map with texts as its keys holds, and the map of bytes that stands for it.
+-- What a map with texts as its keys holds, and its map of bytes.
 use Rattle.std.proofs.Common.{◌≡◌, ℕ, List, [], ◌∷◌, sym, ◌∙◌, ap, cond, Option, None, Some, string_bytes, String}
 use Rattle.std.specs.Ordering.{nat_cmp, is_eq, eq_by_cmp}
 use Rattle.std.specs.Cmp.Lexicographic.{slice_cmp, nat_list_cmp_total}
@@ -25,7 +25,7 @@ get-files_of (e ∷ es) q =
     finite.get-insert nat_list_cmp_total (files_of es) (string_bytes e.0) e.1 q
     ∙ ap (cond (is_eq (slice_cmp nat_cmp q (string_bytes e.0))) (Some e.1)) (get-files_of es q)
 
--- a map of texts answers as the map that stands for it
+-- a map of texts answers as its map of bytes
 pub get-view : (m : tree.BTreeMap (String Global) (List ℕ)) (files : FileMap) (q : List ℕ) → files_of m.entries ≡ files → tree.get_by_text m q ≡ finite.get files q
 get-view m files q is = sym (get-files_of m.entries q) ∙ ap (λ held. finite.get held q) is
 
@@ -37,7 +37,7 @@ module _ (old new : tree.BTreeMap (String Global) (List ℕ)) (name : List ℕ) 
       ∙ ap (λ b. cond b content (tree.get_by_text old q)) (bytes_eq-sym name q ∙ sym (is_eq-slice_cmp q name))
       ∙ ap (cond (is_eq (slice_cmp nat_cmp q name)) content) (sym (get-files_of old.entries q))
 
--- a map of texts in which one key was given a content stands for the map of bytes with that change
+-- the map of bytes of a map of texts in which one key was given a content is the old one with that change
 pub files_of-insert : (old new : tree.BTreeMap (String Global) (List ℕ)) (name : String Global) (content : List ℕ) → tree.Updates string_cmp old new name (Some content)
     → files_of new.entries ≡ finite.insert (files_of old.entries) (string_bytes name) content
 files_of-insert old new name content updates =

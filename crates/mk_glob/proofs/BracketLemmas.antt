@@ -1,4 +1,4 @@
--- Members read from the left, and those that stand up to where they are closed.
+-- Members read from the left, and those up to where they are closed.
 use Rattle.std.proofs.Common.{◌≡◌, ℕ, ◌≤◌, length, Bool, true, false, ◌||◌, List, [], ◌∷◌, refl, ap, sym, ◌∙◌, subst, arith, inl, inr, Option, Some, None}
 use Rattle.std.proofs.Math.Bool.{or-false}
 use Rattle.std.proofs.lemmas.Bool.{cond-true, cond-false, cases_Bool, both_ways, eqb-true, ne_eqb}
@@ -13,7 +13,7 @@ use Rattle.mk_glob.specs.Items.{Range, alone, members, Bracketed, onto_inside, u
 use Rattle.mk_glob.specs.Brackets.{MakesNoRange, MakesRange, EndsRange, HasMembers, TestsBracket}
 use Rattle.mk_glob.proofs.EndLemmas.{map_some, map_none}
 
--- whether a character was found or is among members, and what stands behind them
+-- whether a character was found or is among members, and what follows them
 abbrev pub told : ℕ → Bool → Bracketed → Bool × List PatternSign
 told c found b = (found || is_among (members b.inside) c, b.behind)
 
@@ -137,7 +137,7 @@ after_low-alone c found low rest free =
     ap (λ l. with_ranges c found b l) (alone_member low rest b free e)
     ∙ ap (λ x. with_answer b x) (or_joined found (is_within (character low) (character low) c) (is_among (members b.inside) c)))
 
--- what stands behind a member closes, or begins the next
+-- what follows a member closes, or begins the next
 pub after_end-closes : (c : ℕ) (found : Bool) (sign : PatternSign) (rest : List PatternSign) → is_bare 93 sign ≡ true
     → after_end c found (sign ∷ rest) ≡ Some (found, rest)
 after_end-closes c found sign rest e =
@@ -174,7 +174,7 @@ HasMembers-from_told c body found behind e =
       tells = ap found_of at.2;
     }
 
--- nothing behind a sign, or behind a `-`, makes no range
+-- nothing after a sign, or after a `-`, makes no range
 pub MakesNoRange-empty : (rest : List ℕ) → rest ≡ [] → MakesNoRange (signs_of rest)
 MakesNoRange-empty rest e = subst MakesNoRange (sym (signs_of-empty rest e)) tt
 

@@ -1,4 +1,4 @@
--- Ends of a pattern: what stands behind its items, and where no bracket is closed.
+-- Ends of a pattern: what follows its items, and where no bracket is closed.
 use Rattle.std.proofs.Common.{◌≡◌, ℕ, zero, suc, ◌≤◌, Bool, true, false, eqb, List, [], ◌∷◌, ◌++◌, length, refl, ap, sym, ◌∙◌, subst, arith, inl, inr, length-append, append_assoc, Option, Some, None}
 use Rattle.std.proofs.lemmas.Bool.{cond-true, cond-false, cond_both, cases_Bool}
 use Rattle.std.specs.Option.{option_map, unwrap_or}
@@ -97,7 +97,7 @@ first_items-enough (suc n) (suc m) (sign ∷ rest) a b =
     let shorter = ends_shorter rest (first_at sign rest).behind (first_at-ends sign rest) in
     ap (λ l. (first_at sign rest).item ∷ l) (first_items-enough n m (first_at sign rest).behind (omega arith) (omega arith))
 
--- the first item, and those of what stands behind it
+-- the first item, and those of what follows it
 pub items-cons : (sign : PatternSign) (rest : List PatternSign) → items (sign ∷ rest) ≡ (first_at sign rest).item ∷ items (first_at sign rest).behind
 unfolding items
 items-cons sign rest =
@@ -108,7 +108,7 @@ items-cons sign rest =
 some_is_some : {A : Type 0} (a : A) → Some a ≡ None → ⊥
 some_is_some a e = cc
 
--- where one bracket isn't closed, none behind it is
+-- if one bracket isn't closed, none after it is
 up_to_close-none : (sign : PatternSign) (rest : List PatternSign) → up_to_close (sign ∷ rest) ≡ None → up_to_close rest ≡ None
 up_to_close-none sign rest e = elim (cases_Bool (is_bare 93 sign)) [
   | inl closes ↦ absurd (some_is_some _ (sym (cond-true (is_bare 93 sign) _ _ closes) ∙ e))

@@ -27,7 +27,7 @@ some_end-twice test (c ∷ rest) h = elim (or_cases (some_end test (c ∷ rest))
   | inr later ↦ some_end-later test c rest (some_end-twice test rest later)
 ]
 
--- where an end fits an item of one character and more, an end of what is behind the first character fits what is behind the item
+-- if an end fits an item of one character and more, an end of what follows the first character fits what follows the item
 pub some_end-one : (negated : Bool) (ranges : List Range) (items : List Item) (c : ℕ) (word : List ℕ)
     → some_end (fits_items (one_of negated ranges ∷ items)) (c ∷ word) ≡ true → some_end (fits_items items) word ≡ true
 some_end-one negated ranges items c [] h = elim (or_cases (fits_items (one_of negated ranges ∷ items) (c ∷ [])) false h) [
@@ -40,7 +40,7 @@ some_end-one negated ranges items c (d ∷ word) h =
       | inr later ↦ some_end-later (fits_items items) d word (some_end-one negated ranges items d word later)
     ]
 
--- an end that passes, and what stands before it
+-- an end that passes, and what is before it
 end_at : (test : List ℕ → Bool) (word : List ℕ) → some_end test word ≡ true
     → (front : List ℕ) × (rest : List ℕ) × (word ≡ front ++ rest) × (test rest ≡ true)
 end_at test [] h = ([], [], refl, h)

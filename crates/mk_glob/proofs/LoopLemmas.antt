@@ -15,7 +15,7 @@ use Rattle.mk_glob.proofs.EndLemmas.{EndsIn, ends_along, ends_shorter, first_at-
 use Rattle.mk_glob.proofs.FitLemmas.{some_end-twice, some_end-one, fits_where_cut}
 use Rattle.mk_glob.proofs.StepLemmas.{bare_sign}
 
--- whether an end of a word passes a test that begins behind its first character
+-- whether an end of a word passes a test that begins after its first character
 abbrev pub some_later : (List ℕ → Bool) → List ℕ → Bool
 some_later test [] = false
 some_later test (c ∷ rest) = some_end test rest
@@ -25,7 +25,7 @@ abbrev pub by_back : Option Rest → Bool
 by_back None = false
 by_back (Some back) = some_later (fits_items (items_of back.pattern.now)) (chars back.word.now)
 
--- what is left at the place to go back to stands at the pattern's end
+-- what is left at the place to go back to is at the pattern's end
 abbrev pub BackWithin : List PatternSign → Option Rest → Type 0
 BackWithin pattern None = Unit {0}
 BackWithin pattern (Some back) = EndsIn pattern (signs_of back.pattern.now)
@@ -85,7 +85,7 @@ falls_second a b n p q h k =
     let m : suc a * suc n ≤ b * suc n = mul-le-mul_right (suc n) h in
     omega (arith, m)
 
--- what stands behind the first sign, or behind the first item, stands at the pattern's end
+-- what follows the first sign, or the first item, is at the pattern's end
 within_sign : (whole here behind : List PatternSign) (sign : PatternSign) → EndsIn whole here → here ≡ sign ∷ behind → EndsIn whole behind
 within_sign whole here behind sign within e = ends_along whole here behind within record { front = sign ∷ []; joins = e }
 
@@ -95,7 +95,7 @@ within_first whole here sign more first within e stands =
     let later : EndsIn more first.behind = subst (λ f. EndsIn more (First.behind f)) stands (first_at-ends sign more) in
     ends_along whole more first.behind (within_sign whole here more sign within e) later
 
--- behind a run, which is the one to go back to from now on: what a longer earlier run could take, this one can
+-- after a run, which is the one to go back to from now on: what a longer earlier run could take, this one can
 pub Goes-run : (pattern word : List ℕ) (rest : Rest) (back : Option Rest) (unclosed learnt : ℕ) (behind : Rest)
     → Goes pattern word rest back unclosed → Learns (signs_of rest.pattern.now) unclosed learnt → IsAfterRun rest behind
     → Goes pattern word behind (Some behind) learnt
@@ -127,7 +127,7 @@ Goes-run pattern word rest back unclosed learnt behind goes learns run =
       shorter = omega arith;
     }
 
--- behind an item of one character and a character that it takes
+-- after an item of one character and a character that it takes
 pub Goes-one : (pattern word : List ℕ) (rest : Rest) (back : Option Rest) (unclosed learnt : ℕ) (behind : Rest)
     → Goes pattern word rest back unclosed → Learns (signs_of rest.pattern.now) unclosed learnt → IsAfterOne rest behind
     → Goes pattern word behind back learnt

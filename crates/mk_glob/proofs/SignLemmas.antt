@@ -19,7 +19,7 @@ begins_with_char text c behind now utf8 left e same = record {
   is_text = left;
 }
 
--- a backslash with a character behind it
+-- a backslash with a character after it
 pub begins_with_plain : (text : List ℕ) (c : ℕ) (behind : List ℕ) (d : ℕ) (further : List ℕ) → c ≡ 92 → BeginsWithChar text c behind
     → BeginsWithChar behind d further → BeginsWithSign text (Plain d) further
 unfolding signs_of
@@ -49,7 +49,7 @@ begins_with_bare text c behind ne first = record {
   is_text = first.is_text;
 }
 
--- a character with nothing behind it
+-- a character with nothing after it
 pub begins_with_last : (text : List ℕ) (c : ℕ) (behind : List ℕ) → behind ≡ [] → BeginsWithChar text c behind
     → BeginsWithSign text (Bare c) behind
 unfolding signs_of

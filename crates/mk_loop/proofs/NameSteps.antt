@@ -146,7 +146,7 @@ reference-here text start mark at unit behind h near other first is plain inside
     ap before_colon (on.is ∙ ap (λ l. h.units ++ l) split.1.0) ∙ before-none h.units (unit ∷ split.0) h.uncoloned ∙ ap (λ t. h.units ++ cond t [] (unit ∷ before_colon split.0)) plain in
     ap (list_any is_reference) before ∙ any-here h.units (before_colon split.0) unit is
 
--- a reference of one letter stands in the name
+-- a reference of one letter is in the name
 pub name-letter : (text : List ℕ) (start mark at : ℕ) → NameSoFar text start mark at → at < length text → get_or text at 0 ≢ mark
     → opening_of (drop at text) ≡ Some Letter → EndsName text start mark None
 name-letter text start mark at h near other opens =
@@ -165,7 +165,7 @@ marked-here text start mark at inner (Some x) h near other opens read =
     reference-here text start mark at (marked_first (take 2 (drop at text)) inner x).0 x.1 h near other
     (first-marked text at inner opens ∙ ap (option_map (marked_first (take 2 (drop at text)) inner)) read) refl refl
 
--- a reference with marks stands in the name
+-- a reference with marks is in the name
 pub name-marked : (text : List ℕ) (start mark at inner : ℕ) → NameSoFar text start mark at → at < length text → get_or text at 0 ≢ mark
     → opening_of (drop at text) ≡ Some (Marked inner) → EndsName text start mark None
 name-marked text start mark at inner h near other opens = marked-here text start mark at inner (up_to_mark inner (drop (at + 2) text)) h near other opens refl

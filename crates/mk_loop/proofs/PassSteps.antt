@@ -73,7 +73,7 @@ kept-placed line pass next mark placed room ascii joined around copied at = reco
   kept = λ none. subst (All IsKept) (sym around) (All-push IsKept pass.around.items (v.Kept mark) (placed.kept (sym copied ∙ none)) tt);
 }
 
--- a pass behind a byte, up to which nothing is left to copy
+-- a pass after a byte, up to which nothing is left to copy
 pub after-placed : (line : List ℕ) (next : Pass) (end : ℕ) → IsUtf8 line → end < length line → get_or line end 0 < 128 → All HasAsciiMark next.around.items
     → next.copied ≡ end + 1 → next.at ≡ end + 1 → IsPlaced line next
 after-placed line next end text near ascii marks copied at = record {
@@ -92,7 +92,7 @@ pub put-placed : (line : List ℕ) (pass : Pass) (end : ℕ) (result : Result Pa
 put-placed line pass end (Ok next) placed near ascii around copied at = after-placed line next end placed.text near ascii (subst (All HasAsciiMark) (sym around) placed.marks) copied at
 put-placed line pass end (Err stop) placed near ascii around copied at = tt
 
--- a name in which a reference stands is that of no loop's variable
+-- a name with a reference in it is that of no loop's variable
 pub named-none : (words : LoopWords) (units : List TextUnit) → cut (sources units) ≡ (units, []) → list_any is_reference units ≡ true → word_named words (sources units) ≡ None
 named-none words units alone any =
     ap (λ t. cond t None (word_of words (sources units))) (ap (λ x. list_any is_reference x.0) alone ∙ any)
@@ -269,7 +269,7 @@ module _ (words : LoopWords) (variables : Variables) (line : List ℕ) where
       ∙ ap (λ r. after r (λ next' m''. goes words variables begins.more next' m'')) (replaced-unpaid words variables (here line pass) written modifiers word m end fails))
       stops
 
-  -- the mark of the innermost reference stands at the place
+  -- the mark of the innermost reference is at the place
   pub record ClosesAt (pass : Pass) (left : Left) (around : Around) (outer : List Around) : Type 0 where
     pub more : Left
     pub units : IsLeft more (drop (pass.at + 1) line)

@@ -12,7 +12,7 @@ use Rattle.mk_env.specs.Expansion.{modified_by}
 use Rattle.mk_loop.specs.LoopWords.{LoopWords, word_named}
 use Rattle.mk_loop.specs.Putting.{SoFar, nothing, as_written, with_word, finished, Puts, inside, closing, changed, put_reference, put_unit, put_by, put}
 
--- what stands in a reference is shorter than this
+-- what is in a reference is shorter than this
 abbrev pub HasSmallParts : ℕ → TextUnit → Type 0
 HasSmallParts size (Byte b) = Unit {0}
 HasSmallParts size EscapedDollar = Unit {0}
@@ -51,7 +51,7 @@ sources-small (unit ∷ units) size near =
     All-cons (λ unit'. length (source unit') ≤ size) unit units (omega (arith, near, length-append (source unit) (sources units)))
     (sources-small units size (omega (arith, near, length-append (source unit) (sources units))))
 
--- what stands in the references of a text is shorter than the text
+-- what is in the references of a text is shorter than the text
 pub all-small : (text : List ℕ) → All (HasSmallParts (length text)) (units_of text)
 all-small text =
     let near = sources-small (units_of text) (length text) (omega (arith, ap length (units-text text), length-append (sources (units_of text)) (left_of text))) in

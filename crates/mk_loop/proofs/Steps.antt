@@ -1,4 +1,4 @@
--- What is left of a line where a pass stands, step by step.
+-- What is left of a line where a pass is, step by step.
 use Rattle.std.proofs.Common.{◌≡◌, ℕ, ◌+◌, ◌-◌, ◌<◌, true, false, cond, List, [], ◌∷◌, ◌++◌, length, take, drop, get_or, Option, Some, None, option_map, IfSome, Result, Ok, Err, refl, sym, ap, subst, ◌∙◌, arith, inl, inr, append-nil, length-append}
 use Rattle.std.proofs.lemmas.Option.{none-some, same_Some}
 use Rattle.std.proofs.lemmas.List.{take_at, drop_at, drop_more}
@@ -120,7 +120,7 @@ pub begins-marked : (left : Left) (line : List ℕ) (at mark : ℕ) → at < len
     → closes_first (surrounds left) (get_or line at 0) ≡ false → opening_of (drop at line) ≡ Some (Marked mark) → BeginsMarked left line at mark
 begins-marked left line at mark near is other opens = begins-marked-by left line at mark (up_to_mark mark (drop (at + 2) line)) near is other opens refl
 
--- two bytes in front, and a mark behind
+-- two bytes, and a mark after them
 body-of : (a b mark : ℕ) (body : List ℕ) → inside (a ∷ b ∷ body ++ mark ∷ []) ≡ body
 body-of a b mark body =
     let size : length (a ∷ b ∷ body ++ mark ∷ []) - 3 ≡ length body = omega (arith, length-append body (mark ∷ [])) in

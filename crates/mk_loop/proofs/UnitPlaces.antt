@@ -1,4 +1,4 @@
--- The units that stand at a place of a line.
+-- The units at a place of a line.
 use Rattle.std.proofs.Common.{◌≡◌, ℕ, ◌+◌, ◌<◌, ◌≤◌, List, ◌∷◌, length, take, drop, get_or, Some, None, sym, ap, ◌∙◌, arith, drop-drop}
 use Rattle.std.proofs.lemmas.List.{drop_more}
 use Rattle.mk_ref.specs.declared.opening.Opening.TheVariants.{Doubled, Letter}
@@ -9,7 +9,7 @@ use Rattle.mk_ref.proofs.InsideSteps.{OccursAt, written_as}
 standing : (text : List ℕ) (at next : ℕ) (unit : TextUnit) → at < next → next ≤ length text → first_unit (drop at text) ≡ Some (unit, drop next text) → OccursAt text at next unit
 standing text at next unit later within first = record { first = first; written = written_as text at next unit (omega (arith, later)) first; later = later; within = within }
 
--- a byte that stands for itself
+-- a byte that means itself
 pub byte-at-place : (text : List ℕ) (at : ℕ) → at < length text → opening_of (drop at text) ≡ None → OccursAt text at (at + 1) (Byte (get_or text at 0))
 byte-at-place text at near opens =
     let here = drop_more text at 0 near in

@@ -36,7 +36,7 @@ pub come-some : (s : Replacement) (old new word text : List ℕ) (done : Bool) (
     → replaced s old new word ≡ Some text → to_come done (substituted s old new) rest ≡ text ∷ to_come s.once (substituted s old new) later
 come-some s old new word text done rest later is e some = rw (is, e) (pick-some s.once (replaced s old new) word text later some)
 
--- a text of bytes stands for itself
+-- a text of bytes means itself
 pub text_of-bytes : (old bytes : List ℕ) → text_of old (map Byte bytes) ≡ bytes
 text_of-bytes old [] = refl
 text_of-bytes old (b ∷ bytes) = ap (λ l. b ∷ l) (text_of-bytes old bytes)
@@ -63,7 +63,7 @@ AllPlain-part (parts.Text text) plain = AllPlain-bytes (string_bytes text)
 AllPlain-part parts.Whole plain = (tt, tt)
 AllPlain-part (parts.Reference source) plain = absurd (plain source refl)
 
--- a part that is no reference, in front of others
+-- a part that is no reference, before others
 pub AllPlain-more : (part : Part) (whole later : List Symbol) → ((source : String Global) → part ≢ parts.Reference source) → AllPlain whole ↔ AllPlain (symbols_of part ++ later)
     → AllPlain whole ↔ AllPlain later
 AllPlain-more part whole later plain so_far =

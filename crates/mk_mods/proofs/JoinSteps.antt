@@ -12,7 +12,7 @@ use Rattle.mk_text.specs.declared.limits.TextFault.TheVariants as faults
 use Rattle.mk_mods.specs.Joined.{joined, has_bytes, with_word, IsOverlong}
 use Rattle.mk_text.specs.TextLimit.{IsTooLong}
 
--- words put behind words that are joined
+-- words put after words that are joined
 abbrev pub onto : List ℕ → List (List ℕ) → List ℕ
 onto made [] = made
 onto made (word ∷ words) = onto (with_word made word) words

@@ -1,4 +1,4 @@
--- What `rsplit_once` at a character gives: what stands around its last place.
+-- What `rsplit_once` at a character gives: what is around its last place.
 use Rattle.std.proofs.Common.{◌≡◌, ◌≢◌, ℕ, suc, ◌<◌, eqb, true, false, eqb-true, List, [], ◌∷◌, ◌++◌, length, get_or, take, drop, Option, Some, None, MatchOption, Bor, refl, sym, ap, ◌∙◌, subst, arith, ne_eqb, eq-eqb, take-append-drop}
 use Rattle.std.proofs.lemmas.Bool.{cond-true, cond-false, true≢false}
 use Rattle.std.proofs.lemmas.Str.Pattern.{NoCharPasses-char, drop_at_char}

@@ -91,7 +91,7 @@ cut-of old word (Some (front, behind)) (i, j, finds, is_front, is_after, le, len
   least = λ f b l e. finds.0 (length f) (omega arith) b (ap (drop (length f)) e ∙ drop_at f (old ++ b) (length f) refl);
 }
 
--- what stands behind an old text is text
+-- what follows an old text is text
 pub after-utf8 : (old word : List ℕ) (front behind : Bor (List ℕ)) → SplitsAroundMatch (FindsText old) word front.now behind.now → IsUtf8 word → IsUtf8 behind.now
 after-utf8 old word front behind (i, j, finds, is_front, is_after, le, len_front, len_after) text =
     subst IsUtf8 (ap (λ n. drop n word) (sym finds.1.ends) ∙ sym is_after) (IsUtf8-drop word (i + length old) text finds.1.after)

@@ -16,7 +16,7 @@ use Rattle.mk_paths.specs.declared.file_name.NameFault.TheVariants.{BadName}
 abbrev pub may_occur : ℕ → Bool
 may_occur = is_between slash is_plain
 
--- a part that is kept as it stands
+-- a part that is kept as it is
 abbrev pub is_kept : List ℕ → Bool
 is_kept part = (not (bytes_eq part []) && not (bytes_eq part (codes ".")) && not (bytes_eq part (codes ".."))) && list_all may_occur part
 

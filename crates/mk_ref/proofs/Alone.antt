@@ -1,4 +1,4 @@
--- What is cut off a text in front of the first reference that doesn't end is cut the same when it stands alone.
+-- What is cut off a text before the first reference that doesn't end is cut the same alone.
 use Rattle.std.proofs.Common.{◌≡◌, ℕ, zero, suc, ◌+◌, ◌≤◌, List, [], ◌∷◌, ◌++◌, length, take, drop, get_or, Option, Some, None, IfSome, refl, sym, ap, subst, ◌∙◌, arith, cond, inl, inr, length-append, length-drop}
 use Rattle.std.proofs.lemmas.Bool.Decides.{eqb_tells}
 use Rattle.std.proofs.lemmas.List.{drop_more, take_at}
@@ -65,7 +65,7 @@ pub unclosed-dollar : (text : List ℕ) (at : ℕ) → IsUnclosedAt text at → 
 unclosed-dollar text at is =
     unended (get_or text at 0) (drop (at + 1) text) (ap first_unit (sym (is.left ∙ drop_more text at 0 is.inside)) ∙ (cut-alone text).ends)
 
--- what stands in front of it, cut alone
+-- what is before it, cut alone
 pub cut-front : (text : List ℕ) (at : ℕ) → IsUnclosedAt text at → cut (take at text) ≡ (units_of text, [])
 cut-front text at is =
     let front : List ℕ = sources (units_of text) in
@@ -73,7 +73,7 @@ cut-front text at is =
     let size : length front ≡ at = omega (arith, is.inside, ap length whole, length-append front (drop at text), length-drop at text) in
     ap (λ l. cut (take at l)) (sym whole) ∙ ap cut (take_at front (drop at text) at size) ∙ (cut-alone text).alone
 
--- in what stands in front of it every reference ends
+-- in what is before it every reference ends
 pub front-ends : (text front : List ℕ) (at other : ℕ) → IsUnclosedAt text at → front ≡ take at text → IsUnclosedAt front other → ⊥
 front-ends text front at other is same again =
     let none : drop other front ≡ [] = sym again.left ∙ ap (λ l. (cut l).1) same ∙ ap (λ x. x.1) (cut-front text at is) in

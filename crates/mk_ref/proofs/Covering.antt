@@ -1,4 +1,4 @@
--- What stands outside references stands where it stood.
+-- What is outside references is in the place where it was.
 use Rattle.std.proofs.Common.{◌≡◌, ◌≢◌, ◌⊎◌, ℕ, zero, suc, ◌+◌, ◌<◌, List, [], ◌∷◌, ◌++◌, length, take, drop, map, get_or, refl, sym, ap, subst, ◌∙◌, inl, inr, append-nil}
 use Rattle.std.specs.List.{flat_map}
 use Rattle.mk_ref.specs.Units.{TextUnit, Byte, EscapedDollar, Reference, source, sources, units_of, left_of}
@@ -58,7 +58,7 @@ covers-at (b ∷ plain) (c ∷ text) (suc at) is other = covers-at plain text at
 pub length-outside : (text : List ℕ) → length (outside text) ≡ length text
 length-outside text = covers-length (outside text) text (covers-outside text)
 
--- a byte that stands outside references stands there in the text
+-- a byte outside references is at that place of the text
 pub outside-at : (text : List ℕ) (at : ℕ) → get_or (outside text) at 0 ≢ 36 → get_or (outside text) at 0 ≡ get_or text at 0
 outside-at text at other = covers-at (outside text) text at (covers-outside text) other
 
@@ -82,7 +82,7 @@ outside-whole text found is whole =
     ap (flat_map covered_piece) is ∙ covered-pieces (units_of text) ∙ sym (append-nil (flat_map covered (units_of text)))
     ∙ ap (λ l. flat_map covered (units_of text) ++ dollars l) (sym whole)
 
--- a text in which a reference begins that doesn't end, from the pieces in front of that
+-- a text in which a reference begins that doesn't end, from the pieces before that
 pub outside-unclosed : (text : List ℕ) (at : ℕ) (found : List TextPiece) → IsUnclosedAt text at → found ≡ pieces_of (units_of (take at text))
     → flat_map covered_piece found ++ dollars (drop at text) ≡ outside text
 unfolding outside

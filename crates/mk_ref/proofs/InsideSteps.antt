@@ -1,4 +1,4 @@
--- What stands inside a reference, as far as it was read.
+-- What is inside a reference, as far as it was read.
 use Rattle.std.proofs.Common.{◌≡◌, ◌≢◌, ℕ, ◌+◌, ◌-◌, ◌<◌, ◌≤◌, Bool, true, false, cond, nat_eq, List, [], ◌∷◌, ◌++◌, length, take, drop, get_or, Option, Some, None, option_map, IfSome, refl, sym, ap, subst, ◌∙◌, arith, inl, inr, append_assoc, append-nil, length-drop, length-take}
 use Rattle.std.specs.Prelude.{slice_range, unwrap_or}
 use Rattle.std.proofs.lemmas.Bool.{eqb-true, eq-eqb, ne_eqb}
@@ -15,11 +15,11 @@ use Rattle.mk_ref.specs.Ends.{GoesOnAt, IsInside}
 use Rattle.mk_ref.proofs.ScanSteps.{up_to-unit}
 use Rattle.mk_ref.proofs.UnitSteps.{up_to-nil, up_to-cons, first_whole, IsUnitOf}
 
--- units in front of units that were read
+-- units before units that were read
 abbrev pub units_before : List TextUnit → List TextUnit × List ℕ → List TextUnit × List ℕ
 units_before units read = (units ++ read.0, read.1)
 
--- the units read of what stands inside a reference from `start` up to `at`, and the first colon among them
+-- the units read of what is inside a reference from `start` up to `at`, and the first colon among them
 pub record InsideSoFar (text : List ℕ) (start closing : ℕ) (colon : Option ℕ) (at : ℕ) : Type 0 where
   pub units : List TextUnit
   pub read : up_to_mark closing (drop start text) ≡ option_map (units_before units) (up_to_mark closing (drop at text))
@@ -36,11 +36,11 @@ range_join text a b c low high =
     (append_assoc (slice_range text a b) (slice_range text b c) (drop c text)
     ∙ ap (λ l. slice_range text a b ++ l) (sym (drop_split text b c high)) ∙ sym (drop_split text a b low) ∙ drop_split text a c (omega arith))
 
--- nothing stands between a place and itself
+-- nothing is between a place and itself
 pub range_none : (text : List ℕ) (a : ℕ) → slice_range text a a ≡ []
 range_none text a = let none : a - a ≡ 0 = omega arith in ap (λ n. take n (drop a text)) none
 
--- a unit that stands in a text from a place up to another
+-- a unit of a text from a place up to another
 pub record OccursAt (text : List ℕ) (at next : ℕ) (unit : TextUnit) : Type 0 where
   pub first : first_unit (drop at text) ≡ Some (unit, drop next text)
   pub written : source unit ≡ slice_range text at next
@@ -92,7 +92,7 @@ before_found_by : (test : Bool) (first : TextUnit) (units found : List TextUnit)
 before_found_by true first units found unit is h = refl
 before_found_by false first units found unit is h = ap (λ l. first ∷ l) (h is)
 
--- units with one more behind them, where a colon stands among them
+-- units with one more after them, if a colon is among them
 before-found : (units found : List TextUnit) (unit : TextUnit) → following_colon units ≡ Some found → before_colon (units ++ unit ∷ []) ≡ before_colon units
 before-found [] found unit is = cc
 before-found (first ∷ units) found unit is = before_found_by (is_colon first) first units found unit is (before-found units found unit)
@@ -113,7 +113,7 @@ before_none_by : (test : Bool) (first : TextUnit) (units more : List TextUnit) �
 before_none_by true first units more is h = cc
 before_none_by false first units more is h = ap (λ l. first ∷ l) (h is)
 
--- the same where no colon stands among them
+-- the same if no colon is among them
 pub before-none : (units more : List TextUnit) → following_colon units ≡ None → before_colon (units ++ more) ≡ units ++ before_colon more
 before-none [] more is = refl
 before-none (first ∷ units) more is = before_none_by (is_colon first) first units more is (before-none units more)
@@ -169,7 +169,7 @@ read_more text start closing colon at next unit h near other stands =
     ∙ ap (option_map (units_before h.units)) (up_to-here text closing at near other ∙ ap (with_more (up_to_mark closing)) stands.first)
     ∙ read_push h.units unit (up_to_mark closing (drop next text))
 
--- the first colon so far, with one more unit read, whose first byte stands at a place
+-- the first colon so far, with one more unit read, whose first byte is at a place
 abbrev pub colon_after : Option ℕ → ℕ → ℕ → Option ℕ
 colon_after None b at = cond (nat_eq b 58) (Some at) None
 colon_after (Some colon) b at = Some colon
@@ -185,7 +185,7 @@ none_of (Some units) is = cc
 sources_push : (units : List TextUnit) (unit : TextUnit) → sources (units ++ unit ∷ []) ≡ sources units ++ source unit
 sources_push units unit = flat_map-append source units (unit ∷ []) ∙ ap (λ l. sources units ++ l) (append-nil (source unit))
 
--- a unit behind the first colon
+-- a unit after the first colon
 more_after : (text : List ℕ) (start closing colon at next : ℕ) (unit : TextUnit) → InsideSoFar text start closing (Some colon) at
     → at < length text → get_or text at 0 ≢ closing → OccursAt text at next unit → InsideSoFar text start closing (Some colon) next
 more_after text start closing colon at next unit h near other stands =
@@ -264,7 +264,7 @@ pub inside-broken : (text : List ℕ) (start closing : ℕ) (colon : Option ℕ)
 inside-broken text start closing colon at h near other none =
     h.read ∙ ap (option_map (units_before h.units)) (up_to-here text closing at near other ∙ ap (with_more (up_to_mark closing)) none)
 
--- no closing mark stands in the text
+-- no closing mark is in the text
 pub inside-end : (text : List ℕ) (start closing : ℕ) (colon : Option ℕ) (at : ℕ) → InsideSoFar text start closing colon at
     → length text ≤ at → up_to_mark closing (drop start text) ≡ None
 inside-end text start closing colon at h end =

@@ -1,4 +1,4 @@
--- What stands inside a reference reads the same when it stands alone.
+-- What is inside a reference reads the same alone.
 use Rattle.std.proofs.Common.{◌≡◌, ℕ, zero, suc, ◌+◌, ◌<◌, ◌≤◌, Bool, true, false, cond, nat_eq, List, [], ◌∷◌, ◌++◌, length, take, drop, get_or, Option, Some, None, option_map, IfSome, All, refl, sym, ap, subst, subst₂, ◌∙◌, arith, inl, inr, append_assoc, append-nil, length-append}
 use Rattle.std.proofs.lemmas.Bool.{eq-eqb}
 use Rattle.std.proofs.lemmas.Bool.Decides.{eqb_tells}
@@ -9,17 +9,17 @@ use Rattle.mk_ref.specs.Units.{TextUnit, Byte, Reference, source, sources, is_co
 use Rattle.mk_ref.specs.Laws.{AreMarks, HasWholeParts, AreCutAlone}
 use Rattle.mk_ref.proofs.UnitSteps.{Reader, IsUnitOf, opens_with, unit_whole, read_faithful, up_to_faithful, read_any, up_to-nil, up_to-cons, first_whole, first-nil, second_of, cut-next, cut_all}
 
--- what may stand behind a unit in the place of what stood there: nothing, or what begins with the same byte
+-- what may follow a unit in place of what followed it: nothing, or what begins with the same byte
 abbrev pub StartsLike : List ℕ → List ℕ → Type 0
 StartsLike rest [] = Unit {0}
 StartsLike [] (c ∷ other) = ⊥
 StartsLike (b ∷ rest) (c ∷ other) = b ≡ c
 
--- a reader that reads the same units wherever they stand in front of the mark
+-- a reader that reads the same units wherever they come before the mark
 abbrev pub IsLocal : Reader → Type 0
 IsLocal up_to = (mark : ℕ) (text : List ℕ) → IfSome (up_to mark text) (λ x. (other : List ℕ) → up_to mark (sources x.0 ++ mark ∷ other) ≡ Some (x.0, other))
 
--- a unit that is read the same in front of another rest
+-- a unit that is read the same before another rest
 abbrev pub StaysFirst : Reader → TextUnit → List ℕ → Type 0
 StaysFirst up_to unit rest = (other : List ℕ) → StartsLike rest other → unit_by up_to (opening_of (source unit ++ other)) (source unit ++ other) ≡ Some (unit, other)
 
@@ -93,7 +93,7 @@ head_same : (front rest other : List ℕ) → 0 < length front → get_or (front
 head_same [] rest other some = absurd (omega arith)
 head_same (b ∷ front) rest other some = refl
 
--- one more unit, where the mark doesn't stand first
+-- one more unit, if the mark doesn't come first
 read_step : (bound mark : ℕ) (text : List ℕ) (unit : TextUnit) (rest : List ℕ) → nat_eq (get_or text 0 0) mark ≡ false → 0 < length text
     → unit_by (read_up_to bound) (opening_of text) text ≡ Some (unit, rest) → read_up_to (suc bound) mark text ≡ option_map (unit_before unit) (read_up_to bound mark rest)
 unfolding read_up_to
@@ -151,14 +151,14 @@ local_by mark text (Some x) is = λ other.
 up_to_local : IsLocal up_to_mark
 up_to_local mark text = local_by mark text (up_to_mark mark text) refl
 
--- a unit is read the same in front of another rest
+-- a unit is read the same before another rest
 pub first_same : (text : List ℕ) (unit : TextUnit) (rest other : List ℕ) → first_unit text ≡ Some (unit, rest) → StartsLike rest other
     → first_unit (source unit ++ other) ≡ Some (unit, other)
 unfolding first_unit
 first_same text unit rest other is like =
     subst (λ o. IfSome o (λ x. StaysFirst up_to_mark x.0 x.1)) is (unit_stays up_to_mark up_to_local (opening_of text) text refl) other like
 
--- units that are read one after another in front of a rest
+-- units that are read one after another before a rest
 abbrev pub ReadBefore : List TextUnit → List ℕ → Type 0
 ReadBefore [] rest = Unit {0}
 ReadBefore (unit ∷ units) rest = (first_unit (source unit ++ (sources units ++ rest)) ≡ Some (unit, sources units ++ rest)) × ReadBefore units rest
@@ -301,6 +301,6 @@ cut_read : (mark : ℕ) (read : Option (List TextUnit × List ℕ)) → IfSome r
 cut_read mark None h = tt
 cut_read mark (Some x) h = cut_inside (mark ∷ x.1) x.0 h
 
--- what is read inside a reference is cut the same where it stands alone
+-- what is read inside a reference is cut the same alone
 pub inside-alone : (mark : ℕ) (text : List ℕ) → IfSome (up_to_mark mark text) (λ x. AreCutAlone x.0)
 inside-alone mark text = cut_read mark (up_to_mark mark text) (read_before (length text) mark text (omega arith))

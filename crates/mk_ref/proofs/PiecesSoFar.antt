@@ -17,7 +17,7 @@ use Rattle.mk_ref.proofs.UnitSteps.{cut-next, first-nil}
 use Rattle.mk_ref.proofs.ScanSteps.{first-opening}
 use Rattle.mk_ref.proofs.InsideSteps.{range_join, range_none, length-range}
 
--- the pieces found in front of `literal`, and the bytes from there up to `at`, which stand for themselves
+-- the pieces found before `literal`, and the bytes from there up to `at`, which mean themselves
 pub record CutSoFar (text : List ℕ) (found : List Piece) (literal at : ℕ) : Type 0 where
   pub pieces : map (shown text) found ++ pieces_of (map Byte (slice_range text literal at) ++ units_of (drop at text)) ≡ pieces_of (units_of text)
   pub left : left_of (drop at text) ≡ left_of text
@@ -46,7 +46,7 @@ first_byte text at near plain =
     let from = drop_more text at 0 near in
     ap first_unit from ∙ first-opening (get_or text at 0 ∷ drop (at + 1) text) None (ap opening_of (sym from) ∙ plain)
 
--- a byte that stands for itself
+-- a byte that means itself
 pub so_far-byte : (text : List ℕ) (found : List Piece) (literal at : ℕ) → CutSoFar text found literal at → at < length text → opening_of (drop at text) ≡ None
     → CutSoFar text found literal (at + 1)
 so_far-byte text found literal at h near plain =
@@ -70,7 +70,7 @@ so_far-byte text found literal at h near plain =
       starts = h.starts;
     }
 
--- bytes that stand for themselves, as a piece, if there are any
+-- bytes that mean themselves, as a piece, if there are any
 abbrev pub literal_pieces : List ℕ → List TextPiece
 literal_pieces [] = []
 literal_pieces (b ∷ bytes) = LiteralPiece (b ∷ bytes) ∷ []
@@ -104,7 +104,7 @@ no_literal : (bytes : List ℕ) → length bytes ≤ 0 → literal_pieces bytes 
 no_literal [] none = refl
 no_literal (b ∷ bytes) none = absurd (omega arith)
 
--- pieces that stand directly behind one another, in two parts
+-- pieces that directly follow one another, in two parts
 stand_on : (start : ℕ) (found : List Piece) (middle : ℕ) (more : List Piece) (end : ℕ) → FollowFrom start found middle → FollowFrom middle more end → FollowFrom start (found ++ more) end
 stand_on start [] middle more end front back = subst (λ n. FollowFrom n more end) (sym front) back
 stand_on start (piece ∷ found) middle more end front back = (front.0, front.1, stand_on (place_of piece).end found middle more end front.2 back)

@@ -9,7 +9,7 @@ use Rattle.mk_ref.specs.Units.{TextUnit, Byte, EscapedDollar, Reference, opening
 use Rattle.mk_ref.specs.Ends.{GoesOnAt, EndsAt, UnitEndsAt}
 use Rattle.mk_ref.proofs.UnitSteps.{up_to-nil, up_to-cons}
 
--- what stands behind the marks that close a text, the innermost first
+-- what follows the marks that close a text, the innermost first
 abbrev pub after_marks : List ℕ → List ℕ → Option (List ℕ)
 after_marks [] text = Some text
 after_marks (mark ∷ marks) text = option_and_then (λ x. after_marks marks x.1) (up_to_mark mark text)
@@ -53,14 +53,14 @@ after-open mark marks b rest inner other is =
     ap (option_and_then (λ x. after_marks marks x.1)) (up_to-unit mark b rest other ∙ ap (with_more (up_to_mark mark)) (first-opening (b ∷ rest) (Some (Marked inner)) is))
     ∙ after-reference mark marks (take 2 (b ∷ rest)) inner (up_to_mark inner (drop 1 rest))
 
--- The marks that are open at a place: behind them, the innermost first, stands what stands behind the first mark to be closed from
+-- The marks that are open at a place: after them, the innermost first, comes what follows the first mark to be closed from
 -- another place on.
 pub record MarksOpen (text : List ℕ) (start closing : ℕ) (around : List ℕ) (mark at : ℕ) : Type 0 where
   pub behind : after_marks (mark ∷ reverse around) (drop at text) ≡ option_map (λ x. x.1) (up_to_mark closing (drop start text))
   pub later : start ≤ at
   pub within : at ≤ length text
 
--- what stands behind a pair or a reference of one letter
+-- what follows a pair or a reference of one letter
 pub data IsTwo : Opening → Type 0 where
   two_dollars : IsTwo Doubled
   dollar_letter : IsTwo Letter
@@ -111,7 +111,7 @@ open-last text start closing around mark at h near is none = record {
   within = omega arith;
 }
 
--- a byte that stands for itself
+-- a byte that means itself
 pub open-byte : (text : List ℕ) (start closing : ℕ) (around : List ℕ) (mark at : ℕ)
     → MarksOpen text start closing around mark at → at < length text → get_or text at 0 ≢ mark → opening_of (drop at text) ≡ None
     → MarksOpen text start closing around mark (at + 1)
@@ -171,7 +171,7 @@ first-marked text at mark is =
     first-opening (drop at text) (Some (Marked mark)) is
     ∙ ap (λ l. option_map (marked_first (take 2 (drop at text)) mark) (up_to_mark mark l)) (drop-drop 2 at text)
 
--- where a unit ends: a byte that stands for itself
+-- where a unit ends: a byte that means itself
 pub unit-byte : (text : List ℕ) (at : ℕ) → at < length text → opening_of (drop at text) ≡ None → GoesOnAt text at (first_unit (drop at text)) (at + 1)
 unit-byte text at near plain = record {
   rest = ap (λ l. option_map (λ x. x.1) (first_unit l)) (from_here text at near) ∙ ap (option_map (λ x. x.1)) (first_here text at near None plain);

@@ -57,7 +57,7 @@ Reader = ℕ → List ℕ → Option (List TextUnit × List ℕ)
 abbrev pub IsFaithful : Reader → Type 0
 IsFaithful up_to = (mark : ℕ) (text : List ℕ) → IfSome (up_to mark text) (λ x. sources x.0 ++ mark ∷ x.1 ≡ text)
 
--- a unit and what stands behind it are the text, and the unit is one byte or more
+-- a unit and what follows it are the text, and the unit is one byte or more
 pub record IsUnitOf (text : List ℕ) (unit : TextUnit) (rest : List ℕ) : Type 0 where
   pub whole : source unit ++ rest ≡ text
   pub some : 0 < length (source unit)
@@ -113,7 +113,7 @@ pub up_to_faithful : IsFaithful up_to_mark
 unfolding up_to_mark
 up_to_faithful mark text = read_faithful (length text) mark text
 
--- two readers that agree below a length read the same unit off a text of that length, and the same behind it
+-- two readers that agree below a length read the same unit off a text of that length, and the same after it
 abbrev pub AgreeBelow : ℕ → Reader → Reader → Type 0
 AgreeBelow size up_to other = (mark : ℕ) (text : List ℕ) → length text < size → up_to mark text ≡ other mark text
 

@@ -12,7 +12,7 @@ use Rattle.mk_ref.specs.Units.{with_more, cut_on, up_to_mark, first_unit, cut, u
 abbrev pub UnitsAreText : Type 0
 UnitsAreText = (text : List ℕ) → sources (units_of text) ++ left_of text ≡ text
 
--- modifiers with the colon in front of them
+-- modifiers with the colon before them
 abbrev pub with_colon : Option (List ℕ) → List ℕ
 with_colon None = []
 with_colon (Some modifiers) = 58 ∷ modifiers

@@ -31,7 +31,7 @@ begins : (rest : List ℕ) → without_comment (35 ∷ rest) ≡ []
 begins [] = refl
 begins (c ∷ rest) = refl
 
--- the first sign begins the comment where no backslash stands before it
+-- the first sign begins the comment if no backslash is before it
 pub without_comment-cut : (front rest : List ℕ) → NoSign front → ((kept : List ℕ) → front ≢ kept ++ 92 ∷ []) → without_comment (front ++ 35 ∷ rest) ≡ front
 without_comment-cut [] rest h p = begins rest
 without_comment-cut (b ∷ []) rest h p =
@@ -50,7 +50,7 @@ without_comment-escaped (b ∷ c ∷ kept) rest h =
     stays b c (kept ++ 92 ∷ 35 ∷ rest) (first_no b (c ∷ kept) h) (and_right (eqb b 92) (eqb c 35) (first_no c kept (later b (c ∷ kept) h)))
     ∙ ap (λ l. b ∷ l) (without_comment-escaped (c ∷ kept) rest (later b (c ∷ kept) h))
 
--- what stands behind a sign is text
+-- what follows a sign is text
 pub after_utf8 : (s front behind : List ℕ) → s ≡ front ++ 35 ∷ behind → IsUtf8 s → IsUtf8 behind
 after_utf8 s front behind e u =
     let near : length front < length s = omega (arith, ap length e, length-append front (35 ∷ behind)) in

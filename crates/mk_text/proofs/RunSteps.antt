@@ -12,7 +12,7 @@ use Rattle.std.specs.declared.str.Split.{Split}
 use Rattle.mk_text.specs.declared.joining.Run.{Run}
 use Rattle.mk_text.specs.Lines.{LogicalLine, goes_on, unmarked, runs_of, continued, line_at, lines_from, logical_lines}
 
--- the lines of the source lines behind the first `number` ones, where no run is open
+-- the lines of the source lines after the first `number` ones, if no run is open
 abbrev pub fresh : ℕ → List (List ℕ) → List LogicalLine
 fresh number pieces = lines_from (number + 1) (runs_of pieces)
 
@@ -77,7 +77,7 @@ pub some_left : {S A B : Type 0} (steps : S → Option A → S → Type 0) (v : 
 some_left steps v s t x [] h k = absurd (h x t k)
 some_left steps v s t x (y ∷ ys) h k = (ys, ap (λ z. z ∷ ys) (sym (h.1 x t k).0), (h.1 x t k).1)
 
--- the lines of the source lines that are left, behind the first `number` ones
+-- the lines of the source lines that are left, after the first `number` ones
 abbrev pub pending : Option Run → ℕ → List (List ℕ) → List LogicalLine
 pending None number pieces = fresh number pieces
 pending (Some run) number pieces = resumed run.line (string_bytes run.joined) number pieces
@@ -86,7 +86,7 @@ pending (Some run) number pieces = resumed run.line (string_bytes run.joined) nu
 abbrev pub cuts : Split ℕ → Option (Bor (List ℕ)) → Split ℕ → Type 0
 cuts = split_steps FindsChar (λ a b. b ≡ a)
 
--- the lines made so far and the run that is open, behind the first `number` source lines of a text, and the source lines that are left
+-- the lines made so far and the run that is open, after the first `number` source lines of a text, and the source lines that are left
 pub record LinesSoFar (text : List ℕ) (made : List LogicalLine) (run : Option Run) (number : ℕ) (pieces : Split ℕ) : Type 0 where
   pub left : List (List ℕ)
   pub yields : AlwaysYields cuts (λ x. x.now) pieces left

@@ -11,19 +11,19 @@ use Rattle.mk_text.specs.Blanks.{is_blank}
 use Rattle.mk_text.specs.Words.{words_of, places_from, word_spans, span_text, IsSpanOf}
 use Rattle.mk_text.proofs.BlankEnds.{blank_below}
 
--- no blank stands from one place up to another
+-- no blank is between one place and another
 abbrev pub NoBlank : List ℕ → ℕ → ℕ → Type 0
 NoBlank text start at = (k : ℕ) → start ≤ k → k < at → is_blank (get_or text k 0) ≡ false
 
--- the places of the words behind a place
+-- the places of the words after a place
 abbrev pub words_from : List ℕ → ℕ → List Span
 words_from text start = filter (λ span. nat_lt span.start span.end) (places_from start (slice_split is_blank (drop start text)))
 
--- what stands from a place up to another
+-- what there is from a place up to another
 abbrev pub part : List ℕ → ℕ → ℕ → List ℕ
 part text start at = take (at - start) (drop start text)
 
--- the words found in front of `start` and the search behind it, of which no blank was met up to `at`
+-- the words found before `start` and the search after it, of which no blank was met up to `at`
 pub record WordsSoFar (text : List ℕ) (found : List Span) (start at : ℕ) : Type 0 where
   pub spans : found ++ words_from text start ≡ word_spans text
   pub texts : map (span_text text) found ++ words_of (drop start text) ≡ words_of text
@@ -111,7 +111,7 @@ so_far-more text found start at h plain = record {
   unbroken = no_blank_more text start at h.unbroken plain;
 }
 
--- a blank behind a word
+-- a blank after a word
 pub so_far-word : (text : List ℕ) (found : List Span) (start at : ℕ) → WordsSoFar text found start at → IsUtf8 text → at < length text
     → is_blank (get_or text at 0) ≡ true → start < at → WordsSoFar text (found ++ record { start = start; end = at } ∷ []) (at + 1) (at + 1)
 so_far-word text found start at h utf8 near blank some =
@@ -134,7 +134,7 @@ so_far-word text found start at h utf8 near blank some =
       unbroken = no_blank_yet text (at + 1);
     }
 
--- a blank behind no word
+-- a blank after no word
 pub so_far-gap : (text : List ℕ) (found : List Span) (start at : ℕ) → WordsSoFar text found start at → IsUtf8 text → at < length text
     → is_blank (get_or text at 0) ≡ true → at ≤ start → WordsSoFar text found (at + 1) (at + 1)
 so_far-gap text found start at h utf8 near blank none =

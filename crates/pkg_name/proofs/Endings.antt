@@ -36,7 +36,7 @@ no_number (first ∷ front) byte behind other =
     and_right (is_ascii_digit first) (list_all is_ascii_digit (front ++ byte ∷ behind))
     (list_all-append is_ascii_digit front (byte ∷ behind) ∙ and_right (list_all is_ascii_digit front) (list_all is_ascii_digit (byte ∷ behind)) rest)
 
--- a text that ends in digits behind another byte: its end is taken off where that byte is the letter and there are
+-- a text that ends in digits after another byte: its end is taken off if that byte is the letter and there are
 -- digits
 pub ended_at : (letter : ℕ) (front : List ℕ) (last : ℕ) (digits : List ℕ) → is_ascii_digit letter ≡ false
     → is_ascii_digit last ≡ false → list_all is_ascii_digit digits ≡ true
@@ -55,7 +55,7 @@ ended_at letter (byte ∷ front) last digits plain other all =
       | inr h ↦ rw (on, rest, h) refl
     ]
 
--- where digits end a text, and another byte stands before them, its end is taken off just where that byte is the
+-- if digits end a text, and another byte is before them, its end is taken off just if that byte is the
 -- letter and there are digits
 pub ending_at : (letter start last : ℕ) (text front behind before : List ℕ) → is_ascii_digit letter ≡ false
     → list_all is_ascii_digit (drop start text) ≡ true → (0 < start → is_ascii_digit (slice_index text (start - 1)) ≡ false)

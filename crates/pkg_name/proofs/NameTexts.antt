@@ -10,7 +10,7 @@ use Rattle.text_parts.proofs.CutTexts.{cut_is_its_text}
 use Rattle.pkg_name.specs.Name.{NameParts, IsName, at_version, name_of, name_if, name_text, split_name, is_word, dash}
 use Rattle.pkg_name.specs.Laws.{NameIsItsText}
 
--- words with dashes between them, behind a dash
+-- words with dashes between them, after a dash
 words_joined : (first : List ℕ) (words : List (List ℕ)) → flat_map (λ word. dash ∷ word) (first ∷ words) ≡ dash ∷ join_with_byte dash (first ∷ words)
 words_joined first [] = ap (λ l. dash ∷ l) (append-nil first)
 words_joined first (next ∷ words) = ap (λ rest. dash ∷ (first ++ rest)) (words_joined next words)
@@ -42,14 +42,14 @@ name_is_its_text text parts e = split_text text (at_version text) parts refl e
 pub split-IsName : (text : List ℕ) (parts : NameParts) → split_name text ≡ Some parts → IsName parts
 split-IsName text parts e = record { itself = ap split_name (name_is_its_text text parts e) ∙ e }
 
--- a text that is cut is the name of what stands before the dash and the words behind it
+-- a text that is cut is the name of what is before the dash and the words after it
 pub split_is : (text stem behind : List ℕ) (words : List (List ℕ)) → at_version text ≡ Some (record { before = stem; behind = behind })
     → words ≡ slice_split (λ byte. byte == dash) behind → split_name text ≡ name_of stem words
 split_is text stem behind words cut are_words =
     ap (option_and_then (λ (cut : Cut). name_of cut.before (slice_split (λ byte. byte == dash) cut.behind))) cut
     ∙ ap (name_of stem) (sym are_words)
 
--- the name that is read: of what stands before the dash, and the version and the flavors behind it
+-- the name that is read: of what is before the dash, and the version and the flavors after it
 pub name_read : (text stem behind version : List ℕ) (words flavors : List (List ℕ)) (parts : NameParts)
     → at_version text ≡ Some (record { before = stem; behind = behind }) → words ≡ slice_split (λ byte. byte == dash) behind
     → name_of stem words ≡ name_if (is_version version) stem version flavors → is_version version ≡ true

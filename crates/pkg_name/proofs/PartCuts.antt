@@ -37,7 +37,7 @@ pub last_part : (text : List ℕ) (end : ℕ) → end ≡ position_or_len (λ by
     → part_keys text ≡ part_key text ∷ []
 last_part text end value whole = ap (map part_key) (one_part (λ byte. byte == 46) text (sym value ∙ whole))
 
--- a text with a dot is the part before it, and the parts behind it
+-- a text with a dot is the part before it, and the parts after it
 pub next_part : (text : List ℕ) (end : ℕ) → end ≡ position_or_len (λ byte. byte == 46) text → end ≤ length text → (end ≡ length text → ⊥)
     → part_keys text ≡ part_key (take end text) ∷ part_keys (drop (end + 1) text)
 next_part text end value bound inside =
@@ -52,14 +52,14 @@ pub next_part_cut : (text : List ℕ) (end : ℕ) → end ≡ position_or_len (�
 next_part_cut text end value bound inside =
     next_part text end value bound inside ∙ ap (λ rest. part_key (take end text) ∷ part_keys rest) (sym (cut_all text (end + 1)))
 
--- parts are behind no parts
+-- parts after no parts
 pub none_before : (text : List ℕ) → slice_cmp part_cmp [] (part_keys text) ≡ Less
 none_before text = let some = slice_split-first (λ byte. byte == 46) text in rw some.2 refl
 
 pub some_after : (text : List ℕ) → slice_cmp part_cmp (part_keys text) [] ≡ Greater
 some_after text = let some = slice_split-first (λ byte. byte == 46) text in rw some.2 refl
 
--- where the first parts tie, those behind them decide
+-- if the first parts tie, those after them decide
 pub tied_first : (keys others : List PartKey) (key other : PartKey) (more other_more : List PartKey) → keys ≡ key ∷ more → others ≡ other ∷ other_more
     → part_cmp key other ≡ Equal → slice_cmp part_cmp keys others ≡ slice_cmp part_cmp more other_more
 tied_first keys others key other more other_more is other_is tie = rw (is, other_is, tie) refl

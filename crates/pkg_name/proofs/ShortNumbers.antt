@@ -7,7 +7,7 @@ use Rattle.std.specs.Char.{is_ascii_digit}
 use Rattle.std.specs.Cmp.{first_so, second_so}
 use Rattle.pkg_name.specs.Version.{has_short_numbers, digit_count}
 
--- what stands behind a list adds to what begins it or not
+-- what follows a list adds to what begins it or not
 prefix_len-append : (p : ℕ → Bool) (xs ys : List ℕ) → prefix_len p xs ≤ prefix_len p (xs ++ ys)
 prefix_len-append p [] ys = omega arith
 prefix_len-append p (x ∷ xs) ys =
@@ -48,7 +48,7 @@ short-front (x ∷ xs) ys short =
     let fewer : digit_count (x ∷ xs) ≤ digit_count (x ∷ xs ++ ys) = prefix_len-append is_ascii_digit (x ∷ xs) ys in
     and_from (nat_le (digit_count (x ∷ xs)) 18) (has_short_numbers xs) (le-leb (digit_count (x ∷ xs)) 18 (no_more most fewer)) rest
 
--- so has what stands behind one
+-- so has what follows one
 pub short-after : (xs ys : List ℕ) → has_short_numbers (xs ++ ys) ≡ true → has_short_numbers ys ≡ true
 unfolding has_short_numbers
 short-after [] ys short = short
@@ -70,7 +70,7 @@ short-digits (x ∷ xs) all short =
     let whole : digit_count (x ∷ xs) ≡ length (x ∷ xs) = prefix_len-all is_ascii_digit (x ∷ xs) all in
     no_more (leb-true (digit_count (x ∷ xs)) 18 most) (as_much whole)
 
--- the numbers are short behind so many digits
+-- the numbers are short after so many digits
 abbrev pub fits_after : ℕ → List ℕ → Bool
 fits_after digits text = nat_le (digits + digit_count text) 18 && has_short_numbers text
 
@@ -79,7 +79,7 @@ implied : (a b s : Bool) → (a ≡ true → b ≡ true) → (a && (b && s)) ≡
 implied true b s h = rw (h refl) refl
 implied false b s h = refl
 
--- with no digit before it a text stands for itself
+-- with no digit before it a text is left as it is
 pub fits_after-none : (text : List ℕ) → fits_after 0 text ≡ has_short_numbers text
 unfolding has_short_numbers
 fits_after-none [] = refl
@@ -105,7 +105,7 @@ fits_after-other digits byte rest other few =
     let fits : nat_le (digits + 0) 18 ≡ true = le-leb (digits + 0) 18 (omega arith) in
     rw (other, fits) (sym (fits_after-none rest))
 
--- nothing behind them
+-- nothing after them
 pub fits_after-end : (digits : ℕ) → digits ≤ 18 → fits_after digits [] ≡ true
 unfolding has_short_numbers
 fits_after-end digits few = and_from (nat_le (digits + 0) 18) true (le-leb (digits + 0) 18 (omega arith)) refl

@@ -14,7 +14,7 @@ use Rattle.pkg_path.specs.Paths.{comma, PathValue, elements_of, directory_of, ch
 use Rattle.text_parts.specs.Order.{in_order}
 use Rattle.pkg_path.specs.declared.faults.PkgPathFault.TheVariants.{Empty, TwoSubpackages, BadCharacter}
 
--- a byte of an element: it may stand in a path and is no comma
+-- a byte of an element: it may be in a path and is no comma
 abbrev is_plain : ℕ → Bool
 is_plain = is_between comma may_occur
 

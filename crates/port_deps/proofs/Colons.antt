@@ -22,7 +22,7 @@ behind-colon text rest is =
     let one_more : 1 + empty_first parts ≡ suc (empty_first parts) = omega arith in
     sym (ap parts_of is ∙ ap (λ count. drop count ([] ∷ parts)) one_more)
 
--- what is behind it is text
+-- what follows it is text
 pub behind-utf8 : (text rest : List ℕ) → IsUtf8 text → text ≡ 58 ∷ rest → IsUtf8 rest
 behind-utf8 text rest is_text is =
     let first : get_or text 0 0 ≡ 58 = ap (λ bytes. get_or bytes 0 0) is in
@@ -75,7 +75,7 @@ no_colon text holds none =
     (λ k inside. ne_eqb (get_or text k 0) 58 (λ is. false≢true (sym none ∙ holds k inside is)))
     (λ past. absurd (omega (arith, past)))
 
--- two parts and two or more behind them name nothing
+-- two parts and two or more after them name nothing
 pub four_parts : (first second others : List ℕ) → position_or_len is_colon others < length others → None ≡ named_parts (first ∷ second ∷ cut_at_colons others)
 four_parts first second others there =
     let rest = cut_at_colons (after_first is_colon others) in

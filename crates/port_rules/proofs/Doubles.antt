@@ -17,7 +17,7 @@ regroup false true behind double = refl
 regroup false false true double = refl
 regroup false false false double = refl
 
--- one more text is a double where it stood there already
+-- one more text is a double if it was there already
 pub has_double-more : (texts : List (List ℕ)) (text : List ℕ) → has_double (texts ++ text ∷ []) ≡ (is_among text texts || has_double texts)
 has_double-more [] text = refl
 has_double-more (first ∷ texts) text =
@@ -47,7 +47,7 @@ with-one-more : (items : List (String Global)) (i : ℕ) (item : String Global) 
 with-one-more items i item below is =
     ap (map string_bytes) (take_more items i item below ∙ ap (λ x. take i items ++ x ∷ []) (sym is)) ∙ map-append string_bytes (take i items) (item ∷ [])
 
--- whether the next item is a double is whether it stood there already
+-- whether the next item is a double is whether it was there already
 pub has_double-next : (items : List (String Global)) (i : ℕ) (item : String Global) (held : Bool) → i < length items → item ≡ get_or items i item
     → held ≡ is_among (string_bytes item) (map string_bytes (take i items)) → has_double (map string_bytes (take i items)) ≡ false
     → has_double (map string_bytes (take (i + 1) items)) ≡ held
@@ -70,7 +70,7 @@ pub new : (is_new held : Bool) → is_new ≡ not held → is_new ≡ true → h
 new is_new true is fresh = absurd (false≢true (sym is ∙ fresh))
 new is_new false is fresh = refl
 
--- which texts stand among the items, with one more
+-- which texts are among the items, with one more
 pub is_among-more : (items : List (String Global)) (i : ℕ) (item : String Global) (text : List ℕ) → i < length items → item ≡ get_or items i item
     → is_among text (map string_bytes (take (i + 1) items)) ≡ (bytes_eq text (string_bytes item) || is_among text (map string_bytes (take i items)))
 is_among-more items i item text below is =

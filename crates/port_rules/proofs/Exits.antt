@@ -24,7 +24,7 @@ told view result stop state whole is at = rw is at
 
 -- a walk over the texts of items
 module _ {M F S : Type 0} (turn : S → List ℕ → Work M F S) (items : List (String Global)) (i : ℕ) where
-  -- it goes on behind an item whose turn gives a value
+  -- it goes on after an item whose turn gives a value
   pub walk-on : (s next : S) (item : String Global) (text : List ℕ) (m m' : M) → i < length items → item ≡ get_or items i item → text ≡ string_bytes item
       → turn s text m ≡ Ok (next, m') → each turn s (map string_bytes (drop i items)) m ≡ each turn next (map string_bytes (drop (i + 1) items)) m'
   walk-on s next item text m m' below is same value =
@@ -37,7 +37,7 @@ module _ {M F S : Type 0} (turn : S → List ℕ → Work M F S) (items : List (
       StopsPurelyAt-whole stop state (turn s text m) (each turn s (map string_bytes (drop i items)) m)
       (λ end stops. each-stop turn string_bytes s items i item item m end below is (ap (λ t. turn s t m) (sym same) ∙ stops)) at
 
-  -- it ends behind the last one
+  -- it ends after the last one
   pub walk-ends : (s : S) (m : M) → length items ≤ i → each turn s (map string_bytes (drop i items)) m ≡ Ok (s, m)
   unfolding each
   walk-ends s m end = ap (λ left. each turn s (map string_bytes left) m) (drop_all i items end)

@@ -23,7 +23,7 @@ use Rattle.ports_core.specs.Changes.{KeepsSlices, Enters, FirstLeaves, ChangesSl
 use Rattle.ports_core.proofs.Lists.{none_some, some_same}
 use Rattle.ports_core.proofs.TakingLemmas.{nothing_after}
 
--- a world and a queue behind which requests wait
+-- a world and a queue after which requests wait
 sliced-joined : (queued_requests : List QueuedRequest) (world : Option World) (queue : Option Queue) → sliced world (option_map (λ (q : Queue). q ++ queued_requests) queue) ≡ option_map (joined queued_requests) (sliced world queue)
 sliced-joined queued_requests None queue = refl
 sliced-joined queued_requests (Some world) None = refl

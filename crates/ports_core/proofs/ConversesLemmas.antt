@@ -41,7 +41,7 @@ pub record IsConnection (keys : List (List ℕ)) (Plain : ℕ → QueuedRequest 
   pub holds : Holds keys connection.waits waiting connection.pending connection.stream.over
   pub queued : Queued c state connection.waits waiting
 
--- once bytes came, nothing more stands first on a connection for which nothing waits and nothing is pending
+-- once bytes came, nothing more comes first on a connection for which nothing waits and nothing is pending
 abbrev pub HasNoMore : List ℕ → Connection → Type 0
 HasNoMore came connection = came ≢ [] → is_ready connection ≡ true → TakesOff connection.stream Nothing connection.stream
 
@@ -113,7 +113,7 @@ pending_waits connection some ready = let none : is_empty connection.pending ≡
 pub reply_waits : (connection : Connection) (reply : ReplyMessage) (close : Bool) → connection.pending ≡ reply_text reply close → is_ready connection ≡ true → ⊥
 reply_waits connection reply close is ready = pending_waits connection (ap is_empty is ∙ some_reply reply close) ready
 
--- behind what was taken, nothing more stands first on a connection that is ready
+-- after what was taken, nothing more comes first on a connection that is ready
 idle_after_whole : (place : Option ℕ) (close : Bool) (connection : Connection) → is_ready (connection_with place close connection) ≡ true → ⊥
 idle_after_whole None close connection ready = reply_waits (connection_with None close connection) unknown_key close refl ready
 idle_after_whole (Some tenant) close connection ready = absurd (false≢true ready)
@@ -137,7 +137,7 @@ told_here c tell here = ap (λ b. if b then tell ∷ [] else []) (eq-eqb tell.co
 pub told_there : (c : ℕ) (tell : Tell) → tell.conn ≢ c → told_in c (Some tell) ≡ []
 told_there c tell there = ap (λ b. if b then tell ∷ [] else []) (other_number tell.conn c there)
 
--- a stream is over behind a request that closes
+-- a stream is over after a request that closes
 over_after : (request : RequestMessage) (old new : Incoming) → Removes old request new → new.over ≡ request.close
 over_after request old new takes =
     ap (λ (s : Incoming). s.over) takes.after

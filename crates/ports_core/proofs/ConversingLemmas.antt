@@ -297,7 +297,7 @@ first_same x y ys e = cc
 pub rest_none : {X : Type 0} (x y : X) (ys : List X) → x ∷ [] ≡ y ∷ ys → ys ≡ []
 rest_none x y ys e = cc
 
--- the first of a queue stands first among the connection's, if it is one of them
+-- the first of a queue is first among the connection's, if it is one of them
 pub first_in_queue : (c : ℕ) (queue : Queue) (first : QueuedRequest) (rest : List QueuedRequest) → queue ≡ first ∷ rest → first.conn ≡ c → first ∷ queued_requests_of c rest ≡ queued_requests_of c queue
 first_in_queue c queue first rest waited here =
     ap (λ b. if b then first ∷ queued_requests_of c rest else queued_requests_of c rest) (sym (eq-eqb first.conn c here)) ∙ ap (queued_requests_of c) (sym waited)

@@ -29,7 +29,7 @@ use Rattle.ports_core.proofs.ChangeLemmas.{seen, slice_parts, same_slice}
 use Rattle.ports_core.proofs.Lists.{option_from}
 use Rattle.ports_core.proofs.Numbers.{other_number}
 
--- What an event is to a tenant whose turn it isn't: requests may come to wait behind the others, and the job stays.
+-- What an event is to a tenant whose turn it isn't: requests may come to wait after the others, and the job stays.
 record Stays (t : ℕ) (old new : State) : Type 0 where
   queued : List QueuedRequest
   slice : slice_of t new ≡ option_map (joined queued) (slice_of t old)
@@ -205,7 +205,7 @@ left_none : (slice : Slice) → HasTurnsLeft slice None
 left_none (world, []) = refl
 left_none (world, first ∷ rest) = some-left _ _
 
--- requests that come to wait behind the others change nothing of that
+-- requests that come to wait after the others change nothing of that
 left_joined : (queued : List QueuedRequest) (slice : Slice) (job : Option TenantJob) → HasTurnsLeft slice job → HasTurnsLeft (joined queued slice) job
 left_joined queued (world, []) job none = subst (HasTurnsLeft (world, queued)) (sym none) (left_none (world, queued))
 left_joined queued (world, first ∷ rest) job left = left

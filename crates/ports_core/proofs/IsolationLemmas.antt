@@ -20,7 +20,7 @@ use Rattle.ports_core.specs.Isolation.{IsServedPlainly, NoneFails, EqualSlicesAr
 use Rattle.ports_core.proofs.ChangeLemmas.{slice_parts}
 use Rattle.ports_core.proofs.AlikeLemmas.{replies_from, replies-plain_run, map-append, fronts}
 
--- the world behind a list of requests, whichever connections asked
+-- the world after a list of requests, whichever connections asked
 unfoldable pub world_from : World → List PlainRequest → World
 world_from world [] = world
 world_from world (request ∷ requests) = world_from (plain world request).1 requests
@@ -38,7 +38,7 @@ own-all (queued_request ∷ queued_requests) (tell ∷ tells) fine =
     ap (λ b. if b then own_of queued_requests tells else queued_request ∷ own_of queued_requests tells) (All-head (λ (t : Tell). is_failure t.reply.status ≡ false) tell tells fine)
     ∙ ap (λ ws. queued_request ∷ ws) (own-all queued_requests tells (All-tail (λ (t : Tell). is_failure t.reply.status ≡ false) tell tells fine))
 
--- replies to requests, one behind the other
+-- replies to requests, one after the other
 replies-append : (world : World) (first rest : List PlainRequest)
     → replies_from world (first ++ rest) ≡ replies_from world first ++ replies_from (world_from world first) rest
 unfolding replies_from world_from

@@ -22,7 +22,7 @@ pub none_waits : (queue : Queue) → None ≡ first_of queue → queue ≡ []
 none_waits [] is = refl
 none_waits (one ∷ rest) is = absurd (none_some is)
 
--- what comes behind the first request
+-- what comes after the first request
 pub first_rest : (queue : Queue) (first : QueuedRequest) → Some first ≡ first_of queue → queue ≡ first ∷ drop 1 queue
 first_rest [] first is = absurd (none_some (sym is))
 first_rest (one ∷ rest) first is = ap (λ (w : QueuedRequest). w ∷ rest) (sym (some_same is))
@@ -45,7 +45,7 @@ pub for_request : (queue : Queue) (first : QueuedRequest) (job : Option TenantJo
 for_request queue first job is for_first = λ one here.
     sym (some_same (ap (option_map (λ (w : QueuedRequest). plain_request_of w.request)) is ∙ for_first one here))
 
--- the first request stays the first, whatever comes behind it
+-- the first request stays the first, whatever comes after it
 first-joined : (queue more : Queue) (asked : PlainRequest) → asked_first queue ≡ Some asked → asked_first (queue ++ more) ≡ Some asked
 first-joined [] more asked is = absurd (none_some is)
 first-joined (one ∷ rest) more asked is = is

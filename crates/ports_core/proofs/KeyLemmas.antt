@@ -12,7 +12,7 @@ pub tenant_of_place : {Z : Type 0} (keys : List (String Z)) (bytes key : List �
 tenant_of_place keys bytes key place is same =
     is ∙ ap (λ k. position (λ known. bytes_eq (string_bytes known) k) keys) same ∙ sym (position-map (λ known. bytes_eq known key) string_bytes keys)
 
--- one key, and those behind it
+-- one key, and those after it
 pub are_apart-drop : {Z : Type 0} (keys : List (String Z)) (i : ℕ) (key : String Z) → i < length keys → key ≡ get_or keys i key → are_apart (key_texts (drop i keys)) ≡ (not (list_any (λ other. string_eq other key) (drop (i + 1) keys)) && are_apart (key_texts (drop (i + 1) keys)))
 unfolding are_apart
 are_apart-drop keys i key lt is =
@@ -21,7 +21,7 @@ are_apart-drop keys i key lt is =
     ∙ ap (λ b. not b && are_apart (key_texts (drop (suc i) keys))) (list_any-map (λ other. bytes_eq other (string_bytes key)) string_bytes (drop (suc i) keys))
     ∙ ap (λ n. not (list_any (λ other. string_eq other key) (drop n keys)) && are_apart (key_texts (drop n keys))) (sym (add-one i))
 
--- whether one behind a place passes
+-- whether one after a place passes
 pub list_any-rest : {X : Type 0} (p : X → Bool) (n : ℕ) (xs : List X) (b : Bool) → b ≡ list_any p (take (length xs - n) (drop n xs)) → list_any p (drop n xs) ≡ b
 list_any-rest p n xs b is = sym (is ∙ ap (λ ys. list_any p ys) (take-rest n xs))
 

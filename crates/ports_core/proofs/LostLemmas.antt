@@ -47,7 +47,7 @@ abbrev pub LostAt : Option Connection → Option ℕ → Type 0
 LostAt None waits = waits ≡ None
 LostAt (Some connection) waits = IsLostConnection connection × (connection.waits ≡ waits)
 
--- where a lost connection stands
+-- where a lost connection is
 pub record ConversesLost (keys : List (List ℕ)) (Plain : ℕ → QueuedRequest → ReplyMessage → Type 0) (c : ℕ) (came sent : List ℕ) (tells : List Tell) (state : State) : Type 0 where
   pub below : c < next_of state
   pub waits : Option ℕ

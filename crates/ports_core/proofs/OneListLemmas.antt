@@ -52,7 +52,7 @@ nothing_not_whole : (s new after : Incoming) (request : RequestMessage) → (new
 nothing_not_whole s new after request none some =
     request_not_waits s.unread request some.rest some.stands (subst (λ b. MatchBool b (Unit {0}) (Waits s.unread)) some.begun none.1)
 
--- one request stands first, and this is behind it
+-- one request is first, and this comes after it
 one_removed : (s new after : Incoming) (request other : RequestMessage) → Removes s request new → Removes s other after → (request ≡ other) × (new ≡ after)
 one_removed s new after request other a b =
     let same = one_request s.unread request other a.rest b.rest a.stands b.stands in

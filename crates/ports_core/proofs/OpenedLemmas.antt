@@ -20,7 +20,7 @@ is_eq-nat_cmp_other c d ne = grind (arith, nat_tests)
 pub is_eq-nat_cmp_same : (c : ℕ) → is_eq (nat_cmp c c) ≡ true
 is_eq-nat_cmp_same c = grind (arith, nat_tests)
 
--- what is taken off a connection behind an event, which then closes if it is done
+-- what is taken off a connection after an event, which then closes if it is done
 pub hears_on : (keys : List (List ℕ)) (event : Event) (c : ℕ) (told : Told) (old mid new : List (ℕ × Connection)) (queues queues_after : List Queue) (reply : Option Tell) (connection heard after : Connection)
     → connection_in c old ≡ Some connection → heard ≡ hears event connection → ((taken : Taken) × TakesNext keys c taken reply heard after × Joins keys c taken queues queues_after)
     → connection_in c mid ≡ Some after → ((d : ℕ) → d ≢ c → connection_in d mid ≡ connection_in d old)

@@ -33,7 +33,7 @@ run_keys [] (step ∷ steps) old new run = absurd run
 run_keys (event ∷ events) [] old new run = absurd run
 run_keys (event ∷ events) (step ∷ steps) old new (mid, h, run) = run_keys events steps mid new run ∙ (seen event step.told old mid h.allowed h.does).keys
 
--- a turn between the events before and those behind it
+-- a turn between the events before and those after it
 module _ (keys : List (List ℕ)) (before events : List Event) (before_steps steps : List Effect) (event : Event) (step : Effect) (old mid new : State)
     (begun : Run (new_state keys) before before_steps old) (happens : Happens event step old mid) (goes_on : Run mid events steps new) where
   pub plain_turn : EachIsPlain (IsPlainOr503 keys (before ++ event ∷ events) (before_steps ++ step ∷ steps)) event step old mid

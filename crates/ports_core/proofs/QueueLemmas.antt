@@ -37,7 +37,7 @@ none_entering keys c d u (Whole request) apart = none_entered c d u (tenant_of k
 none_entering keys c d u (Refusal fault) apart = refl
 none_entering keys c d u (Lost close) apart = refl
 
--- the requests of a connection behind what another took
+-- the requests of a connection after what another took
 pub queued_requests_after : (keys : List (List ℕ)) (c d : ℕ) (taken : Taken) (u : ℕ) (queue : Queue) → d ≢ c → queued_requests_of c (queue ++ entering keys d taken u) ≡ queued_requests_of c queue
 queued_requests_after keys c d taken u queue apart =
     filter-append (λ (w : QueuedRequest). w.conn == c) queue (entering keys d taken u)

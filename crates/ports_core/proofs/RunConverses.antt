@@ -28,7 +28,7 @@ use Rattle.ports_core.proofs.ConversingLemmas.{moves}
 use Rattle.ports_core.proofs.LostLemmas.{LostAt, ConversesLost, LostMoves, lost_moves, is_lost, waits_for}
 use Rattle.ports_core.proofs.PositionLemmas.{EachPlain, each_plain}
 
--- where a connection stands, lost or not
+-- where a connection is, lost or not
 abbrev ConversesSo : Bool → List (List ℕ) → (ℕ → QueuedRequest → ReplyMessage → Type 0) → ℕ → List ℕ → List ℕ → List Tell → State → Type 0
 ConversesSo lost keys Plain c came sent tells state = MatchBool lost (ConversesLost keys Plain c came sent tells state) (Stands keys Plain c came sent tells state)
 
@@ -58,7 +58,7 @@ moves_so false keys Plain c event step old mid came sent tells alive lost s stan
       | false ↦ λ goes. alive stands goes
     ] refl
 
--- a whole run, from where the connection stood
+-- a whole run, from where the connection was
 run_moves : (lost : Bool) (keys : List (List ℕ)) (Plain : ℕ → QueuedRequest → ReplyMessage → Type 0) (c : ℕ) (came sent : List ℕ) (tells : List Tell) (events : List Event) (steps : List Effect) (old new : State) → keys_of old ≡ keys
     → (run : Run old events steps new) → EachPlain Plain events steps old new run → ConversesSo lost keys Plain c came sent tells old
     → ConversesSo (lost || is_lost_in c events) keys Plain c (came ++ came_on c events) (sent ++ sent_on c events steps) (tells ++ told_on c steps) new
@@ -90,7 +90,7 @@ new_queue [] u queue was = absurd (none_some was)
 new_queue (key ∷ keys) zero queue was = sym (some_same was)
 new_queue (key ∷ keys) (suc u) queue was = new_queue keys u queue was
 
--- before the first event no connection stands open
+-- before the first event no connection is open
 begins : (keys : List (List ℕ)) (Plain : ℕ → QueuedRequest → ReplyMessage → Type 0) (c : ℕ) → Stands keys Plain c [] [] [] (new_state keys)
 begins keys Plain c = inr (record {
   at = refl;
@@ -106,7 +106,7 @@ module _ (keys : List (List ℕ)) (c : ℕ) (events : List Event) (steps : List 
   written_all : is_lost_in c events ≡ false → (sent pending bytes : List ℕ) → sent ++ pending ≡ bytes → AreWritten (is_lost_in c events) sent pending bytes
   written_all alive sent pending bytes all = subst (λ b. AreWritten b sent pending bytes) (sym alive) all
 
-  -- where the connection stands at the end, as the contract says it
+  -- where the connection is at the end, as the contract says it
   alive_converses : is_lost_in c events ≡ false → Stands keys (IsPlainOr503 keys events steps) c (came_on c events) (sent_on c events steps) (told_on c steps) service → ConversesPlainly keys c events steps service
   alive_converses alive (inl is) = record {
     exchanges = is.is_connection.talk.exchanges;

@@ -29,7 +29,7 @@ pub on_ok : {A E : Type 0} (P : Type 0) (r : Result A E) → is_err r ≡ false 
 on_ok P (Ok x) fine h = h
 on_ok P (Err e) fine h = cc
 
--- the same value, written where it stood, changes nothing
+-- the same value, written where it was, changes nothing
 pub slice_get-set_kept : {X : Type 0} (xs : List X) (i : ℕ) (x y : X) → slice_get xs i ≡ Some x → y ≡ x → (j : ℕ) → slice_get (set xs i y) j ≡ slice_get xs j
 slice_get-set_kept [] i x y at same j = refl
 slice_get-set_kept (z ∷ xs) zero x y at same zero = ap Some same ∙ sym at

@@ -18,12 +18,12 @@ use Rattle.ports_core.specs.Taking.{Taken, Nothing, Whole, taken_of, TakesOff, I
 use Rattle.ports_core.proofs.Numbers.{other_number}
 use Rattle.ports_core.proofs.Lists.{slice_get-set_same, slice_get-set_other}
 
--- nothing waits behind a queue
+-- nothing waits after a queue
 pub nothing_after : (o : Option Queue) → o ≡ option_map (λ (queue : Queue). queue ++ []) o
 nothing_after None = refl
 nothing_after (Some queue) = ap Some (sym (append-nil queue))
 
--- what stands first on a connection that is ready is taken
+-- what comes first on a connection that is ready is taken
 pub taken_of_ready : (connection : Connection) (taken : Taken) (stream : Incoming) → is_ready connection ≡ true → TakesOff connection.stream taken stream → IsTaken connection taken stream
 taken_of_ready connection taken stream ready takes =
     let P : Bool → Type 0 = λ b. MatchBool b (TakesOff connection.stream taken stream) ((taken ≡ Nothing) × (stream ≡ connection.stream)) in
@@ -39,7 +39,7 @@ taken_of_busy connection busy =
 abbrev Taking : Type 0
 Taking = Result (Option (Result RequestMessage HeadFault)) TakeError
 
--- what it hands out stood first in it
+-- what it hands out was first in it
 takes_off : (old new : Incoming) (answer : Taking) → TakesOrLoses old answer new → TakesOff old (taken_of answer) new
 takes_off old new (Ok None) takes = takes
 takes_off old new (Ok (Some (Ok request))) takes = takes

@@ -117,7 +117,7 @@ module _ (keys : List (List ℕ)) (Plain : ℕ → QueuedRequest → ReplyMessag
     still = λ some. record { told = refl; written_is = refl };
   }
 
-  -- where the stream isn't over, it goes on behind the requests
+  -- if the stream isn't over, it goes on after the requests
   module _ (pending : List ℕ) (waits : List RequestMessage) (left : Incoming) (talk : Talk keys Plain c came sent tells pending waits left) (open_end : left.over ≡ false) where
     end_is : talk.end ≡ waiting left.unread
     end_is = goes_on talk.end left talk.left_is open_end

@@ -1,5 +1,5 @@
 -- What each event does to a service, and what it tells: for every tenant its world and its queue, and for
--- every connection what it is after the event. What it does to the tenants' jobs stands in `JobChanges.antt`.
+-- every connection what it is after the event. What it does to the tenants' jobs is in `JobChanges.antt`.
 use Rattle.std.specs.Prelude.{◌≡◌, ◌≢◌, ◌⊎◌, ℕ, ◌+◌, false, List, [], ◌∷◌, Some, None, option_map, option_and_then, if◌then◌else◌}
 use Rattle.std.proofs.Common.{inl, inr}
 use Rattle.ports_http.specs.Messages.{ReplyMessage}

@@ -33,7 +33,7 @@ fed_within c more ok fits =
     within_limit c.over unread_limit (length (drop c.start c.buffer.items)) more
     (omega (arith, ok.held, unread_held c ok)) fits
 
--- what is fed stands behind
+-- what is fed comes last
 pub fed_view : (c : Inside) (buffer new : Vec ℕ Global) (start missing : ℕ) (bytes : List ℕ) → start ≤ vec_len buffer
     → drop start buffer.items ≡ drop c.start c.buffer.items → new.items ≡ buffer.items ++ bytes
     → conn_view (record { buffer = new; start = start; missing = missing; over = c.over }) ≡ fed (conn_view c) bytes

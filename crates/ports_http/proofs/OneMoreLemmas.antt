@@ -105,7 +105,7 @@ one_more_overflows bytes more h rest one reads =
     subst (λ (n : ℕ). n < length h.fields) one.full.lines
     (more_lines skipped.0 full.fields h.fields h.last tail rest skipped.1 skipped.2 (stops_on one.line more one.begins))
 
--- one line more stays one with more behind
+-- one line more stays one with more after it
 pub one_more_stays : (front x whole : List ℕ) → whole ≡ front ++ x → BeginsOneMore front → BeginsOneMore whole
 one_more_stays front x whole e one = record {
   before = one.before;

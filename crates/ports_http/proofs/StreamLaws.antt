@@ -17,7 +17,7 @@ use Rattle.ports_http.specs.Streams.{HeadAt, RequestAt, LacksBody, Refuses, IsTo
 use Rattle.ports_http.proofs.OneMoreLemmas.{one_more_overflows, one_more_stays}
 use Rattle.ports_http.specs.Laws.{RequestStays, RefusalStays, WaitingHasRoom, OneCutting, RequestsStay, NextRequest, CutsOn, CutsFrom}
 
--- a head that stands first does with more behind
+-- a head that comes first does so with more after it
 pub head_stays : (stream : List ℕ) (head : RequestHead) (rest more : List ℕ) → HeadAt stream head rest
     → HeadAt (stream ++ more) head (rest ++ more)
 head_stays stream head rest more at = record {
@@ -51,13 +51,13 @@ front_holds zero (b ∷ first) rest h = absurd (omega arith)
 front_holds (suc n) (b ∷ first) rest h =
     let later = front_holds n first rest (omega arith) in (later.0, ap (λ t. b ∷ t) later.1)
 
--- what has no head however it goes on has none with more behind
+-- what has no head however it goes on has none with more after it
 never_stays : (front x whole : List ℕ) → whole ≡ front ++ x → NeverHasRequest front → NeverHasRequest whole
 never_stays front x whole e never = λ more.
     let same : front ++ (x ++ more) ≡ whole ++ more = sym (append_assoc front x more) ∙ ap (λ t. t ++ more) (sym e) in
     subst HasNoRequest same (never (x ++ more))
 
--- too many field lines stay too many with more behind
+-- too many field lines stay too many with more after them
 lines_stay : (front x whole : List ℕ) → whole ≡ front ++ x → HasTooManyLines front → HasTooManyLines whole
 lines_stay front x whole e lines = (
   λ more h rest reads.
@@ -97,14 +97,14 @@ refusal_stays stream fault more (inr (inr told)) = inr (inr record {
   announced = told.announced;
 })
 
--- the head that stands first stands first in the front, too
+-- the head that comes first comes first in the front, too
 head_in_take : (stream : List ℕ) (head : RequestHead) (rest : List ℕ) → HeadAt stream head rest
     → (behind : List ℕ) × ReadsRequest (take head_limit stream) head behind
 head_in_take stream head rest at =
     let held = front_holds head_limit (print_request head) rest at.size in
     (held.0, (at.reads.0, ap (λ t. take head_limit t) at.reads.1 ∙ held.1))
 
--- one head stands first
+-- one head comes first
 one_head : (stream : List ℕ) (h k : RequestHead) (r q : List ℕ) → HeadAt stream h r → HeadAt stream k q → (h ≡ k) × (r ≡ q)
 one_head stream h k r q x y = request_unique stream h k r q x.reads y.reads
 
@@ -123,7 +123,7 @@ err_inj e = cc
 ok_not_err : {A E : Type 0} {a : A} {b : E} → ◌≡◌ {A = Result A E} (Ok a) (Err b) → ⊥
 ok_not_err e = cc
 
--- one request stands first
+-- one request comes first
 pub one_request : (stream : List ℕ) (a b : RequestMessage) (r q : List ℕ) → RequestAt stream a r → RequestAt stream b q
     → (a ≡ b) × (r ≡ q)
 one_request stream a b r q x y =
@@ -161,7 +161,7 @@ head_not_large stream head rest at (inr (inr one)) =
     let over = one_more_overflows (take head_limit stream) [] head (front.0 ++ []) one longer in
     absurd (omega (arith, over, at.lines))
 
--- a request that stands first isn't refused
+-- a request that comes first isn't refused
 pub request_not_refused : (stream : List ℕ) (request : RequestMessage) (rest : List ℕ) (fault : HeadFault)
     → RequestAt stream request rest → Refuses stream fault → ⊥
 request_not_refused stream request rest fault at (inl never) = head_not_never stream at.head _ at.stands never.1
@@ -170,7 +170,7 @@ request_not_refused stream request rest fault at (inr (inr told)) =
     let heads = one_head stream at.head told.head _ told.rest at.stands told.stands in
     ok_not_err (sym at.announced ∙ ap announces heads.0 ∙ told.announced)
 
--- a request that stands first doesn't wait
+-- a request that comes first doesn't wait
 pub request_not_waits : (stream : List ℕ) (request : RequestMessage) (rest : List ℕ) → RequestAt stream request rest
     → Waits stream → ⊥
 request_not_waits stream request rest at (inl none) = none.unfinished.0 at.head (request.body ++ rest) at.stands.reads
@@ -263,7 +263,7 @@ after_one stream rest request requests others a b at stays (same, inl ends) = (a
 after_one stream rest request requests others a b at stays (same, inr left) =
     (ap (λ l. request ∷ l) same, inr (left.0, (rest, at, stays, left.1), left.2))
 
--- what stands behind the first request, in two cuttings
+-- what follows the first request, in two cuttings
 abbrev pub Behind : List ℕ → Bool → List RequestMessage → End → Type 0
 Behind rest close requests end = MatchBool close ((requests ≡ []) × (end ≡ closed)) (Cuts rest requests end)
 
@@ -304,7 +304,7 @@ next_request stream [] rest request behind begins at stays =
 next_request stream (first ∷ requests) rest request behind begins at stays =
     (begins.0, begins.1, begins.2, next_request begins.0 requests rest request behind begins.3 at stays)
 
--- a request that doesn't close has the cutting of the rest behind it
+-- a request that doesn't close has the cutting of the rest after it
 stays_after : (rest : List ℕ) (close : Bool) (requests : List RequestMessage) (end : End) → close ≡ false
     → Cuts rest requests end → Behind rest close requests end
 stays_after rest close requests end stays cuts = rw stays cuts
@@ -340,7 +340,7 @@ bind_ok : {A B : Type 0} (r : Result A HeadFault) (next : A → Result B HeadFau
 bind_ok (Ok x) next y e = (x, refl, e)
 bind_ok (Err fault) next y e = absurd (ok_not_err (sym e))
 
--- nothing is read behind a request that closes
+-- nothing is read after a request that closes
 pub closes_after : (rest : List ℕ) (close : Bool) → close ≡ true → Behind rest close [] closed
 closes_after rest close closing = rw closing (refl, refl)
 
@@ -350,7 +350,7 @@ after_goes_on : (rest : List ℕ) (close : Bool) (requests : List RequestMessage
 after_goes_on rest true requests end more behind on = behind
 after_goes_on rest false requests end more behind on = on behind
 
--- what has ended otherwise than by waiting has ended so with more behind
+-- what has ended otherwise than by waiting has ended so with more after it
 pub cuts_stay : (stream : List ℕ) (requests : List RequestMessage) (end : End) (more : List ℕ)
     → ((unread : List ℕ) → end ≢ waiting unread) → Cuts stream requests end → Cuts (stream ++ more) requests end
 cuts_stay stream [] (waiting unread) more other cuts = absurd (other unread refl)

@@ -1,4 +1,4 @@
--- What stands first in a stream, from what the parser says of its front.
+-- What comes first in a stream, from what the parser says of its front.
 use Rattle.std.proofs.Common.{◌≡◌, ℕ, ◌+◌, ◌-◌, ◌<◌, ◌≤◌, List, [], ◌∷◌, ◌++◌, length, take, drop, slice_range, All, refl, ap, sym, ◌∙◌, subst, arith, inl, inr, length-append, Ok, Option, option_map, IfSome, Bool}
 use Rattle.std.proofs.lemmas.List.{length-take, length-take-le, length-drop, take-append-drop, drop-append-le, take-append-le, take_all, drop-drop, length-map}
 use Rattle.std.proofs.lemmas.List.Elements.{All-head, All-tail}
@@ -41,7 +41,7 @@ pub headers_within_more : (m n : ℕ) (fields : List HeaderSpan) → m ≤ n →
 headers_within_more m n fields more within =
     λ k d h. (within_more m n _ more (within k d h).0, within_more m n _ more (within k d h).1)
 
--- the head that the parser found in the front stands first in the stream
+-- the head that the parser found in the front comes first in the stream
 pub head_in_front : (front back : List ℕ) (headers : List HeaderSpan) (r : RequestSpans) (h : RequestHead)
     → length front ≤ head_limit → length headers ≡ field_limit → IsRequestWithin front headers r
     → IsRequestAt front headers r h → CoversHead (front ++ back) r (take r.headers headers) h
@@ -75,7 +75,7 @@ pub announces_covered : (stream : List ℕ) (spans : RequestSpans) (fields : Lis
     → announced (span_bytes stream spans.method) spans.version (named stream fields) ≡ announces head
 announces_covered stream spans fields head covers = rw (covers.method, covers.version, covers.fields_are) refl
 
--- the body stands behind the head, and the rest behind the body
+-- the body follows the head, and the rest follows the body
 pub body_cut : (stream : List ℕ) (at size : ℕ) → at ≤ length stream → size ≤ length stream - at
     → (drop at stream ≡ slice_range stream at (at + size) ++ drop (at + size) stream)
     × (length (slice_range stream at (at + size)) ≡ size)
@@ -143,7 +143,7 @@ head_waits stream short unfinished few =
     let all : take head_limit stream ≡ stream = take_all head_limit stream (omega arith) in
     inl record { short = short; unfinished = subst IsUnfinished all unfinished; few_lines = few }
 
--- a head stands first whose body isn't whole
+-- a head comes first whose body isn't whole
 pub missing_body : (stream : List ℕ) (spans : RequestSpans) (fields : List HeaderSpan) (head : RequestHead)
     (method : Method) (size : ℕ) → CoversHead stream spans fields head
     → announced (span_bytes stream spans.method) spans.version (named stream fields) ≡ Ok (method, size)

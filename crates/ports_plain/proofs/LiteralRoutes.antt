@@ -74,7 +74,7 @@ module _ {K : Type 0} where
   picks true t path key rest other same = ap (λ o. if bytes_eq t path then Some key else o) same
   picks false t path key rest other same = same
 
-  -- patterns without parameters stay so behind a byte
+  -- patterns without parameters stay so after a byte
   literal_step : (b : ℕ) (rs : RowsOf K) → are_literal rs ≡ true → are_literal (step b rs) ≡ true
   literal_step b [] h = refl
   literal_step b (([], key) ∷ rest) h = literal_step b rest h
@@ -83,7 +83,7 @@ module _ {K : Type 0} where
       let here = and_parts (ltb x 256) (is_literal t) parts.0 in
       either (x == b) t key (step b rest) here.1 (literal_step b rest parts.1)
 
-  -- a row whose pattern goes on with a byte is the row of what is behind it
+  -- a row whose pattern goes on with a byte is the row of what follows it
   row_of-step : (b : ℕ) (path : List ℕ) (rs : RowsOf K) → row_of (step b rs) path ≡ row_of rs (b ∷ path)
   row_of-step b path [] = refl
   row_of-step b path (([], key) ∷ rest) = row_of-step b path rest

@@ -10,7 +10,7 @@ use Rattle.ports_plain.specs.Target.{local_part, scheme, is_slash}
 no_slash : (byte : ℕ) → byte ≢ 47 → is_slash byte ≡ false
 no_slash byte other = grind (arith, nat_tests)
 
--- behind the first slash of a text
+-- after the first slash of a text
 pub from_slash : (rest : List ℕ) (at : ℕ) → at < length rest → get_or rest at 0 ≡ 47 → ((i : ℕ) → i < at → get_or rest i 0 ≢ 47)
     → drop at rest ≡ 47 ∷ after_first is_slash rest
 from_slash rest at within here before =
@@ -18,7 +18,7 @@ from_slash rest at within here before =
     position_or_len_is is_slash rest at 0 (omega arith) (λ k below. no_slash (get_or rest k 0) (before k below)) (λ _. ap is_slash here) in
     rw (place, add-one, drop-cons rest at 0) (ap (λ byte. byte ∷ drop (suc at) rest) here)
 
--- a text without a slash has nothing behind one
+-- a text without a slash has nothing after one
 pub without_slash : (rest : List ℕ) → ((i : ℕ) → i < length rest → get_or rest i 0 ≢ 47) → 47 ∷ [] ≡ 47 ∷ after_first is_slash rest
 without_slash rest none =
     let place : position_or_len is_slash rest ≡ length rest =

@@ -48,7 +48,7 @@ number_given E G bits greatest (Some t) r default width only none value = go r (
     go (Some n) h = ap (λ o. unwrap_or o default) (sym (number_read E bits greatest t n width (only t (Ok n) h)))
     go None h = ap (λ o. unwrap_or o default) (sym (number_unread bits greatest t h.0 width (only t (Err h.0) h.1)))
 
--- what is made of a value or of what stands for none
+-- what is made of a value or of what takes its place
 pub made_or : {X Y : Type 0} (f : X → Y) (o : Option X) (d : X) (y : Y) (made : Option Y) → option_map f o ≡ made → f d ≡ y → f (unwrap_or o d) ≡ unwrap_or made y
 made_or f None d y made is h = h ∙ ap (λ m. unwrap_or m y) is
 made_or f (Some x) d y made is h = ap (λ m. unwrap_or m y) is

@@ -1,4 +1,4 @@
--- A part that stands somewhere in a text.
+-- A part that is somewhere in a text.
 use Rattle.std.proofs.Common.{◌≡◌, ◌∙◌, sym, ap, refl, ℕ, Bool, true, ◌↔◌, List, [], ◌∷◌, ◌++◌, length, take, drop, nat_eq}
 use Rattle.std.proofs.lemmas.Bool.{or_left, or_right}
 use Rattle.std.proofs.lemmas.List.{take-append-drop, take_at}
@@ -14,7 +14,7 @@ at_front text part begins =
     let same : part ≡ take (length part) text = (bytes_eq-Decides part (take (length part) text)).0 begins in
     ([], drop (length part) text, sym (ap (λ front. front ++ drop (length part) text) same ∙ take-append-drop (length part) text))
 
--- it stands there where it is found
+-- it is there where it is found
 pub part_stands : (text part : List ℕ) → has_part part text ≡ true → HasSubslice text part
 unfolding has_part
 part_stands [] part is = at_front [] part is
@@ -36,7 +36,7 @@ found_after [] part behind = from_front (part ++ behind) part (begins_with part 
 found_after (byte ∷ before) part behind =
     or_right (starts_with nat_eq (byte ∷ (before ++ (part ++ behind))) part) (has_part part (before ++ (part ++ behind))) (found_after before part behind)
 
--- it is found where it stands
+-- it is found where it is
 pub part_found : (text part : List ℕ) → HasSubslice text part → has_part part text ≡ true
 part_found text part (before, behind, is) = ap (has_part part) is ∙ found_after before part behind
 

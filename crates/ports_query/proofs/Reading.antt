@@ -6,7 +6,7 @@ use Rattle.text_parts.specs.Cuts.{now_all}
 use Rattle.ports_query.specs.Conditions.{ConditionValue, condition_of, conditions_of, condition_seen}
 use Rattle.ports_query.specs.declared.conditions.Condition.{Condition}
 
--- conditions with others in front of them
+-- conditions with others before them
 abbrev pub in_front : List ConditionValue → Option (List ConditionValue) → Option (List ConditionValue)
 in_front front more = option_map (λ conditions. front ++ conditions) more
 

@@ -1,11 +1,11 @@
--- What escaped texts stand for.
+-- What escaped texts mean.
 use Rattle.std.proofs.Common.{◌≡◌, ℕ, suc, zero, ◌+◌, ◌*◌, ◌<◌, ◌≤◌, Bool, true, false, cond, List, [], ◌∷◌, ◌++◌, length, refl, sym, ap, ◌∙◌, arith, Option, Some, None, option_map, option_and_then, append_assoc, append-nil, eqb, flat_map, codes, ◌^◌, ◌-◌, get_or, take, drop}
 use Rattle.std.proofs.lemmas.List.{take_all, take_more}
 use Rattle.std.specs.Fmt.{padded_integral, format_spec, digits}
 use Rattle.std.proofs.lemmas.Fmt.{hex_byte as hex_byte_text}
 use Rattle.ports_script.specs.Escapes.{hex_value, hex_byte, hex_escape, escape_of, first_meant, unescaped_within, unescaped, hex_text, escape, escaped}
 
--- the text is no shorter than what is left behind its first byte
+-- the text is no shorter than what follows its first byte
 abbrev IsShorter : Option (ℕ × List ℕ) → ℕ → Type 0
 IsShorter None size = Unit {0}
 IsShorter (Some first) size = length first.1 ≤ size
@@ -40,7 +40,7 @@ pub IsShorter-first_meant : (byte : ℕ) (rest : List ℕ) → IsShorter (first_
 IsShorter-first_meant byte rest =
     IsShorter-cond (eqb byte 92) (escape_of rest) (Some (byte, rest)) (length rest) (IsShorter-escape_of rest (length rest) (omega arith)) (omega arith)
 
--- what a first byte is in front of
+-- what a first byte is before
 abbrev in_front : ℕ → Option (ℕ × List ℕ) → Option (List ℕ)
 in_front most first = option_and_then (λ f. option_map (λ later. f.0 ∷ later) (unescaped_within most f.1)) first
 
@@ -56,7 +56,7 @@ within_enough (suc n) zero (byte ∷ rest) h k = absurd (omega arith)
 within_enough (suc n) (suc m) (byte ∷ rest) h k =
     in_front-same n m (first_meant byte rest) (length rest) (IsShorter-first_meant byte rest) (λ text l. within_enough n m text (omega arith) (omega arith))
 
--- what a first byte is in front of
+-- what a first byte is before
 abbrev before_later : Option (ℕ × List ℕ) → Option (List ℕ)
 before_later first = option_and_then (λ f. option_map (λ later. f.0 ∷ later) (unescaped f.1)) first
 
@@ -79,7 +79,7 @@ regroup : (before : List ℕ) (meant : ℕ) (o : Option (List ℕ)) → option_m
 regroup before meant None = refl
 regroup before meant (Some later) = ap Some (append_assoc before (meant ∷ []) later)
 
--- one more byte is read, behind those read before
+-- one more byte is read, after those read before
 pub unescaped-more : (before text : List ℕ) (byte : ℕ) (rest : List ℕ) (meant : ℕ) (left : List ℕ) → text ≡ byte ∷ rest → first_meant byte rest ≡ Some (meant, left) → option_map (λ later. (before ++ meant ∷ []) ++ later) (unescaped left) ≡ option_map (λ later. before ++ later) (unescaped text)
 unescaped-more before text byte rest meant left t e = rw (t, unescaped-cons byte rest, e) (regroup before meant (unescaped left))
 

@@ -7,7 +7,7 @@ use Rattle.ports_core.specs.Effects.{Effect}
 use Rattle.ports_script.specs.Entries.{Entry}
 use Rattle.ports_script.specs.Printing.{printed, transcript}
 
--- four texts are pushed, one behind the other
+-- four texts are pushed, one after the other
 pub four_pushed : {T E : Type 0} (r : Result T E) (s t u v w a b c d : List ℕ) → t ≡ s ++ a → u ≡ t ++ b → v ≡ u ++ c → OnOk r (w ≡ v ++ d) → OnOk r (w ≡ s ++ (a ++ (b ++ (c ++ d))))
 four_pushed (Ok x) s t u v w a b c d e f g h = rw (h, g, f, e) (simp append_assoc)
 four_pushed (Err x) s t u v w a b c d e f g h = h
@@ -21,14 +21,14 @@ transcript-more (first ∷ entries) (front ∷ steps) zero entry step e h s =
     rw (same, sym s)
 transcript-more (first ∷ entries) (front ∷ steps) (suc i) entry step e h s = transcript-more entries steps i entry step e (omega arith) s
 
--- nothing is printed behind the last event
+-- nothing is printed after the last event
 pub transcript-past : (entries : List (ℕ × Entry)) (steps others : List Effect) (i j : ℕ) → slice_get entries i ≡ None → i ≤ j → transcript (drop i entries) steps ≡ transcript (drop j entries) others
 transcript-past [] steps others i j e h = rw (drop_all {X = ℕ × Entry} i [] (omega arith), drop_all {X = ℕ × Entry} j [] (omega arith))
 transcript-past (first ∷ entries) steps others zero j e h = absurd (cc)
 transcript-past (first ∷ entries) steps others (suc i) zero e h = absurd (omega arith)
 transcript-past (first ∷ entries) steps others (suc i) (suc j) e h = transcript-past entries steps others i j e (omega arith)
 
--- nor behind the last step
+-- nor after the last step
 pub transcript-end : (entries : List (ℕ × Entry)) (steps : List Effect) (i j : ℕ) → length steps ≤ j → transcript (drop i entries) (drop j steps) ≡ []
 transcript-end entries steps i j h = rw (drop_all j steps h) (by (drop i entries))
   where

@@ -38,7 +38,7 @@ events_from-cons : (whole : Bool) (line : ℕ) (text : List ℕ) (texts : List (
 unfolding events_from
 events_from-cons whole line text texts first others e = rw e
 
--- a line in front of others
+-- a line before others
 pub events_from-line : (whole : Bool) (line : ℕ) (text front later : List ℕ) → slice_split (λ byte. byte == 10) text ≡ front ∷ slice_split (λ byte. byte == 10) later → events_from whole line (slice_split (λ byte. byte == 10) text) ≡ with_line line front (events_from whole (line + 1) (slice_split (λ byte. byte == 10) later))
 events_from-line whole line text front later parts =
     let more = slice_split-first (λ byte. byte == 10) later in

@@ -6,7 +6,7 @@ use Rattle.std.proofs.KnownBytes.{Appends-trans, Appends-kept}
 use Rattle.std.specs.Io.KnownBytes.{Appends, Keeps}
 use Rattle.ports_script.specs.Writing.{AppendsFront, AppendsUpTo}
 
--- what is left of bytes behind so many, as a slice has it
+-- what is left of bytes after so many, as a slice has it
 abbrev pub left_of : List ℕ → ℕ → List ℕ
 left_of bytes done = take (length bytes - done) (drop done bytes)
 

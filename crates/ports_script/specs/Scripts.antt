@@ -16,17 +16,17 @@ Reading = Result (List (ℕ × Entry)) ℕ
 abbrev pub is_passed_over : List ℕ → Bool
 is_passed_over text = (length text == 0) || (slice_index text 0 == 35)
 
--- events in front of those of the later lines
+-- events before those of the later lines
 abbrev pub put_before : List (ℕ × Entry) → Reading → Reading
 put_before events (Ok later) = Ok (events ++ later)
 put_before events (Err line) = Err line
 
--- a line's event in front of those of the later lines
+-- a line's event before those of the later lines
 abbrev pub with_event : ℕ → Option Entry → Reading → Reading
 with_event line None later = Err line
 with_event line (Some event) later = put_before ((line, event) ∷ []) later
 
--- what a line gives, in front of the later lines
+-- what a line gives, before the later lines
 abbrev pub with_line : ℕ → List ℕ → Reading → Reading
 with_line line text later = if is_passed_over text then later else with_event line (event_of text) later
 

@@ -1,4 +1,4 @@
--- A wire and a service that go through one course behind another.
+-- A wire and a service that go through one course after another.
 use Rattle.std.proofs.Common.{◌≡◌, ◌≢◌, ◌⊎◌, inl, inr, ℕ, zero, suc, ◌<◌, ◌≤◌, ◌-◌, List, [], ◌∷◌, ◌++◌, Some, None, map, refl, sym, ap, subst, ◌∙◌, append_assoc, arith, length, ◌+◌, ◌==◌, Bool, true, false, not, ◌||◌, is_some, min, get_or, drop, drop-cons}
 use Rattle.std.proofs.lemmas.Bool.{false≢true}
 use Rattle.std.proofs.lemmas.List.{append-nil, drop_all, nil_from_length}
@@ -67,7 +67,7 @@ next_number i count within =
     let next : suc i ≡ i + 1 = omega arith in
     ap (numbers_from i) e ∙ ap (λ n. i ∷ numbers_from n (count - (i + 1))) next
 
--- behind the last none is left
+-- after the last none is left
 pub no_number : (i count : ℕ) → count ≤ i → numbers_from i (count - i) ≡ []
 no_number i count past = let e : count - i ≡ zero = omega (arith, past) in ap (numbers_from i) e
 
@@ -272,7 +272,7 @@ module _ {W : Type 0} (After : W → Call → W → Type 0) where
       → Goes After (Brought (brings went.course) P) old state new after_state
   noted old new state after_state went = record { course = went.course; goes = (went.goes, refl); wire = went.wire; run = went.run }
 
-  -- the four parts of a round, one behind the other
+  -- the four parts of a round, one after the other
   pub goes_round : (idle c1 c2 c3 c4 rested : Bool) (w0 w1 w2 w3 w4 : W) (s0 s1 s2 s3 s4 : State)
       → rested ≡ not ((((c1 || c2) || c3) || c4) || waits s4)
       → Goes After (Brought c1 (Accepts idle)) w0 s0 w1 s1
@@ -312,7 +312,7 @@ pub item_then : (P : ℕ → State → Course → State → Type 0) {left rest :
 item_then P {left} {rest} x now next e first later new part goes =
     subst (λ xs. Each P xs now (joined first later) new) (sym e) (first, next, later, part, goes, refl)
 
--- behind the last item nothing is left
+-- after the last item nothing is left
 pub none_left : (P : ℕ → State → Course → State → Type 0) {left : List ℕ} (now : State) → left ≡ [] → Each P left now quiet now
 none_left P {left} now e = subst (λ xs. Each P xs now quiet now) (sym e) (refl, refl)
 
@@ -323,6 +323,6 @@ round_then left rest idle rested now next e first later new part goes =
     subst (λ count. Rounds count idle now (joined first later) new) (sym e)
     (first, next, later, part.0, subst (λ flag. Rounds rest flag next later new) part.1 goes, refl)
 
--- behind the last round nothing is left
+-- after the last round nothing is left
 pub no_round_left : (left : ℕ) (idle : Bool) (now : State) → left ≡ zero → Rounds left idle now quiet now
 no_round_left left idle now e = subst (λ count. Rounds count idle now quiet now) (sym e) (refl, refl)

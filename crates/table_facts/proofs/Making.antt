@@ -95,7 +95,7 @@ pub map-push : {X : Type 0} (f : Row → X) (rows : List Row) (r : Row) → map 
 map-push f [] r = refl
 map-push f (s ∷ rows) r = ap (λ more. f s ∷ more) (map-push f rows r)
 
--- a row that is added stands behind the others
+-- a row that is added follows the others
 pub pushed_rise : (rows : List Row) (cells : Row) → IsShaped Shapes.Table rows → IsShaped Shapes.Table (rows ++ (Int (next_rowid rows) ∷ cells) ∷ [])
 pushed_rise rows cells h =
     subst (IsShaped Shapes.Table) (put_row-next (Int (next_rowid rows) ∷ cells) rows h refl) (IsShaped-put_row (Int (next_rowid rows) ∷ cells) rows refl h)

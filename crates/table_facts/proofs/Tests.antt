@@ -36,7 +36,7 @@ same_text a b = truth_of _ ∙ ap is_eq (value_cmp-Text a b) ∙ (eq_by_cmp_equi
 pub text_is : (a b : List ℕ) → is_eq (slice_cmp nat_cmp a b) ≡ true → a ≡ b
 text_is a b e = finite.slice_cmp-IsAntisymmetric finite.nat_cmp-IsAntisymmetric a b (Equal_from_is_eq _ e)
 
--- a test that stands alone
+-- a test alone
 pub alone : (a : Bool) → (a && true) ≡ a
 alone true = refl
 alone false = refl

@@ -36,7 +36,7 @@ use Rattle.tenant_store.proofs.Fixed.{names_text}
 same_itself : (q : List ℕ) → is_eq (slice_cmp nat_cmp q q) ≡ true
 same_itself q = ap is_eq (tied_itself nat_list_cmp_total q)
 
--- a name that stands there is shown by a row
+-- a name that is there is shown by a row
 among_has : (q : List ℕ) (rows : List Row) → among q (map name_in rows) ≡ true → (x : Row) × Has rows x × (q ≡ name_in x)
 among_has q [] e = absurd (true≢false (sym e))
 among_has q (x ∷ rows) e = elim (cases_Bool (is_eq (slice_cmp nat_cmp q (name_in x)))) [

@@ -42,7 +42,7 @@ pub all_apart : (texts more : List (List ℕ)) → IsDistinct bytes_eq texts →
 all_apart texts [] apart = apart
 all_apart texts (first ∷ more) apart = all_apart (added texts first) more (apart_by texts first (is_among first texts) refl apart)
 
--- texts with others behind them
+-- texts with others after them
 pub record Grows (texts more : List (List ℕ)) : Type 0 where
   pub behind : List (List ℕ)
   pub is : more ≡ texts ++ behind

@@ -1,4 +1,4 @@
--- What stands in lists that are mapped and filtered, and among texts.
+-- What is in lists that are mapped and filtered, and among texts.
 use Rattle.std.proofs.Common.{◌≡◌, ◌∙◌, sym, ap, refl, subst, ℕ, zero, suc, Bool, true, false, cond, List, [], ◌∷◌, map, arith, ◌⊎◌, inl, inr}
 use Rattle.std.proofs.lemmas.Bool.{cases_Bool, false≢true}
 use Rattle.std.proofs.lemmas.Cmp.{nat_list_eq_equiv}
@@ -21,7 +21,7 @@ pub head_or_tail : {X : Type 0} (x : X) (xs : List X) (y : X) → Contains (x �
 head_or_tail x xs y (zero, inside, is) = inl is
 head_or_tail x xs y (suc k, inside, is) = inr (k, omega (arith, inside), is)
 
--- an element is the first or stands behind it
+-- an element is the first or comes after it
 by_place : {X : Type 0} {P : Type 0} (x : X) (xs : List X) (y : X) → Contains (x ∷ xs) y → (x ≡ y → P) → (Contains xs y → P) → P
 by_place x xs y stands first behind = elim (head_or_tail x xs y stands) [ inl is ↦ first is | inr c ↦ behind c ]
 

@@ -18,7 +18,7 @@ use Rattle.text_graph.specs.declared.numbers.NumberedArrow.{NumberedArrow}
 use Rattle.text_graph.proofs.Ways.{first_of, behind_first}
 use Rattle.text_graph.proofs.Members.{equal_texts, equal_itself}
 
--- a place behind a first element
+-- a place after a first element
 record Behind (place : Option ℕ) (i : ℕ) : Type 0 where
   before : ℕ
   found : place ≡ Some before
@@ -36,7 +36,7 @@ stays_by : (b : Bool) (i : ℕ) (old new : Option ℕ) → ((j : ℕ) → old �
 stays_by true i old new stays is = is
 stays_by false i old new stays is = let more = behind old i is in ap (option_map suc) (stays more.before more.found) ∙ ap Some more.is
 
--- a text that stands among others has its place if one more is put behind them
+-- a text that is among others has its place if one more is put after them
 pub place-stays : (met : List (List ℕ)) (more text : List ℕ) (i : ℕ) → place_of met text ≡ Some i → place_of (met ++ more ∷ []) text ≡ Some i
 place-stays [] more text i is = absurd (none-some i is)
 place-stays (first ∷ met) more text i is = stays_by (bytes_eq text first) i (place_of met text) (place_of (met ++ more ∷ []) text) (λ j. place-stays met more text j) is
@@ -47,12 +47,12 @@ new_by true same n old new rest is = absurd (none-some 0 (sym is))
 new_by false true n old new rest is = no_place old is (λ none. ap (option_map suc) (rest none))
 new_by false false n old new rest is = no_place old is (λ none. ap (option_map suc) (rest none))
 
--- one that doesn't stand among them stands at their end if it is put there
+-- one that isn't among them is at their end if it is put there
 pub place-new : (met : List (List ℕ)) (more text : List ℕ) → place_of met text ≡ None → place_of (met ++ more ∷ []) text ≡ cond (bytes_eq text more) (Some (length met)) None
 place-new [] more text is = refl
 place-new (first ∷ met) more text is = new_by (bytes_eq text first) (bytes_eq text more) (length met) (place_of met text) (place_of (met ++ more ∷ []) text) (place-new met more text) is
 
--- where a text stands
+-- where a text is
 pub record Stands (met : List (List ℕ)) (text : List ℕ) (i : ℕ) : Type 0 where
   pub inside : i < length met
   pub is : text_at met i ≡ text

@@ -53,7 +53,7 @@ fewer a (x ∷ xs) stands =
       | inr c ↦ kept (not (same_arrow a x)) x (without a xs) (length xs) (fewer a xs c)
     ]
 
--- a way over arrows, behind its first one
+-- a way over arrows, after its first one
 record Behind (arrows : List ArrowValue) (a : ArrowValue) (to : List ℕ) (most : ℕ) : Type 0 where
   pub way : List ArrowValue
   pub are_arrows : All (Contains arrows) (a ∷ way)

@@ -1,4 +1,4 @@
--- What is found over the arrows behind first ones is reached over these; what is found over turned arrows reaches a text.
+-- What is found over the arrows after first ones is reached over these; what is found over turned arrows reaches a text.
 use Rattle.std.proofs.Common.{◌∙◌, sym, ap, subst, ℕ, List, map, ◌↔◌}
 use Rattle.std.specs.List.{Contains}
 use Rattle.std.specs.Str.{bytes_eq}

@@ -10,14 +10,14 @@ pub stay : (arrows : List ArrowValue) (from to : List ℕ) → from ≡ to → W
 unfolding Lead
 stay arrows from to is = record { way = []; are_arrows = All-nil (Contains arrows); lead = is }
 
--- what holds of all elements holds of the first, and of those behind it
+-- what holds of all elements holds of the first, and of those after it
 pub first_of : {X : Type 0} (P : X → Type 0) (x : X) (xs : List X) → All P (x ∷ xs) → P x
 first_of P x xs all = (recursion_from_All P (x ∷ xs) all).0
 
 pub behind_first : {X : Type 0} (P : X → Type 0) (x : X) (xs : List X) → All P (x ∷ xs) → All P xs
 behind_first P x xs all = All-from_recursion P xs (recursion_from_All P (x ∷ xs) all).1
 
--- an arrow in front of a way
+-- an arrow before a way
 pub in_front : (arrows : List ArrowValue) (arrow : ArrowValue) (to : List ℕ) → Contains arrows arrow → Way arrows arrow.to to → Way arrows arrow.from to
 unfolding Lead
 in_front arrows arrow to stands further = record {
@@ -26,7 +26,7 @@ in_front arrows arrow to stands further = record {
   lead = (refl, further.lead);
 }
 
--- an arrow behind a way
+-- an arrow after a way
 pub at_end : (arrows : List ArrowValue) (way : List ArrowValue) (from : List ℕ) (arrow : ArrowValue) → All (Contains arrows) way → Contains arrows arrow
     → Lead way from arrow.from → Way arrows from arrow.to
 unfolding Lead

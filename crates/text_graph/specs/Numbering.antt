@@ -12,7 +12,7 @@ use Rattle.text_graph.specs.declared.numbers.NumberedArrow.{NumberedArrow}
 use Rattle.text_graph.specs.declared.searching.Found.{Found}
 use Rattle.text_graph.specs.declared.steps.Steps.{Steps}
 
--- the first place where a text stands among these texts
+-- the first place of a text among these texts
 abbrev pub place_of : List (List ℕ) → List ℕ → Option ℕ
 place_of [] text = None
 place_of (first ∷ texts) text = if bytes_eq text first then Some 0 else option_map suc (place_of texts text)
@@ -21,7 +21,7 @@ place_of (first ∷ texts) text = if bytes_eq text first then Some 0 else option
 abbrev pub text_at : List (List ℕ) → ℕ → List ℕ
 text_at texts place = get_or texts place []
 
--- each text stands once among these: the first place of the one at a place is that place
+-- each text is once among these: the first place of the one at a place is that place
 abbrev pub EachOnce : List (List ℕ) → Type 0
 EachOnce texts = (place : ℕ) → place < length texts → place_of texts (text_at texts place) ≡ Some place
 
@@ -33,7 +33,7 @@ AreNumbers met numbers texts = map Some numbers ≡ map (place_of met) texts
 abbrev pub texts_met : Numbers → List (List ℕ)
 texts_met numbers = now_all numbers.texts.items
 
--- the map knows exactly the texts that were met, each by its place, and each stands once among them
+-- the map knows exactly the texts that were met, each by its place, and each is once among them
 pub record IsNumbering (numbers : Numbers) : Type 0 where
   pub knows : (text : List ℕ)
       → tree.get_by (λ key. slice_cmp nat_cmp text key.now) numbers.places ≡ place_of (texts_met numbers) text

@@ -4,7 +4,7 @@ use Rattle.std.proofs.lemmas.List.{append_assoc, drop_more, at_drop_all, take_mo
 use Rattle.std.specs.Option.{option_map}
 use Rattle.text_parts.specs.Cuts.{Cut, cut_where, cut_at}
 
--- a cut of what stands behind a front
+-- a cut of what follows a front
 abbrev pub shifted : List ℕ → Option Cut → Option Cut
 shifted front cut = option_map (λ (cut : Cut). record { before = front ++ cut.before; behind = cut.behind }) cut
 

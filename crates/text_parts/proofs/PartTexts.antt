@@ -7,7 +7,7 @@ use Rattle.std.proofs.lemmas.List.Elements.{All-cons, All-nil}
 use Rattle.std.specs.List.{list_all, onto_first, slice_split, All}
 use Rattle.text_parts.specs.Laws.{is_between, are_between, after_marks, PartsAreBetween, WrittenIsCutAgain, WrittenPartsMayOccur}
 
--- a byte in front of the first part
+-- a byte before the first part
 onto_parts : (mark : ℕ) (may_occur : ℕ → Bool) (x : ℕ) (parts : List (List ℕ)) → is_between mark may_occur x ≡ true → are_between mark may_occur parts ≡ true
     → are_between mark may_occur (onto_first x parts) ≡ true
 onto_parts mark may_occur x [] a b = and_from (list_all (is_between mark may_occur) (x ∷ [])) true (and_from (is_between mark may_occur x) true a refl) refl

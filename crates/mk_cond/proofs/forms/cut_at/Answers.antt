@@ -1,4 +1,4 @@
--- A blank is ASCII, so the text may be cut behind it.
+-- A blank is ASCII, so the text may be cut after it.
 use Rattle.std.proofs.Common.{◌≡◌, ◌<◌, ℕ, true, arith}
 use Rattle.std.proofs.lemmas.Str.{IsCharBoundary-after_ascii}
 use Rattle.std.proofs.lemmas.Bool.Decides.{nat_tests}

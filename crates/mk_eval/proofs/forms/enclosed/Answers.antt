@@ -1,4 +1,4 @@
--- The first byte is ASCII, so the text may be cut behind it.
+-- The first byte is ASCII, so the text may be cut after it.
 use Rattle.std.proofs.Common.{◌≡◌, ◌∙◌, ◌≤◌, length, slice_index, ap, sym, subst, arith}
 use Rattle.std.proofs.lemmas.Str.{IsCharBoundary-after_ascii}
 use Rattle.mk_eval.proofs.forms.enclosed.Goals as goal

@@ -1,4 +1,4 @@
--- The text so far is the parts up to here, each behind a slash.
+-- The text so far is the parts up to here, each after a slash.
 use Rattle.std.proofs.Common.{◌≡◌, take}
 use Rattle.std.specs.String.{string_bytes}
 use Rattle.text_parts.specs.Cuts.{now_all}

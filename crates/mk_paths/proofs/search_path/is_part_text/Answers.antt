@@ -1,4 +1,4 @@
--- A text that is neither empty nor dots is a part just where each byte may stand in one.
+-- A text that is neither empty nor dots is a part just if each byte may be in one.
 use Rattle.std.proofs.Common.{◌≡◌, ◌∙◌, ℕ, false, List, [], codes, rules, arith}
 use Rattle.std.proofs.lemmas.Grind.{common_steps}
 use Rattle.std.specs.List.{list_all}

@@ -1,4 +1,4 @@
--- What stands behind a first slash is the part; a text with none there is no tree.
+-- What follows a first slash is the part; a text with none is no tree.
 use Rattle.std.proofs.Common.{◌≡◌, ap, refl, ℕ, false, List, [], ◌∷◌, arith, Some, None, lit<}
 use Rattle.std.proofs.lemmas.Grind.{common_steps}
 use Rattle.std.proofs.lemmas.Str.Pattern.{strip_prefix_char}

@@ -1,4 +1,4 @@
--- A digit behind the dash is the test.
+-- A digit after the dash is the test.
 use Rattle.std.proofs.Common.{◌∙◌, ap}
 use Rattle.pkg_name.specs.Version.{begins_with_digit}
 use Rattle.pkg_name.proofs.name.cut_at_version.Goals as goal

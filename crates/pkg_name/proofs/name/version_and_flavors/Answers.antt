@@ -1,4 +1,4 @@
--- The words behind a stem are a version and flavors where the stem and the flavors are words and the version is one.
+-- The words after a stem are a version and flavors if the stem and the flavors are words and the version is one.
 use Rattle.std.proofs.Common.{◌≡◌, ℕ, Bool, true, false, ◌&&◌, List, ◌∷◌, refl, sym, ap, ◌∙◌, true≢false}
 use Rattle.std.proofs.lemmas.List.Folds.{list_all-map}
 use Rattle.std.specs.Borrow.{Bor}
@@ -23,7 +23,7 @@ without_last true true c last = last
 without_last true false c last = refl
 without_last false b c last = refl
 
--- the name of a stem and words behind it, by what is known of the stem and the flavors
+-- the name of a stem and words after it, by what is known of the stem and the flavors
 named : (stem : List ℕ) (words flavors : List (Bor (List ℕ))) (version : Bor (List ℕ)) (are : Bool) → words ≡ version ∷ flavors
     → (is_word stem && is_version version.now && list_all (λ text. is_word text.now) flavors) ≡ are
     → name_of stem (now_all words) ≡ name_if are stem version.now (now_all flavors)

@@ -1,4 +1,4 @@
--- The parts that were compared tie, and one text has no part behind them.
+-- The parts that were compared tie, and one text has no part after them.
 use Rattle.std.proofs.Common.{[], sym, ◌∙◌}
 use Rattle.pkg_name.specs.Order.{part_key, part_keys}
 use Rattle.pkg_name.proofs.PartCuts.{none_before, some_after, tied_first, tie_from}

@@ -1,4 +1,4 @@
--- All that stands from here on is digits.
+-- All that follows from here on is digits.
 use Rattle.std.proofs.Common.{◌≡◌, ◌≤◌, true, length, drop}
 use Rattle.std.specs.List.{list_all}
 use Rattle.std.specs.Char.{is_ascii_digit}

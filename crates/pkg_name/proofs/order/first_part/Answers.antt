@@ -1,4 +1,4 @@
--- The first part ends before the first dot; what stands on either side has short numbers as the text has.
+-- The first part ends before the first dot; what is on either side has short numbers as the text has.
 use Rattle.pkg_name.proofs.ShortNumbers.{short-take, short-drop}
 use Rattle.pkg_name.proofs.PartCuts.{last_part, next_part_cut}
 use Rattle.pkg_name.proofs.order.first_part.Goals as goal

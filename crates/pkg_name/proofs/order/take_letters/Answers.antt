@@ -1,4 +1,4 @@
--- What stands behind the letters has short numbers as the text has.
+-- What follows the letters has short numbers as the text has.
 use Rattle.pkg_name.proofs.ShortNumbers.{short-drop}
 use Rattle.pkg_name.proofs.order.take_letters.Goals as goal
 

@@ -1,4 +1,4 @@
--- What a text begins with, and what stands behind it, has short numbers as the text has.
+-- What a text begins with, and what follows it, has short numbers as the text has.
 use Rattle.std.specs.Char.{is_ascii_digit}
 use Rattle.pkg_name.proofs.ShortNumbers.{short-take, short-drop, short-digits, prefix_passes}
 use Rattle.pkg_name.proofs.order.take_number.Goals as goal

@@ -1,4 +1,4 @@
--- The numbers are short where those from here on are, with the digits that stand before it.
+-- The numbers are short if those from here on are, with the digits before them.
 use Rattle.std.proofs.Common.{◌≡◌, ◌≤◌, drop}
 use Rattle.pkg_name.specs.Version.{has_short_numbers}
 use Rattle.pkg_name.proofs.ShortNumbers.{fits_after}

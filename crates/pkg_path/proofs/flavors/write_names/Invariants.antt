@@ -1,4 +1,4 @@
--- What was written so far are the names up to here, each behind a comma.
+-- What was written so far are the names up to here, each after a comma.
 use Rattle.std.proofs.Common.{take, map}
 use Rattle.std.specs.Fmt.{HasWritten, IsPlainFormatter}
 use Rattle.std.specs.String.{string_bytes}

@@ -1,4 +1,4 @@
--- That versions begin behind the dash is the test.
+-- That versions begin after the dash is the test.
 use Rattle.std.proofs.Common.{◌∙◌, ap}
 use Rattle.pkg_spec.specs.Alternatives.{begins_versions}
 use Rattle.pkg_spec.proofs.alternatives.cut_at_versions.Goals as goal

@@ -1,4 +1,4 @@
--- A forbidden flavor begins with `!`, and its name stands behind that.
+-- A forbidden flavor begins with `!`, and its name follows that.
 use Rattle.std.proofs.Common.{◌≡◌, ap, refl, ℕ, List, [], ◌∷◌, drop, true, false, Option, Some, None, lit<, arith}
 use Rattle.std.proofs.lemmas.Grind.{common_steps}
 use Rattle.std.proofs.lemmas.Str.Pattern.{strip_prefix_char}

@@ -1,4 +1,4 @@
--- The parts behind the first, by their colons.
+-- The parts after the first, by their colons.
 use Rattle.std.proofs.Common.{◌≡◌, ◌∙◌, ◌<◌, ap, sym, ◌∷◌, None, Some, lit<, length}
 use Rattle.std.proofs.lemmas.Str.Pattern.{split_once_first, contains_char}
 use Rattle.std.specs.List.{position_or_len}

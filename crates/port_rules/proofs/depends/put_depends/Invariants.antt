@@ -1,4 +1,4 @@
--- Behind those that were there stand the dependencies of the items so far.
+-- The dependencies of the items so far follow those that were there.
 use Rattle.std.proofs.Common.{◌≡◌, ◌++◌, map, string_bytes}
 use Rattle.port_rules.specs.Depends.{depends}
 use Rattle.port_rules.proofs.depends.put_depends.Given as goal

@@ -1,4 +1,4 @@
--- Behind what stood there stand the words up to here, each behind a dash.
+-- The words up to here follow what was there, each after a dash.
 use Rattle.std.proofs.Common.{◌≡◌, ◌∷◌, ◌++◌, map, take, string_bytes}
 use Rattle.std.specs.List.{flat_map}
 use Rattle.text_parts.specs.Cuts.{now_all}

@@ -1,4 +1,4 @@
--- The set holds the texts up to here, and none of them stands there twice.
+-- The set holds the texts up to here, and none of them is there twice.
 use Rattle.std.proofs.Common.{◌≡◌, ℕ, List, false, map, take, string_bytes}
 use Rattle.mk_env.specs.Expansion.{is_among}
 use Rattle.port_rules.specs.TextSets.{holds}

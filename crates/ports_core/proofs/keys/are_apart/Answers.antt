@@ -5,7 +5,7 @@ use Rattle.ports_core.specs.Keys.{key_texts, are_apart}
 use Rattle.ports_core.proofs.KeyLemmas.{are_apart-drop, list_any-rest}
 use Rattle.ports_core.proofs.keys.are_apart.Goals as goal
 
--- a key behind this one is the same
+-- a key after this one is the same
 pub returns-then-contains : goal.returns-then-contains
 returns-then-contains c =
     let step = are_apart-drop c.args.keys.now c.loop-i.i c.index-keys-i.result c.loop-i-test.true c.index-keys-i.is in

@@ -1,4 +1,4 @@
--- The parts, one behind the other, are the line.
+-- The parts, one after the other, are the line.
 use Rattle.std.proofs.Common.{◌≡◌, ◌++◌, ap, ◌∙◌, refl, subst, List, ℕ, Option, None, Some, []}
 use Rattle.std.specs.Borrow.{Bor}
 use Rattle.std.specs.Prelude.{codes, option_map, unwrap_or}

@@ -1,4 +1,4 @@
--- Behind those that were there stand the items so far.
+-- The items so far follow those that were there.
 use Rattle.std.proofs.Common.{◌≡◌, ◌++◌, map}
 use Rattle.ports_index.specs.Depending.{item_at}
 use Rattle.ports_index.specs.Seen.{item_seen}

@@ -1,4 +1,4 @@
--- Behind those that were there stand the paths that the words up to here name.
+-- The paths that the words up to here name follow those that were there.
 use Rattle.std.proofs.Common.{◌≡◌, ◌++◌, map, take, string_bytes}
 use Rattle.std.specs.List.{filter_map}
 use Rattle.ports_index.specs.Naming.{path_of_word}

@@ -1,4 +1,4 @@
--- Behind those that were there stand the texts so far.
+-- The texts so far follow those that were there.
 use Rattle.std.proofs.Common.{◌≡◌, ◌++◌}
 use Rattle.ports_index.proofs.naming.append.Given as goal
 

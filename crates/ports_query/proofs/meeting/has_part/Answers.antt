@@ -1,4 +1,4 @@
--- Where the part's bytes stand in the text.
+-- Where the part's bytes are in the text.
 use Rattle.std.proofs.lemmas.Str.Pattern.{contains_text}
 use Rattle.ports_query.proofs.Parts.{part_answer}
 use Rattle.ports_query.proofs.meeting.has_part.Goals as goal

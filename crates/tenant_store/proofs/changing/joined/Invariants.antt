@@ -1,4 +1,4 @@
--- The text so far is the first and the trees up to here, each behind a colon.
+-- The text so far is the first and the trees up to here, each after a colon.
 use Rattle.std.proofs.Common.{◌≡◌, ◌++◌, map, take, string_bytes}
 use Rattle.text_parts.specs.Laws.{after_marks}
 use Rattle.mk_paths.specs.SearchPath.{colon}

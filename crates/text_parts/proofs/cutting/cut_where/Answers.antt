@@ -1,4 +1,4 @@
--- A mark is one byte of a text, so that a character begins behind it.
+-- A mark is one byte of a text, so that a character begins after it.
 use Rattle.std.proofs.Common.{◌≡◌, ◌+◌, ◌<◌, ℕ, List, length, get_or, sym, ap, ◌∙◌, arith}
 use Rattle.std.proofs.lemmas.Str.{IsCharBoundary-after_ascii}
 use Rattle.std.specs.Str.{IsCharBoundary, IsUtf8}

@@ -1,4 +1,4 @@
--- The first mark behind which the text passes the test is where it is cut.
+-- The first mark after which the text passes the test is where it is cut.
 use Rattle.std.proofs.Common.{◌≡◌, ◌==◌, ◌+◌, true, get_or, drop, sym, ◌∙◌}
 use Rattle.std.proofs.lemmas.Bool.{and_from, and_left, and_right, eq-eqb, ne_eqb}
 use Rattle.std.proofs.lemmas.List.{take_rest}

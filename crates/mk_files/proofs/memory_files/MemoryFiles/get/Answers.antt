@@ -1,4 +1,4 @@
--- The map of texts answers as the one that stands for it.
+-- The map of texts answers as its map of bytes.
 use Rattle.std.proofs.Common.{◌∙◌, ap}
 use Rattle.std.specs.FinMap as finite
 use Rattle.mk_files.specs.Holding.{Holding}

@@ -1,4 +1,4 @@
--- The map of texts answers as the one that stands for it; there is no log.
+-- The map of texts answers as its map of bytes; there is no log.
 use Rattle.std.proofs.Common.{◌∙◌, ap, is_some, refl}
 use Rattle.std.specs.FinMap as finite
 use Rattle.mk_files.specs.Holding.{Holding}

@@ -1,4 +1,4 @@
--- What stands before the first version's dash is the stem, and the words behind it are the version and the flavors.
+-- What is before the first version's dash is the stem, and the words after it are the version and the flavors.
 use Rattle.std.proofs.Common.{◌∙◌, sym, ap, map}
 use Rattle.std.specs.String.{string_bytes}
 use Rattle.pkg_name.specs.Version.{is_version}

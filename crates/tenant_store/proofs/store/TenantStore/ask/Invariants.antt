@@ -1,4 +1,4 @@
--- The files stand over the store that was lent for them.
+-- The files are over the store that was lent for them.
 use Rattle.tenant_store.specs.TenantWorld.{name_of, held_by}
 use Rattle.tenant_store.proofs.store.TenantStore.ask.Given as goal
 

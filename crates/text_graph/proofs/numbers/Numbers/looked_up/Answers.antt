@@ -1,4 +1,4 @@
--- A text that wasn't met is put behind the others.
+-- A text that wasn't met is put after the others.
 use Rattle.std.proofs.Common.{◌≡◌, ◌∙◌, sym, ap, subst, arith, ℕ, List, [], ◌∷◌, ◌++◌, length, None, Some, Bor}
 use Rattle.std.proofs.lemmas.List.{map-append, length-map}
 use Rattle.std.specs.BTreeMap.{UpdatesBy}
