@@ -13,9 +13,10 @@ use Rattle.kept_ports.specs.declared.pending.CallTurned.TheVariants.{More, Done}
 use Rattle.kept_ports.specs.declared.pending.Stage.{Stage}
 use Rattle.kept_ports.specs.declared.pending.Stage.TheVariants.{Evaluating, Refreshing, Ready}
 use Rattle.kept_ports.specs.declared.pending.UnderWay.{UnderWay}
+use Rattle.kept_ports.specs.Pending.{TurnsRequest, spent_before}
 
 -- How many turns may end without an answer, if so many makefiles are left to be evaluated at this cost, and so much of
--- that is spent: one for each of them, and one for each 1,000 of units and of answers that may be checked.
+-- that is spent. It is one for each of them, and one for each 1,000 of units and of answers that may be checked.
 abbrev pub open_turns : ℕ → ℕ → ℕ → ℕ
 open_turns evaluations cost spent = evaluations + (cost + 1028 * evaluations - spent) / 1000
 
@@ -61,6 +62,13 @@ spent_by (Done prepared spent) = spent
 -- no turn spends more units and checked answers than these: fewer than 1,000, and then those of its last thing
 abbrev pub SpendsFew : CallTurned → Type 0
 SpendsFew turned = total_of (spent_by turned) ≤ 51000
+
+-- A turn of a request for which this was under way, by how far the refresh of the index was and is.
+pub record IsRequestTurn (world : World) (old new : RefreshView) (request : PlainRequest) (before : Option UnderWay)
+    (came : CallTurned) : Type 0 where
+  pub turned : TurnsRequest world new request (spent_before before) came
+  pub fewer : LeavesFewerFor world old new request before came
+  pub short : SpendsFew came
 
 -- A part of a turn in which anything was spent on the refresh leaves fewer such turns.
 abbrev pub RefreshesFewer : World → RefreshView → RefreshView → Option Spent → Type 0

@@ -32,8 +32,8 @@ pub struct PlainCall<'a> {
 
 impl PlainCall<'_> {
     ghost use Rattle.kept_ports.specs.Calls.{request_of};
-    ghost use Rattle.kept_ports.specs.Pending.{IsPendingFor, TurnsRequest, spent_before};
-    ghost use Rattle.kept_ports.specs.TurnsLeft.{LeavesFewerFor, SpendsFew};
+    ghost use Rattle.kept_ports.specs.Pending.{IsPendingFor};
+    ghost use Rattle.kept_ports.specs.TurnsLeft.{IsRequestTurn};
 
     /// A turn of the request over these files, for which this is under way. A turn acts while it has spent fewer than
     /// 1,000 units and checked answers together. It ends once an evaluation and the record of it are made, or with
@@ -57,12 +57,9 @@ impl PlainCall<'_> {
         requires kept { IsKept R.entries (world_of (F.view files) self.now.settings.now) keeper.old }
         requires under { IfSome under_way (IsPendingFor (world_of (F.view files) self.now.settings.now)
             (refresh_of R.entries keeper.old) (request_of self.now)) }
-        ensures turns { IfOk result (TurnsRequest (world_of (F.view files) self.now.settings.now)
-            (refresh_of R.entries keeper.new) (request_of self.now) (spent_before under_way)) }
-        ensures fewer { IfOk result (LeavesFewerFor (world_of (F.view files) self.now.settings.now)
+        ensures turn { IfOk result (IsRequestTurn (world_of (F.view files) self.now.settings.now)
             (refresh_of R.entries keeper.old) (refresh_of R.entries keeper.new)
             (request_of self.now) under_way) }
-        ensures short { IfOk result SpendsFew }
         ensures kept { IsKept R.entries (world_of (F.view files) self.now.settings.now) keeper.new }
     {
         let mut files = Recorder::new(alloc, files, Trace::new(alloc));

@@ -23,6 +23,10 @@ pub record Streams : Type 0 where
   pub held : Option (List ℕ)
   pub holds : Option (List ℕ)
 
+-- such streams, of which these are the bytes
+abbrev pub run_streams : Option (List ℕ) → Option (List ℕ) → Option (List ℕ) → Option (List ℕ) → Streams
+run_streams unread left held holds = record { unread = unread; left = left; held = held; holds = holds }
+
 -- The events of a script happen one after another. Each tenant gets the replies that a plain service of its
 -- own would give. On each connection the replies to what it asks are written.
 abbrev pub HappensWhole : Config → Script → List Effect → State → Type 0

@@ -1,8 +1,9 @@
 //! One run of the program.
-ghost use Rattle.std.specs.Prelude.{◌≡◌, map, string_bytes};
+ghost use Rattle.std.specs.Prelude.{map, string_bytes};
 ghost use Rattle.std.specs.Process.{exit_status};
 ghost use Rattle.clap.specs.Words.{kind_of};
 ghost use Rattle.ports_program.specs.CommandLine.{EndsUnasked, Runs};
+ghost use Rattle.ports_program.specs.Running.{run_streams};
 
 use crate::command_line::{Invocation, read_command};
 use crate::running::run_config;
@@ -34,13 +35,8 @@ pub fn run_command<K: Tenants, R: Read, O: Write, E: Write, L: Listen>(
     net: &L,
 ) -> u8
     ensures { Runs L.Wire.after L.listens_on (map string_bytes words.now)
-        (record {
-          unread = R.remaining reader.old;
-          left = R.remaining reader.new;
-          held = O.contents out.old;
-          holds = O.contents out.new;
-        }) (E.contents err.old)
-        (E.contents err.new) result }
+        (run_streams (R.remaining reader.old) (R.remaining reader.new)
+        (O.contents out.old) (O.contents out.new)) (E.contents err.old) (E.contents err.new) result }
 {
     match read_command(alloc, words) {
         Ok(Invocation::Replay(config)) => run_config::<K, R, O, E>(alloc, config, reader, out, err),
@@ -59,13 +55,8 @@ pub fn run_program<K: Tenants, R: Read, O: Write, E: Write, L: Listen>(
     net: &L,
 ) -> ExitCode
     ensures { Runs L.Wire.after L.listens_on (map string_bytes words.now)
-        (record {
-          unread = R.remaining reader.old;
-          left = R.remaining reader.new;
-          held = O.contents out.old;
-          holds = O.contents out.new;
-        }) (E.contents err.old)
-        (E.contents err.new) (exit_status result) }
+        (run_streams (R.remaining reader.old) (R.remaining reader.new)
+        (O.contents out.old) (O.contents out.new)) (E.contents err.old) (E.contents err.new) (exit_status result) }
 {
     let status = run_command::<K, R, O, E, L>(alloc, words, reader, out, err, net);
     ExitCode::from(status)

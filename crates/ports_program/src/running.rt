@@ -4,7 +4,7 @@ ghost use Rattle.std.specs.Io.KnownBytes.{Appends};
 ghost use Rattle.ports_core.specs.Keys.{is_fit};
 ghost use Rattle.ports_script.specs.Scripts.{numbered};
 ghost use Rattle.ports_script.specs.Printing.{transcript};
-ghost use Rattle.ports_program.specs.Running.{Completes, Ends, PrintsWhole, EventsEnd, Finishes, FailsToPrint};
+ghost use Rattle.ports_program.specs.Running.{run_streams, Completes, Ends, PrintsWhole, EventsEnd, Finishes, FailsToPrint};
 ghost use Rattle.ports_program.specs.Reporting.{PrintsRun, FailsAfter};
 
 use ports_core::{Config, ReplayFault, Step, Tenants, Transcript, replay};
@@ -27,13 +27,8 @@ pub fn run_config<K: Tenants, R: Read, O: Write, E: Write>(
     out: &mut O,
     err: &mut E,
 ) -> u8
-    ensures { Finishes config (record {
-      unread = R.remaining reader.old;
-      left = R.remaining reader.new;
-      held = O.contents out.old;
-      holds = O.contents out.new;
-    })
-        (E.contents err.old) (E.contents err.new) result }
+    ensures { Finishes config (run_streams (R.remaining reader.old) (R.remaining reader.new)
+        (O.contents out.old) (O.contents out.new)) (E.contents err.old) (E.contents err.new) result }
 {
     match run::<K, R, O>(alloc, config, reader, out) {
         Ok(()) => DONE,
@@ -49,20 +44,10 @@ fn run<K: Tenants, R: Read, O: Write>(
     reader: &mut R,
     out: &mut O,
 ) -> Result<(), Failure>
-    ensures done { OnOk result (Completes config
-        (record {
-          unread = R.remaining reader.old;
-          left = R.remaining reader.new;
-          held = O.contents out.old;
-          holds = O.contents out.new;
-        })) }
-    ensures failed { IfErr result (Ends config
-        (record {
-          unread = R.remaining reader.old;
-          left = R.remaining reader.new;
-          held = O.contents out.old;
-          holds = O.contents out.new;
-        })) }
+    ensures done { OnOk result (Completes config (run_streams (R.remaining reader.old)
+        (R.remaining reader.new) (O.contents out.old) (O.contents out.new))) }
+    ensures failed { IfErr result (Ends config (run_streams (R.remaining reader.old)
+        (R.remaining reader.new) (O.contents out.old) (O.contents out.new))) }
 {
     if !config.is_fit() {
         return Err(Failure::BadKey);

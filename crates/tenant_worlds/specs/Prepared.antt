@@ -4,8 +4,8 @@ use Rattle.mk_paths.specs.World.{World, FileMap}
 use Rattle.index_store.specs.PortTable.{stored_by}
 use Rattle.index_keep.specs.Keeping.{refresh_of, IsKept}
 use Rattle.kept_ports.specs.Calls.{request_of}
-use Rattle.kept_ports.specs.Pending.{IsPendingFor, TurnsRequest, spent_before}
-use Rattle.kept_ports.specs.TurnsLeft.{LeavesFewerFor, SpendsFew}
+use Rattle.kept_ports.specs.Pending.{IsPendingFor}
+use Rattle.kept_ports.specs.TurnsLeft.{IsRequestTurn}
 use Rattle.tenant_worlds.specs.declared.asking.Asking.{Asking}
 
 -- the world of these files, and of the settings with which a request is asked
@@ -20,11 +20,8 @@ pub record IsReady (files : FileMap) (asking : Asking) : Type 0 where
 
 -- A turn was taken over these files. The keeper is still right.
 pub record IsAsked (files : FileMap) (old new : Asking) : Type 0 where
-  pub turned : IfOk new.turn.now.turned (TurnsRequest (world_asked files old)
-      (refresh_of stored_by new.keeper.now) (request_of old.call) (spent_before old.turn.now.under_way))
-  pub fewer : IfOk new.turn.now.turned (LeavesFewerFor (world_asked files old) (refresh_of stored_by old.keeper.now)
+  pub turn : IfOk new.turn.now.turned (IsRequestTurn (world_asked files old) (refresh_of stored_by old.keeper.now)
       (refresh_of stored_by new.keeper.now) (request_of old.call) old.turn.now.under_way)
-  pub short : IfOk new.turn.now.turned SpendsFew
   pub kept : IsKept stored_by (world_asked files old) new.keeper.now
   pub keeper : new.keeper.ghost_name ≡ old.keeper.ghost_name
   pub place : new.turn.ghost_name ≡ old.turn.ghost_name

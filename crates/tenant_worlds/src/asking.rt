@@ -26,31 +26,14 @@ pub(crate) struct Asking<'a> {
 }
 
 impl Asking<'_> {
-    ghost use Rattle.std.specs.Prelude.{◌≡◌, IfOk};
-    ghost use Rattle.index_keep.specs.Keeping.{IsKept, refresh_of};
-    ghost use Rattle.index_store.specs.PortTable.{stored_by};
-    ghost use Rattle.kept_ports.specs.Calls.{request_of};
-    ghost use Rattle.kept_ports.specs.Pending.{TurnsRequest, spent_before};
-    ghost use Rattle.kept_ports.specs.TurnsLeft.{LeavesFewerFor, SpendsFew};
+    ghost use Rattle.std.specs.Prelude.{◌≡◌};
     ghost use Rattle.mk_paths.specs.World.{files_in};
-    ghost use Rattle.tenant_worlds.specs.Prepared.{world_asked, IsReady};
+    ghost use Rattle.tenant_worlds.specs.Prepared.{IsReady, IsAsked};
 
     /// Takes a turn over the files of a tenant.
     pub(crate) fn ask_tenant(&mut self, store: &mut TenantStore)
         requires { IsReady (files_in store.old) self.old }
-        ensures turned { IfOk self.new.turn.now.turned
-            (TurnsRequest (world_asked (files_in store.old) self.old)
-            (refresh_of stored_by self.new.keeper.now) (request_of self.old.call)
-            (spent_before self.old.turn.now.under_way)) }
-        ensures fewer { IfOk self.new.turn.now.turned
-            (LeavesFewerFor (world_asked (files_in store.old) self.old)
-            (refresh_of stored_by self.old.keeper.now) (refresh_of stored_by self.new.keeper.now)
-            (request_of self.old.call) self.old.turn.now.under_way) }
-        ensures short { IfOk self.new.turn.now.turned SpendsFew }
-        ensures kept { IsKept stored_by (world_asked (files_in store.old) self.old)
-            self.new.keeper.now }
-        ensures same_keeper { self.new.keeper.ghost_name ≡ self.old.keeper.ghost_name }
-        ensures same_place { self.new.turn.ghost_name ≡ self.old.turn.ghost_name }
+        ensures asked { IsAsked (files_in store.old) self.old self.new }
         ensures same { store.new ≡ store.old }
     {
         store.ask(self.alloc, self);

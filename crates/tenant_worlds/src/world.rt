@@ -7,8 +7,8 @@ ghost use Rattle.ports_core.specs.Jobs.{IsForRequest};
 ghost use Rattle.index_store.specs.PortTable.{stored_by};
 ghost use Rattle.index_keep.specs.Keeping.{IsKept, refresh_of};
 ghost use Rattle.kept_ports.specs.Calls.{request_of};
-ghost use Rattle.kept_ports.specs.Pending.{IsPendingFor, TurnsRequest, spent_before};
-ghost use Rattle.kept_ports.specs.TurnsLeft.{LeavesFewerFor, SpendsFew};
+ghost use Rattle.kept_ports.specs.Pending.{IsPendingFor};
+ghost use Rattle.kept_ports.specs.TurnsLeft.{IsRequestTurn};
 ghost use Rattle.tenant_worlds.specs.Kept.{IsRight, job_of, world_of};
 ghost use Rattle.tenant_worlds.specs.Turning.{WorksOn};
 
@@ -90,12 +90,9 @@ fn turn_over<'x>(
     requires kept { IsKept stored_by (files_in store.old, call.now.settings.now) keeper.old }
     requires pending { IfSome under_way (IsPendingFor (files_in store.old, call.now.settings.now)
         (refresh_of stored_by keeper.old) (request_of call.now)) }
-    ensures turned { IfOk result (TurnsRequest (files_in store.old, call.now.settings.now)
-        (refresh_of stored_by keeper.new) (request_of call.now) (spent_before under_way)) }
-    ensures fewer { IfOk result (LeavesFewerFor (files_in store.old, call.now.settings.now)
+    ensures turn { IfOk result (IsRequestTurn (files_in store.old, call.now.settings.now)
         (refresh_of stored_by keeper.old) (refresh_of stored_by keeper.new)
         (request_of call.now) under_way) }
-    ensures short { IfOk result SpendsFew }
     ensures kept { IsKept stored_by (files_in store.old, call.now.settings.now) keeper.new }
     ensures same { store.new ≡ store.old }
 {

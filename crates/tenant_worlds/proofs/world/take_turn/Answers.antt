@@ -7,8 +7,7 @@ use Rattle.ports_index.specs.PathOutcomes.{counted}
 use Rattle.index_store.specs.PortTable.{stored_by}
 use Rattle.index_keep.specs.Keeping.{IsKept, refresh_of}
 use Rattle.kept_ports.specs.Calls.{request_of}
-use Rattle.kept_ports.specs.Pending.{TurnsRequest, spent_before}
-use Rattle.kept_ports.specs.TurnsLeft.{LeavesFewerFor, SpendsFew}
+use Rattle.kept_ports.specs.TurnsLeft.{IsRequestTurn}
 use Rattle.tenant_worlds.specs.declared.tenant.TenantJob.{TenantJob}
 use Rattle.tenant_worlds.specs.Kept.{seen_job, turns_had, IsRight}
 use Rattle.tenant_worlds.proofs.WorldLemmas.{settings_are, asked_world, served}
@@ -59,20 +58,19 @@ returns-in_ok-going_on-in-More-clause-works c =
     let same = asked_world held c.settings.new.self settings c.in_ok-settings.ensures.same
     (settings_are held settings _ c.call_of-call.ensures.settings c.in_ok-settings.ensures.path c.in_ok-settings.ensures.profile) in
     let was = c.parts-asked.ensures.under_way ∙ ap (λ (j : Option TenantJob). option_map (λ (it : TenantJob). it.under_way) j) c.take.ensures.value in
-    let left = subst (TurnsRequest other refresh plain (spent_before before)) c.in-More.is c.in_ok-under_way.ensures.turned in
-    let fewer = subst (LeavesFewerFor other old refresh plain before) c.in-More.is c.in_ok-under_way.ensures.fewer in
+    let turn = subst (IsRequestTurn other old refresh plain before) c.in-More.is c.in_ok-under_way.ensures.turn in
     let copied = c.in_ok-going_on-in-More.ensures.asked
     ∙ copy_is request job c.parts-asked.result.0 (c.parts-asked.ensures.asked ∙ ap (λ (j : Option TenantJob). option_map (λ (it : TenantJob). it.asked) j) c.take.ensures.value) c.requires.for_request in
     let turns = c.in_ok-going_on-in-More.ensures.turns ∙ ap (λ n. counted (n + 1)) (c.parts-asked.ensures.turns ∙ ap turns_had c.take.ensures.value) in
     record {
       answers = tt;
-      charges = open-within held other old refresh request plain job before c.in-More.spent same c.call_of-call.ensures.request was c.in-More.under_way left
-          c.requires.for_request c.requires.right.pending fewer;
-      short = subst SpendsFew c.in-More.is c.in_ok-under_way.ensures.short;
+      charges = open-within held other old refresh request plain job before c.in-More.spent same c.call_of-call.ensures.request was c.in-More.under_way turn.turned
+          c.requires.for_request c.requires.right.pending turn.fewer;
+      short = turn.short;
       bytes = tt;
       job_is = ap (λ (j : jobs.TenantJob). Some j)
-          (open-job held other old refresh request plain job before c.in-More.spent same c.call_of-call.ensures.request was c.in-More.under_way left
-          c.requires.for_request c.requires.right.pending fewer c.in_ok-going_on-in-More.field-0 copied turns c.in_ok-going_on-in-More.ensures.under_way);
+          (open-job held other old refresh request plain job before c.in-More.spent same c.call_of-call.ensures.request was c.in-More.under_way turn.turned
+          c.requires.for_request c.requires.right.pending turn.fewer c.in_ok-going_on-in-More.field-0 copied turns c.in_ok-going_on-in-More.ensures.under_way);
     }
 
 pub returns-in_ok-going_on-in-More-clause-right : goal.returns-in_ok-going_on-in-More-clause-right
@@ -89,16 +87,15 @@ returns-in_ok-going_on-in-More-clause-right c =
     let same = asked_world held c.settings.new.self settings c.in_ok-settings.ensures.same
     (settings_are held settings _ c.call_of-call.ensures.settings c.in_ok-settings.ensures.path c.in_ok-settings.ensures.profile) in
     let was = c.parts-asked.ensures.under_way ∙ ap (λ (j : Option TenantJob). option_map (λ (it : TenantJob). it.under_way) j) c.take.ensures.value in
-    let left = subst (TurnsRequest other refresh plain (spent_before before)) c.in-More.is c.in_ok-under_way.ensures.turned in
-    let fewer = subst (LeavesFewerFor other old refresh plain before) c.in-More.is c.in_ok-under_way.ensures.fewer in
+    let turn = subst (IsRequestTurn other old refresh plain before) c.in-More.is c.in_ok-under_way.ensures.turn in
     let copied = c.in_ok-going_on-in-More.ensures.asked
     ∙ copy_is request job c.parts-asked.result.0 (c.parts-asked.ensures.asked ∙ ap (λ (j : Option TenantJob). option_map (λ (it : TenantJob). it.asked) j) c.take.ensures.value) c.requires.for_request in
     let turns = c.in_ok-going_on-in-More.ensures.turns ∙ ap (λ n. counted (n + 1)) (c.parts-asked.ensures.turns ∙ ap turns_had c.take.ensures.value) in
     let world_is = c.turn_over.ensures.same ∙ c.in_ok-settings.ensures.same in
     let tenant : IsRight (record { store = held; keeper = c.turn_over.new.keeper; job = Some c.in_ok-going_on-in-More.field-0 }) = record {
       keeper = subst (λ (w : World). IsKept stored_by w c.turn_over.new.keeper) same c.turn_over.ensures.kept;
-      pending = open-job_over held other old refresh request plain job before c.in-More.spent same c.call_of-call.ensures.request was c.in-More.under_way left
-          c.requires.for_request c.requires.right.pending fewer c.in_ok-going_on-in-More.field-0 copied turns c.in_ok-going_on-in-More.ensures.under_way;
+      pending = open-job_over held other old refresh request plain job before c.in-More.spent same c.call_of-call.ensures.request was c.in-More.under_way turn.turned
+          c.requires.for_request c.requires.right.pending turn.fewer c.in_ok-going_on-in-More.field-0 copied turns c.in_ok-going_on-in-More.ensures.under_way;
     } in
     subst (λ (w : World). IsRight (record { store = w; keeper = c.turn_over.new.keeper; job = Some c.in_ok-going_on-in-More.field-0 })) (sym world_is) tenant
 
@@ -116,15 +113,15 @@ returns-in_ok-answer-in-Done-clause-works c =
     let same = asked_world held c.settings.new.self settings c.in_ok-settings.ensures.same
     (settings_are held settings _ c.call_of-call.ensures.settings c.in_ok-settings.ensures.path c.in_ok-settings.ensures.profile) in
     let was = c.parts-asked.ensures.under_way ∙ ap (λ (j : Option TenantJob). option_map (λ (it : TenantJob). it.under_way) j) c.take.ensures.value in
-    let ended = subst (TurnsRequest other refresh plain (spent_before before)) c.in-Done.is c.in_ok-under_way.ensures.turned in
+    let turn = subst (IsRequestTurn other old refresh plain before) c.in-Done.is c.in_ok-under_way.ensures.turn in
     record {
       answers = served held c.settings.new.self c.turn_over.new.store settings request c.in-Done.prepared.reply c.in-Done.prepared.change _
           c.in_ok-settings.ensures.same c.turn_over.ensures.same
           (settings_are held settings _ c.call_of-call.ensures.settings c.in_ok-settings.ensures.path c.in_ok-settings.ensures.profile)
-          (done-answer held other old refresh request plain job before c.in-Done.spent same c.call_of-call.ensures.request was c.in-Done.prepared ended c.questions_have_the_answers.ensures)
+          (done-answer held other old refresh request plain job before c.in-Done.spent same c.call_of-call.ensures.request was c.in-Done.prepared turn.turned c.questions_have_the_answers.ensures)
           c.in_ok-answer-in-Done.ensures.settle_change;
-      charges = done-spends held other old refresh request plain job before c.in-Done.spent same c.call_of-call.ensures.request was c.in-Done.prepared ended;
-      short = subst SpendsFew c.in-Done.is c.in_ok-under_way.ensures.short;
+      charges = done-spends held other old refresh request plain job before c.in-Done.spent same c.call_of-call.ensures.request was c.in-Done.prepared turn.turned;
+      short = turn.short;
       bytes = c.in_ok-answer-in-Done.ensures.bytes;
       job_is = ap (option_map seen_job) c.take.ensures.after;
     }
