@@ -1,6 +1,6 @@
 //! Conditions cut into tokens.
-ghost use Rattle.std.specs.Prelude.{◌≡◌, ◌==◌, ◌<◌, ◌≤◌, ◌+◌, ℕ, Bool, List, length, drop, option_map, unwrap_or};
-ghost use Rattle.std.specs.Prelude.{not, None, Some, slice_index, true, false, IfOk, IfSome};
+ghost use Rattle.std.specs.Prelude.{◌≡◌, ◌==◌, ◌<◌, ◌≤◌, ◌+◌, length, drop, option_map};
+ghost use Rattle.std.specs.Prelude.{None, Some, slice_index, true, IfOk, IfSome};
 ghost use Rattle.cond_grammar.specs.Tokens.{is_stop, call_of, tokens_of};
 ghost use Rattle.cond_grammar.specs.Scanning.{begins, first_at, first_or_end, closing_place, blanks_end};
 ghost use Rattle.cond_grammar.specs.Scanning.{word_at, quoted_side, sign_at, pair_at, token_at};

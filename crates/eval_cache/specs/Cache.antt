@@ -14,8 +14,8 @@ pub record Sizes : Type 0 where
   pub parses : ℕ
   pub keys : ℕ
 
--- The contents whose parses are kept, the traces of the evaluations that are kept under each key with the
--- newest first, how many there may be, and how often something that was kept was handed out.
+-- The contents whose parses are kept, and the traces of the evaluations that are kept under each key, with
+-- the newest first. How many of each there may be, and how often something that was kept was handed out.
 pub record CacheValue : Type 0 where
   pub contents : List (List ℕ)
   pub traces : List (Key × List (List Question))

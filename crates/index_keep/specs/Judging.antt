@@ -10,8 +10,8 @@ use Rattle.index_keep.specs.Shown.{asked_one}
 use Rattle.index_keep.specs.declared.beginning.Judged.{Judged}
 use Rattle.index_keep.specs.declared.beginning.Judged.TheVariants as judged
 
--- a row that is fresh, and says this; one that has to be marked, since it asked for a name that has changed;
--- or one that is of no use, marked already or no row at all
+-- A row that is fresh, and says this; or one that has to be marked, since it asked for a name that has changed.
+-- Or one that is of no use: it is marked already, or there is no row.
 pub data Judgement : Type 0 where
   Fresh : PathOutcome → Judgement
   Outdated : Judgement

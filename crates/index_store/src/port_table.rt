@@ -1,10 +1,10 @@
 // The statements on the two tables of the rows.
-ghost use Rattle.std.specs.Prelude.{◌≡◌, ◌∷◌, [], ◌++◌, None, Some, map, find, is_some, IfOk, OnOk, OnErr, false};
+ghost use Rattle.std.specs.Prelude.{◌≡◌, ◌∷◌, [], ◌++◌, None, Some, map, find, is_some, IfOk, OnOk, false};
 ghost use Rattle.mk_text.specs.Profiles.{profile_number};
 ghost use Rattle.table_facts.specs.Tables.{no_schema};
 ghost use Rattle.table_facts.specs.States.{IsOpen, KeepsCommit, Stays, state_of};
 ghost use Rattle.index_store.specs.Entries.{AreRowsOf, ArePathsOf};
-ghost use Rattle.index_store.specs.PortTable.{IsKept, IsFormed, Holds, HoldsInside, Rows, rows_of, stored_by, no_rows};
+ghost use Rattle.index_store.specs.PortTable.{IsKept, IsFormed, Holds, HoldsInside, rows_of, stored_by, no_rows};
 ghost use Rattle.index_store.specs.PortTable.{is_at, fresh_entry, replaced_at, marked_at, with_mark, staying_of, with_rows};
 ghost use Rattle.index_store.specs.PortTable.{row_shown, path_shown, stale_mark, earlier_schema};
 ghost use Rattle.index_store.specs.PortTable.{select_rows, select_paths, mark_row, mark_rows, delete_rows};
@@ -85,7 +85,7 @@ pub(crate) enum Mark {
 }
 
 impl Mark {
-    // The number that stands for the mark in a table.
+    // The number of the mark in a table.
     fn number(self) -> u32
         ensures { result ≡ mark_number self }
     {

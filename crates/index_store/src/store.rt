@@ -1,5 +1,5 @@
 // The rows of one tenant's index, as its callers see them.
-ghost use Rattle.std.specs.Prelude.{◌≡◌, IfOk, OnOk, OnErr, None};
+ghost use Rattle.std.specs.Prelude.{IfOk, OnOk, OnErr, None};
 ghost use Rattle.index_store.specs.Entries.{HasNoRow, PutsRow, PutsProfile, SameRows, SameProfiles};
 ghost use Rattle.index_store.specs.PortTable.{stored_by, profiles_by};
 

@@ -1,5 +1,5 @@
 // The calls that write, each in one transaction.
-ghost use Rattle.std.specs.Prelude.{◌≡◌, map, string_bytes, OnOk, OnErr, IfOk, None, Some};
+ghost use Rattle.std.specs.Prelude.{map, string_bytes, OnOk, OnErr, IfOk, None, Some};
 ghost use Rattle.mk_text.specs.Profiles.{profile_number};
 ghost use Rattle.table_facts.specs.States.{IsOpen, KeepsCommit, Stays, state_of};
 ghost use Rattle.index_store.specs.Entries.{PutsRow, SameRows, Marks, MarksAll, TakesOut};

@@ -1,6 +1,6 @@
 //! Comparisons in conditions.
 ghost use Rattle.std.specs.Prelude.{◌≡◌};
-ghost use Rattle.mk_base.specs.Meter.{IsLater, Meter};
+ghost use Rattle.mk_base.specs.Meter.{IsLater};
 ghost use Rattle.mk_base.specs.Stopping.{GivesPurely};
 ghost use Rattle.cond_grammar.specs.Placed.{IsSideIn};
 ghost use Rattle.mk_cond.specs.Leaves as leaves;

@@ -1,5 +1,5 @@
--- Work that may ask about files, in two worlds: what it asks, and how it ends, depends on its meter alone, what it asks joins the log after
--- what is there, and where the other world gives the same answers the other work is the same.
+-- Work that may ask about files, in two worlds. What it asks, and how it ends, depends on its meter alone, and what it asks joins the log
+-- after what is there. If the other world gives the same answers, the other work is the same.
 use Rattle.std.proofs.Common.{◌≡◌, ◌≤◌, ◌∙◌, ◌++◌, ℕ, Bool, true, false, List, [], ◌∷◌, Option, Some, None, option_map, Result, Ok, Err, if◌then◌else◌, refl, sym, ap, subst, arith, append-nil, append_assoc}
 use Rattle.mk_base.specs.Meter.{Meter}
 use Rattle.mk_base.specs.Outcome.{Work, give, fail, after, each, tell, left, ◌>>=◌}

@@ -4,7 +4,7 @@ ghost use Rattle.std.specs.FinMap.{get, contains_key};
 ghost use Rattle.mk_base.specs.Meter.{Meter, question, IsLater};
 ghost use Rattle.mk_base.specs.Outcome.{left};
 ghost use Rattle.mk_base.specs.Stopping.{Gives};
-ghost use Rattle.mk_paths.specs.FilesView.{Presence, Contents, Fails, noted};
+ghost use Rattle.mk_paths.specs.FilesView.{Presence, Fails, noted};
 ghost use Rattle.mk_files.specs.Asking as asking;
 ghost use Rattle.mk_files.specs.Asking.{account};
 ghost use Rattle.mk_files.specs.Looking as looking;

@@ -1,7 +1,6 @@
 //! The pass over a line of a loop's body, from left to right.
-ghost use Rattle.std.specs.Prelude.{◌≡◌, ◌≢◌, ◌↔◌, ℕ, ◌≤◌, ◌<◌, ◌+◌, ◌^◌, true, false, [], ◌∷◌, ◌++◌, map, length, drop};
-ghost use Rattle.std.specs.Prelude.{reverse, slice_index, string_bytes, option_map, Some, None, All, IfOk, OnOk};
-ghost use Rattle.std.specs.Str.{IsCharBoundary};
+ghost use Rattle.std.specs.Prelude.{◌≡◌, ◌↔◌, ℕ, ◌≤◌, ◌<◌, ◌+◌, ◌^◌, true, false, [], ◌∷◌, ◌++◌, map, length, drop};
+ghost use Rattle.std.specs.Prelude.{slice_index, Some, None, All, IfOk};
 ghost use Rattle.mk_base.specs.Meter.{Meter, IsLater};
 ghost use Rattle.mk_base.specs.Stopping.{GivesPurely};
 ghost use Rattle.mk_ref.specs.declared.opening.Opening.TheVariants as openings;

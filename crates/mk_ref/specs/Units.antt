@@ -1,6 +1,6 @@
 -- References in a text of the make language. make(1) ("VARIABLES") says that `${NAME}` and `$(NAME)` refer
--- to a variable, that a `$` with one letter does, that `$$` means a dollar, and that modifiers follow a
--- colon. It is this project's choice that only an ASCII letter makes a reference of one letter, that any
+-- to a variable, and so does a `$` with one letter. It says too that `$$` means a dollar, and that modifiers follow
+-- a colon. It is this project's choice that only an ASCII letter makes a reference of one letter, that any
 -- other `$` is itself, and where exactly a reference ends. A text is its bytes.
 use Rattle.std.specs.Prelude.{◌==◌, ℕ, suc, zero, Bool, false, List, [], ◌∷◌, ◌++◌, length, take, drop, Option, Some}
 use Rattle.std.specs.Prelude.{None, option_map, if◌then◌else◌}

@@ -25,9 +25,9 @@ pub record Site : Type 0 where
   pub levels : ℕ
   pub loops : Loops
 
--- What is still to be done at one site: lines and blocks; later branches of a choice; iterations of a loop, with the
--- number of its first line, its body, and the words of each iteration that is left; the modules that the line with
--- this number asks for, all of them, or those of these words.
+-- What is still to be done at one site: lines and blocks; later branches of a choice; iterations of a loop; or modules.
+-- Iterations have the number of the loop's first line, its body, and the words of each one that is left. Modules are
+-- those that the line with this number asks for, all of them, or those of these words.
 pub data Frame : Type 0 where
   Lines : Site → Block → Frame
   Later : Site → Branches → Frame
@@ -128,7 +128,7 @@ next_module place line [] s = give ((s, None), [])
 next_module place line (word ∷ words) s =
     blamed place line (open_module place s word) >>= found_or words (next_module place line words)
 
--- The next thing that a frame does, and what is still to be done then, before these other frames: a line, a
+-- The next thing that a frame does, and what is still to be done then, before these other frames. It is a line, a
 -- condition, the header of a loop, the start of an iteration, the words of MODULES, or a search for the next module.
 -- The end of a block, of a choice or of a loop only takes the frame away.
 abbrev pub advance : FileMap → List ℕ → Frame → List Frame → EvalState → Work Account FaultAt Left

@@ -50,14 +50,14 @@ pub record HasCome (world : World) (name : List ℕ) (flavors : Option (List (Li
   pub limit : point.meter.limit ≡ UNITS
   pub within : point.meter.spent ≤ UNITS
 
--- An evaluation goes on from a point to a later one, and asks these questions between them: from both it ends
+-- An evaluation goes on from a point to a later one, and asks these questions between them. From both it ends
 -- alike, with any log, and with any limit that what was spent up to the later point fits in.
 pub record GoesOn (files : FileMap) (old new : Point) (asked : List Question) : Type 0 where
   pub ends : (limit : ℕ) (log : Option (List Question)) → new.meter.spent ≤ limit → limit ≤ old.meter.limit
       → ending files old limit log ≡ ending files new limit (with_asked log asked)
   pub later : IsLater old.meter new.meter
 
--- An evaluation stops at a fault that comes after a point, and asks these questions between them: from that point
+-- An evaluation stops at a fault that comes after a point, and asks these questions between them. From that point
 -- it ends so with any log, and with any limit that what was spent up to the fault fits in.
 pub record StopsWith (files : FileMap) (point : Point) (fault : FaultAt) (meter : Meter) (asked : List Question) : Type 0 where
   pub ends : (limit : ℕ) (log : Option (List Question)) → meter.spent ≤ limit → limit ≤ point.meter.limit

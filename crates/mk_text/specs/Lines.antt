@@ -1,5 +1,5 @@
--- The logical lines of a makefile. make(1) says that a backslash at the end of a line joins it to the next,
--- that a tab begins a command line, and that a number sign begins a comment. What a continuation becomes is
+-- The logical lines of a makefile. make(1) says that a backslash at the end of a line joins it to the next.
+-- It says too that a tab begins a command line, and that a number sign begins a comment. What a continuation becomes is
 -- this project's choice, and so is that `\#` is plain whatever comes before it.
 use Rattle.std.specs.Prelude.{◌==◌, ℕ, ◌+◌, ◌-◌, Bool, true, false, ◌&&◌, nat_eq, List, [], ◌∷◌, ◌++◌, length, take}
 use Rattle.std.specs.Prelude.{slice_index, if◌then◌else◌}

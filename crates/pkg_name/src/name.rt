@@ -1,8 +1,7 @@
 // Names of packages: cutting them into stem, version and flavors, and printing them.
-ghost use Rattle.std.specs.Prelude.{◌≡◌, ◌==◌, not, IfOk, IsErrOf, Some, None, map, slice_index, MatchOption};
-ghost use Rattle.std.specs.List.{list_all, slice_split};
+ghost use Rattle.std.specs.Prelude.{◌≡◌, not, IfOk, IsErrOf, Some, None, map, MatchOption};
+ghost use Rattle.std.specs.List.{list_all};
 ghost use Rattle.std.specs.String.{string_bytes};
-ghost use Rattle.std.specs.Char.{is_ascii_digit};
 ghost use Rattle.pkg_name.specs.Version.{is_version};
 ghost use Rattle.pkg_name.specs.Name.{split_name, name_text, at_version, name_of, name_if, is_word, is_forbidden};
 ghost use Rattle.text_parts.specs.Cuts.{now_all};

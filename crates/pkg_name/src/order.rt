@@ -1,6 +1,6 @@
 // The order of versions, without memory: each text is cut where its keys end, and each byte of it is read a
 // fixed number of times.
-ghost use Rattle.std.specs.Prelude.{◌≡◌, ◌==◌, ◌<◌, ◌≤◌, ◌-◌, false, IsTrue, length, drop, take, slice_index, MatchOption, IfSome, [], ◌∷◌};
+ghost use Rattle.std.specs.Prelude.{◌≡◌, ◌==◌, ◌<◌, ◌≤◌, ◌-◌, false, IsTrue, length, drop, slice_index, MatchOption, IfSome, [], ◌∷◌};
 ghost use Rattle.std.specs.List.{list_all, take_while, prefix_len, position_or_len};
 ghost use Rattle.std.specs.Char.{is_ascii_digit, is_ascii_alphabetic};
 ghost use Rattle.std.specs.Cmp.Lexicographic.{slice_cmp};

@@ -4,7 +4,6 @@ ghost use Rattle.std.specs.List.{list_all, list_any};
 ghost use Rattle.std.specs.String.{string_bytes};
 ghost use Rattle.pkg_path.specs.Paths.{elements_of, is_subpackage, is_flavor, flavors_of, may_occur, is_part};
 ghost use Rattle.pkg_path.specs.Paths.{is_directory, is_bare_dash, is_well_cut};
-ghost use Rattle.text_parts.specs.Order.{in_order};
 ghost use Rattle.pkg_path.specs.Seen.{flavors_seen};
 ghost use Rattle.text_parts.specs.Cuts.{now_all};
 

@@ -2,12 +2,10 @@
 ghost use Rattle.std.specs.Prelude.{◌≡◌, ◌↔◌, IsTrue, IfOk, IsErrOf, map, option_map, Some};
 ghost use Rattle.std.specs.String.{string_bytes};
 ghost use Rattle.std.specs.Option.{option_copied};
-ghost use Rattle.std.specs.Ordering.{nat_cmp};
 ghost use Rattle.std.specs.Str.{bytes_eq};
 ghost use Rattle.std.specs.Cmp.{partial_equiv_from_equiv};
 ghost use Rattle.std.proofs.lemmas.Cmp.{on_equiv, nat_list_eq_equiv};
 ghost use Rattle.pkg_path.specs.Paths.{path_of, path_if_one, canonical, port_path, IsPath, without_subpackage};
-ghost use Rattle.pkg_path.specs.Paths.{flavor_choices, choices_text};
 
 use crate::elements::{
     count_subpackages, cut_into_elements, flavors_of, is_well_written, subpackage_of,

@@ -11,8 +11,8 @@ use mk_files::{Content, Files};
 use read_trace::{Recorder, Trace};
 use std::alloc::{AllocError, Global};
 
-/// `asked PARSES EVALS STEP..`: what the steps tell, with a cache of these sizes that holds nothing at first,
-/// then how often a parse and an evaluation were used again, and how many parses and keys are kept.
+/// `asked PARSES EVALS STEP..`: what the steps tell, with a cache of these sizes that holds nothing at first.
+/// Then how often a parse and an evaluation were used again, and how many parses and keys are kept.
 ///
 /// The step `NAME` or `NAME FLAVORS` asks for the evaluation of that makefile. It tells the fault if there is
 /// one, the units that were spent, and the answers that were checked. The step `+NAME CONTENT` stores a file, and

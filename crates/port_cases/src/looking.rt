@@ -8,7 +8,7 @@ use read_trace::{Recorder, Trace};
 use std::alloc::Global;
 
 /// `look failing NAME`: the evaluation of this makefile is kept, and then looked for in the same files, which fail at each
-/// call in turn: how many calls there are, the cost that is found or `miss`, and the answers checked.
+/// call in turn. It gives how many calls there are, the cost that is found or `miss`, and the answers checked.
 pub fn look_failing(
     alloc: Global,
     world: &mut World,

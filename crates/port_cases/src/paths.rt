@@ -90,9 +90,8 @@ fn reply_word(reply: &Reply) -> &'static str {
     }
 }
 
-/// `agrees PATH NAME BYTES`, `agrees PATH NAME`: whether the files answer what was asked for the path as
-/// before, once they have the file NAME with these bytes, or once they don't have it, and how many answers
-/// are checked.
+/// `agrees PATH NAME BYTES`, `agrees PATH NAME`: whether the files answer what was asked for the path as before,
+/// and how many answers are checked. By then they have the file NAME with these bytes, or they don't have it.
 pub fn agrees_answer(
     alloc: Global,
     world: &mut World,

@@ -166,8 +166,8 @@ impl Asking for Refreshing<'_> {
 
 /// `refreshed stopped by UNITS`: what each turn of a refresh tells that is given so many units, of an index whose rows are
 /// all stale. Before that, for each of these turns, what refreshes told in which each statement of the store may take 1,
-/// 2, 3 .. steps at most in that turn, until none is stopped: `Store`, if that is the fault of each that was stopped,
-/// `wrong`, if one had another fault, and `never`, if none was stopped.
+/// 2, 3 .. steps at most in that turn, until none is stopped. It is `Store` if that is the fault of each that was
+/// stopped, `wrong` if one had another fault, and `never` if none was stopped.
 pub fn refreshed_stopped(
     alloc: Global,
     world: &mut World,

@@ -1,7 +1,6 @@
 //! Clients over TCP.
-ghost use Rattle.std.specs.Prelude.{◌≡◌, ◌↔◌, ℕ, IsTrue, MatchResult};
+ghost use Rattle.std.specs.Prelude.{◌≡◌, ◌↔◌, IsTrue, MatchResult};
 ghost use Rattle.std.specs.IoError.{error_kind};
-ghost use Rattle.ports_serve.specs.Calls.{Call};
 ghost use Rattle.ports_serve.specs.declared.wire.Outcome.TheVariants as outcomes;
 ghost use Rattle.ports_host.specs.Hosts.{IsLocalAddress, IsLater, FailsAs, heard};
 

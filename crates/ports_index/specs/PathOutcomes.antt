@@ -31,8 +31,8 @@ pub data PathOutcome : Type 0 where
   FlavoredList : PathOutcome
   Other : PathOutcome
 
--- what a path leads to, and how many units of work it costs to learn it: those of the evaluation, and then
--- those of the record, or of SUBDIR, each up to its fault if it has one
+-- What a path leads to, and how many units of work it costs to learn it. They are those of the evaluation, and
+-- then those of the record, or of SUBDIR, each up to its fault if it has one.
 pub record Finding : Type 0 where
   pub outcome : PathOutcome
   pub cost : ℕ

@@ -109,7 +109,7 @@ evaluations world request = length (rests world request)
 abbrev pub cost : World → PlainRequest → ℕ
 cost world request = cost_for world (need_of (question_of request))
 
--- Within so many of its tenant's own turns a request that needs this is told its reply: one for that, one for each
+-- Within so many of its tenant's own turns a request that needs this is told its reply. It is one for that, one for each
 -- makefile that is evaluated, and one for each 1,000 of the units that it costs and the answers that may be checked.
 abbrev pub turns_for : World → Need → ℕ
 turns_for world need =

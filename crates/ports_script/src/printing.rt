@@ -3,7 +3,7 @@ ghost use Rattle.std.specs.Prelude.{◌≡◌, ◌++◌, IfOk, OnOk, string_byte
 ghost use Rattle.ports_script.specs.Escapes.{escape, escaped, hex_text};
 ghost use Rattle.ports_script.specs.Entries.{shown};
 ghost use Rattle.ports_script.specs.Scripts.{numbered};
-ghost use Rattle.ports_script.specs.Printing.{sent_line, sent_bytes, told_line, refused_line, closed_line};
+ghost use Rattle.ports_script.specs.Printing.{sent_line, told_line, refused_line, closed_line};
 ghost use Rattle.ports_script.specs.Printing.{refused_word, printed, transcript};
 
 use crate::script::Script;

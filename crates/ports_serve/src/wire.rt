@@ -1,5 +1,5 @@
 //! What carries the bytes of connections.
-ghost use Rattle.std.specs.Prelude.{◌≡◌, ◌≤◌, ℕ, length, take};
+ghost use Rattle.std.specs.Prelude.{◌≡◌, length};
 ghost use Rattle.ports_serve.specs.Calls.{Call, Accept, Read, Write, Shut, GotWithin, read_outcome};
 
 /// What a call of a wire brought.

@@ -1,5 +1,5 @@
-//! Texts cut at marks, and texts put in order. A text is cut in two, at the first mark after which a
-//! certain text follows, or into parts, at every mark. Cuts are places in the text, and copy nothing.
+//! Texts cut at marks, texts put in order, and copies of texts. A text is cut in two, at the first mark after
+//! which a certain text follows, or into parts, at every mark. Cuts are places in the text, and copy nothing.
 #![tactic(auto)]
 
 mod cutting;

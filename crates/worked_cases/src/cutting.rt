@@ -79,7 +79,7 @@ fn ended_after(alloc: Global, stream: &[u8]) -> Result<Ended, Trouble> {
 }
 
 /// `by bytes SCRIPT`: the statuses that a script for the tenants `alpha` and `beta` tells, each byte of which comes in a
-/// piece of its own; then `differs` if the script as it is tells others or sends other bytes.
+/// piece of its own. Then it gives `differs` if the script as it is tells others or sends other bytes.
 pub fn by_bytes(alloc: Global, given: &[Vec<u8>]) -> Result<Answer, Trouble> {
     let [script] = given else {
         return Err(Trouble::NoCase);

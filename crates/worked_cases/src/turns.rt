@@ -141,8 +141,8 @@ pub fn jobs_answer(
 }
 
 /// `service job TENANT TARGET while TENANT TARGET`: a GET that has had one turn, while another one is asked and told.
-/// It gives `kept`, if the second GET changed nothing of what the first has had, and else `changed`; what the first has
-/// had after its first turn; how many turns the second took, and how many more the first.
+/// It gives `kept` if the second GET changed nothing of what the first has had, and else `changed`. Then it gives what
+/// the first has had after its first turn, how many turns the second took, and how many more the first.
 pub fn job_while_answer(
     alloc: Global,
     service: &mut StoredService,
@@ -200,10 +200,10 @@ enum Again {
 }
 
 /// `service GET stopped at each turn TENANT TARGET after PUT TARGET BODY`, and after GET TARGET: the first GET after
-/// the other request, under a limit of 1, 2, 3 .. steps in its first turn alone, until that turn isn't answered 503;
-/// then so in its second turn, and so on up to the last. After each 503 the GET is asked again, without a limit. For
-/// each turn it gives the units of the GETs that were asked again; `never` if the turn wasn't answered 503; `wrong` if
-/// one gave another reply than a GET without a limit, or other units than the others.
+/// the other request. It is asked under a limit of 1, 2, 3 .. steps in its first turn alone, until that turn isn't
+/// answered 503; then so in its second turn, and so on up to the last. After each 503 the GET is asked again, without
+/// a limit. For each turn it gives the units of the GETs that were asked again, or `never` if the turn wasn't answered
+/// 503. It gives `wrong` if one gave another reply than a GET without a limit, or other units than the others.
 pub fn stopped_at_each(
     alloc: Global,
     service: &mut StoredService,
