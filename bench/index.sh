@@ -1,7 +1,7 @@
 #!/usr/bin/env bash
 # Makes trees of 500, 1,000 and 2,000 ports (or as many as SIZES says) with 8 dependencies each, and prints
 # how long portsd takes for questions about all of them, and for uploads. Each time is the difference of two
-# scripts' times, each the best of three runs. Beside the first list stands the time of a plain program
+# scripts' times, each the best of three runs. Beside the first list is the time of a plain program
 # (plain_tree.rs, built by rustc) that evaluates the same makefiles, makes the same records and writes the
 # same list; what both list is compared. If COUNT is `instructions`, valgrind counts the instructions of one
 # run in place of the time, and no list is compared.
