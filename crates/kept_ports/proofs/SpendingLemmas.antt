@@ -23,6 +23,7 @@ use Rattle.ports_plain.specs.declared.questions.Question.{Question}
 use Rattle.index_keep.specs.Shown.{ShownRows, fresh}
 use Rattle.index_keep.specs.Turns.{RefreshView, refresh_at, spent_in_all, cost_left, count_left, evaluations_left, paths_left, IsWithinLeft, GoesOn, RenewsOne, EndsRefresh, TakesTurn, RefreshingPays, SpendsOnRows}
 use Rattle.index_keep.specs.declared.keeper.Refreshed.{Refreshed}
+use Rattle.kept_ports.specs.Evaluating.{is_of_port}
 use Rattle.kept_ports.specs.Spending.{SpendsOnKept}
 use Rattle.kept_ports.specs.Pending.{IsSpentOnIndex, StaysWithin}
 
@@ -213,6 +214,15 @@ charged law world refresh RootsNeed before spent index is nothing more =
     let end = index_ends law world refresh before spent is nothing more in record { few = end.1; within = end.0 }
 charged law world refresh IndexNeed before spent index is nothing more =
     let end = index_ends law world refresh before spent is nothing more in record { few = end.1; within = end.0 }
+
+-- nothing is needed, so nothing is spent
+pub alone-charged : (world : World) (refresh : RefreshView) (need : Need) (spent : Spent) → is_of_index need ≡ false → is_of_port need ≡ false
+    → SpendsOnKept world refresh need spent → SpendsFor world need (spent_together no_spending spent)
+alone-charged world refresh NoNeed spent other none spends = ap (spent_together no_spending) spends
+alone-charged world refresh (ValueNeed asked) spent other none spends = absurd cc
+alone-charged world refresh (RecordNeed path) spent other none spends = absurd cc
+alone-charged world refresh RootsNeed spent other none spends = absurd cc
+alone-charged world refresh IndexNeed spent other none spends = absurd cc
 
 -- a turn of a refresh in a world that is the first one, which came to this
 pub turn_in : (first now : World) (units : ℕ) (old new : RefreshView) (turned one : Refreshed) → now ≡ first → turned ≡ one → TakesTurn now units old new turned

@@ -1,5 +1,7 @@
 -- How many turns may follow, and what one of them spends.
-use Rattle.std.proofs.Common.{◌≡◌, ◌≤◌, ◌<◌, ◌+◌, ◌-◌, ◌*◌, ℕ, zero, suc, true, false, List, [], length, Result, Ok, Err, IfOk, sym, ap, subst, refl, arith}
+use Rattle.std.proofs.Common.{◌≡◌, ◌≤◌, ◌<◌, ◌+◌, ◌-◌, ◌*◌, ℕ, zero, suc, true, false, List, [], length, Some, Result, Ok, Err, IfOk, sym, ap, subst, refl, arith}
+use Rattle.std.specs.Prelude.{option_map, option_to_list}
+use Rattle.mk_paths.specs.Place.{place}
 use Rattle.mk_paths.specs.World.{World}
 use Rattle.mk_eval.specs.Costs.{CostFew, value_units}
 use Rattle.mk_eval.specs.Meaning.{value_of}
@@ -15,7 +17,7 @@ use Rattle.ports_index.specs.PathLaws.{MakefilesAreEvaluated}
 use Rattle.ports_index.specs.PathOutcomes.{with_cost}
 use Rattle.ports_index.specs.Spending.{no_spending}
 use Rattle.ports_index.specs.declared.spending.Spent.{Spent}
-use Rattle.ports_plain.specs.Resting.{Need, NoNeed, ValueNeed, RecordNeed, RootsNeed, IndexNeed, need_of, cost_for, rests_for, record_cost_by}
+use Rattle.ports_plain.specs.Resting.{Need, NoNeed, ValueNeed, RecordNeed, RootsNeed, IndexNeed, need_of, cost_for, cost_if_there, rests_for, record_cost_by, record_cost_of, value_cost_of}
 use Rattle.ports_plain.specs.Spending.{is_of_index}
 use Rattle.ports_plain.specs.declared.questions.Question.{Question}
 use Rattle.index_keep.specs.Asking.{IsShortTurn, IsUpFrom, SpendsTurn, spent_in, spent_on, total_of}
@@ -24,14 +26,15 @@ use Rattle.index_keep.specs.Shown.{ShownRows}
 use Rattle.index_keep.specs.declared.asking.Asked.{Asked}
 use Rattle.index_keep.specs.declared.asking.AskTurned.{AskTurned}
 use Rattle.index_keep.specs.declared.asking.AskTurned.TheVariants.{More, Done}
-use Rattle.kept_ports.specs.Evaluating.{HasLooked, cost_sought, is_of_port}
+use Rattle.kept_ports.specs.Evaluating.{HasLooked, cost_sought, is_of_port, path_sought, question_sought}
 use Rattle.kept_ports.specs.Pending.{StaysWithin}
 use Rattle.kept_ports.specs.Spending.{SpendsOnKept, spent_between}
-use Rattle.kept_ports.specs.TurnsLeft.{LeavesFewer, open_turns, turns_after, turns_of_refresh}
+use Rattle.kept_ports.specs.TurnsLeft.{IsQuestionTurn, LeavesFewer, open_turns, turns_after, turns_of_refresh}
 use Rattle.kept_ports.specs.declared.pending.CallTurned.{CallTurned}
 use Rattle.kept_ports.specs.declared.pending.CallTurned.TheVariants as turned
 use Rattle.kept_ports.specs.declared.sought.Sought.{Sought}
 use Rattle.kept_ports.specs.declared.sought.Sought.TheVariants.{Value, Record}
+use Rattle.kept_ports.proofs.PortLemmas.{pair_with}
 use Rattle.kept_ports.proofs.SpendingLemmas.{left_costs_no_more, left_takes_no_more}
 
 pub if_ok : {A E : Type 0} {P Q : A → Type 0} (result : Result A E) → ((value : A) → P value → Q value) → IfOk result P → IfOk result Q
@@ -55,6 +58,23 @@ fewer-after world question before after more within =
 pub all-acted : (before after spent : Spent) → IsUpFrom before after → spent ≡ spent_between before after → 1000 ≤ total_of spent → total_of before + 1000 ≤ total_of after
 all-acted before after spent up is enough =
     omega (arith, up.units, up.checks, ap (λ (s : Spent). s.units) is, ap (λ (s : Spent). s.checks) is, enough)
+
+-- what was spent in a turn, by what was spent after it
+pub few-between : (before after spent : Spent) (most : ℕ) → IsUpFrom before after → spent ≡ spent_between before after → total_of after ≤ total_of before + most → total_of spent ≤ most
+few-between before after spent most up is few = omega (arith, up.units, up.checks, ap (λ (s : Spent). s.units) is, ap (λ (s : Spent). s.checks) is, few)
+
+one_left : (cost spent : ℕ) → 0 < open_turns 1 cost spent
+one_left cost spent = omega arith
+
+-- the makefile of what is sought is there
+pub some-left : (world : World) (sought : Sought) (makefile : List ℕ) (spent : ℕ) → place world (path_sought sought).directory ≡ Some makefile
+    → 0 < turns_after world (question_sought sought) spent
+some-left world (Value asked) makefile spent placed =
+    subst (λ p. 0 < open_turns (length (option_to_list (option_map (pair_with asked.path) p))) (cost_if_there (option_map (value_cost_of world asked) p)) spent) (sym placed)
+    (one_left (value_cost_of world asked makefile) spent)
+some-left world (Record path) makefile spent placed =
+    subst (λ p. 0 < open_turns (length (option_to_list (option_map (pair_with path) p))) (cost_if_there (option_map (record_cost_of world path) p)) spent) (sym placed)
+    (one_left (record_cost_of world path makefile) spent)
 
 -- ---- a turn of an evaluation, after a look in the same turn
 
@@ -170,11 +190,19 @@ begins-few law world refresh question index nothing =
     subst (λ (begun : Spent). open_turns (evaluations_left world refresh.rows) (cost_left world refresh.rows) (total_of begun) ≤ turns_after world question 0) (sym nothing)
     (begins_by law world refresh.rows (need_of question) index)
 
--- a bound that is greater
-pub fewer-still : (world : World) (refresh : RefreshView) (question : Question) (turns more : ℕ) (came : CallTurned) → turns ≤ more
+fewer_still : (world : World) (refresh : RefreshView) (question : Question) (turns more : ℕ) (came : CallTurned) → turns ≤ more
     → LeavesFewer world refresh question turns came → LeavesFewer world refresh question more came
-fewer-still world refresh question turns more (turned.More under_way spent) up fewer = omega (arith, up, fewer)
-fewer-still world refresh question turns more (turned.Done prepared spent) up fewer = tt
+fewer_still world refresh question turns more (turned.More under_way spent) up fewer = omega (arith, up, fewer)
+fewer_still world refresh question turns more (turned.Done prepared spent) up fewer = tt
+
+-- the same turn, before which more could come
+pub sooner : (world : World) (refresh : RefreshView) (question : Question) (before : Spent) (turns more : ℕ) (came : CallTurned) → turns ≤ more
+    → IsQuestionTurn world refresh question before turns came → IsQuestionTurn world refresh question before more came
+sooner world refresh question before turns more came up turn = record {
+  turned = turn.turned;
+  fewer = fewer_still world refresh question turns more came up turn.fewer;
+  short = turn.short;
+}
 
 -- ---- what the answer spends
 
@@ -193,13 +221,13 @@ index-few world refresh (RecordNeed path) spent index none spends = absurd cc
 index-few world refresh RootsNeed spent index none spends = rows_few world refresh spent none spends
 index-few world refresh IndexNeed spent index none spends = rows_few world refresh spent none spends
 
-nothing_few : (spent : Spent) → spent ≡ no_spending → total_of spent ≤ 51000
-nothing_few spent is = omega (arith, ap (λ (s : Spent). s.units) is, ap (λ (s : Spent). s.checks) is)
+pub nothing-few : (spent : Spent) → spent ≡ no_spending → total_of spent ≤ 51000
+nothing-few spent is = omega (arith, ap (λ (s : Spent). s.units) is, ap (λ (s : Spent). s.checks) is)
 
 -- nothing is needed
 pub alone-few : (world : World) (refresh : RefreshView) (need : Need) (spent : Spent) → is_of_index need ≡ false → is_of_port need ≡ false
     → SpendsOnKept world refresh need spent → total_of spent ≤ 51000
-alone-few world refresh NoNeed spent other none spends = nothing_few spent spends
+alone-few world refresh NoNeed spent other none spends = nothing-few spent spends
 alone-few world refresh (ValueNeed asked) spent other none spends = absurd cc
 alone-few world refresh (RecordNeed path) spent other none spends = absurd cc
 alone-few world refresh RootsNeed spent other none spends = absurd cc

@@ -92,10 +92,6 @@ abbrev pub TurnsQuestion : World → RefreshView → Question → Spent → Call
 TurnsQuestion world refresh question before (More under_way spent) = LeavesOpen world refresh question before under_way spent
 TurnsQuestion world refresh question before (Done prepared spent) = AnswersQuestion world question before prepared spent
 
--- what a turn makes of a request
-abbrev pub TurnsRequest : World → RefreshView → PlainRequest → Spent → CallTurned → Type 0
-TurnsRequest world refresh request = TurnsQuestion world refresh (question_of request)
-
 -- A part of a turn went on with the refresh of the index: it is done, or so much was spent.
 abbrev pub RefreshesOn : World → RefreshView → Spent → Option Spent → Type 0
 RefreshesOn world refresh before None =

@@ -13,7 +13,7 @@ use Rattle.kept_ports.specs.declared.pending.CallTurned.TheVariants.{More, Done}
 use Rattle.kept_ports.specs.declared.pending.Stage.{Stage}
 use Rattle.kept_ports.specs.declared.pending.Stage.TheVariants.{Evaluating, Refreshing, Ready}
 use Rattle.kept_ports.specs.declared.pending.UnderWay.{UnderWay}
-use Rattle.kept_ports.specs.Pending.{TurnsRequest, spent_before}
+use Rattle.kept_ports.specs.Pending.{TurnsQuestion, spent_before}
 
 -- How many turns may end without an answer, if so many makefiles are left to be evaluated at this cost, and so much of
 -- that is spent. It is one for each of them, and one for each 1,000 of units and of answers that may be checked.
@@ -49,11 +49,6 @@ abbrev pub LeavesFewer : World → RefreshView → Question → ℕ → CallTurn
 LeavesFewer world refresh question turns (More under_way spent) = turns_left world refresh question under_way < turns
 LeavesFewer world refresh question turns (Done prepared spent) = Unit {0}
 
--- a turn for a request, by how far the refresh of the index was and is
-abbrev pub LeavesFewerFor : World → RefreshView → RefreshView → PlainRequest → Option UnderWay → CallTurned → Type 0
-LeavesFewerFor world old new request under_way =
-    LeavesFewer world new (question_of request) (turns_before world old (question_of request) under_way)
-
 -- what was spent in a turn
 abbrev pub spent_by : CallTurned → Spent
 spent_by (More under_way spent) = spent
@@ -63,12 +58,19 @@ spent_by (Done prepared spent) = spent
 abbrev pub SpendsFew : CallTurned → Type 0
 SpendsFew turned = total_of (spent_by turned) ≤ 51000
 
--- A turn of a request for which this was under way, by how far the refresh of the index was and is.
-pub record IsRequestTurn (world : World) (old new : RefreshView) (request : PlainRequest) (before : Option UnderWay)
+-- A turn of a question that left the refresh of the index as far as this. So much was spent before it, and so many turns
+-- could come without an answer.
+pub record IsQuestionTurn (world : World) (refresh : RefreshView) (question : Question) (before : Spent) (turns : ℕ)
     (came : CallTurned) : Type 0 where
-  pub turned : TurnsRequest world new request (spent_before before) came
-  pub fewer : LeavesFewerFor world old new request before came
+  pub turned : TurnsQuestion world refresh question before came
+  pub fewer : LeavesFewer world refresh question turns came
   pub short : SpendsFew came
+
+-- a turn of a request for which this was under way, by how far the refresh of the index was and is
+abbrev pub IsRequestTurn : World → RefreshView → RefreshView → PlainRequest → Option UnderWay → CallTurned → Type 0
+IsRequestTurn world old new request under_way =
+    IsQuestionTurn world new (question_of request) (spent_before under_way)
+    (turns_before world old (question_of request) under_way)
 
 -- A part of a turn in which anything was spent on the refresh leaves fewer such turns.
 abbrev pub RefreshesFewer : World → RefreshView → RefreshView → Option Spent → Type 0

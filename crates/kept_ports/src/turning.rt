@@ -10,8 +10,8 @@ ghost use Rattle.index_keep.specs.Asking.{spent_in, total_of, IsUpFrom, SpendsTu
 ghost use Rattle.kept_ports.specs.Evaluating.{IsPortAsk, HasLooked, is_of_port, path_sought, question_sought};
 ghost use Rattle.kept_ports.specs.Leaving.{world_at, LeavesPorts};
 ghost use Rattle.kept_ports.specs.Pending.{IsPending, IsStage, IsForQuestion, IsSpentOnIndex};
-ghost use Rattle.kept_ports.specs.Pending.{TurnsQuestion, RefreshesOn, spent_before};
-ghost use Rattle.kept_ports.specs.TurnsLeft.{LeavesFewer, RefreshesFewer, SpendsFew};
+ghost use Rattle.kept_ports.specs.Pending.{RefreshesOn, spent_before};
+ghost use Rattle.kept_ports.specs.TurnsLeft.{IsQuestionTurn, RefreshesFewer};
 ghost use Rattle.kept_ports.specs.TurnsLeft.{turns_after, turns_at, turns_before, turns_of_refresh};
 
 use crate::evaluating::PortAsk;
@@ -42,13 +42,10 @@ impl<F: Listing + Drop, R: PathRows + Drop> KeptPorts<'_, F, R> {
     ) -> Result<CallTurned, FilesFault>
         requires { IfSome under_way (IsPending (world_at F.view self.old)
             (refresh_of R.entries self.old.keeper.now) question) }
-        ensures turns { IfOk result (TurnsQuestion (world_at F.view self.old)
-            (refresh_of R.entries self.new.keeper.now) question (spent_before under_way)) }
-        ensures fewer { IfOk result (LeavesFewer (world_at F.view self.old)
-            (refresh_of R.entries self.new.keeper.now) question
+        ensures turn { IfOk result (IsQuestionTurn (world_at F.view self.old)
+            (refresh_of R.entries self.new.keeper.now) question (spent_before under_way)
             (turns_before (world_at F.view self.old) (refresh_of R.entries self.old.keeper.now)
             question under_way)) }
-        ensures short { IfOk result SpendsFew }
         ensures leaves { LeavesPorts F.view self.old self.new }
     {
         match under_way {
@@ -67,13 +64,10 @@ impl<F: Listing + Drop, R: PathRows + Drop> KeptPorts<'_, F, R> {
     ) -> Result<CallTurned, FilesFault>
         requires { IsStage (world_at F.view self.old) (refresh_of R.entries self.old.keeper.now)
             question before stage }
-        ensures turns { IfOk result (TurnsQuestion (world_at F.view self.old)
-            (refresh_of R.entries self.new.keeper.now) question before) }
-        ensures fewer { IfOk result (LeavesFewer (world_at F.view self.old)
-            (refresh_of R.entries self.new.keeper.now) question
+        ensures turn { IfOk result (IsQuestionTurn (world_at F.view self.old)
+            (refresh_of R.entries self.new.keeper.now) question before
             (turns_at (world_at F.view self.old) (refresh_of R.entries self.old.keeper.now)
             question before stage)) }
-        ensures short { IfOk result SpendsFew }
         ensures leaves { LeavesPorts F.view self.old self.new }
     {
         match stage {
@@ -85,12 +79,9 @@ impl<F: Listing + Drop, R: PathRows + Drop> KeptPorts<'_, F, R> {
 
     // The first turn for a question.
     fn begin(&mut self, alloc: Global, question: Question) -> Result<CallTurned, FilesFault>
-        ensures turns { IfOk result (TurnsQuestion (world_at F.view self.old)
-            (refresh_of R.entries self.new.keeper.now) question no_spending) }
-        ensures fewer { IfOk result (LeavesFewer (world_at F.view self.old)
-            (refresh_of R.entries self.new.keeper.now) question
+        ensures turn { IfOk result (IsQuestionTurn (world_at F.view self.old)
+            (refresh_of R.entries self.new.keeper.now) question no_spending
             (turns_after (world_at F.view self.old) question 0)) }
-        ensures short { IfOk result SpendsFew }
         ensures leaves { LeavesPorts F.view self.old self.new }
     {
         match question {
@@ -103,12 +94,9 @@ impl<F: Listing + Drop, R: PathRows + Drop> KeptPorts<'_, F, R> {
     // The first turn for a question that no evaluation of a single makefile answers.
     fn begin_other(&mut self, alloc: Global, question: Question) -> Result<CallTurned, FilesFault>
         requires { is_of_port (need_of question) ≡ false }
-        ensures turns { IfOk result (TurnsQuestion (world_at F.view self.old)
-            (refresh_of R.entries self.new.keeper.now) question no_spending) }
-        ensures fewer { IfOk result (LeavesFewer (world_at F.view self.old)
-            (refresh_of R.entries self.new.keeper.now) question
+        ensures turn { IfOk result (IsQuestionTurn (world_at F.view self.old)
+            (refresh_of R.entries self.new.keeper.now) question no_spending
             (turns_after (world_at F.view self.old) question 0)) }
-        ensures short { IfOk result SpendsFew }
         ensures leaves { LeavesPorts F.view self.old self.new }
     {
         makefiles_are_evaluated();
@@ -122,12 +110,9 @@ impl<F: Listing + Drop, R: PathRows + Drop> KeptPorts<'_, F, R> {
 
     // The first turn for what is taken from the evaluation of a port's makefile.
     fn begin_port(&mut self, alloc: Global, sought: &Sought) -> Result<CallTurned, FilesFault>
-        ensures turns { (refresh : RefreshView) → IfOk result (TurnsQuestion
-            (world_at F.view self.old) refresh (question_sought sought.now) no_spending) }
-        ensures fewer { (refresh : RefreshView) → IfOk result (LeavesFewer
-            (world_at F.view self.old) refresh (question_sought sought.now)
+        ensures turn { (refresh : RefreshView) → IfOk result (IsQuestionTurn
+            (world_at F.view self.old) refresh (question_sought sought.now) no_spending
             (turns_after (world_at F.view self.old) (question_sought sought.now) 0)) }
-        ensures short { IfOk result SpendsFew }
         ensures leaves { LeavesPorts F.view self.old self.new }
     {
         let path = sought.path();
@@ -145,12 +130,9 @@ impl<F: Listing + Drop, R: PathRows + Drop> KeptPorts<'_, F, R> {
         ask: PortAsk,
     ) -> Result<CallTurned, FilesFault>
         requires { IsForQuestion (world_at F.view self.old) question ask }
-        ensures turns { (refresh : RefreshView) → IfOk result (TurnsQuestion
-            (world_at F.view self.old) refresh question (spent_in ask.came)) }
-        ensures fewer { (refresh : RefreshView) → IfOk result (LeavesFewer
-            (world_at F.view self.old) refresh question
+        ensures turn { (refresh : RefreshView) → IfOk result (IsQuestionTurn
+            (world_at F.view self.old) refresh question (spent_in ask.came)
             (turns_after (world_at F.view self.old) question (total_of (spent_in ask.came)))) }
-        ensures short { IfOk result SpendsFew }
         ensures leaves { LeavesPorts F.view self.old self.new }
     {
         let before = ask.spent();
@@ -177,12 +159,9 @@ impl<F: Listing + Drop, R: PathRows + Drop> KeptPorts<'_, F, R> {
         requires ask { IsPortAsk (world_at F.view self.old) (path_sought sought.now) ask }
         requires up { IsUpFrom before (spent_in ask.came) }
         requires looked { HasLooked before ask.came }
-        ensures turns { (refresh : RefreshView) → IfOk result (TurnsQuestion
-            (world_at F.view self.old) refresh (question_sought sought.now) before) }
-        ensures fewer { (refresh : RefreshView) → IfOk result (LeavesFewer
-            (world_at F.view self.old) refresh (question_sought sought.now)
+        ensures turn { (refresh : RefreshView) → IfOk result (IsQuestionTurn
+            (world_at F.view self.old) refresh (question_sought sought.now) before
             (turns_after (world_at F.view self.old) (question_sought sought.now) (total_of before))) }
-        ensures short { IfOk result SpendsFew }
         ensures leaves { LeavesPorts F.view self.old self.new }
     {
         let checked = spent_in_turn(before, ask.spent()).checks;
@@ -202,12 +181,9 @@ impl<F: Listing + Drop, R: PathRows + Drop> KeptPorts<'_, F, R> {
         requires index { is_of_index (need_of question) ≡ true }
         requires spent { IsSpentOnIndex (world_at F.view self.old)
             (refresh_of R.entries self.old.keeper.now) before }
-        ensures turns { IfOk result (TurnsQuestion (world_at F.view self.old)
-            (refresh_of R.entries self.new.keeper.now) question before) }
-        ensures fewer { IfOk result (LeavesFewer (world_at F.view self.old)
-            (refresh_of R.entries self.new.keeper.now) question
+        ensures turn { IfOk result (IsQuestionTurn (world_at F.view self.old)
+            (refresh_of R.entries self.new.keeper.now) question before
             (turns_of_refresh (world_at F.view self.old) (refresh_of R.entries self.old.keeper.now))) }
-        ensures short { IfOk result SpendsFew }
         ensures leaves { LeavesPorts F.view self.old self.new }
     {
         makefiles_are_evaluated();
@@ -278,14 +254,10 @@ impl PortAsk {
         requires up { IsUpFrom before (spent_in self.came) }
         requires enough { SpendsTurn 1000 before self.came }
         requires few { total_of (spent_in self.came) ≤ total_of before + 51000 }
-        ensures turns { (world : World) (refresh : RefreshView)
+        ensures { (world : World) (refresh : RefreshView)
             → IsPortAsk world (path_sought sought.now) self
-            → IfOk result (TurnsQuestion world refresh (question_sought sought.now) before) }
-        ensures fewer { (world : World) (refresh : RefreshView)
-            → IsPortAsk world (path_sought sought.now) self
-            → IfOk result (LeavesFewer world refresh (question_sought sought.now)
+            → IfOk result (IsQuestionTurn world refresh (question_sought sought.now) before
             (turns_after world (question_sought sought.now) (total_of before))) }
-        ensures short { IfOk result SpendsFew }
     {
         asking_spends();
         evaluations_cost_few();

@@ -9,33 +9,20 @@ use Rattle.ports_plain.specs.declared.questions.VariableQuestion.{VariableQuesti
 use Rattle.kept_ports.specs.Evaluating.{is_of_port}
 use Rattle.index_keep.specs.Keeping.{refresh_of}
 use Rattle.kept_ports.specs.Leaving.{world_at}
-use Rattle.kept_ports.specs.Pending.{TurnsQuestion}
-use Rattle.kept_ports.specs.TurnsLeft.{LeavesFewer, turns_after}
+use Rattle.kept_ports.specs.TurnsLeft.{IsQuestionTurn, turns_after}
 use Rattle.kept_ports.proofs.keeping.KeptPorts.begin.Goals as goal
 
-pub returns-in-Variable-clause-turns : goal.returns-in-Variable-clause-turns
-returns-in-Variable-clause-turns g c =
+pub returns-in-Variable-clause-turn : goal.returns-in-Variable-clause-turn
+returns-in-Variable-clause-turn g c =
     let world = world_at g.F.Names.view c.args.self.now in
     let refresh = refresh_of g.R.PathRows.entries c.begin_port.new.self.keeper.now in
-    subst (λ (q : Question). IfOk c.begin_port.result (TurnsQuestion world refresh q no_spending)) (sym c.in-Variable.is) (c.begin_port.ensures.turns refresh)
+    subst (λ (q : Question). IfOk c.begin_port.result (IsQuestionTurn world refresh q no_spending (turns_after world q 0))) (sym c.in-Variable.is) (c.begin_port.ensures.turn refresh)
 
-pub returns-in-Port-clause-turns : goal.returns-in-Port-clause-turns
-returns-in-Port-clause-turns g c =
+pub returns-in-Port-clause-turn : goal.returns-in-Port-clause-turn
+returns-in-Port-clause-turn g c =
     let world = world_at g.F.Names.view c.args.self.now in
     let refresh = refresh_of g.R.PathRows.entries c.begin_port-in-Port.new.self.keeper.now in
-    subst (λ (q : Question). IfOk c.begin_port-in-Port.result (TurnsQuestion world refresh q no_spending)) (sym c.in-Port.is) (c.begin_port-in-Port.ensures.turns refresh)
-
-pub returns-in-Variable-clause-fewer : goal.returns-in-Variable-clause-fewer
-returns-in-Variable-clause-fewer g c =
-    let world = world_at g.F.Names.view c.args.self.now in
-    let refresh = refresh_of g.R.PathRows.entries c.begin_port.new.self.keeper.now in
-    subst (λ (q : Question). IfOk c.begin_port.result (LeavesFewer world refresh q (turns_after world q 0))) (sym c.in-Variable.is) (c.begin_port.ensures.fewer refresh)
-
-pub returns-in-Port-clause-fewer : goal.returns-in-Port-clause-fewer
-returns-in-Port-clause-fewer g c =
-    let world = world_at g.F.Names.view c.args.self.now in
-    let refresh = refresh_of g.R.PathRows.entries c.begin_port-in-Port.new.self.keeper.now in
-    subst (λ (q : Question). IfOk c.begin_port-in-Port.result (LeavesFewer world refresh q (turns_after world q 0))) (sym c.in-Port.is) (c.begin_port-in-Port.ensures.fewer refresh)
+    subst (λ (q : Question). IfOk c.begin_port-in-Port.result (IsQuestionTurn world refresh q no_spending (turns_after world q 0))) (sym c.in-Port.is) (c.begin_port-in-Port.ensures.turn refresh)
 
 no_port : (question : Question) → ((asked : VariableQuestion) → question ≡ questions.Variable asked → ⊥)
     → ((path : PkgPath) → question ≡ questions.Port path → ⊥) → is_of_port (need_of question) ≡ false

@@ -19,12 +19,7 @@ end_turn-requires g c =
       few = short-looked c.args.before c.args.ask.came c.in_ok-ask.ask.came c.spent_in_turn-checked.result.checks _ c.requires.looked c.requires.up checked_is (omega arith) c.in_ok-ask.ensures.short;
     }
 
-pub returns-clause-turns : goal.returns-clause-turns
-returns-clause-turns g c = λ refresh.
-    c.in_ok-end_turn.ensures.turns (world_at g.F.Names.view c.args.self.now) refresh
-    (c.in_ok-ask.ensures.goes_on c.args.self.now.settings.now (path_sought c.args.sought.now) c.requires.ask)
-
-pub returns-clause-fewer : goal.returns-clause-fewer
-returns-clause-fewer g c = λ refresh.
-    c.in_ok-end_turn.ensures.fewer (world_at g.F.Names.view c.args.self.now) refresh
+pub returns-clause-turn : goal.returns-clause-turn
+returns-clause-turn g c = λ refresh.
+    c.in_ok-end_turn.ensures (world_at g.F.Names.view c.args.self.now) refresh
     (c.in_ok-ask.ensures.goes_on c.args.self.now.settings.now (path_sought c.args.sought.now) c.requires.ask)
