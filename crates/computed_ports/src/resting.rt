@@ -1,7 +1,9 @@
 //! What the answer to a question rests on.
 ghost use Rattle.mk_paths.specs.FilesView.{world_of};
 ghost use Rattle.std.specs.Prelude.{◌≡◌, if◌then◌else◌, IfOk};
+ghost use Rattle.std.specs.Result.{result_err};
 ghost use Rattle.computed_ports.specs.Costs.{effort_for as effort_for_need};
+ghost use Rattle.ports_index.specs.Keeping.{Keeps};
 ghost use Rattle.ports_plain.specs.Resting.{need_of, ValueNeed, RecordNeed, IndexNeed};
 
 use crate::finding::{find_record, find_value};
@@ -17,15 +19,16 @@ use std::alloc::Global;
 /// the value. A question about the index rests on the makefiles that items name too, also if its answer
 /// doesn't need them.
 ///
-/// It fails if the files fail, or if memory runs out.
+/// The files stay. It fails if they fail, which counts one failure, or if memory runs out.
 pub fn effort_for<F: Listing>(
     alloc: Global,
     files: &mut F,
     settings: &Settings,
     question: &Question,
 ) -> Result<Effort, FilesFault>
-    ensures { IfOk result (λ effort. effort
+    ensures effort { IfOk result (λ effort. effort
         ≡ effort_for_need (world_of (F.view files.old) settings.now) (need_of question.now)) }
+    ensures keeps { Keeps (result_err result) (F.view files.old) (F.view files.new) }
 {
     match question {
         Question::Settled(_) | Question::ShowFile(_) | Question::RemoveFile(_) => Ok(one(false, 0)),
@@ -43,8 +46,9 @@ fn value_effort<F: Listing>(
     settings: &Settings,
     question: &VariableQuestion,
 ) -> Result<Effort, FilesFault>
-    ensures { IfOk result (λ effort. effort
+    ensures effort { IfOk result (λ effort. effort
         ≡ effort_for_need (world_of (F.view files.old) settings.now) (ValueNeed question.now)) }
+    ensures keeps { Keeps (result_err result) (F.view files.old) (F.view files.new) }
 {
     let (found, units) = find_value(alloc, files, settings, question)?;
     Ok(one(found.is_some(), units))
@@ -57,8 +61,9 @@ fn record_effort<F: Listing>(
     settings: &Settings,
     path: &PkgPath,
 ) -> Result<Effort, FilesFault>
-    ensures { IfOk result (λ effort. effort
+    ensures effort { IfOk result (λ effort. effort
         ≡ effort_for_need (world_of (F.view files.old) settings.now) (RecordNeed path.now)) }
+    ensures keeps { Keeps (result_err result) (F.view files.old) (F.view files.new) }
 {
     let (found, units) = find_record(alloc, files, settings, path)?;
     Ok(one(found.is_some(), units))
@@ -70,8 +75,9 @@ fn index_effort<F: Listing>(
     files: &mut F,
     settings: &Settings,
 ) -> Result<Effort, FilesFault>
-    ensures { IfOk result (λ effort. effort
+    ensures effort { IfOk result (λ effort. effort
         ≡ effort_for_need (world_of (F.view files.old) settings.now) IndexNeed) }
+    ensures keeps { Keeps (result_err result) (F.view files.old) (F.view files.new) }
 {
     makefiles_are_evaluated();
     let index = index_files(alloc, files, settings)?;

@@ -7,8 +7,8 @@ use Rattle.ports_index.specs.Index.{needed_paths}
 use Rattle.ports_index.specs.PathOutcomes.{counted}
 use Rattle.computed_ports.proofs.resting.index_effort.Goals as goal
 
-pub returns : goal.returns
-returns g c =
+pub returns-clause-effort : goal.returns-clause-effort
+returns-clause-effort g c =
     let world : World = ((g.F.Names.view c.args.files.now).files, c.args.settings.now) in
     c.in_ok-index.ensures.effort
     ∙ ap (λ n. let effort : Effort = record { evaluations = counted n; units = counted (cost_over world (needed_paths world)) } in effort)
