@@ -6,8 +6,7 @@ set -eu
 top=$(cd "$(dirname "$0")/.." && pwd)
 work=$(mktemp -d)
 trap 'rm -rf "$work"' EXIT
-"$top/run" --help >/dev/null
-portsd=${PORTSD:-$top/crates/portsd/out/portsd}
+source "$top/bench/programs.sh" && find_portsd
 rustc -O -o "$work/plain_make" "$top/bench/plain_make.rs"
 
 # seconds INPUT COMMAND..: of the best of five runs with this input

@@ -113,12 +113,54 @@ def stars_and_letters():
     return asked(f"B = {'a' * 40000}\nA = ${{B:M{'*a' * 10000}b}}\n")
 
 
+def numeral(number, width):
+    """A number to the base 36, with so many digits."""
+    digits = "0123456789abcdefghijklmnopqrstuvwxyz"
+    return "".join(digits[number // 36**at % 36] for at in reversed(range(width)))
+
+
+def missing_targets(at, count):
+    """A makefile whose items lead to so many paths without a makefile, to which those of no other one lead."""
+    items = " ".join(f"{numeral(at, 2)}/{numeral(it, 3)}" for it in range(count))
+    half = len(items) // 2
+    cut = items.index(" ", half)
+    return makefile(f"t/p{at:03}", port(f"p{at:03}-1", f"RUN_DEPENDS = {items[:cut]}", f"BUILD_DEPENDS = {items[cut + 1:]}"))
+
+
+def without_targets(at):
+    return makefile(f"t/p{at:03}", port(f"p{at:03}-1"))
+
+
+def listed(*stored):
+    return [*stored, get(0, "/v1/list")]
+
+
+def missing():
+    """Dependencies on 10,000 paths without a makefile."""
+    return listed(missing_targets(0, 10000))
+
+
+def missing_once():
+    """The same makefile, which is then stored without them."""
+    return listed(missing_targets(0, 10000)) + listed(without_targets(0))
+
+
+def missing_in_32():
+    """32 such makefiles, 2 MB in all."""
+    return listed(*(missing_targets(at, 9000) for at in range(32)))
+
+
+def missing_in_130():
+    """130 such makefiles, nearly all that a tenant may have."""
+    return listed(*(missing_targets(at, 9000) for at in range(130)))
+
+
 TEXTS = (
     doubled, choices, negations, references, loops, subpackages, directories, all_on_all, versions, stars,
-    stars_and_letters,
+    stars_and_letters, missing,
 )
 # these are too much, as docs/HTTP.md says, so they run only if they are named
-TOO_MUCH = (inherited,)
+TOO_MUCH = (inherited, missing_once, missing_in_32, missing_in_130)
 
 
 def measured(program, script):

@@ -3,5 +3,5 @@
 # peak memory of the run.
 set -euo pipefail
 top=$(cd "$(dirname "$0")/.." && pwd)
-[ -n "${PORTSD:-}" ] || "$top/run" --help >/dev/null
-exec python3 -B "$top/bench/hostile.py" "${PORTSD:-$top/crates/portsd/out/portsd}" "$@"
+source "$top/bench/programs.sh" && find_portsd
+exec python3 -B "$top/bench/hostile.py" "$portsd" "$@"

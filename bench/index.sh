@@ -16,8 +16,7 @@ matching='/v1/match?spec=port1*-*'
 reaching='/v1/rdeps?path=category0/port0&depth=all'
 work=$(mktemp -d)
 trap 'rm -rf "$work"' EXIT
-[ -n "${PORTSD:-}" ] || "$top/run" --help >/dev/null
-portsd=${PORTSD:-$top/crates/portsd/out/portsd}
+source "$top/bench/programs.sh" && find_portsd
 rustc -O -o "$work/plain_tree" "$top/bench/plain_tree.rs"
 
 put() { # put NAME FILE: what stores this file under the name

@@ -5,14 +5,14 @@ set -eu
 top=$(cd "$(dirname "$0")/.." && pwd)
 work=$(mktemp -d)
 trap 'rm -rf "$work"' EXIT
-"$top/run" --help >/dev/null
+source "$top/bench/programs.sh" && find_portsd
 
 # seconds FILE: of the best of three runs of the script
 seconds() {
     for _ in 1 2 3; do
         local from to
         from=$(date +%s%N)
-        "$top/crates/portsd/out/portsd" replay alpha <"$1" >"$work/out"
+        "$portsd" replay alpha <"$1" >"$work/out"
         to=$(date +%s%N)
         echo $(((to - from) / 1000))
     done | sort -n | head -1 | awk '{ printf "%.3f", $1 / 1000000 }'

@@ -13,9 +13,9 @@ ports=${PORTS:-2000}
 work=$(mktemp -d)
 server=
 trap '[ -z "$server" ] || kill "$server" 2>/dev/null; rm -rf "$work"' EXIT
-[ -n "${PORTSD:-}" ] || "$top/run" --help >/dev/null
+source "$top/bench/programs.sh" && find_portsd
 make_tree "$work/tree" "$ports"
-"${PORTSD:-$top/crates/portsd/out/portsd}" serve --port "$port" --turns 4294967295 $(seq -f t%g "$tenants") >"$work/said" &
+"$portsd" serve --port "$port" --turns 4294967295 $(seq -f t%g "$tenants") >"$work/said" &
 server=$!
 for _ in $(seq 50); do
     grep -qs '^portsd: ready$' "$work/said" && break

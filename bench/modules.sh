@@ -10,8 +10,7 @@ ports=${PORTS:-1900}
 times=${TIMES:-100}
 work=$(mktemp -d)
 trap 'rm -rf "$work"' EXIT
-[ -n "${PORTSD:-}" ] || "$top/run" --help >/dev/null
-portsd=${PORTSD:-$top/crates/portsd/out/portsd}
+source "$top/bench/programs.sh" && find_portsd
 
 send() { # send METHOD TARGET FILE: what sends this request, with the file's bytes as its body
     echo "piece 0 $1 $2 HTTP/1.1\\r\\nHost: x\\r\\nX-Ports-Key: alpha\\r\\nContent-Length: $(wc -c <"$3")\\r\\n\\r\\n$(awk '{ printf "%s\\n", $0 }' "$3")"

@@ -1,8 +1,8 @@
 """Refuses each growth of memory of several scripts in turn, for bench/refuse-allocations.sh.
 
-refusals.py PROGRAM LIBRARY [SCRIPT..]: runs each script of refusal_scripts.py, or those named, once for n = 1, 2, 3 and
-so on. LIBRARY is preloaded and refuses the n-th growth of memory. A script is done once a run meets no refusal. Each
-run has to end in one of these ways:
+refusals.py LIBRARY PROGRAM CASES [SCRIPT..]: runs each script of refusal_scripts.py, or those named, once for n = 1, 2,
+3 and so on. LIBRARY is preloaded and refuses the n-th growth of memory. A script is done once a run meets no refusal.
+PROGRAM runs the scripts. Each run has to end in one of these ways:
 
 - Each request is answered 503, or as a plain run answers it. The plain run is that of the script without the requests
   that were answered 503, with nothing refused.
@@ -10,8 +10,13 @@ run has to end in one of these ways:
 - The status is 1, with the text for want of memory and nothing printed. This is for the growths before those of the
   first request. After them it is for what `replay` records: between a request's growths and those of the next.
 
-Prints for each script how many runs ended in each way, and each run that ended in another. The last line has the number
-of runs with a refusal, and of those that differed. The status is 1 if there is one."""
+CASES is `worked_cases`, which runs the script `kept` as cases, since they say what was spent. A makefile that two
+tenants have is evaluated for the first, and the second is answered by what the cache kept. A growth of the cache that is
+refused ends no request: both are told their value, and the second one's request spends what it would alone. At least one
+run has to end so.
+
+Prints for each script how many runs ended in each way. At the first run that ends in another it prints that run, and
+ends with status 1. The last line has the number of runs with a refusal, and of those that differed."""
 import os
 import re
 import subprocess
@@ -31,10 +36,18 @@ SIDE_BY_SIDE = 2
 FAILED = ("HTTP/1.1 503 Service Unavailable\\r\\nContent-Type: application/json\\r\\nContent-Length: 17\\r\\n\\r\\n"
           '{"error":"Store"}')
 MEMORY = (1, "", "portsd: out of memory\n")
-PLAIN, FAILING, REFUSED, BEFORE, RECORD = WAYS = (
+MAKEFILE = '"/v1/file?name=/ports/a/b/Makefile" "V = 1\\nW = ${V}\\n" => 200 OK "{\\"stored\\":true}"'
+VALUE = '"/v1/var?path=a/b&name=W"'
+KEPT = f"""new service
+service PUT 0 {MAKEFILE}
+service PUT 1 {MAKEFILE}
+service units 0 {VALUE} => 200 4 0
+service units 1 {VALUE} => 200 2 1
+"""
+PLAIN, FAILING, REFUSED, BEFORE, RECORD, ANEW = WAYS = (
     "plain answers", "with a 503", "connections refused", "out of memory before the run", "out of memory for the record",
+    "with plain answers and nothing kept",
 )
-DIFFER = "differ"
 
 
 class Run(NamedTuple):
@@ -52,14 +65,14 @@ class End(NamedTuple):
 
 
 class Program:
-    def __init__(self, program, library):
-        self.words, self.library = [program, "replay", *KEYS], library
+    def __init__(self, library, *words):
+        self.words, self.library = words, library
 
-    def run(self, script, number=0):
-        """Runs a script with this growth refused, or none if the number is 0."""
+    def run(self, text, number=0):
+        """Runs the program on a text with this growth refused, or none if the number is 0."""
         read, write = os.pipe()
         env = {"LD_PRELOAD": self.library, "REFUSE": str(number), "MET": str(write)}
-        how = {"input": script.text(), "capture_output": True, "timeout": SECONDS, "pass_fds": (write,), "env": env}
+        how = {"input": text, "capture_output": True, "timeout": SECONDS, "pass_fds": (write,), "env": env}
         try:
             ran = subprocess.run(self.words, **how)
             status, out, err = ran.returncode, ran.stdout.decode(), ran.stderr.decode()
@@ -68,6 +81,15 @@ class Program:
         os.close(write)
         with open(read, "rb") as met:
             return Run(status, out, err, bool(met.read()))
+
+    def runs(self, text, pool):
+        """The runs with the first growth refused, the second, and so on, as long as one is refused."""
+        for first in count(1, 32 * SIDE_BY_SIDE):
+            numbers = range(first, first + 32 * SIDE_BY_SIDE)
+            for number, run in zip(numbers, pool.map(lambda it: self.run(text, it), numbers)):
+                if not run.met:
+                    return
+                yield number, run
 
 
 def shown(run):
@@ -87,7 +109,7 @@ class Check:
         self.program, self.name, self.asks = program, name, asks
         self.script = Script(asks, TURNS)
         self.plain_answers = {}
-        self.plain_text = program.run(self.script).out
+        self.plain_text = program.run(self.script.text()).out
         self.test_plain()
 
     def test_plain(self):
@@ -108,7 +130,7 @@ class Check:
         """The answers of a plain run without these requests."""
         if without not in self.plain_answers:
             script = Script(self.asks, TURNS, without)
-            run = self.program.run(script)
+            run = self.program.run(script.text())
             if run.status or run.err:
                 sys.exit(f"{self.name} without {sorted(without)}: status {run.status}, {run.err}")
             self.plain_answers[without] = answers(script, run.out)
@@ -149,15 +171,6 @@ class Check:
             raise Odd(shown(run))
         return End(REFUSED, opened[line])
 
-    def runs(self, pool):
-        """The runs with the first growth refused, the second, and so on, as long as one is refused."""
-        for first in count(1, 32 * SIDE_BY_SIDE):
-            numbers = range(first, first + 32 * SIDE_BY_SIDE)
-            for number, run in zip(numbers, pool.map(lambda it: self.program.run(self.script, it), numbers)):
-                if not run.met:
-                    return
-                yield number, run
-
     def placed(self, ends):
         """The same ends with each run without memory before the growths of the requests, or between those of two.
 
@@ -169,35 +182,77 @@ class Check:
             if end.way == RECORD and at < first:
                 yield End(BEFORE)
             elif end.way == RECORD and before[at] == after[at]:
-                print(f"{self.name}, growth {at + 1}: out of memory within request {before[at]} or what waits behind it")
-                yield End(DIFFER)
+                differs(self.name, at + 1, f"out of memory within request {before[at]} or what waits behind it")
             else:
                 yield end
 
     def test(self, pool):
         """Judges each refused run; returns how many ended in each way."""
         ends = []
-        for number, run in self.runs(pool):
+        for number, run in self.program.runs(self.script.text(), pool):
             try:
                 ends.append(self.end(run))
             except Odd as odd:
-                print(f"{self.name}, growth {number}: {odd}", flush=True)
-                ends.append(End(DIFFER))
-        ways = Counter(end.way for end in self.placed(ends))
-        told = ", ".join(f"{ways[way]} {way}" for way in (*WAYS, DIFFER) if ways[way])
-        print(f"{self.name}: {len(ends)} growths, each refused in turn: {told}", flush=True)
-        return ways
+                differs(self.name, number, odd)
+        return tell(self.name, Counter(end.way for end in self.placed(ends)))
 
 
-def main(program, library, *names):
+def differs(name, number, why):
+    """Ends at a run that is odd."""
+    sys.exit(f"{name}, growth {number}: {why}")
+
+
+def tell(name, ways):
+    """Prints how many runs of a script ended in each way, and returns that."""
+    told = ", ".join(f"{ways[way]} {way}" for way in WAYS if ways[way])
+    print(f"{name}: {sum(ways.values())} growths, each refused in turn: {told}", flush=True)
+    return ways
+
+
+def kept_way(run):
+    """How a run of the cases of KEPT ended; raises Odd if it is none of the ways allowed."""
+    wrong = dict(re.findall(r"(?m)^standard input:(\d+): (.*), not .*$", run.out))
+    if run.status and not wrong:
+        return BEFORE
+    failed = [line for line, given in wrong.items() if given.startswith("503 ")]
+    if not wrong:
+        return PLAIN
+    if wrong == {"5": "200 4 0"}:
+        return ANEW
+    # (what comes after a file that wasn't stored isn't found, and what wasn't evaluated is)
+    if len(failed) == 1 and all(it in failed or given in ("404 0 0", "200 4 0") for it, given in wrong.items()):
+        return FAILING
+    raise Odd(shown(run))
+
+
+def test_kept(program, pool):
+    """Judges each refused run of the cases of KEPT; returns how many ended in each way."""
+    plain = program.run(KEPT.encode())
+    if plain.out != "4 cases, 0 differ\n":
+        sys.exit(f"kept: {shown(plain)}")
+    ways = Counter()
+    for number, run in program.runs(KEPT.encode(), pool):
+        try:
+            ways[kept_way(run)] += 1
+        except Odd as odd:
+            differs("kept", number, odd)
+    if not ways[ANEW]:
+        sys.exit("kept: no growth of the cache was refused")
+    return tell("kept", ways)
+
+
+def main(library, program, cases, *names):
     os.nice(10)
-    runner, ways = Program(program, library), Counter()
+    ways = Counter()
     with ThreadPoolExecutor(SIDE_BY_SIDE) as pool:
+        if not names or "kept" in names:
+            ways += test_kept(Program(library, cases), pool)
         for script in SCRIPTS:
             if not names or script.__name__ in names:
+                runner = Program(library, program, "replay", *KEYS)
                 ways += Check(runner, script.__name__, script()).test(pool)
-    print(f"{sum(ways.values())} growths refused, {ways[DIFFER]} differences")
-    return 1 if ways[DIFFER] else 0
+    print(f"{sum(ways.values())} growths refused, 0 differences")
+    return 0
 
 
 if __name__ == "__main__":

@@ -8,8 +8,7 @@ set -euo pipefail
 top=$(cd "$(dirname "$0")/.." && pwd)
 port=${1-18080}
 work=$(mktemp -d)
-[ -n "${PORTSD:-}" ] || "$top/run" --help >/dev/null
-portsd=${PORTSD:-$top/crates/portsd/out/portsd}
+source "$top/bench/programs.sh" && find_portsd
 
 start() { # start KEY..: starts a server for these keys, and waits until it is ready
     "$portsd" serve --port "$port" --turns 4294967295 "$@" >"$work/said" &

@@ -6,8 +6,8 @@ set -euo pipefail
 top=$(cd "$(dirname "$0")/.." && pwd)
 port=${1-18082}
 work=$(mktemp -d)
-[ -n "${PORTSD-}" ] || "$top/run" --help >/dev/null
-"${PORTSD:-$top/crates/portsd/out/portsd}" serve --port "$port" --turns 4294967295 alpha beta gamma >"$work/said" &
+source "$top/bench/programs.sh" && find_portsd
+"$portsd" serve --port "$port" --turns 4294967295 alpha beta gamma >"$work/said" &
 server=$!
 trap 'kill $server 2>/dev/null; rm -rf "$work"' EXIT
 for _ in $(seq 50); do

@@ -6,8 +6,7 @@
 # so are `!` and parentheses. An answer that differs is printed, and ends the run.
 set -eu
 top=$(cd "$(dirname "$0")/.." && pwd)
-(cd "$top/crates/worked_cases" && rt run </dev/null >/dev/null)
-program=$top/crates/worked_cases/out/worked_cases
+source "$top/bench/programs.sh" && find_cases
 
 # line CASE SIZE: the call, and what it gives
 line() {
@@ -35,7 +34,7 @@ seconds() {
     for _ in $(seq "$3"); do line "$1" "$2"; done >"$input"
     for _ in 1 2 3; do
         from=$(date +%s%N)
-        said=$("$program" <"$input")
+        said=$("$cases" <"$input")
         to=$(date +%s%N)
         case $said in
         "$3 cases, 0 differ") echo $(((to - from) / 1000)) ;;

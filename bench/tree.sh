@@ -10,8 +10,7 @@ top=$(cd "$(dirname "$0")/.." && pwd)
 ports=${PORTS:-1900}
 work=$(mktemp -d)
 trap 'rm -rf "$work"' EXIT
-"$top/run" --help >/dev/null
-portsd=${PORTSD:-$top/crates/portsd/out/portsd}
+source "$top/bench/programs.sh" && find_portsd
 rustc -O -o "$work/plain_tree" "$top/bench/plain_tree.rs"
 
 port() { # port NUMBER

@@ -1,3 +1,5 @@
 pub mod KeyLemmas
 pub mod EntryLemmas
 pub mod LookLemmas
+pub mod OrderLemmas
+pub mod UseLemmas

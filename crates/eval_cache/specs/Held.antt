@@ -1,5 +1,5 @@
 -- What the tables of a cache hold, and what makes it right.
-use Rattle.std.specs.Prelude.{◌≡◌, ◌≤◌, ◌⊎◌, ℕ, List, [], ◌∷◌, length, map, Option, Some, None, Result, Contains}
+use Rattle.std.specs.Prelude.{◌≡◌, ◌≤◌, ◌⊎◌, ℕ, List, [], ◌∷◌, length, map, take, Option, Some, None, Result, Contains}
 use Rattle.std.specs.List.{AllByRecursion}
 use Rattle.std.specs.declared.alloc.Global.{Global}
 use Rattle.std.specs.declared.rc.Rc.{Rc}
@@ -74,7 +74,9 @@ abbrev pub items_of : Option (Vec (Rc Evaluation Global) Global) → List (Rc Ev
 items_of None = []
 items_of (Some kept) = kept.items
 
--- All that is right of older evaluations of a key and of a new one is right of these.
+-- All that is right of older evaluations of a key and of a new one is right of these. They are the newest four with the
+-- new one first, or the newest three of the older ones.
 pub record AreNewest (evaluation : Evaluation) (older kept : List (Rc Evaluation Global)) : Type 0 where
   pub right : (key : Key) → IsRight key evaluation → AreRight key older → AreRight key kept
   pub short : HasFewAnswers evaluation.trace → AreShort older → AreShort kept
+  pub traces : (traces_of kept ≡ take 4 (evaluation.trace ∷ traces_of older)) ⊎ (traces_of kept ≡ take 3 (traces_of older))

@@ -2,5 +2,7 @@ pub mod Keys
 pub mod Right
 pub mod Looking
 pub mod Cache
-pub mod Parsing
 pub mod Held
+pub mod Keeping
+pub mod Parsing
+pub mod Using

@@ -1,14 +1,12 @@
 -- What becomes of a cache by making trees.
 use Rattle.std.specs.Prelude.{◌≡◌, ◌⊎◌, ℕ, List, [], ◌∷◌, ◌++◌, Result, Ok, Err, OnOk, OnErr}
 use Rattle.std.proofs.Common.{refl, subst, inl, inr}
-use Rattle.eval_cache.specs.Cache.{CacheValue, holds_parse, count_parse}
+use Rattle.eval_cache.specs.Cache.{CacheValue}
+use Rattle.eval_cache.specs.Keeping.{HandsOut}
 
--- The parse of this content was asked for. If it was kept, it was counted, unless there was no memory to hand it
--- out. No evaluation came or went, and the sizes stayed.
-pub record AsksParse (content : List ℕ) (old new : CacheValue) : Type 0 where
-  pub traces : new.traces ≡ old.traces
-  pub sizes : new.sizes ≡ old.sizes
-  pub counts : (new.counts ≡ count_parse (holds_parse old content) old.counts) ⊎ (new.counts ≡ old.counts)
+-- The parse of this content was asked for, and handed out. If there was no memory for that, nothing changed.
+abbrev pub AsksParse : List ℕ → CacheValue → CacheValue → Type 0
+AsksParse content old new = HandsOut content old new ⊎ (new ≡ old)
 
 -- the parses of these contents were asked for, in order
 abbrev pub AsksInTurn : List (List ℕ) → CacheValue → CacheValue → Type 0
@@ -37,9 +35,6 @@ AsksParses-on old middle new first second = record {
 
 -- one parse
 pub AsksParses-one : {A E : Type 0} (result : Result A E) (content : List ℕ) (old new : CacheValue)
-    → OnOk result (new.counts ≡ count_parse (holds_parse old content) old.counts) → OnErr result (new.counts ≡ old.counts)
-    → new.traces ≡ old.traces → new.sizes ≡ old.sizes → AsksParses old new
-AsksParses-one (Ok value) content old new ok err traces sizes =
-    record { contents = content ∷ []; in_turn = (new, record { traces = traces; sizes = sizes; counts = inl ok }, refl) }
-AsksParses-one (Err fault) content old new ok err traces sizes =
-    record { contents = content ∷ []; in_turn = (new, record { traces = traces; sizes = sizes; counts = inr err }, refl) }
+    → OnOk result (HandsOut content old new) → OnErr result (new ≡ old) → AsksParses old new
+AsksParses-one (Ok value) content old new ok err = record { contents = content ∷ []; in_turn = (new, inl ok, refl) }
+AsksParses-one (Err fault) content old new ok err = record { contents = content ∷ []; in_turn = (new, inr err, refl) }

@@ -1,12 +1,14 @@
 // The cache of parses and evaluations.
-ghost use Rattle.std.specs.Prelude.{◌≡◌, ◌≤◌, length, is_some, IfOk, IfErr, IfSome, OnOk, OnErr};
+ghost use Rattle.std.specs.Prelude.{◌≡◌, ◌≤◌, false, length, is_some, IfOk, IfErr, IfSome, OnOk, OnErr};
 ghost use Rattle.std.specs.NonZero.{non_zero_usize_get};
 ghost use Rattle.mk_ast.specs.Parsing.{parsed};
 ghost use Rattle.mk_eval.specs.Trees.{tree_in};
 ghost use Rattle.eval_cache.specs.Keys.{Key, key_of};
 ghost use Rattle.eval_cache.specs.Right.{IsRight};
 ghost use Rattle.eval_cache.specs.Looking.{agreeing, IsAgreed, IsFound, ChecksAmong, FailsAmong};
-ghost use Rattle.eval_cache.specs.Cache.{empty_cache, size_for, holds_parse, traces_at, count_parse, count_look};
+ghost use Rattle.eval_cache.specs.Cache.{empty_cache, size_for, holds_parse, traces_at, count_look};
+ghost use Rattle.eval_cache.specs.Keeping.{Keeps, HandsOut, PutsParse, looked_at};
+ghost use Rattle.eval_cache.specs.Using.{UsesCache};
 ghost use Rattle.eval_cache.specs.Held.{AreNewest, items_of};
 
 use crate::contents::ContentKey;
@@ -105,7 +107,8 @@ impl EvalCache {
 
     /// Looks for the evaluation of this key among those that are kept, by the answers of the files. The
     /// newest is tried first, and each up to the first answer that differs. The result is what was found,
-    /// and how many answers were checked: at least one if something was found. Nothing that is kept goes.
+    /// and how many answers were checked: at least one if something was found. Nothing that is kept goes. If
+    /// something was found, its key is now the one that was used last.
     ///
     /// If the files fail, their fault is returned as it is. It is also `Memory` if no more can share the
     /// evaluation.
@@ -124,10 +127,12 @@ impl EvalCache {
         ensures fails { IfErr result (λ fault.
             FailsAmong F.fails_with (F.view files.old) (F.view files.new) fault) }
         ensures counted { IfOk result (λ found. self.new.counts ≡ count_look found.0 self.old.counts) }
+        ensures order { IfOk result (λ found. self.new.traces
+            ≡ looked_at found.0 (key_of key.now) self.old) }
         ensures err { OnErr result (self.new ≡ self.old) }
         ensures traces { (other : Key) → traces_at self.new other ≡ traces_at self.old other }
         ensures parses { self.new.contents ≡ self.old.contents }
-        ensures sizes { self.new.sizes ≡ self.old.sizes }
+        ensures uses { UsesCache self.old self.new }
     {
         let (found, checked) = self.kept_evaluation(key, files)?;
         match found {
@@ -142,19 +147,21 @@ impl EvalCache {
     }
 
     /// Keeps an evaluation that is right for the key, as the newest one there. The oldest one goes if there
-    /// are more than four. If there is no memory to keep it, it isn't kept, and others of the key may go. It
-    /// isn't kept either if its trace has no answer, or more than 257. Right for a key is what its makefile means
-    /// in some files, with each question that this evaluation asks there and its answer.
+    /// are more than four. The key is then the one that was used last, and the key that was used the longest time
+    /// ago goes if there are too many. If there is no memory to keep it, it isn't kept, and others of the key may
+    /// go. It isn't kept either if its trace has no answer, or more than 257. Right for a key is what its makefile
+    /// means in some files, with each question that this evaluation asks there and its answer.
     pub fn keep(&mut self, key: EvalKey, evaluation: Rc<Evaluation>)
         requires { IsRight (key_of key) evaluation.value }
+        ensures keeps { Keeps (key_of key) evaluation.value.trace self.old self.new }
         ensures counts { self.new.counts ≡ self.old.counts }
-        ensures parses { self.new.contents ≡ self.old.contents }
-        ensures sizes { self.new.sizes ≡ self.old.sizes }
+        ensures uses { UsesCache self.old self.new }
     {
         let answers = evaluation.trace.questions().len();
         if answers == 0 || answers > MOST_ANSWERS {
             return;
         }
+        let _all = self.evals.len(); // no key is there twice
         let older = self.evals.pop(&key);
         let kept = with_newest(self.alloc, older, evaluation);
         let _kept = self.evals.put(key, kept);
@@ -164,11 +171,8 @@ impl EvalCache {
     // that.
     fn kept_or_new(&mut self, content: &Content) -> Result<Parse, AllocError>
         ensures tree { IfOk result (λ found. tree_in found ≡ parsed content.now) }
-        ensures counted { OnOk result (self.new.counts
-            ≡ count_parse (holds_parse self.old content.now) self.old.counts) }
-        ensures err { OnErr result (self.new.counts ≡ self.old.counts) }
-        ensures evals { self.new.traces ≡ self.old.traces }
-        ensures sizes { self.new.sizes ≡ self.old.sizes }
+        ensures handed { OnOk result (HandsOut content.now self.old self.new) }
+        ensures err { OnErr result (self.new ≡ self.old) }
     {
         let key = ContentKey {
             content: content.share()?,
@@ -201,7 +205,9 @@ impl EvalCache {
 
     // Keeps the parse of a content, if there is memory for that.
     fn keep_parse(&mut self, key: ContentKey, parse: &Parse)
-        requires { tree_in parse.now ≡ parsed key.content }
+        requires tree { tree_in parse.now ≡ parsed key.content }
+        requires anew { holds_parse self.old key.content ≡ false }
+        ensures contents { PutsParse key.content self.old self.new }
         ensures counts { self.new.counts ≡ self.old.counts }
         ensures traces { self.new.traces ≡ self.old.traces }
         ensures sizes { self.new.sizes ≡ self.old.sizes }
@@ -251,11 +257,9 @@ impl Parses for EvalCache {
     fn parsed(&mut self, content: &Content) -> Result<Parse, AllocError>
         ensures tree { IfOk result (λ found. tree_in found ≡ parsed content.now) }
         ensures left { AsksParses self.old self.new }
-        ensures counted { OnOk result (self.new.counts
-            ≡ count_parse (holds_parse self.old content.now) self.old.counts) }
-        ensures err { OnErr result (self.new.counts ≡ self.old.counts) }
-        ensures evals { self.new.traces ≡ self.old.traces }
-        ensures sizes { self.new.sizes ≡ self.old.sizes }
+        ensures uses { UsesCache self.old self.new }
+        ensures handed { OnOk result (HandsOut content.now self.old self.new) }
+        ensures err { OnErr result (self.new ≡ self.old) }
     {
         self.kept_or_new(content)
     }

@@ -35,10 +35,8 @@ evals-count true counts = refl
 evals-count false counts = refl
 
 evals-one : (content : List ℕ) (old new : CacheValue) → AsksParse content old new → new.counts.evals ≡ old.counts.evals
-evals-one content old new asks = elim asks.counts [
-  | inl counted ↦ ap (λ (counts : Counts). counts.evals) counted ∙ evals-count (holds_parse old content) old.counts
-  | inr same ↦ ap (λ (counts : Counts). counts.evals) same
-]
+evals-one content old new (inl handed) = ap (λ (counts : Counts). counts.evals) handed.counts ∙ evals-count (holds_parse old content) old.counts
+evals-one content old new (inr same) = ap (λ (cache : CacheValue). cache.counts.evals) same
 
 evals-in_turn : (contents : List (List ℕ)) (old new : CacheValue) → AsksInTurn contents old new → new.counts.evals ≡ old.counts.evals
 evals-in_turn [] old new same = ap (λ (cache : CacheValue). cache.counts.evals) same

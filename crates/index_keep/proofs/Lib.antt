@@ -11,3 +11,4 @@ pub mod AskLemmas
 pub mod SpendLemmas
 pub mod AnswerLemmas
 pub mod LeftLemmas
+pub mod ProfileLemmas

@@ -6,3 +6,4 @@ pub mod Paths
 pub mod Walking
 pub mod Turns
 pub mod Keeping
+pub mod Profiles

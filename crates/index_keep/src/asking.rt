@@ -5,6 +5,7 @@ ghost use Rattle.mk_eval.specs.Sharing.{cost_of};
 ghost use Rattle.mk_eval.specs.Views.{flavors_in};
 ghost use Rattle.mk_paths.specs.World.{FileMap};
 ghost use Rattle.eval_cache.specs.Keys.{Key, key_for, key_of};
+ghost use Rattle.eval_cache.specs.Using.{UsesCache};
 ghost use Rattle.eval_cache.specs.Right.{IsRight, evaluation_of};
 ghost use Rattle.read_trace.specs.Recording.{view_of, LeavesMap, MayFail};
 ghost use Rattle.index_keep.specs.Asking.{IsAskedOf, IsAskIn, BeginsAsk, TurnsAsk, EndsAsk, EndsRight, ComesTo};
@@ -104,6 +105,7 @@ impl Ask {
         ensures err { OnErr result (cache.new.counts.evals ≡ cache.old.counts.evals) }
         ensures kind { IfErr result (MayFail F.fails_with) }
         ensures leaves { LeavesMap (result_err result) (view_of F.view files.old) (view_of F.view files.new) }
+        ensures uses { UsesCache cache.old cache.new }
     {
         same_where_agreed();
         agrees_where_answered();
@@ -142,6 +144,7 @@ impl Ask {
         ensures counted { cache.new.counts.evals ≡ cache.old.counts.evals }
         ensures kind { IfErr result (MayFail F.fails_with) }
         ensures leaves { LeavesMap (result_err result) (view_of F.view files.old) (view_of F.view files.new) }
+        ensures uses { UsesCache cache.old cache.new }
     {
         same_where_agreed();
         let Ask {
@@ -166,6 +169,7 @@ impl Ask {
         ensures counted { cache.new.counts.evals ≡ cache.old.counts.evals }
         ensures kind { IfErr result (MayFail F.fails_with) }
         ensures leaves { LeavesMap (result_err result) (view_of F.view files.old) (view_of F.view files.new) }
+        ensures uses { UsesCache cache.old cache.new }
     {
         match self.turn(alloc, cache, files, u64::MAX)? {
             AskTurned::Done(asked) => Ok(asked),
@@ -210,6 +214,7 @@ impl AskTurned {
         ensures counted { cache.new.counts.evals ≡ cache.old.counts.evals }
         ensures kind { IfErr result (MayFail F.fails_with) }
         ensures leaves { LeavesMap (result_err result) (view_of F.view files.old) (view_of F.view files.new) }
+        ensures uses { UsesCache cache.old cache.new }
     {
         match self {
             AskTurned::More(ask) if units > 0 => Ok(ask.turn(alloc, cache, files, units)?),
@@ -246,6 +251,7 @@ impl Looked {
         requires { EndsRight (key_of self.key) trace turned }
         ensures comes { IfOk result (ComesTo self trace turned) }
         ensures counts { cache.new.counts ≡ cache.old.counts }
+        ensures uses { UsesCache cache.old cache.new }
     {
         let Looked { key, checks } = self;
         match turned {
@@ -292,6 +298,7 @@ pub fn ask_at_once<F: Files + Drop>(
     ensures err { OnErr result (cache.new.counts.evals ≡ cache.old.counts.evals) }
     ensures kind { IfErr result (MayFail F.fails_with) }
     ensures leaves { LeavesMap (result_err result) (view_of F.view files.old) (view_of F.view files.new) }
+    ensures uses { UsesCache cache.old cache.new }
 {
     match Ask::begin(alloc, cache, files, settings, name, flavors)? {
         AskTurned::Done(asked) => Ok(asked),
@@ -302,7 +309,8 @@ pub fn ask_at_once<F: Files + Drop>(
 // Keeps an evaluation, if it can be shared once more.
 fn keep(cache: &mut EvalCache, key: EvalKey, evaluation: &Rc<Evaluation>)
     requires { IsRight (key_of key) evaluation.now.value }
-    ensures { cache.new.counts ≡ cache.old.counts }
+    ensures counts { cache.new.counts ≡ cache.old.counts }
+    ensures uses { UsesCache cache.old cache.new }
 {
     if let Ok(shared) = evaluation.clone() {
         cache.keep(key, shared);

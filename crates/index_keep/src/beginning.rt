@@ -6,6 +6,7 @@ ghost use Rattle.std.specs.Str.{bytes_eq};
 ghost use Rattle.ports_index.specs.Filling.{is_one_of};
 ghost use Rattle.ports_index.specs.Seen.{entries_in};
 ghost use Rattle.index_store.specs.Entries.{Entries, SameRows, AreRowsOf, stored_seen, value_in};
+ghost use Rattle.index_store.specs.Entries.{SameProfiles};
 ghost use Rattle.row_text.specs.Seen.{row_seen};
 ghost use Rattle.index_keep.specs.Shown.{shown, no_name, ShowsSame, fresh, asked_one};
 ghost use Rattle.index_keep.specs.Judging as judging;
@@ -40,6 +41,7 @@ pub(crate) fn begin<R: PathRows>(
     ensures marked { OnOk result (ShowsSame
         (shown (contains_text changed.now) (R.entries rows.old)) (shown no_name (R.entries rows.new))) }
     ensures err { OnErr result (SameRows (R.entries rows.old) (R.entries rows.new)) }
+    ensures profiles { SameProfiles (R.profiles rows.old) (R.profiles rows.new) }
 {
     let stored = rows.rows(alloc)?;
     let Sorted { known, outdated } = sort(alloc, stored, changed)?;
@@ -52,6 +54,7 @@ pub(crate) fn fresh_rows<R: PathRows>(alloc: Global, rows: &mut R) -> Result<Mem
     ensures known { IfOk result (λ known. (path : List ℕ)
         → entries_in known path ≡ fresh (shown no_name (R.entries rows.old)) path) }
     ensures same { SameRows (R.entries rows.old) (R.entries rows.new) }
+    ensures profiles { SameProfiles (R.profiles rows.old) (R.profiles rows.new) }
 {
     let stored = rows.rows(alloc)?;
     let changed = BTreeSet::new(alloc);

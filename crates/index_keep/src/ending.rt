@@ -2,6 +2,8 @@
 ghost use Rattle.std.specs.Prelude.{◌≡◌, ◌&&◌, not, ℕ, List, if◌then◌else◌, None, map, string_bytes, IfOk, OnOk, OnErr};
 ghost use Rattle.ports_index.specs.Filling.{is_one_of};
 ghost use Rattle.index_store.specs.Entries.{SameRows};
+ghost use Rattle.mk_text.specs.declared.profile.Profile as kinds;
+ghost use Rattle.index_keep.specs.Profiles.{WritesIn};
 
 use crate::names::set_of;
 use index_store::PathRows;
@@ -17,6 +19,7 @@ pub(crate) fn take_out_others<R: PathRows>(
     ensures ok { OnOk result ((path : List ℕ) → R.entries rows.new path
         ≡ (if is_one_of path (map string_bytes needed.now) then R.entries rows.old path else None)) }
     ensures err { OnErr result (SameRows (R.entries rows.old) (R.entries rows.new)) }
+    ensures profiles { (profile : kinds.Profile) → WritesIn profile (R.profiles rows.old) (R.profiles rows.new) }
 {
     let paths = rows.paths(alloc)?;
     let others = others(alloc, paths, needed)?;

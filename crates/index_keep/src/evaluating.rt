@@ -6,6 +6,7 @@ ghost use Rattle.mk_paths.specs.World.{World};
 ghost use Rattle.mk_paths.specs.Place.{place, places_asked};
 ghost use Rattle.mk_paths.specs.declared.search_path.Settings.{Settings};
 ghost use Rattle.mk_eval.specs.Sharing.{Agrees};
+ghost use Rattle.eval_cache.specs.Using.{UsesCache};
 ghost use Rattle.ports_index.specs.PathOutcomes.{cost_at};
 ghost use Rattle.ports_index.specs.Spending.{no_spending};
 ghost use Rattle.read_trace.specs.Recording.{view_of};
@@ -21,7 +22,6 @@ use eval_cache::EvalCache;
 use mk_eval::evaluations_cost_few;
 use mk_files::Files;
 use mk_paths::{FilesFault, Name, Settings, find};
-use mk_text::Profile;
 use pkg_path::PkgPath;
 use port_rules::records_cost_few;
 use ports_index::{Finding, Spent, finding_of};
@@ -33,8 +33,6 @@ use std::alloc::{AllocError, Global};
 #[derive(Drop)]
 pub(crate) struct MadeRow {
     pub(crate) path: String,
-    /// The profile in which the path's makefile was read.
-    pub(crate) profile: Profile,
     pub(crate) row: KeptRow,
     pub(crate) spent: Spent,
 }
@@ -52,7 +50,6 @@ enum NamedDirectory {
 #[derive(Drop)]
 pub(crate) struct FoundPath {
     path: String,
-    profile: Profile,
     named: NamedDirectory,
     makefile: Name,
     placed: Trace,
@@ -92,21 +89,21 @@ impl PathAsk {
         ensures up { IfOk result (IsUpTo no_spending) }
         ensures short { IfOk result (IsShortOnRow units no_spending) }
         ensures leaves { LeavesFiles (result_err result) (view_of F.view files.old) (view_of F.view files.new) }
+        ensures uses { UsesCache cache.old cache.new }
     {
         let Some(named) = NamedDirectory::read(alloc, path.as_str())? else {
-            let made = MadeRow::absent(path, settings.profile, Vec::new(alloc));
+            let made = MadeRow::absent(path, Vec::new(alloc));
             return Ok(PathTurned::Made(made));
         };
         let (makefile, placed) = place_of(alloc, files, settings, named.directory())?;
         let Some(makefile) = makefile else {
             let names = names_of(alloc, placed.questions())?;
-            let made = MadeRow::absent(path, settings.profile, names);
+            let made = MadeRow::absent(path, names);
             return Ok(PathTurned::Made(made));
         };
         let ask = Ask::begin(alloc, cache, files, settings, &makefile, named.flavors())?;
         let found = FoundPath {
             path,
-            profile: settings.profile,
             named,
             makefile,
             placed,
@@ -131,6 +128,7 @@ impl PathAsk {
         ensures up { IfOk result (IsUpTo (spent_in self.ask)) }
         ensures short { IfOk result (IsShortOnRow units (spent_in self.ask)) }
         ensures leaves { LeavesFiles (result_err result) (view_of F.view files.old) (view_of F.view files.new) }
+        ensures uses { UsesCache cache.old cache.new }
     {
         let before = self.spent();
         self.go_on(alloc, cache, files, before, units)
@@ -155,6 +153,7 @@ impl PathAsk {
         ensures up { IfOk result (IsUpTo before) }
         ensures short { IfOk result (IsShortOnRow units before) }
         ensures leaves { LeavesFiles (result_err result) (view_of F.view files.old) (view_of F.view files.new) }
+        ensures uses { UsesCache cache.old cache.new }
     {
         let PathAsk { found, ask } = self;
         let given = left_of(units, before, ask.spent());
@@ -225,7 +224,6 @@ impl FoundPath {
         records_cost_few();
         let FoundPath {
             path,
-            profile,
             named,
             makefile,
             placed,
@@ -236,7 +234,6 @@ impl FoundPath {
         add_names(alloc, &mut names, asked.evaluation.trace.questions())?;
         Ok(MadeRow {
             path,
-            profile,
             row: KeptRow { found: row, names },
             spent,
         })
@@ -245,14 +242,13 @@ impl FoundPath {
 
 impl MadeRow {
     // The row of a path without a makefile, for which these names were asked for.
-    fn absent(path: String, profile: Profile, names: Vec<String>) -> MadeRow
+    fn absent(path: String, names: Vec<String>) -> MadeRow
         ensures path { string_bytes result.path ≡ string_bytes path }
         ensures row { row_seen result.row ≡ paths.absent_row (map string_bytes names.items) }
         ensures spent { result.spent ≡ no_spending }
     {
         MadeRow {
             path,
-            profile,
             row: KeptRow {
                 found: Finding::nothing(),
                 names,

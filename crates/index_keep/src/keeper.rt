@@ -5,10 +5,13 @@ ghost use Rattle.std.specs.Result.{result_err};
 ghost use Rattle.std.specs.Str.{bytes_eq};
 ghost use Rattle.mk_paths.specs.FilesView.{world_of};
 ghost use Rattle.mk_paths.specs.World.{World};
+ghost use Rattle.eval_cache.specs.Using.{UsesCache};
 ghost use Rattle.ports_index.specs.Index as indexed;
 ghost use Rattle.read_trace.specs.Recording.{view_of};
 ghost use Rattle.mk_paths.specs.declared.search_path.Settings.{Settings};
 ghost use Rattle.ports_index.specs.Spending.{no_spending};
+ghost use Rattle.index_store.specs.Entries.{SameProfiles};
+ghost use Rattle.index_keep.specs.Profiles.{WritesIn, profiles_of};
 ghost use Rattle.index_keep.specs.Shown.{ShowsSame, made_stale, stale_if_asked};
 ghost use Rattle.index_keep.specs.Right.{DifferAt, LeavesFiles};
 ghost use Rattle.index_keep.specs.Turns.{TakesTurn, StaysShort, DropsTurn, SpendsOnRows};
@@ -104,6 +107,7 @@ impl<R: PathRows + Drop> Keeper<R> {
         ensures kept { (world : World) → IsKept R.entries world self.old → IsKept R.entries world self.new }
         ensures other { OnOk result ((world other : World) → DifferAt name.now world other
             → IsKept R.entries world self.old → IsKept R.entries other self.new) }
+        ensures profiles { SameProfiles (profiles_of R.profiles self.old) (profiles_of R.profiles self.new) }
     {
         path_is_the_same_where_answered();
         if self.is_full() {
@@ -124,6 +128,7 @@ impl<R: PathRows + Drop> Keeper<R> {
         ensures err { OnErr result (ShowsSame (rows_of R.entries self.old) (rows_of R.entries self.new)) }
         ensures kept { (world : World) → IsKept R.entries world self.old → IsKept R.entries world self.new }
         ensures other { OnOk result ((world : World) → IsKept R.entries world self.new) }
+        ensures profiles { SameProfiles (profiles_of R.profiles self.old) (profiles_of R.profiles self.new) }
     {
         self.rows.mark_all()?;
         self.progress = Progress::nothing(alloc);
@@ -156,7 +161,10 @@ impl<R: PathRows + Drop> Keeper<R> {
         ensures done { result ≡ Ok Refreshed.Done → IsDone self.new }
         ensures err { OnErr result (DropsTurn (refresh_of R.entries self.old) (refresh_of R.entries self.new)) }
         ensures kept { IsKept R.entries (world_of (view_of F.view files.old) settings.now) self.new }
+        ensures profiles { WritesIn settings.now.profile
+            (profiles_of R.profiles self.old) (profiles_of R.profiles self.new) }
         ensures leaves { LeavesFiles (result_err result) (view_of F.view files.old) (view_of F.view files.new) }
+        ensures uses { UsesCache cache.old cache.new }
     {
         match self.turn(alloc, cache, files, settings, units)? {
             Turned::Evaluated(spent) => Ok(Refreshed::Evaluated(spent)),
@@ -180,7 +188,10 @@ impl<R: PathRows + Drop> Keeper<R> {
         ensures spent { IfOk result (λ found. SpendsOnRows
             (world_of (view_of F.view files.old) settings.now) (refresh_of R.entries self.old) found.1) }
         ensures kept { IsKept R.entries (world_of (view_of F.view files.old) settings.now) self.new }
+        ensures profiles { WritesIn settings.now.profile
+            (profiles_of R.profiles self.old) (profiles_of R.profiles self.new) }
         ensures leaves { LeavesFiles (result_err result) (view_of F.view files.old) (view_of F.view files.new) }
+        ensures uses { UsesCache cache.old cache.new }
     {
         one_row_more_leaves_less();
         makefiles_are_evaluated();
@@ -212,7 +223,10 @@ impl<R: PathRows + Drop> Keeper<R> {
         ensures spent { IfOk result (λ found. SpendsOnRows
             (world_of (view_of F.view files.old) settings.now) (refresh_of R.entries self.old) found.1) }
         ensures kept { IsKept R.entries (world_of (view_of F.view files.old) settings.now) self.new }
+        ensures profiles { WritesIn settings.now.profile
+            (profiles_of R.profiles self.old) (profiles_of R.profiles self.new) }
         ensures leaves { LeavesFiles (result_err result) (view_of F.view files.old) (view_of F.view files.new) }
+        ensures uses { UsesCache cache.old cache.new }
     {
         known_rows_are_enough();
         let (mut known, spent) = self.refresh(alloc, cache, files, settings)?;
@@ -238,7 +252,10 @@ impl<R: PathRows + Drop> Keeper<R> {
         ensures spent { IfOk result (λ found. SpendsOnRows
             (world_of (view_of F.view files.old) settings.now) (refresh_of R.entries self.old) found.2) }
         ensures kept { IsKept R.entries (world_of (view_of F.view files.old) settings.now) self.new }
+        ensures profiles { WritesIn settings.now.profile
+            (profiles_of R.profiles self.old) (profiles_of R.profiles self.new) }
         ensures leaves { LeavesFiles (result_err result) (view_of F.view files.old) (view_of F.view files.new) }
+        ensures uses { UsesCache cache.old cache.new }
     {
         known_rows_are_enough();
         let (mut known, spent) = self.refresh(alloc, cache, files, settings)?;
@@ -255,6 +272,7 @@ impl<R: PathRows + Drop> Keeper<R> {
         ensures rows { ShowsSame (rows_of R.entries self.old) (rows_of R.entries self.new) }
         ensures begun { begun_in self.new.progress ≡ begun_in self.old.progress }
         ensures kept { (world : World) → IsKept R.entries world self.old → IsKept R.entries world self.new }
+        ensures profiles { SameProfiles (profiles_of R.profiles self.old) (profiles_of R.profiles self.new) }
     {
         self.rows.limit_steps(limit);
     }
@@ -265,6 +283,7 @@ impl<R: PathRows + Drop> Keeper<R> {
         ensures rows { ShowsSame (rows_of R.entries self.old) (rows_of R.entries self.new) }
         ensures begun { begun_in self.new.progress ≡ no_spending }
         ensures kept { (world : World) → IsKept R.entries world self.old → IsKept R.entries world self.new }
+        ensures profiles { SameProfiles (profiles_of R.profiles self.old) (profiles_of R.profiles self.new) }
     {
         self.progress.halt(alloc);
     }
@@ -281,6 +300,7 @@ impl<R: PathRows + Drop> Keeper<R> {
     fn write_marks(&mut self, alloc: Global) -> Result<(), FilesFault>
         ensures rows { ShowsSame (rows_of R.entries self.old) (rows_of R.entries self.new) }
         ensures progress { Stops self.old.progress self.new.progress }
+        ensures profiles { SameProfiles (profiles_of R.profiles self.old) (profiles_of R.profiles self.new) }
     {
         if let Progress::Changed(names) = &self.progress {
             let _known = begin(alloc, &mut self.rows, names)?;

@@ -8,11 +8,14 @@ ghost use Rattle.mk_paths.specs.FilesView.{world_of};
 ghost use Rattle.mk_paths.specs.World.{World};
 ghost use Rattle.read_trace.specs.Recording.{view_of};
 ghost use Rattle.mk_paths.specs.declared.search_path.Settings.{Settings};
-ghost use Rattle.index_store.specs.Entries.{SameRows};
+ghost use Rattle.mk_text.specs.declared.profile.Profile as kinds;
+ghost use Rattle.eval_cache.specs.Using.{UsesCache};
+ghost use Rattle.index_store.specs.Entries.{SameRows, SameProfiles};
 ghost use Rattle.ports_index.specs.Spending.{no_spending};
 ghost use Rattle.row_text.specs.Seen.{row_seen};
 ghost use Rattle.index_keep.specs.Asking.{HasBegun, spent_in};
 ghost use Rattle.index_keep.specs.Shown.{ShownRows, shown, no_name, ShowsSame};
+ghost use Rattle.index_keep.specs.Profiles.{WritesIn, profiles_of};
 ghost use Rattle.index_keep.specs.Right.{LeavesFiles};
 ghost use Rattle.index_keep.specs.Paths.{IsUpTo, IsShortOnRow, TurnsPath};
 ghost use Rattle.index_keep.specs.Turns.{EndsTurn, EndsShort, DropsTurn, refresh_at};
@@ -37,6 +40,13 @@ use std::alloc::Global;
 use std::collections::BTreeSet;
 use std::mem;
 
+/// A walk, and the profile with which the rows are written that are made on it.
+#[derive(Drop)]
+struct WritingWalk {
+    walk: Walk,
+    profile: Profile,
+}
+
 impl<R: PathRows + Drop> Keeper<R> {
     /// Takes a turn of a refresh.
     pub(crate) fn turn<F: Listing + Drop>(
@@ -54,7 +64,10 @@ impl<R: PathRows + Drop> Keeper<R> {
         ensures done { IfOk result (IsDoneAfter self.new) }
         ensures err { OnErr result (DropsTurn (refresh_of R.entries self.old) (refresh_of R.entries self.new)) }
         ensures kept { IsKept R.entries (world_of (view_of F.view files.old) settings.now) self.new }
+        ensures profiles { WritesIn settings.now.profile
+            (profiles_of R.profiles self.old) (profiles_of R.profiles self.new) }
         ensures leaves { LeavesFiles (result_err result) (view_of F.view files.old) (view_of F.view files.new) }
+        ensures uses { UsesCache cache.old cache.new }
     {
         match mem::replace(&mut self.progress, Progress::nothing(alloc)) {
             Progress::Changed(names) => {
@@ -62,7 +75,11 @@ impl<R: PathRows + Drop> Keeper<R> {
                 self.walk_on(alloc, cache, files, settings, walk, units)
             }
             Progress::Walking(walk) => self.walk_on(alloc, cache, files, settings, walk, units),
-            Progress::Asking(walk, ask) => self.ask_on(alloc, cache, files, walk, ask, units),
+            Progress::Asking(walk, ask) => {
+                let profile = settings.profile;
+                let writing = WritingWalk { walk, profile };
+                self.ask_on(alloc, cache, files, writing, ask, units)
+            }
             Progress::Current(listed) => {
                 self.progress = Progress::Current(listed);
                 Ok(Turned::Done(None))
@@ -90,12 +107,17 @@ impl<R: PathRows + Drop> Keeper<R> {
         ensures kept { OnOk result (IsKept R.entries (world_of (view_of F.view files.old) settings.now) self.new) }
         ensures err { OnErr result (SameRows (R.entries self.old.rows) (R.entries self.new.rows)
             × (self.new.progress ≡ self.old.progress)) }
+        ensures profiles { WritesIn settings.now.profile
+            (profiles_of R.profiles self.old) (profiles_of R.profiles self.new) }
         ensures leaves { LeavesFiles (result_err result) (view_of F.view files.old) (view_of F.view files.new) }
+        ensures uses { UsesCache cache.old cache.new }
     {
         match walk.next(alloc)? {
             Next::Lacks(walk, path) => {
                 let turned = PathAsk::begin(alloc, cache, files, settings, path, units)?;
-                self.settle(alloc, walk, Spent::nothing(), turned)
+                let profile = settings.profile;
+                let writing = WritingWalk { walk, profile };
+                self.settle(alloc, writing, Spent::nothing(), turned)
             }
             Next::All(last) => self.end(alloc, last),
         }
@@ -107,30 +129,33 @@ impl<R: PathRows + Drop> Keeper<R> {
         alloc: Global,
         cache: &mut EvalCache,
         files: &mut Recorder<F>,
-        walk: Walk,
+        writing: WritingWalk,
         ask: PathAsk,
         units: u64,
     ) -> Result<Turned, FilesFault>
         requires { HasBegun (view_of F.view files.old).files ask.ask }
         ensures turn { (settings : Settings)
             → IsAskOnTheWay ((view_of F.view files.old).files, settings)
-            (shown no_name (R.entries self.old.rows)) walk ask
+            (shown no_name (R.entries self.old.rows)) writing.walk ask
             → IfOk result (EndsTurn ((view_of F.view files.old).files, settings) units
             (refresh_at (shown no_name (R.entries self.old.rows)) (spent_in ask.ask))
             (refresh_of R.entries self.new)) }
         ensures short { IfOk result (EndsShort units) }
         ensures kept { (settings : Settings)
             → IsAskOnTheWay ((view_of F.view files.old).files, settings)
-            (shown no_name (R.entries self.old.rows)) walk ask
+            (shown no_name (R.entries self.old.rows)) writing.walk ask
             → OnOk result (IsKept R.entries ((view_of F.view files.old).files, settings) self.new) }
         ensures done { IfOk result (IsDoneAfter self.new) }
         ensures err { OnErr result (SameRows (R.entries self.old.rows) (R.entries self.new.rows)
             × (self.new.progress ≡ self.old.progress)) }
+        ensures profiles { WritesIn writing.profile
+            (profiles_of R.profiles self.old) (profiles_of R.profiles self.new) }
         ensures leaves { LeavesFiles (result_err result) (view_of F.view files.old) (view_of F.view files.new) }
+        ensures uses { UsesCache cache.old cache.new }
     {
         let before = ask.spent();
         let turned = ask.turn(alloc, cache, files, units)?;
-        self.settle(alloc, walk, before, turned)
+        self.settle(alloc, writing, before, turned)
     }
 
     // Writes the row of a path, if it is made, or keeps its evaluation for the next turn. So much was spent on it
@@ -138,32 +163,30 @@ impl<R: PathRows + Drop> Keeper<R> {
     fn settle(
         &mut self,
         alloc: Global,
-        walk: Walk,
+        writing: WritingWalk,
         before: Spent,
         turned: PathTurned,
     ) -> Result<Turned, FilesFault>
         requires { IsUpTo before turned }
         ensures settles { (world : World) (path : List ℕ) (units : ℕ)
-            → IsReadyFor world (shown no_name (R.entries self.old.rows)) walk path
+            → IsReadyFor world (shown no_name (R.entries self.old.rows)) writing.walk path
             → TurnsPath world path units before turned
             → IfOk result (EndsTurn world units
             (refresh_at (shown no_name (R.entries self.old.rows)) before) (refresh_of R.entries self.new)) }
         ensures short { (units : ℕ) → IsShortOnRow units before turned → IfOk result (EndsShort units) }
         ensures kept { (world : World) (path : List ℕ) (units : ℕ)
-            → IsReadyFor world (shown no_name (R.entries self.old.rows)) walk path
+            → IsReadyFor world (shown no_name (R.entries self.old.rows)) writing.walk path
             → TurnsPath world path units before turned → OnOk result (IsKept R.entries world self.new) }
         ensures done { IfOk result (IsDoneAfter self.new) }
         ensures err { OnErr result (SameRows (R.entries self.old.rows) (R.entries self.new.rows)
             × (self.new.progress ≡ self.old.progress)) }
+        ensures profiles { WritesIn writing.profile
+            (profiles_of R.profiles self.old) (profiles_of R.profiles self.new) }
     {
+        let WritingWalk { walk, profile } = writing;
         match turned {
             PathTurned::Made(made) => {
-                let MadeRow {
-                    path,
-                    profile,
-                    row,
-                    spent,
-                } = made;
+                let MadeRow { path, row, spent } = made;
                 let walk = put_row(alloc, &mut self.rows, walk, path, profile, row)?;
                 self.progress = Progress::Walking(walk);
                 Ok(Turned::Evaluated(spent_since(before, spent)))
@@ -188,6 +211,8 @@ impl<R: PathRows + Drop> Keeper<R> {
         ensures done { IfOk result (IsDoneAfter self.new) }
         ensures err { OnErr result (SameRows (R.entries self.old.rows) (R.entries self.new.rows)
             × (self.new.progress ≡ self.old.progress)) }
+        ensures profiles { (profile : kinds.Profile)
+            → WritesIn profile (profiles_of R.profiles self.old) (profiles_of R.profiles self.new) }
     {
         let LastStage { stage, listed } = last;
         let Stage { paths, known, .. } = stage;
@@ -210,6 +235,7 @@ impl<R: PathRows + Drop> Keeper<R> {
             (shown no_name (R.entries self.new.rows)) × (self.new.progress ≡ self.old.progress)) }
         ensures err { OnErr result (SameRows (R.entries self.old.rows) (R.entries self.new.rows)
             × (self.new.progress ≡ Progress.Changed names)) }
+        ensures profiles { SameProfiles (profiles_of R.profiles self.old) (profiles_of R.profiles self.new) }
         ensures leaves { LeavesFiles (result_err result) (view_of F.view files.old) (view_of F.view files.new) }
     {
         match begin_walk(alloc, files, &mut self.rows, &names) {
@@ -222,7 +248,7 @@ impl<R: PathRows + Drop> Keeper<R> {
     }
 }
 
-// Gives a path this row, which is fresh and was made in this profile, and tells the walk of it. If it fails, all
+// Gives a path this row, which is fresh and is written with this profile, and tells the walk of it. If it fails, all
 // rows are as they were.
 fn put_row<R: PathRows>(
     alloc: Global,
@@ -240,6 +266,7 @@ fn put_row<R: PathRows>(
         → HasRowMore (string_bytes path) (row_seen row).outcome old new
         → IfOk result (IsWalk world new) }
     ensures err { OnErr result (SameRows (R.entries rows.old) (R.entries rows.new)) }
+    ensures profiles { WritesIn profile (R.profiles rows.old) (R.profiles rows.new) }
 {
     let text = write_row(alloc, &row)?;
     let key = String::from_str(alloc, path.as_str())?;

@@ -10,7 +10,7 @@ ghost use Rattle.ports_index.specs.Seen.{entries_in};
 ghost use Rattle.ports_index.specs.Seen as seen;
 ghost use Rattle.read_trace.specs.Recording.{view_of};
 ghost use Rattle.std.specs.BTreeSet.{contains_text};
-ghost use Rattle.index_store.specs.Entries.{SameRows};
+ghost use Rattle.index_store.specs.Entries.{SameRows, SameProfiles};
 ghost use Rattle.index_keep.specs.Shown.{ShownRows, shown, no_name, ShowsSame};
 ghost use Rattle.index_keep.specs.Right.{LeavesFiles};
 ghost use Rattle.index_keep.specs.Walking as walking;
@@ -146,6 +146,7 @@ pub(crate) fn begin_walk<F: Listing + Drop, R: PathRows>(
     ensures marked { OnOk result (ShowsSame (shown (contains_text changed.now) (R.entries rows.old))
         (shown no_name (R.entries rows.new))) }
     ensures err { OnErr result (SameRows (R.entries rows.old) (R.entries rows.new)) }
+    ensures profiles { SameProfiles (R.profiles rows.old) (R.profiles rows.new) }
     ensures leaves { LeavesFiles (result_err result) (view_of F.view files.old) (view_of F.view files.new) }
 {
     let paths = directories(alloc, files)?;

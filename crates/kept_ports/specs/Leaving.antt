@@ -6,6 +6,9 @@ use Rattle.mk_paths.specs.FilesView.{FilesView, world_of}
 use Rattle.mk_paths.specs.declared.asking.Names as names
 use Rattle.index_store.specs.declared.path_rows.PathRows as rows
 use Rattle.read_trace.specs.Recording.{view_of}
+use Rattle.eval_cache.specs.Cache.{CacheValue}
+use Rattle.eval_cache.specs.Using.{UsesCache}
+use Rattle.eval_cache.proofs.UseLemmas.{UsesCache-none}
 use Rattle.index_keep.specs.declared.keeper.Keeper.{Keeper}
 use Rattle.kept_ports.specs.declared.keeping.KeptPorts.{KeptPorts}
 
@@ -14,16 +17,20 @@ module _ {F R : Type 0} {files : names.Ghosts F} {entries : rows.Ghosts R} (view
   abbrev pub world_at : KeptPorts F R files entries → World
   world_at ports = world_of (view_of view ports.files.now) ports.settings.now
 
-  -- the world stays, and so does the reference to the keeper
+  -- The world stays, and so do the references to the keeper and to the cache. Some of what is kept was used, or nothing.
   pub record LeavesPorts (old new : KeptPorts F R files entries) : Type 0 where
     pub world : world_at new ≡ world_at old
     pub keeper : new.keeper.ghost_name ≡ old.keeper.ghost_name
+    pub cache : new.cache.ghost_name ≡ old.cache.ghost_name
+    pub uses : UsesCache old.cache.now new.cache.now
 
   pub LeavesPorts-all : (ports : KeptPorts F R files entries) → LeavesPorts ports ports
-  LeavesPorts-all ports = record { world = refl; keeper = refl }
+  LeavesPorts-all ports = record { world = refl; keeper = refl; cache = refl; uses = UsesCache-none ports.cache.now }
 
--- the ports have this reference to a keeper, and the keeper is as it was lent
+-- the ports have these references to a keeper and to a cache, and both are as they were lent
 pub record IsOver {F R : Type 0} {files : names.Ghosts F} {entries : rows.Ghosts R}
-    (ports : KeptPorts F R files entries) (keeper : MutBor (Keeper R)) : Type 0 where
+    (ports : KeptPorts F R files entries) (keeper : MutBor (Keeper R)) (cache : MutBor CacheValue) : Type 0 where
   pub name : ports.keeper.ghost_name ≡ keeper.ghost_name
   pub now : ports.keeper.now ≡ keeper.now
+  pub cache_name : ports.cache.ghost_name ≡ cache.ghost_name
+  pub cache_now : ports.cache.now ≡ cache.now

@@ -1,6 +1,7 @@
 //! Requests over a world whose index is kept.
 ghost use Rattle.std.specs.Prelude.{IfOk, IfSome};
 ghost use Rattle.mk_paths.specs.FilesView.{world_of};
+ghost use Rattle.eval_cache.specs.Using.{UsesCache};
 ghost use Rattle.index_keep.specs.Keeping.{IsKept, refresh_of};
 
 use crate::keeping::KeptPorts;
@@ -61,6 +62,7 @@ impl PlainCall<'_> {
             (refresh_of R.entries keeper.old) (refresh_of R.entries keeper.new)
             (request_of self.now) under_way) }
         ensures kept { IsKept R.entries (world_of (F.view files) self.now.settings.now) keeper.new }
+        ensures uses { UsesCache cache.old cache.new }
     {
         let mut files = Recorder::new(alloc, files, Trace::new(alloc));
         let mut ports = KeptPorts::new(cache, &mut files, self.settings, keeper);

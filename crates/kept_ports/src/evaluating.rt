@@ -8,6 +8,7 @@ ghost use Rattle.mk_eval.specs.Sharing.{cost_of};
 ghost use Rattle.pkg_path.specs.Paths.{PathValue};
 ghost use Rattle.read_trace.specs.Recording.{view_of, LeavesMap};
 ghost use Rattle.eval_cache.specs.Keys.{Key};
+ghost use Rattle.eval_cache.specs.Using.{UsesCache};
 ghost use Rattle.eval_cache.specs.Right.{evaluation_of};
 ghost use Rattle.ports_index.specs.Spending.{no_spending};
 ghost use Rattle.index_keep.specs.Asking.{spent_in, CanGoOn, HasComeTo, IsUpFrom, IsShortTurn, SpendsTurn};
@@ -43,6 +44,7 @@ impl PortAsk {
         ensures begins { IfOk result
             (BeginsPortAsk (world_of (view_of F.view files.old) settings.now) path.now) }
         ensures looked { IfOk result (λ ask. IfSome ask (λ begun. HasLooked no_spending begun.came)) }
+        ensures uses { UsesCache cache.old cache.new }
         ensures leaves { LeavesMap (result_err result) (view_of F.view files.old) (view_of F.view files.new) }
     {
         let Some(makefile) = find(alloc, files, &settings.path, path.directory())? else {
@@ -68,6 +70,7 @@ impl PortAsk {
         ensures up { IfOk result (λ ask. IsUpFrom (spent_in self.came) (spent_in ask.came)) }
         ensures enough { IfOk result (λ ask. SpendsTurn units (spent_in self.came) ask.came) }
         ensures short { IfOk result (λ ask. IsShortTurn units (spent_in self.came) (spent_in ask.came)) }
+        ensures uses { UsesCache cache.old cache.new }
         ensures leaves { LeavesMap (result_err result) (view_of F.view files.old) (view_of F.view files.new) }
     {
         let PortAsk { makefile, came } = self;

@@ -2,6 +2,7 @@
 ghost use Rattle.std.specs.Prelude.{IfOk, ◌≡◌};
 ghost use Rattle.std.specs.Result.{result_err};
 ghost use Rattle.mk_paths.specs.FilesView.{world_of};
+ghost use Rattle.eval_cache.specs.Using.{UsesCache};
 ghost use Rattle.ports_index.specs.Spending.{SpendsOn};
 ghost use Rattle.ports_plain.specs.Answers as answers;
 ghost use Rattle.ports_plain.specs.Resting.{value_cost_at, record_cost_at, pair_of};
@@ -32,6 +33,7 @@ pub(crate) fn find_value<F: Files + Drop>(
     ensures spent { IfOk result (λ found. SpendsOn (world_of (view_of F.view files.old) settings.now)
         (value_cost_at (world_of (view_of F.view files.old) settings.now) question.now)
         (pair_of (world_of (view_of F.view files.old) settings.now) question.now.path) found.1) }
+    ensures uses { UsesCache cache.old cache.new }
     ensures leaves { LeavesMap (result_err result) (view_of F.view files.old) (view_of F.view files.new) }
 {
     asking_spends();
@@ -59,6 +61,7 @@ pub(crate) fn find_record<F: Files + Drop>(
     ensures spent { IfOk result (λ found. SpendsOn (world_of (view_of F.view files.old) settings.now)
         (record_cost_at (world_of (view_of F.view files.old) settings.now) path.now)
         (pair_of (world_of (view_of F.view files.old) settings.now) path.now) found.1) }
+    ensures uses { UsesCache cache.old cache.new }
     ensures leaves { LeavesMap (result_err result) (view_of F.view files.old) (view_of F.view files.new) }
 {
     asking_spends();

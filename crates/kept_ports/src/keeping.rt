@@ -45,7 +45,7 @@ impl<'a, F: Listing + Drop, R: PathRows + Drop> KeptPorts<'a, F, R> {
     ) -> KeptPorts<'a, F, R>
         requires { IsKept R.entries (world_of (view_of F.view files.old) settings.now) keeper.old }
         ensures world { world_at F.view result ≡ world_of (view_of F.view files.old) settings.now }
-        ensures over { IsOver result keeper.entry }
+        ensures over { IsOver result keeper.entry cache.entry }
     {
         KeptPorts {
             cache,

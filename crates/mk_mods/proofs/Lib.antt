@@ -9,3 +9,4 @@ pub mod ViewSteps
 pub mod ModifierSteps
 pub mod MarkSteps
 pub mod SuffixSteps
+mod SignTurns

@@ -1,6 +1,6 @@
 -- The old and the new text of `:S`, as they are written up to the delimiter after each (make(1),
 -- "VARIABLES").
-use Rattle.std.specs.Prelude.{ℕ, zero, suc, ◌-◌, Bool, true, false, ◌==◌, ◌||◌, ◌&&◌, List, [], ◌∷◌, map, Option}
+use Rattle.std.specs.Prelude.{◌≡◌, ◌≢◌, ℕ, zero, suc, ◌-◌, Bool, true, false, ◌==◌, ◌||◌, ◌&&◌, List, [], ◌∷◌, map, Option}
 use Rattle.std.specs.Prelude.{Some, None, option_map, if◌then◌else◌}
 use Rattle.std.specs.Char.{encode_utf8}
 use Rattle.mk_mods.specs.Marks.{TextMark, Char, EscapedDollar, Written, is_char}
@@ -80,3 +80,18 @@ abbrev pub sign_symbols : Bool → TextSign → List Symbol
 sign_symbols in_new (Plain c) = map Byte (encode_utf8 c)
 sign_symbols in_new (Bare c) = if in_new && (c == 38) then Whole ∷ [] else map Byte (encode_utf8 c)
 sign_symbols in_new (Inner source) = Reference source ∷ []
+
+-- a mark that doesn't begin an escape with the marks after it
+abbrev pub BeginsNoEscape : ℕ → TextMark → List TextMark → Type 0
+BeginsNoEscape delimiter mark marks =
+    (c : ℕ) (more : List TextMark) → mark ≡ Char 92 → marks ≡ Char c ∷ more → is_escapable delimiter c ≡ false
+
+-- Signs are read one after another. The delimiter ends them where it comes first. Else a backslash and the character
+-- that it makes plain are a sign, and any other mark is a sign of its own. Without a delimiter there are none.
+pub record SignsAreReadInTurn : Type 0 where
+  pub ended : (delimiter : ℕ) (rest : List TextMark) → signs_before delimiter (Char delimiter ∷ rest) ≡ Some ([], rest)
+  pub escape : (delimiter c : ℕ) (marks : List TextMark) → delimiter ≢ 92 → is_escapable delimiter c ≡ true
+      → signs_before delimiter (Char 92 ∷ Char c ∷ marks) ≡ option_map (sign_before (Plain c)) (signs_before delimiter marks)
+  pub alone : (delimiter : ℕ) (mark : TextMark) (marks : List TextMark) → mark ≢ Char delimiter → BeginsNoEscape delimiter mark marks
+      → signs_before delimiter (mark ∷ marks) ≡ option_map (sign_before (sign_of mark)) (signs_before delimiter marks)
+  pub none : (delimiter : ℕ) → signs_before delimiter [] ≡ None

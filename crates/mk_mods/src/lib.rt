@@ -13,7 +13,7 @@ mod suffixes;
 mod word_maps;
 
 pub use applying::apply;
-pub use laws::acts_at_least_places;
+pub use laws::{acts_at_least_places, signs_are_read_in_turn};
 pub use modifiers::{Modifier, Part, Substitution, WordMap};
 pub use reading::{Mods, ModsFault};
 pub use substituting::substitute;

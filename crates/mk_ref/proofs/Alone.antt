@@ -11,7 +11,7 @@ pub record IsCutAlone (text : List ℕ) : Type 0 where
   pub ends : first_unit (left_of text) ≡ None
   pub alone : cut (sources (units_of text)) ≡ (units_of text, [])
 
-cut-nil : cut [] ≡ ([], [])
+pub cut-nil : cut [] ≡ ([], [])
 cut-nil = cut-next [] ∙ ap (cut_on cut []) first-nil
 
 starts_front : (front back : List ℕ) → StartsLike (front ++ back) front

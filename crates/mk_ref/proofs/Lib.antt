@@ -8,3 +8,4 @@ pub mod PieceUnits
 pub mod PlainTexts
 pub mod Alone
 pub mod Covering
+pub mod ClosingMarks

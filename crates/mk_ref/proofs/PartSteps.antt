@@ -41,7 +41,7 @@ letter_opens letter other is =
       ]
     ]
 
-letter_stays : (up_to : Reader) (letter : ℕ) (other written name : List ℕ) → is_ascii_alphabetic letter ≡ true → written ≡ 36 ∷ letter ∷ [] → name ≡ letter ∷ []
+pub letter_stays : (up_to : Reader) (letter : ℕ) (other written name : List ℕ) → is_ascii_alphabetic letter ≡ true → written ≡ 36 ∷ letter ∷ [] → name ≡ letter ∷ []
     → unit_by up_to (opening_of (written ++ other)) (written ++ other) ≡ Some (Reference written name None, other)
 letter_stays up_to letter other written name is front second =
     ap (λ l. unit_by up_to (opening_of (l ++ other)) (l ++ other)) front
@@ -54,7 +54,7 @@ marked_by : (up_to : Reader) (b mark : ℕ) (inside : List TextUnit) (other : Li
 marked_by up_to b mark inside other is h =
     ap (λ o. unit_by up_to o (36 ∷ b ∷ sources inside ++ mark ∷ other)) is ∙ ap (option_map (marked_first (36 ∷ b ∷ []) mark)) h
 
-marked_stays : (up_to : Reader) (front : List ℕ) (mark : ℕ) (inside : List TextUnit) (other : List ℕ) → AreMarks front mark
+pub marked_stays : (up_to : Reader) (front : List ℕ) (mark : ℕ) (inside : List TextUnit) (other : List ℕ) → AreMarks front mark
     → up_to mark (sources inside ++ mark ∷ other) ≡ Some (inside, other)
     → unit_by up_to (opening_of (source (marked_reference front inside mark) ++ other)) (source (marked_reference front inside mark) ++ other)
     ≡ Some (marked_reference front inside mark, other)
@@ -148,7 +148,7 @@ local_by mark text (Some x) is = λ other.
     let P : Option (List TextUnit × List ℕ) → Type 0 = λ o. IfSome o (λ y. (more : List ℕ) → read_up_to bound mark (sources y.0 ++ mark ∷ more) ≡ Some (y.0, more)) in
     sym (read_any bound mark after (omega arith)) ∙ subst P (read_any bound mark text (omega arith) ∙ is) (read_local bound mark text) other
 
-up_to_local : IsLocal up_to_mark
+pub up_to_local : IsLocal up_to_mark
 up_to_local mark text = local_by mark text (up_to_mark mark text) refl
 
 -- a unit is read the same before another rest

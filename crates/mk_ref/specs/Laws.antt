@@ -1,11 +1,12 @@
 -- What holds of the units of every text.
-use Rattle.std.specs.Prelude.{◌≡◌, ◌≢◌, ◌⊎◌, ℕ, true, false, ◌==◌, List, [], ◌∷◌, ◌++◌, length, slice_index, Option}
+use Rattle.std.specs.Prelude.{◌≡◌, ◌≢◌, ◌⊎◌, ◌↔◌, ℕ, true, false, ◌==◌, List, [], ◌∷◌, ◌++◌, length, drop, slice_index, Option}
 use Rattle.std.specs.Prelude.{Some, None, IfSome, All, map, if◌then◌else◌}
 use Rattle.std.specs.Char.{is_ascii_alphabetic}
 use Rattle.std.specs.List.{flat_map, list_any}
 use Rattle.mk_ref.specs.Outside.{outside}
+use Rattle.mk_ref.specs.declared.opening.Opening.TheVariants.{Marked}
 use Rattle.mk_ref.specs.Pieces.{units_in, pieces_of}
-use Rattle.mk_ref.specs.Units.{TextUnit, Byte, EscapedDollar, Reference, sources, before_colon, following_colon}
+use Rattle.mk_ref.specs.Units.{TextUnit, Byte, EscapedDollar, Reference, opening_of, sources, before_colon, following_colon}
 use Rattle.mk_ref.specs.Units.{with_more, cut_on, up_to_mark, first_unit, cut, units_of, left_of}
 
 -- the units of a text and what is left, put together, are the text
@@ -90,3 +91,29 @@ abbrev pub OutsideKeepsPlaces : Type 0
 OutsideKeepsPlaces = (text : List ℕ)
     → (length (outside text) ≡ length text)
     × ((at : ℕ) → slice_index (outside text) at ≢ 36 → slice_index (outside text) at ≡ slice_index text at)
+
+-- a mark that closes a reference: `}` or `)`
+abbrev pub ClosesReferences : ℕ → Type 0
+ClosesReferences mark = (mark ≡ 125) ⊎ (mark ≡ 41)
+
+-- A text is what these units are written as, a mark, and a rest. Before the mark it is cut into just these units,
+-- with nothing left, and none of them is the mark itself. So the mark is the first one outside references.
+pub record IsUpToMark (mark : ℕ) (text : List ℕ) (units : List TextUnit) (rest : List ℕ) : Type 0 where
+  pub written : text ≡ sources units ++ mark ∷ rest
+  pub alone : cut (sources units) ≡ (units, [])
+  pub first : All (λ unit. unit ≢ Byte mark) units
+
+-- the units up to a closing mark are exactly those up to the first one outside references
+abbrev pub ReadsToTheFirstMark : Type 0
+ReadsToTheFirstMark = (mark : ℕ) (text : List ℕ) (units : List TextUnit) (rest : List ℕ) → ClosesReferences mark
+    → (up_to_mark mark text ≡ Some (units, rest)) ↔ IsUpToMark mark text units rest
+
+-- a text begins with the first two bytes of a reference that no mark closes
+pub record NeverCloses (text : List ℕ) : Type 0 where
+  pub mark : ℕ
+  pub begins : opening_of text ≡ Some (Marked mark)
+  pub unclosed : (units : List TextUnit) (rest : List ℕ) → ¬ IsUpToMark mark (drop 2 text) units rest
+
+-- what is left of a text after its units is nothing, or begins with a reference that no mark closes
+abbrev pub OnlyTheUnclosedIsLeft : Type 0
+OnlyTheUnclosedIsLeft = (text : List ℕ) → (left_of text ≡ []) ⊎ NeverCloses (left_of text)

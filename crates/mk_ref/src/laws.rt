@@ -1,6 +1,7 @@
 //! What holds of every text. Each function does nothing: its clause is the law.
 ghost use Rattle.mk_ref.specs.Laws.{UnitsAreText, ReferencesArePutTogether, CutGoesOn, ReadGoesOn, PartsAreWhole};
 ghost use Rattle.mk_ref.specs.Laws.{InsidesAreCutAlone, PiecesAreUnits, DollarsAlonePartTexts, OutsideKeepsPlaces};
+ghost use Rattle.mk_ref.specs.Laws.{OnlyTheUnclosedIsLeft, ReadsToTheFirstMark};
 
 /// The units of a text and what is left of it, put together, are the text.
 pub fn units_are_text()
@@ -20,6 +21,16 @@ pub fn cut_goes_on()
 /// The units up to a closing mark are read one after another, until the mark comes first.
 pub fn read_goes_on()
     ensures { ReadGoesOn }
+{}
+
+/// What is inside a reference ends at the first closing mark that is outside inner references.
+pub fn reads_to_the_first_mark()
+    ensures { ReadsToTheFirstMark }
+{}
+
+/// A text is cut up to its end, or up to the first reference that no mark closes.
+pub fn only_the_unclosed_is_left()
+    ensures { OnlyTheUnclosedIsLeft }
 {}
 
 /// Inside a reference every reference ends: its name and its modifiers, cut alone, leave nothing.

@@ -214,3 +214,13 @@ module _ (files : FileMap) (settings : Settings) (name : List ℕ) (flavors : Op
 
     pub first : (more : List Question) × (questions_of files settings name flavors ≡ asked ++ more)
     first = (left_over.asks point.meter, asks-end files settings name flavors (asked ++ left_over.asks point.meter) goal_end so)
+
+    -- the same in a budget of what was spent: at that limit, the evaluation comes to this point too
+    pub first-spent : (more : List Question) × (questions_asked (files, settings) name flavors point.meter.spent ≡ asked ++ more)
+    first-spent =
+        let m : Meter = limited point.meter.spent point.meter in (
+          left_over.asks m,
+          ap (λ (r : Result (EvalState × Account) (FaultAt × Account)). unwrap_or (left r).log [])
+              (has.ends point.meter.spent (Some []) (omega arith) has.within ∙ left_over.is m (Some asked))
+              ∙ ap (λ log. unwrap_or log []) (log-beside (Some (asked ++ left_over.asks m)) (left_over.ends m)),
+        )

@@ -14,6 +14,7 @@ use Rattle.mk_paths.specs.declared.asking.FilesFault.{FilesFault}
 use Rattle.mk_paths.specs.declared.asking.FilesFault.TheVariants as faults
 use Rattle.mk_files.specs.Asking.{Account}
 use Rattle.mk_files.specs.Looking.{LeavesAtStop, stop_of}
+use Rattle.mk_eval.specs.Meaning.{questions_asked}
 use Rattle.mk_eval.specs.Sharing.{questions_of, cost_of}
 use Rattle.mk_eval.specs.declared.outcome.Evaluated.{Evaluated}
 use Rattle.mk_eval.specs.declared.outcome.Failed.{Failed}
@@ -142,3 +143,10 @@ IsAskedFirst =
     (files : FileMap) (machine : Machine)
     → ForEach files machine
     (λ world name flavors asked. (more : List Question) × (questions_of world.0 world.1 name flavors ≡ asked ++ more))
+
+-- and first among those of the evaluation in a budget of what was spent so far
+abbrev pub IsAskedAsSpent : Type 0
+IsAskedAsSpent =
+    (files : FileMap) (machine : Machine)
+    → ForEach files machine
+    (λ world name flavors asked. (more : List Question) × (questions_asked world name flavors machine.budget.spent ≡ asked ++ more))

@@ -12,5 +12,5 @@ mod sites;
 mod steps;
 
 pub use evaluation::{evaluate, evaluate_with};
-pub use laws::asked_comes_first;
+pub use laws::{asked_as_spent, asked_comes_first};
 pub use machine::{Machine, Turned};

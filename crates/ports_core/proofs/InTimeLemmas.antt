@@ -16,6 +16,7 @@ use Rattle.ports_core.specs.Answering.{plain_request_of}
 use Rattle.ports_core.specs.Slices.{Slice, Queue, joined}
 use Rattle.ports_core.specs.Jobs.{TenantJob, had_by, spent_on, one_turn_more, first_of, job_after}
 use Rattle.ports_core.specs.JobChanges.{KeepsJobs, TurnsJob, job_after_turn}
+use Rattle.ports_core.specs.Sharing.{Sizes}
 use Rattle.ports_core.specs.State.{State, keys_of, new_state, world_at, queue_at, slice_of, job_at}
 use Rattle.ports_core.specs.Taking.{Taken, entering}
 use Rattle.ports_core.specs.Telling.{in_turn, spent_in}
@@ -30,18 +31,18 @@ use Rattle.ports_core.proofs.Lists.{option_from}
 use Rattle.ports_core.proofs.Numbers.{other_number}
 
 -- What an event is to a tenant whose turn it isn't: requests may come to wait after the others, and the job stays.
-record Stays (t : ℕ) (old new : State) : Type 0 where
-  queued : List QueuedRequest
-  slice : slice_of t new ≡ option_map (joined queued) (slice_of t old)
-  job : job_at t new ≡ job_at t old
+pub record Stays (t : ℕ) (old new : State) : Type 0 where
+  pub queued : List QueuedRequest
+  pub slice : slice_of t new ≡ option_map (joined queued) (slice_of t old)
+  pub job : job_at t new ≡ job_at t old
 
 -- what a turn is to its tenant
-record IsOwnTurn (t : ℕ) (told : Told) (old new : State) : Type 0 where
-  turns : Turns t told old new
-  spends : TurnSpends (slice_of t old) (job_at t old) told
-  job : TurnsJob t told old new
+pub record IsOwnTurn (t : ℕ) (told : Told) (old new : State) : Type 0 where
+  pub turns : Turns t told old new
+  pub spends : TurnSpends (slice_of t old) (job_at t old) told
+  pub job : TurnsJob t told old new
 
-abbrev Sees : ℕ → Event → Told → State → State → Type 0
+abbrev pub Sees : ℕ → Event → Told → State → State → Type 0
 Sees t event told old new = (Stays t old new × (turn_in t event ≡ 0)) ⊎ (IsOwnTurn t told old new × (turn_in t event ≡ 1))
 
 joined-none : (slice : Option Slice) → slice ≡ option_map (joined []) slice
@@ -70,7 +71,7 @@ module _ (t u : ℕ) (told : Told) (old new : State) (jobs : TurnsJob u told old
       let own : IsOwnTurn u told old new = record { turns = turns; spends = spends; job = jobs } in
       inr (subst (λ n. IsOwnTurn n told old new) (sym same) own, ap (λ b. if b then 1 else 0) (eq-eqb u t (sym same)))
 
-event_seen : (t : ℕ) (event : Event) (step : Effect) (old new : State) → Happens event step old new → Sees t event step.told old new
+pub event_seen : (t : ℕ) (event : Event) (step : Effect) (old new : State) → Happens event step old new → Sees t event step.told old new
 event_seen t (Open c) step old new h = inl (rests t old new ((seen (Open c) step.told old new h.allowed h.does).changes.slices t) (h.jobs t), refl)
 event_seen t (Piece c bytes) step old new h =
     let is = seen (Piece c bytes) step.told old new h.allowed h.does in
@@ -241,11 +242,11 @@ run_left t (event ∷ events) (step ∷ steps) old new run left = run_left t eve
     one_left (inr h) = λ slice is. left_turn t step.told old run.0 slice h.0 h.0.turns is
 
 -- no tenant has a job at the beginning
-none_yet : (keys : List (List ℕ)) (t : ℕ) → job_at t (new_state keys) ≡ None
-none_yet [] t = refl
-none_yet (key ∷ keys) zero = refl
-none_yet (key ∷ keys) (suc t) = none_yet keys t
+pub none_yet : (keys : List (List ℕ)) (sizes : Sizes) (t : ℕ) → job_at t (new_state keys sizes) ≡ None
+none_yet [] sizes t = refl
+none_yet (key ∷ keys) sizes zero = refl
+none_yet (key ∷ keys) sizes (suc t) = none_yet keys sizes t
 
 pub begun_left : EachFirstHasTurnsLeft
-begun_left keys events steps service t world first rest run is =
-    run_left t events steps (new_state keys) service run (λ slice was. subst (HasTurnsLeft slice) (sym (none_yet keys t)) (left_none slice)) (world, first ∷ rest) is
+begun_left keys sizes events steps service t world first rest run is =
+    run_left t events steps (new_state keys sizes) service run (λ slice was. subst (HasTurnsLeft slice) (sym (none_yet keys sizes t)) (left_none slice)) (world, first ∷ rest) is

@@ -15,6 +15,7 @@ mod RunsServe
 mod AlikeLemmas
 mod IsolationLemmas
 mod InTimeLemmas
+mod RunInTime
 mod TalkLemmas
 mod ConversesLemmas
 mod PlaceLemmas

@@ -9,6 +9,7 @@ use Rattle.ports_core.specs.Effects.{Effect}
 use Rattle.mk_paths.specs.World.{opening_world}
 use Rattle.ports_core.specs.Answering.{plain_answer}
 use Rattle.ports_core.specs.Slices.{Slice, new_slice}
+use Rattle.ports_core.specs.Sharing.{Sizes}
 use Rattle.ports_core.specs.State.{State, new_state, keys_of, book_of, IsAllowed}
 use Rattle.ports_core.specs.Runs.{Run, Happens}
 use Rattle.ports_core.specs.Books.{TakesIn}
@@ -34,13 +35,13 @@ run_keys (event ∷ events) [] old new run = absurd run
 run_keys (event ∷ events) (step ∷ steps) old new (mid, h, run) = run_keys events steps mid new run ∙ (seen event step.told old mid h.allowed h.does).keys
 
 -- a turn between the events before and those after it
-module _ (keys : List (List ℕ)) (before events : List Event) (before_steps steps : List Effect) (event : Event) (step : Effect) (old mid new : State)
-    (begun : Run (new_state keys) before before_steps old) (happens : Happens event step old mid) (goes_on : Run mid events steps new) where
+module _ (keys : List (List ℕ)) (sizes : Sizes) (before events : List Event) (before_steps steps : List Effect) (event : Event) (step : Effect) (old mid new : State)
+    (begun : Run (new_state keys sizes) before before_steps old) (happens : Happens event step old mid) (goes_on : Run mid events steps new) where
   pub plain_turn : EachIsPlain (IsPlainOr503 keys (before ++ event ∷ events) (before_steps ++ step ∷ steps)) event step old mid
   plain_turn t taken h is_turn =
       let allowed : t < length (keys_of old) = subst (λ e. IsAllowed e old) is_turn happens.allowed in
-      let within : t < length keys = subst (λ ks. t < length ks) (run_keys before before_steps (new_state keys) old begun) allowed in
-      let first_part = run_serves t before before_steps (new_state keys) old new_slice begun (begins_new keys t within) in
+      let within : t < length keys = subst (λ ks. t < length ks) (run_keys before before_steps (new_state keys sizes) old begun) allowed in
+      let first_part = run_serves t before before_steps (new_state keys sizes) old new_slice begun (begins_new keys sizes t within) in
       let slice_is : first_part.last ≡ h.slice = some_same (sym first_part.last_is ∙ h.was) in
       let second_part = run_serves t (event ∷ events) (step ∷ steps) old new first_part.last (mid, happens, goes_on) first_part.last_is in
       let plainly = answered_plainly opening_world (new_slice.1 ++ first_part.taken) (told_to t before_steps) first_part.last.0 first_part.last.1 first_part.serves in
@@ -54,9 +55,9 @@ module _ (keys : List (List ℕ)) (before events : List Event) (before_steps ste
       ∙ plainly.own_on second_part.taken (told_to t (step ∷ steps))
       ∙ ap (λ ws. plainly.answered ++ own_of (ws ++ second_part.taken) (told_to t (step ∷ steps))) waits
       ∙ ap (λ ts. plainly.answered ++ own_of (h.first ∷ (h.rest ++ second_part.taken)) (ts ++ told_to t steps)) told_is in
-      let takes : TakesIn keys t (book_of (new_state keys)) (before ++ event ∷ events) (before_steps ++ step ∷ steps) (first_part.taken ++ second_part.taken) =
+      let takes : TakesIn keys t (book_of (new_state keys sizes)) (before ++ event ∷ events) (before_steps ++ step ∷ steps) (first_part.taken ++ second_part.taken) =
       first_part.takes_on (event ∷ events) (step ∷ steps) second_part.taken
-      (subst (λ ks. TakesIn ks t (book_of old) (event ∷ events) (step ∷ steps) second_part.taken) (run_keys before before_steps (new_state keys) old begun) second_part.takes) in
+      (subst (λ ks. TakesIn ks t (book_of old) (event ∷ events) (step ∷ steps) second_part.taken) (run_keys before before_steps (new_state keys sizes) old begun) second_part.takes) in
       let world_is : h.slice.0 ≡ plain_world opening_world plainly.answered = ap (λ (s : Slice). s.0) (sym slice_is) ∙ plainly.world_is in
       elim (h.answers) [
         | inl answer ↦ inl (record {
@@ -77,14 +78,14 @@ EachPlain Plain [] (step ∷ steps) old new run = Unit {0}
 EachPlain Plain (event ∷ events) [] old new run = Unit {0}
 EachPlain Plain (event ∷ events) (step ∷ steps) old new run = EachIsPlain Plain event step old run.0 × EachPlain Plain events steps run.0 new run.2
 
-pub each_plain : (keys : List (List ℕ)) (before events : List Event) (before_steps steps : List Effect) (old new : State) → Run (new_state keys) before before_steps old → (run : Run old events steps new)
+pub each_plain : (keys : List (List ℕ)) (sizes : Sizes) (before events : List Event) (before_steps steps : List Effect) (old new : State) → Run (new_state keys sizes) before before_steps old → (run : Run old events steps new)
     → EachPlain (IsPlainOr503 keys (before ++ events) (before_steps ++ steps)) events steps old new run
-each_plain keys before [] before_steps [] old new begun run = tt
-each_plain keys before [] before_steps (step ∷ steps) old new begun run = tt
-each_plain keys before (event ∷ events) before_steps [] old new begun run = tt
-each_plain keys before (event ∷ events) before_steps (step ∷ steps) old new begun run =
-    let more = each_plain keys (before ++ event ∷ []) events (before_steps ++ step ∷ []) steps run.0 new (run_more (new_state keys) old run.0 before before_steps event step begun run.1) run.2 in (
-      plain_turn keys before events before_steps steps event step old run.0 new begun run.1 run.2,
+each_plain keys sizes before [] before_steps [] old new begun run = tt
+each_plain keys sizes before [] before_steps (step ∷ steps) old new begun run = tt
+each_plain keys sizes before (event ∷ events) before_steps [] old new begun run = tt
+each_plain keys sizes before (event ∷ events) before_steps (step ∷ steps) old new begun run =
+    let more = each_plain keys sizes (before ++ event ∷ []) events (before_steps ++ step ∷ []) steps run.0 new (run_more (new_state keys sizes) old run.0 before before_steps event step begun run.1) run.2 in (
+      plain_turn keys sizes before events before_steps steps event step old run.0 new begun run.1 run.2,
       subst (λ es. EachPlain (IsPlainOr503 keys es (before_steps ++ step ∷ steps)) events steps run.0 new run.2) (append_assoc before (event ∷ []) events)
           (subst (λ ss. EachPlain (IsPlainOr503 keys ((before ++ event ∷ []) ++ events) ss) events steps run.0 new run.2) (append_assoc before_steps (step ∷ []) steps) more),
     )

@@ -14,6 +14,7 @@ use Rattle.ports_core.specs.declared.event.Tell.{Tell}
 use Rattle.ports_core.specs.declared.queue.QueuedRequest.{QueuedRequest}
 use Rattle.ports_core.specs.Effects.{Effect}
 use Rattle.ports_core.specs.Slices.{Queue, waiting_of}
+use Rattle.ports_core.specs.Sharing.{Sizes}
 use Rattle.ports_core.specs.State.{State, new_state, keys_of, world_at, queue_at, connection_of, pending_at}
 use Rattle.ports_core.specs.Runs.{Run}
 use Rattle.ports_core.specs.Taking.{Nothing, TakesOff}
@@ -91,14 +92,14 @@ new_queue (key ∷ keys) zero queue was = sym (some_same was)
 new_queue (key ∷ keys) (suc u) queue was = new_queue keys u queue was
 
 -- before the first event no connection is open
-begins : (keys : List (List ℕ)) (Plain : ℕ → QueuedRequest → ReplyMessage → Type 0) (c : ℕ) → Stands keys Plain c [] [] [] (new_state keys)
-begins keys Plain c = inr (record {
+begins : (keys : List (List ℕ)) (sizes : Sizes) (Plain : ℕ → QueuedRequest → ReplyMessage → Type 0) (c : ℕ) → Stands keys Plain c [] [] [] (new_state keys sizes)
+begins keys sizes Plain c = inr (record {
   at = refl;
   left = opening;
   talk = none_came keys Plain c [] [] [] opening refl refl refl refl;
   fresh = λ above. (refl, refl);
   idle = λ some. absurd (some refl);
-  queued = λ u slice was. ap (queued_requests_of c) (new_queue keys u (waiting_of slice) (slice_parts (world_at u (new_state keys)) (queue_at u (new_state keys)) slice was).1);
+  queued = λ u slice was. ap (queued_requests_of c) (new_queue keys u (waiting_of slice) (slice_parts (world_at u (new_state keys sizes)) (queue_at u (new_state keys sizes)) slice was).1);
 })
 
 module _ (keys : List (List ℕ)) (c : ℕ) (events : List Event) (steps : List Effect) (service : State) where
@@ -155,9 +156,9 @@ module _ (keys : List (List ℕ)) (c : ℕ) (events : List Event) (steps : List 
 
 -- in a run from the beginning, each connection converses plainly
 pub run_converses : EachConnectionConverses
-run_converses keys events steps service c run =
+run_converses keys sizes events steps service c run =
     let stands : ConversesSo (is_lost_in c events) keys (IsPlainOr503 keys events steps) c (came_on c events) (sent_on c events steps) (told_on c steps) service =
-    run_moves false keys (IsPlainOr503 keys events steps) c [] [] [] events steps (new_state keys) service refl run (each_plain keys [] events [] steps (new_state keys) service refl run) (begins keys (IsPlainOr503 keys events steps) c) in
+    run_moves false keys (IsPlainOr503 keys events steps) c [] [] [] events steps (new_state keys sizes) service refl run (each_plain keys sizes [] events [] steps (new_state keys sizes) service refl run) (begins keys sizes (IsPlainOr503 keys events steps) c) in
     elim (is_lost_in c events) as (λ b. is_lost_in c events ≡ b → ConversesSo b keys (IsPlainOr503 keys events steps) c (came_on c events) (sent_on c events steps) (told_on c steps) service → ConversesPlainly keys c events steps service) [
       | true ↦ λ lost at. lost_converses keys c events steps service lost at
       | false ↦ λ alive at. alive_converses keys c events steps service alive at

@@ -7,6 +7,7 @@ use Rattle.ports_core.specs.Effects.{Effect}
 use Rattle.mk_paths.specs.World.{World, opening_world}
 use Rattle.ports_core.specs.Answering.{plain_answer}
 use Rattle.ports_core.specs.Slices.{Slice, Queue, new_slice, sliced}
+use Rattle.ports_core.specs.Sharing.{Sizes}
 use Rattle.ports_core.specs.State.{State, new_state, keys_of, world_at, queue_at, slice_of, book_of}
 use Rattle.ports_core.specs.Runs.{Run}
 use Rattle.ports_core.specs.Taking.{entering}
@@ -64,10 +65,10 @@ slice_get-all x [] t lt = absurd (omega arith)
 slice_get-all x (key ∷ keys) zero lt = refl
 slice_get-all x (key ∷ keys) (suc t) lt = slice_get-all x keys t (omega arith)
 
-pub begins_new : (keys : List (List ℕ)) (t : ℕ) → t < length keys → slice_of t (new_state keys) ≡ Some new_slice
-begins_new keys t lt =
+pub begins_new : (keys : List (List ℕ)) (sizes : Sizes) (t : ℕ) → t < length keys → slice_of t (new_state keys sizes) ≡ Some new_slice
+begins_new keys sizes t lt =
     let empty : Queue = [] in
-    ap (λ w. sliced w (queue_at t (new_state keys))) (slice_get-all opening_world keys t lt) ∙ ap (sliced (Some opening_world)) (slice_get-all empty keys t lt)
+    ap (λ w. sliced w (queue_at t (new_state keys sizes))) (slice_get-all opening_world keys t lt) ∙ ap (sliced (Some opening_world)) (slice_get-all empty keys t lt)
 
 -- as many as wait are left
 length-plain_run : (queued_requests : List QueuedRequest) (world : World) → length (plain_run world queued_requests) ≡ length queued_requests
@@ -75,9 +76,9 @@ length-plain_run [] world = refl
 length-plain_run (queued_request ∷ queued_requests) world = ap suc (length-plain_run queued_requests (plain_answer world queued_request.request).1)
 
 -- in each run from the beginning a tenant is told what the plain service would tell it
-pub run_plainly : (keys : List (List ℕ)) (events : List Event) (steps : List Effect) (service : State) (t : ℕ) → t < length keys → Run (new_state keys) events steps service → IsToldPlainly keys t events steps service
-run_plainly keys events steps service t lt run =
-    let served = run_serves t events steps (new_state keys) service new_slice run (begins_new keys t lt) in
+pub run_plainly : (keys : List (List ℕ)) (sizes : Sizes) (events : List Event) (steps : List Effect) (service : State) (t : ℕ) → t < length keys → Run (new_state keys sizes) events steps service → IsToldPlainly keys t events steps service
+run_plainly keys sizes events steps service t lt run =
+    let served = run_serves t events steps (new_state keys sizes) service new_slice run (begins_new keys sizes t lt) in
     record {
       taken = served.taken;
       takes = served.takes;

@@ -19,6 +19,7 @@ use Rattle.ports_core.specs.declared.queue.QueuedRequest.{QueuedRequest}
 use Rattle.mk_paths.specs.World.{opening_world}
 use Rattle.ports_core.specs.Answering.{plain_answer}
 use Rattle.ports_core.specs.Opened.{no_connections}
+use Rattle.ports_core.specs.Sharing.{Sizes}
 use Rattle.ports_core.specs.State.{State, new_state, connection_of, pending_at}
 use Rattle.ports_core.specs.Runs.{Run}
 use Rattle.ports_core.specs.Books.{TakesIn}
@@ -168,5 +169,6 @@ pub record ConversesPlainly (keys : List (List ℕ)) (c : ℕ) (events : List Ev
 
 -- in every run from the beginning, each connection converses plainly
 abbrev pub EachConnectionConverses : Type 0
-EachConnectionConverses = (keys : List (List ℕ)) (events : List Event) (steps : List Effect) (service : State) (c : ℕ)
-    → Run (new_state keys) events steps service → ConversesPlainly keys c events steps service
+EachConnectionConverses =
+    (keys : List (List ℕ)) (sizes : Sizes) (events : List Event) (steps : List Effect) (service : State) (c : ℕ)
+    → Run (new_state keys sizes) events steps service → ConversesPlainly keys c events steps service

@@ -1,5 +1,5 @@
 -- Each request is told its reply within a number of its tenant's own turns.
-use Rattle.std.specs.Prelude.{◌≡◌, ℕ, ◌+◌, ◌^◌, ◌<◌, ◌==◌, List, [], ◌∷◌, Some, if◌then◌else◌}
+use Rattle.std.specs.Prelude.{◌≡◌, ℕ, ◌+◌, ◌^◌, ◌<◌, ◌==◌, List, [], ◌∷◌, ◌++◌, length, Some, if◌then◌else◌}
 use Rattle.mk_paths.specs.World.{World}
 use Rattle.ports_plain.specs.Resting.{most_turns}
 use Rattle.ports_core.specs.declared.event.Event.{Event}
@@ -7,6 +7,7 @@ use Rattle.ports_core.specs.declared.event.Event.TheVariants.{Turn}
 use Rattle.ports_core.specs.declared.queue.QueuedRequest.{QueuedRequest}
 use Rattle.ports_core.specs.Effects.{Effect}
 use Rattle.ports_core.specs.Answering.{plain_request_of}
+use Rattle.ports_core.specs.Sharing.{Sizes}
 use Rattle.ports_core.specs.State.{State, new_state, slice_of, had_at}
 use Rattle.ports_core.specs.Runs.{Run}
 use Rattle.ports_core.specs.Plainly.{told_to}
@@ -39,7 +40,23 @@ EachRequestIsToldInTime =
 -- After each run from the beginning each tenant's first request has had fewer turns than its bound.
 abbrev pub EachFirstHasTurnsLeft : Type 0
 EachFirstHasTurnsLeft =
-    (keys : List (List ℕ)) (events : List Event) (steps : List Effect) (service : State)
+    (keys : List (List ℕ)) (sizes : Sizes) (events : List Event) (steps : List Effect) (service : State)
     (t : ℕ) (world : World) (first : QueuedRequest) (rest : List QueuedRequest)
-    → Run (new_state keys) events steps service → slice_of t service ≡ Some (world, first ∷ rest)
+    → Run (new_state keys sizes) events steps service → slice_of t service ≡ Some (world, first ∷ rest)
     → turns_had t service < most_turns world (plain_request_of first.request)
+
+-- In a run of these events from the beginning each request is told its reply in time. Take any events of it that follow
+-- one another, in which nothing is told to a tenant of which a request waits first as they begin. The turns that this had
+-- before and the tenant's own turns among these events are fewer together than the request's bound.
+abbrev pub IsToldInTime : List (List ℕ) → Sizes → List Event → Type 0
+IsToldInTime keys sizes events =
+    (t : ℕ) (world : World) (first : QueuedRequest) (rest : List QueuedRequest)
+    (before during after : List Event) (told_before told_during : List Effect) (mid later : State)
+    → events ≡ before ++ during ++ after → Run (new_state keys sizes) before told_before mid → Run mid during told_during later
+    → slice_of t mid ≡ Some (world, first ∷ rest) → told_to t told_during ≡ []
+    → turns_had t mid + own_turns t during < most_turns world (plain_request_of first.request)
+
+-- so it is for all events that memory has room for
+abbrev pub EachRunIsToldInTime : Type 0
+EachRunIsToldInTime =
+    (keys : List (List ℕ)) (sizes : Sizes) (events : List Event) → length events < 2 ^ 64 → IsToldInTime keys sizes events

@@ -8,9 +8,11 @@ pub mod Telling
 pub mod Taking
 pub mod Opened
 pub mod Places
+pub mod Sharing
 pub mod State
 pub mod Charging
 pub mod JobChanges
+pub mod SharingChanges
 pub mod Books
 pub mod Steps
 pub mod Changes

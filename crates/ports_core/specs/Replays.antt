@@ -7,6 +7,7 @@ use Rattle.ports_core.specs.declared.service.NewFault.TheVariants as new
 use Rattle.ports_core.specs.declared.keys.Config.{Config}
 use Rattle.ports_core.specs.Effects.{Effect}
 use Rattle.ports_core.specs.Keys.{is_fit, key_texts}
+use Rattle.ports_core.specs.Sharing.{sizes_of}
 use Rattle.ports_core.specs.State.{State, new_state}
 use Rattle.ports_core.specs.Runs.{Run, Stops}
 use Rattle.ports_core.specs.Plainly.{IsToldPlainly}
@@ -14,7 +15,7 @@ use Rattle.ports_core.specs.Conversations.{ConversesPlainly}
 
 -- the steps are those of the events, from a service that has just begun, and the service is as they leave it
 abbrev pub IsRun : Config → List Event → List Effect → State → Type 0
-IsRun config events steps service = Run (new_state (key_texts config.keys.items)) events steps service
+IsRun config events steps service = Run (new_state (key_texts config.keys.items) (sizes_of config)) events steps service
 
 -- each tenant gets the replies that a plain service of its own would give it
 abbrev pub TellsPlainly : Config → List Event → List Effect → State → Type 0

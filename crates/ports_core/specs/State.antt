@@ -8,13 +8,14 @@ use Rattle.mk_paths.specs.World.{World, opening_world}
 use Rattle.ports_core.specs.Slices.{Slice, Queue, sliced}
 use Rattle.ports_core.specs.declared.job.Job.{Job}
 use Rattle.ports_core.specs.Jobs.{TenantJob, job_in, had_by}
+use Rattle.ports_core.specs.Sharing.{Sizes, Sharing, unused}
 use Rattle.ports_core.specs.Connections.{Fits, room_on}
 use Rattle.ports_core.specs.Opened.{Book, connection_in, OpenAnd}
 
 -- the tenants' keys, worlds and queues, in the order of the tenants' numbers; the open connections by their
--- numbers; the number of the next one; and the tenants' jobs
+-- numbers; the number of the next one; the tenants' jobs; and what the tenants share
 abbrev pub State : Type 0
-State = List (List ℕ) × List World × List Queue × List (ℕ × Connection) × ℕ × List (Option TenantJob)
+State = List (List ℕ) × List World × List Queue × List (ℕ × Connection) × ℕ × List (Option TenantJob) × Sharing
 
 abbrev pub keys_of : State → List (List ℕ)
 keys_of state = state.0
@@ -47,6 +48,10 @@ job_at t state = job_in t (jobs_of state)
 abbrev pub had_at : ℕ → State → Job
 had_at t state = had_by (job_at t state)
 
+-- what the tenants share
+abbrev pub sharing_of : State → Sharing
+sharing_of state = state.6
+
 -- the numbers of the open connections, in rising order
 abbrev pub connections_of : State → List ℕ
 connections_of state = map (λ (entry : ℕ × Connection). entry.0) state.3
@@ -67,9 +72,10 @@ next_of state = state.4
 abbrev pub is_full : State → Bool
 is_full state = nat_le 16 (length state.3) || nat_le (2 ^ 64 - 1) (next_of state)
 
--- a service with these keys that has just begun
-abbrev pub new_state : List (List ℕ) → State
-new_state keys = (keys, map (λ key. opening_world) keys, map (λ key. []) keys, [], 0, map (λ key. None) keys)
+-- a service with these keys and sizes that has just begun
+abbrev pub new_state : List (List ℕ) → Sizes → State
+new_state keys sizes =
+    (keys, map (λ key. opening_world) keys, map (λ key. []) keys, [], 0, map (λ key. None) keys, unused sizes)
 
 -- An event may happen. A connection that opens has the next number; a tenant that has a turn exists; and
 -- any other event fits its connection, which is open.

@@ -33,7 +33,7 @@ KeepsQueues old new = (t : ℕ) → queue_at t new ≡ queue_at t old
 abbrev pub KeepsOtherQueues : ℕ → State → State → Type 0
 KeepsOtherQueues t old new = (u : ℕ) → u ≢ t → queue_at u new ≡ queue_at u old
 
--- nothing changes, unless a job does
+-- nothing changes, but a job may, and what the tenants share
 pub record IsSame (old new : State) : Type 0 where
   pub keeps : Keeps old new
   pub connections : KeepsConnections (book_of old) (book_of new)
@@ -81,8 +81,8 @@ pub record IsIdle (t : ℕ) (told : Told) (old new : State) : Type 0 where
   pub closed : told.closed ≡ None
   pub same : IsSame old new
 
--- A turn that leaves the request that waited longest in its queue: nothing is told, and nothing changes, unless a job
--- does.
+-- A turn that leaves the request that waited longest in its queue: nothing is told, and nothing changes, but a job may,
+-- and what the tenants share.
 pub record IsPending (t : ℕ) (told : Told) (old new : State) : Type 0 where
   pub first : QueuedRequest
   pub rest : List QueuedRequest

@@ -1,7 +1,10 @@
 //! A whole run.
-ghost use Rattle.std.specs.Prelude.{◌≡◌, IfOk, IfErr};
+ghost use Rattle.std.specs.Prelude.{◌≡◌, IfOk, IfErr, OnOk};
 ghost use Rattle.ports_core.specs.State.{IsAllowed};
 ghost use Rattle.ports_core.specs.Runs.{sent_by};
+ghost use Rattle.ports_core.specs.Keys.{key_texts};
+ghost use Rattle.ports_core.specs.Sharing.{sizes_of};
+ghost use Rattle.ports_core.specs.InTime.{IsToldInTime};
 ghost use Rattle.ports_core.specs.Replays.{IsRun, TellsPlainly, ConversesOnEach, EndsEarly};
 ghost use Rattle.ports_core.specs.declared.history.ReplayFault.TheVariants as faults;
 
@@ -78,7 +81,8 @@ impl<K: Tenants, T: Drop> From<AllocFailed<T>> for ReplayFault<K> {
 /// tenant's requests, in order. The requests that still wait at the end are left out. What is written to
 /// a connection, and what is pending, is the replies to what its stream asks, in order, however the
 /// stream came in pieces. If a connection was lost, what was written before is a front of these replies,
-/// and nothing more is written.
+/// and nothing more is written. Each request is told its reply within a number of its tenant's own turns that only the
+/// tenant's world and the request decide.
 ///
 /// The result is the transcript. The error is `NotAllowed` at the first event that isn't allowed, `New` if
 /// the service can't begin, and `Memory` if there is none for the transcript. If the config isn't fit, the
@@ -91,6 +95,7 @@ pub fn replay<K: Tenants>(
     ensures run { IfOk result (λ done. IsRun config events.now done.steps.items done.service) }
     ensures plainly { IfOk result (λ done. TellsPlainly config events.now done.steps.items done.service) }
     ensures converses { IfOk result (λ done. ConversesOnEach config events.now done.steps.items done.service) }
+    ensures in_time { OnOk result (IsToldInTime (key_texts config.keys.items) (sizes_of config) events.now) }
     ensures err { IfErr result (EndsEarly config events.now) }
 {
     let mut service = Service::new(alloc, config)?;

@@ -1,8 +1,6 @@
 //! What a tenant's first request has had so far.
 ghost use Rattle.std.specs.Prelude.{◌≡◌};
-ghost use Rattle.ports_core.specs.Jobs.{no_job, one_turn_more};
-
-use ports_index::Spent;
+ghost use Rattle.ports_core.specs.Jobs.{no_job};
 
 /// What a tenant's first request has had so far, while it isn't answered. All counts stop at 2^64 - 1.
 #[derive(Clone, Copy, Debug, PartialEq, Eq)]
@@ -24,17 +22,6 @@ impl Job {
             turns: 0,
             units: 0,
             checks: 0,
-        }
-    }
-
-    /// This, and one turn more that told so much.
-    pub fn with_turn(self, spent: Spent) -> Job
-        ensures { result ≡ one_turn_more self spent }
-    {
-        Job {
-            turns: self.turns.saturating_add(1),
-            units: self.units.saturating_add(spent.units),
-            checks: self.checks.saturating_add(spent.checks),
         }
     }
 }

@@ -11,7 +11,7 @@ const MOST: usize = 64;
 const GREATEST_SIZE: u32 = 65_536;
 
 /// What a service begins with: the tenants' keys, in the order of the tenants' numbers, and how many
-/// parsed files and how many evaluations the caches may hold. The sizes have no effect yet.
+/// parsed files the cache may hold, and the evaluations of how many keys.
 ///
 /// It is fit with 1 to 64 keys, none of them twice, and with sizes from 1 to 65,536. Each key has 1 to 64
 /// bytes of printable ASCII without blanks.

@@ -2,6 +2,7 @@
 ghost use Rattle.std.specs.Prelude.{◌≡◌, ℕ, ◌<◌, List, length};
 ghost use Rattle.ports_core.specs.declared.event.Event.{Event};
 ghost use Rattle.ports_core.specs.Effects.{Effect};
+ghost use Rattle.ports_core.specs.Sharing.{Sizes};
 ghost use Rattle.ports_core.specs.State.{State, new_state};
 ghost use Rattle.ports_core.specs.Changes.{EachEventChangesSoMuch};
 ghost use Rattle.ports_core.specs.Runs.{Run};
@@ -11,7 +12,7 @@ ghost use Rattle.ports_core.specs.Alike.{own_requests, AreToldAlike};
 ghost use Rattle.ports_core.specs.Conversations.{EachConnectionConverses};
 ghost use Rattle.ports_core.specs.Isolation.{EachRunServesPlainly, EqualSlicesAreToldAlike};
 ghost use Rattle.ports_core.specs.Languages.{EachStaysInItsProfile};
-ghost use Rattle.ports_core.specs.InTime.{EachRequestIsToldInTime, EachFirstHasTurnsLeft};
+ghost use Rattle.ports_core.specs.InTime.{EachRequestIsToldInTime, EachFirstHasTurnsLeft, EachRunIsToldInTime};
 
 use ports_plain::others_keep_the_profile;
 
@@ -28,9 +29,9 @@ pub fn each_event_changes_so_much()
 /// turns. The replies told to a tenant, other than 503, are those of the plain service to the tenant's own
 /// requests, in their order. The requests that still wait are left out.
 pub fn each_tenant_is_told_plainly()
-    ensures { (keys : List (List ℕ)) (events : List Event) (steps : List Effect) (service : State)
-        (t : ℕ)
-        → t < length keys → Run (new_state keys) events steps service
+    ensures { (keys : List (List ℕ)) (sizes : Sizes) (events : List Event) (steps : List Effect)
+        (service : State) (t : ℕ)
+        → t < length keys → Run (new_state keys sizes) events steps service
         → IsToldPlainly keys t events steps service }
 {}
 
@@ -84,10 +85,11 @@ pub fn equal_slices_are_told_alike()
 /// Take a run from any state in which the first request of a tenant has had fewer turns. If no reply is told to
 /// the tenant, these turns and the tenant's own turns in the run are fewer together. This holds whatever else happens,
 /// as long as that sum is below 2^64. In each state that a run reaches from the beginning, the first request of each
-/// tenant has had fewer turns.
+/// tenant has had fewer turns. In a run from the beginning of fewer than 2^64 events the sum is below 2^64.
 pub fn each_request_is_told_in_time()
     ensures told { EachRequestIsToldInTime }
     ensures begun { EachFirstHasTurnsLeft }
+    ensures run { EachRunIsToldInTime }
 {}
 
 /// A tenant that asks for no profile keeps its own, in every run from any state: each of its requests is answered in

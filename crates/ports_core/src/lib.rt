@@ -8,6 +8,7 @@
 
 mod connection;
 mod connections;
+mod counts;
 mod event;
 mod history;
 mod intake;
@@ -19,6 +20,7 @@ mod queue;
 mod service;
 mod tenants;
 
+pub use counts::Counts;
 pub use event::{Event, Refused, Tell, Told};
 pub use history::{ReplayFault, Step, Transcript, replay};
 pub use job::Job;

@@ -7,6 +7,7 @@ use crate::connection::Connection;
 use crate::connections::{
     Connections, MOST_CONNECTIONS, answer_connection, close_done, closes, hear_connection, may_hear,
 };
+use crate::counts::Counts;
 use crate::event::{Event, Refused, Tell, Told};
 use crate::job::Job;
 use crate::keys::Config;
@@ -53,8 +54,8 @@ impl From<FilesFault> for NewFault {
 }
 
 /// The service, over the tenants' worlds, wherever they are kept. A contract sees the tenants' keys, their
-/// worlds, the requests that wait, the open connections by their numbers, the next number, and what is under
-/// way for each tenant.
+/// worlds, the requests that wait, the open connections by their numbers, the next number, what is under way for
+/// each tenant, and what the tenants share.
 #[derive(Drop)]
 pub struct Service<K: Tenants> {
     alloc: Global,
@@ -78,7 +79,15 @@ impl<K: Tenants> Model for Service<K> {
     ghost use Rattle.std.specs.Prelude.{length};
     ghost use Rattle.ports_core.specs.Keys.{key_texts};
 
-    ghost view = { λ s. (key_texts s.keys.items, K.worlds s.worlds, s.queues.items, s.connections.entries, s.next, K.jobs s.worlds) };
+    ghost view = { λ s. (
+      key_texts s.keys.items,
+      K.worlds s.worlds,
+      s.queues.items,
+      s.connections.entries,
+      s.next,
+      K.jobs s.worlds,
+      K.sharing s.worlds,
+    ) };
 
     ghost use Rattle.ports_core.specs.Consistent.{IsConsistent};
 
@@ -90,20 +99,23 @@ impl<K: Tenants> Service<K> {
     ghost use Rattle.ports_core.specs.Keys.{is_fit, key_texts};
     ghost use Rattle.ports_core.specs.Opened.{OpenAnd};
     ghost use Rattle.ports_core.specs.State.{new_state, keys_of, slice_of, job_at, had_at, next_of, connections_of, connection_of};
-    ghost use Rattle.ports_core.specs.State.{room_at, pending_at, waiting_at, IsAllowed};
+    ghost use Rattle.ports_core.specs.Sharing.{sizes_of};
+    ghost use Rattle.ports_core.specs.State.{sharing_of, room_at, pending_at, waiting_at, IsAllowed};
     ghost use Rattle.ports_core.specs.Connections.{Fits};
     ghost use Rattle.ports_core.specs.Telling.{spent_in, CountsNone, CountsTurns};
     ghost use Rattle.ports_core.specs.Charging.{EventSpends, FitsTurn, TurnSpends};
     ghost use Rattle.ports_core.specs.JobChanges.{ChangesJobs, KeepsJobs, TurnsJob};
+    ghost use Rattle.ports_core.specs.SharingChanges.{ChangesSharing, KeepsSharing, UsesSharing};
     ghost use Rattle.ports_core.specs.Steps.{Does, Opens, Hears, Turns};
 
     /// A service whose tenants' worlds are as each begins, without connections, with places for
-    /// all requests that can wait.
+    /// all requests that can wait. As much may be kept for the tenants as the config says, and nothing was used yet.
     ///
     /// The error is `Config` exactly if the keys and sizes aren't fit. It is `Store` if the store of the
     /// worlds fails, and `Memory` if memory runs out.
     pub fn new(alloc: Global, config: Config) -> Result<Service<K>, NewFault>
-        ensures ok { IfOk result (λ service. service ≡ new_state (key_texts config.keys.items)) }
+        ensures ok { IfOk result (λ service. service
+            ≡ new_state (key_texts config.keys.items) (sizes_of config)) }
         ensures unfit { IsErrOf result NewFault.Config ↔ (is_fit config ≡ false) }
     {
         if !config.is_fit() {
@@ -193,6 +205,13 @@ impl<K: Tenants> Service<K> {
         self.worlds.job(tenant)
     }
 
+    /// How often something was used that is kept for all tenants.
+    pub fn counts(&self) -> Counts
+        ensures { result ≡ (sharing_of self.now).counts }
+    {
+        self.worlds.counts()
+    }
+
     /// Whether an event may happen now.
     pub fn allows(&self, event: &Event) -> bool
         ensures { IsTrue result ↔ IsAllowed event.now self.now }
@@ -216,6 +235,7 @@ impl<K: Tenants> Service<K> {
         ensures spends { EventSpends event.now result self.old }
         ensures short { FitsTurn (spent_in result) }
         ensures jobs { ChangesJobs event.now result self.old self.new }
+        ensures shares { ChangesSharing event.now self.old self.new }
     {
         match event {
             Event::Open(_) => self.open(),
@@ -231,6 +251,7 @@ impl<K: Tenants> Service<K> {
         ensures opens { Opens result self.old self.new }
         ensures counts { CountsNone result }
         ensures jobs { KeepsJobs self.old self.new }
+        ensures shares { KeepsSharing self.old self.new }
     {
         if self.connections.len() >= MOST_CONNECTIONS || self.next == u64::MAX {
             return Told::refusal(Refused::Connections);
@@ -250,6 +271,7 @@ impl<K: Tenants> Service<K> {
         ensures hears { Hears event.now conn result self.old self.new }
         ensures counts { CountsNone result }
         ensures jobs { KeepsJobs self.old self.new }
+        ensures shares { KeepsSharing self.old self.new }
     {
         let queues = &mut self.queues;
         hear_connection(
@@ -269,6 +291,7 @@ impl<K: Tenants> Service<K> {
         ensures spends { TurnSpends (slice_of tenant self.old) (job_at tenant self.old) result }
         ensures short { FitsTurn (spent_in result) }
         ensures jobs { TurnsJob tenant result self.old self.new }
+        ensures shares { UsesSharing self.old self.new }
     {
         let queue = &mut self.queues[tenant];
         let Some(first) = queue.first() else {

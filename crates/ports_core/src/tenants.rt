@@ -5,7 +5,9 @@ ghost use Rattle.ports_core.specs.Answering.{AnswersFor, AreBytesOf};
 ghost use Rattle.ports_core.specs.Charging.{ChargesFor, FitsTurn, GoesOn};
 ghost use Rattle.ports_core.specs.Jobs.{TenantJob, job_in, had_by, spent_on, job_after, IsForRequest, BecomesJob};
 ghost use Rattle.ports_core.specs.Keys.{is_fit};
+ghost use Rattle.ports_core.specs.Sharing.{Sharing, IsUsed, sizes_of, unused};
 
+use crate::counts::Counts;
 use crate::job::Job;
 use crate::keys::Config;
 use mk_paths::FilesFault;
@@ -35,13 +37,17 @@ pub struct Worked {
 
 /// The world of each tenant, by the tenants' numbers, wherever these worlds are kept, and the plain service
 /// over one of them. `worlds` is the list of the worlds. `jobs` has for each tenant what is under way, if
-/// anything is: for which request, and what this has had so far, in turns, units and checks.
+/// anything is: for which request, and what this has had so far, in turns, units and checks. `sharing` is how much
+/// may be kept for all tenants to be used again, and how often something that was kept was used.
 pub trait Tenants: Sized + Drop {
     ghost worlds: { Self → List World };
 
     ghost jobs: { Self → List (Option TenantJob) };
 
-    /// The worlds of the tenants whose keys a config has, as each begins, with nothing under way.
+    ghost sharing: { Self → Sharing };
+
+    /// The worlds of the tenants whose keys a config has, as each begins, with nothing under way. As much may be kept as
+    /// the config says, and nothing was used yet.
     ///
     /// The error is `Store` if what keeps them refuses, and `Memory` if memory runs out.
     fn new(alloc: Global, config: &Config) -> Result<Self, FilesFault>
@@ -49,7 +55,8 @@ pub trait Tenants: Sized + Drop {
         ensures worlds { IfOk result (λ kept. worlds kept
             ≡ replicate (length config.now.keys.items) opening_world) }
         ensures jobs { IfOk result (λ kept. jobs kept
-            ≡ replicate (length config.now.keys.items) None) };
+            ≡ replicate (length config.now.keys.items) None) }
+        ensures sharing { IfOk result (λ kept. sharing kept ≡ unused (sizes_of config.now)) };
 
     /// A turn of work for a request over a tenant's world. What is under way for the tenant, if anything is,
     /// must be for this request.
@@ -68,7 +75,7 @@ pub trait Tenants: Sized + Drop {
     /// spends just these. Or the one evaluation that it needs was kept: then at least one answer is checked, and the
     /// evaluation's units aren't spent. At most 1,028 answers are checked for each makefile on which the reply rests.
     ///
-    /// No turn spends more than 51,000 units and checks together.
+    /// No turn spends more than 51,000 units and checks together. Some of what is kept may be used, which is counted.
     fn work(&mut self, alloc: Global, tenant: usize, request: &Request, close: bool) -> Worked
         requires there { tenant < length (worlds self.old) }
         requires for_request { IsForRequest request.now (job_in tenant (jobs self.old)) }
@@ -84,15 +91,21 @@ pub trait Tenants: Sized + Drop {
         ensures job { BecomesJob tenant (job_after request.now result.reply result.spent
             (job_in tenant (jobs self.old))) (jobs self.old) (jobs self.new) }
         ensures count { length (worlds self.new) ≡ length (worlds self.old) }
-        ensures job_count { length (jobs self.new) ≡ length (jobs self.old) };
+        ensures job_count { length (jobs self.new) ≡ length (jobs self.old) }
+        ensures uses { IsUsed (sharing self.old) (sharing self.new) };
 
     /// What a tenant's job has had so far: nothing, if nothing is under way, or if there is no such tenant.
     fn job(&self, tenant: usize) -> Job
         ensures { result ≡ had_by (job_in tenant (jobs self.now)) };
 
+    /// How often something that was kept was used.
+    fn counts(&self) -> Counts
+        ensures { result ≡ (sharing self.now).counts };
+
     /// Limits the steps of each later statement of what keeps the worlds, or removes the limit. A request
-    /// whose statement would take more is answered 503. It changes no world and no job.
+    /// whose statement would take more is answered 503. It changes no world, no job and nothing that is shared.
     fn limit_steps(&mut self, limit: Option<u64>)
         ensures worlds { worlds self.new ≡ worlds self.old }
-        ensures jobs { jobs self.new ≡ jobs self.old };
+        ensures jobs { jobs self.new ≡ jobs self.old }
+        ensures sharing { sharing self.new ≡ sharing self.old };
 }

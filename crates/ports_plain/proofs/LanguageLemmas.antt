@@ -1,5 +1,5 @@
 -- The profile of a world after a request on another route than its own.
-use Rattle.std.proofs.Common.{◌≡◌, refl, ℕ, Bool, true, false, if◌then◌else◌, List, Option, Some, None, Result, Ok, Err}
+use Rattle.std.proofs.Common.{◌≡◌, refl, ℕ, true, false, if◌then◌else◌, List, Option, Some, None, Result, Ok, Err}
 use Rattle.std.specs.FinMap.{contains_key}
 use Rattle.std.specs.Str.{is_utf8}
 use Rattle.mk_paths.specs.FileName.{resolved}
@@ -16,7 +16,7 @@ use Rattle.ports_plain.specs.declared.routing.Route.TheVariants.{Deps, Faults, F
 use Rattle.ports_plain.specs.Changing.{changed, overfills, settle_change}
 use Rattle.ports_plain.specs.Parameters.{parameter}
 use Rattle.std.specs.Prelude.{codes}
-use Rattle.ports_plain.specs.Plain.{PlainRequest, Answer, reply_alone, on_named_file, on_resolved, on_file, set_trees, set_text, set_path, on_query, on_path, answer_on, answer, plain}
+use Rattle.ports_plain.specs.Plain.{PlainRequest, Answer, reply_alone, on_named_file, on_resolved, on_file, set_trees, set_text, on_query, on_path, answer_on, answer}
 use Rattle.ports_plain.specs.Replies.{bad_path, full, no_file, removed}
 use Rattle.ports_plain.specs.Routes.{route_of}
 use Rattle.ports_plain.specs.Target.{path_of as target_path, query_of}

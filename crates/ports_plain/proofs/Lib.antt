@@ -9,3 +9,5 @@ mod TrimmingLemmas
 mod ListFloats
 mod SpendingLemmas
 mod LanguageLemmas
+mod MakefileNames
+mod NeededOnce

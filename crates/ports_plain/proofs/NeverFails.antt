@@ -43,7 +43,7 @@ use Rattle.std.specs.Result.{is_ok}
 use Rattle.ports_http.specs.Messages.{ReplyMessage}
 use Rattle.ports_plain.specs.Trimming.{trimmed}
 use Rattle.ports_plain.specs.Replies.{bad_parameter, bad_path, full, json_reply, no_file, no_subpackage, removed, port_shown}
-use Rattle.ports_plain.specs.Plain.{PlainRequest, reply_alone, content_shown, on_named_file, on_resolved, on_file, set_trees, set_path, profile_named, set_language, set_profile, on_profile, value_after, value_reply, variable_at, variable_of, get_variable, record_after, port_reply, port_at, port_of, get_reply, on_query, on_path, answer_on, answer, plain}
+use Rattle.ports_plain.specs.Plain.{PlainRequest, reply_alone, content_shown, on_named_file, on_resolved, on_file, set_trees, set_path, profile_named, set_language, on_profile, value_after, value_reply, variable_at, variable_of, get_variable, record_after, port_reply, port_at, port_of, get_reply, on_query, on_path, answer_on, answer, plain}
 use Rattle.ports_plain.specs.declared.changing.Change.{Change}
 use Rattle.ports_plain.specs.declared.changing.Change.TheVariants.{RemoveFile}
 use Rattle.ports_plain.specs.Changing.{changed, overfills, settle_change}

@@ -1,7 +1,9 @@
 -- What the answer to a request rests on: which makefiles are evaluated for it, and what that costs.
-use Rattle.std.specs.Prelude.{ℕ, ◌+◌, ◌*◌, ◌/◌, List, [], length, Option, Some, None, option_map, option_to_list, Result, Ok, Err}
+use Rattle.std.specs.Prelude.{◌≢◌, ℕ, ◌+◌, ◌*◌, ◌/◌, List, [], AllPairs, length, Option, Some, None, option_map}
+use Rattle.std.specs.Prelude.{option_to_list, Result, Ok, Err}
 use Rattle.mk_paths.specs.Place.{place}
-use Rattle.mk_paths.specs.World.{World}
+use Rattle.mk_paths.specs.SearchPath.{IsSearchPath}
+use Rattle.mk_paths.specs.World.{World, search_path_of}
 pub use Rattle.mk_eval.specs.Costs.{value_units}
 use Rattle.mk_eval.specs.Meaning.{means, value_of}
 use Rattle.mk_eval.specs.declared.outcome.Evaluated.{Evaluated}
@@ -118,3 +120,9 @@ turns_for world need =
 -- the same of what a request needs
 abbrev pub most_turns : World → PlainRequest → ℕ
 most_turns world request = turns_for world (need_of (question_of request))
+
+-- along the trees of a search path, no makefile is twice, with the same flavors, among those on which an answer rests
+abbrev pub RestsOnEachOnce : Type 0
+RestsOnEachOnce =
+    (world : World) (request : PlainRequest)
+    → IsSearchPath (search_path_of world) → AllPairs (λ (one : Pair) (other : Pair). one ≢ other) (rests world request)

@@ -4,6 +4,7 @@ ghost use Rattle.mk_paths.specs.World.{World};
 ghost use Rattle.ports_plain.specs.Answers.{QuestionsHaveTheAnswers};
 ghost use Rattle.ports_plain.specs.Languages.{OthersKeepTheProfile};
 ghost use Rattle.ports_plain.specs.Plain.{PlainRequest, plain};
+ghost use Rattle.ports_plain.specs.Resting.{RestsOnEachOnce};
 ghost use Rattle.ports_plain.specs.Spending.{ChecksNoMore, SpendsAllUnchecked, SpendsNoMore};
 
 /// The plain service never answers 503. A service over many tenants answers that if it fails.
@@ -29,4 +30,10 @@ pub fn spending_is_bounded()
 /// A request to any other route than `/v1/profile` leaves the profile of the world.
 pub fn others_keep_the_profile()
     ensures { OthersKeepTheProfile }
+{}
+
+/// Along the trees of a search path, no makefile is twice, with the same flavors, among those on which an answer
+/// rests. So each is counted once in the bound on the turns.
+pub fn rests_on_each_once()
+    ensures { RestsOnEachOnce }
 {}

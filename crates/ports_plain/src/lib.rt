@@ -30,7 +30,8 @@ pub use changing::{Change, Prepared};
 pub use dependencies::{DependencyQuestion, Direction};
 pub use depth::Depth;
 pub use laws::{
-    never_answers_503, others_keep_the_profile, questions_have_the_answers, spending_is_bounded,
+    never_answers_503, others_keep_the_profile, questions_have_the_answers, rests_on_each_once,
+    spending_is_bounded,
 };
 pub use port::record_reply;
 pub use ports::{Ports, RecordFound, ValueFound};

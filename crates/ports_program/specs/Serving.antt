@@ -2,6 +2,7 @@
 use Rattle.std.specs.Prelude.{◌≡◌, ◌⊎◌, ℕ, true, false, List, codes, Option}
 use Rattle.std.specs.Io.KnownBytes.{Appends, Keeps}
 use Rattle.ports_core.specs.Keys.{is_fit, key_texts}
+use Rattle.ports_core.specs.Sharing.{sizes_of}
 use Rattle.ports_core.specs.State.{State, new_state}
 use Rattle.ports_serve.specs.declared.listen.ListenFault.{ListenFault}
 use Rattle.ports_serve.specs.declared.listen.ListenFault.TheVariants as listening
@@ -33,7 +34,7 @@ pub record Serves {W : Type 0} (After : W → Call → W → Type 0) (ListensOn 
   pub ready : Appends held holds ready_text
   pub wire_left : W
   pub left : State
-  pub served : IsServed After serving.rounds wire (new_state (key_texts serving.config.keys.items)) wire_left left
+  pub served : IsServed After serving.rounds wire (new_state (key_texts serving.config.keys.items) (sizes_of serving.config)) wire_left left
 
 -- a wire listens on the port
 abbrev pub Listens : {W : Type 0} → (ℕ → W → Type 0) → Serving → Type 0

@@ -1,5 +1,5 @@
 -- Whether files answer as they did before.
-use Rattle.std.specs.Prelude.{◌≡◌, ℕ, ◌+◌, Bool, true, false, if◌then◌else◌, List, [], ◌∷◌, map, take, Option, Some, None}
+use Rattle.std.specs.Prelude.{◌≡◌, ◌↔◌, ℕ, ◌+◌, Bool, true, false, if◌then◌else◌, List, [], ◌∷◌, map, take, Option, Some, None}
 use Rattle.std.specs.FinMap.{get, contains_key}
 use Rattle.std.specs.Bool.{beq}
 use Rattle.std.specs.Str.{bytes_eq}
@@ -34,9 +34,9 @@ agreement files (question ∷ questions) =
 abbrev pub IsAnswered : FileMap → List Question → Type 0
 IsAnswered files questions = (agreement files questions).0 ≡ true
 
--- so each is answered as the files answer it
+-- so it is exactly if the files agree with each
 abbrev pub AgreesWhereAnswered : Type 0
-AgreesWhereAnswered = (files : FileMap) (questions : List Question) → IsAnswered files questions → Agrees files questions
+AgreesWhereAnswered = (files : FileMap) (questions : List Question) → IsAnswered files questions ↔ Agrees files questions
 
 -- the question with the reply that the files give
 abbrev pub asked_again : FileMap → Question → Question

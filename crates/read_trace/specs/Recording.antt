@@ -1,6 +1,6 @@
 -- Files that write down what they are asked.
-use Rattle.std.specs.Prelude.{◌≡◌, ◌⊎◌, List, Option, Some, None}
-use Rattle.mk_paths.specs.FilesView.{FilesView, Question, failed}
+use Rattle.std.specs.Prelude.{◌≡◌, ◌⊎◌, ℕ, List, Option, Some, None, Result, Ok, Err}
+use Rattle.mk_paths.specs.FilesView.{FilesView, Reply, Question, Answers, Fails, failed}
 use Rattle.mk_paths.specs.declared.asking.FilesFault.{FilesFault}
 use Rattle.mk_paths.specs.declared.asking.Names.{Ghosts}
 use Rattle.mk_paths.specs.declared.asking.FilesFault.TheVariants.{Memory}
@@ -29,6 +29,17 @@ with_trace view trace = record view { log = Some trace }
 -- a recorder fails as the files that it asks may, or with Memory if there is none for its trace
 abbrev pub MayFail : (FilesFault → Type 0) → FilesFault → Type 0
 MayFail may fault = may fault ⊎ (fault ≡ Memory)
+
+-- the files that a recorder asks, as they are seen
+abbrev pub asked_files : {F : Type 0} {names : Ghosts F} → (F → FilesView) → Recorder F names → FilesView
+asked_files view recorder = view recorder.files
+
+-- Files are asked one question, exactly once, and their answer is given, or their fault. If they answered and there
+-- is no memory for the trace, it is Memory.
+abbrev pub AsksOnce : {A : Type 0} → (FilesFault → Type 0) → (A → Reply) → FilesView → FilesView → List ℕ → Result A FilesFault → Type 0
+AsksOnce may reply old new name (Ok answer) = Answers old new name (reply answer)
+AsksOnce {A = A} may reply old new name (Err fault) =
+    (Fails old new × may fault) ⊎ (((answer : A) × Answers old new name (reply answer)) × (fault ≡ Memory))
 
 -- What work leaves of files whose log it may take. Their map stays. If the work failed, it may be that they failed,
 -- once.

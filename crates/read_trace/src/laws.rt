@@ -12,7 +12,7 @@ pub fn same_where_agreed()
     same_where_answered();
 }
 
-/// If the answers of a trace were checked and are those of the files, the files agree with each.
+/// The answers of a trace are found to be those of the files exactly if the files agree with each.
 pub fn agrees_where_answered()
     ensures { AgreesWhereAnswered }
 {}

@@ -1,5 +1,5 @@
 // Files that write down what they are asked.
-ghost use Rattle.std.specs.Prelude.{◌≡◌, Some, [], ◌∷◌, IfOk, OnOk, OnErr, true};
+ghost use Rattle.std.specs.Prelude.{◌≡◌, Some, [], ◌∷◌, IfOk, IfErr, OnOk, OnErr, true};
 ghost use Rattle.std.specs.Option.{option_copied};
 ghost use Rattle.mk_paths.specs.FilesView.{Presence, Contents, noted, Fails};
 ghost use Rattle.read_trace.specs.Agreement.{IsAnswered, has_reply};
@@ -24,7 +24,7 @@ pub struct Recorder<F: Files + Drop> {
 
 impl<F: Files + Drop> Recorder<F> {
     ghost use Rattle.mk_eval.specs.Sharing.{Agrees};
-    ghost use Rattle.read_trace.specs.Recording.{view_of, recording, log_of, with_trace};
+    ghost use Rattle.read_trace.specs.Recording.{view_of, asked_files, recording, log_of, with_trace};
 
     /// What asks these files, and goes on with this trace, whose answers are those of the files. It takes no
     /// memory.
@@ -71,6 +71,7 @@ impl<F: Files + Drop> Recorder<F> {
         ensures ok { OnOk result (view_of F.view self.new
             ≡ noted (view_of F.view self.old) ((name.now, Presence there) ∷ [])) }
         ensures err { OnErr result (view_of F.view self.new ≡ view_of F.view self.old) }
+        ensures asked { asked_files F.view self.new ≡ asked_files F.view self.old }
     {
         let name = name.copy(self.alloc)?;
         self.note(Question::new(name, Reply::Presence(there)))
@@ -84,6 +85,7 @@ impl<F: Files + Drop> Recorder<F> {
         ensures ok { OnOk result (view_of F.view self.new
             ≡ noted (view_of F.view self.old) ((name.now, Contents (option_copied content.entry)) ∷ [])) }
         ensures err { OnErr result (view_of F.view self.new ≡ view_of F.view self.old) }
+        ensures asked { asked_files F.view self.new ≡ asked_files F.view self.old }
     {
         let question = content_question(self.alloc, name, content)?;
         self.note(question)
@@ -95,6 +97,7 @@ impl<F: Files + Drop> Recorder<F> {
         ensures ok { OnOk result (view_of F.view self.new
             ≡ noted (view_of F.view self.old) (question ∷ [])) }
         ensures err { OnErr result (view_of F.view self.new ≡ view_of F.view self.old) }
+        ensures asked { asked_files F.view self.new ≡ asked_files F.view self.old }
     {
         self.trace.add(question)
     }
@@ -103,6 +106,7 @@ impl<F: Files + Drop> Recorder<F> {
     fn failed(&mut self, fault: FilesFault) -> FilesFault
         ensures counted { Fails (view_of F.view self.old) (view_of F.view self.new) }
         ensures fault { result ≡ fault }
+        ensures asked { asked_files F.view self.new ≡ asked_files F.view self.old }
     {
         self.failures = self.failures.saturating_add(1);
         fault
@@ -127,13 +131,22 @@ fn content_question(
 }
 
 impl<F: Files + Drop> Names for Recorder<F> {
-    ghost use Rattle.read_trace.specs.Recording.{view_of, MayFail};
+    ghost use Rattle.mk_paths.specs.FilesView.{Answers};
+    ghost use Rattle.read_trace.specs.Recording.{view_of, asked_files, AsksOnce, MayFail};
 
     ghost view = { view_of F.view };
 
     ghost fails_with = { MayFail F.fails_with };
 
-    fn has(&mut self, name: &Name) -> Result<bool, FilesFault> {
+    /// Whether a file of this name is there. The files are asked exactly once.
+    fn has(&mut self, name: &Name) -> Result<bool, FilesFault>
+        ensures answer { IfOk result (λ there. Answers (view_of F.view self.old)
+            (view_of F.view self.new) name.now (Presence there)) }
+        ensures fault { OnErr result (Fails (view_of F.view self.old) (view_of F.view self.new)) }
+        ensures kind { IfErr result (MayFail F.fails_with) }
+        ensures once { AsksOnce F.fails_with Presence (asked_files F.view self.old)
+            (asked_files F.view self.new) name.now result }
+    {
         match self.files.has(name) {
             Ok(there) => match self.note_presence(name, there) {
                 Ok(()) => Ok(there),
@@ -145,7 +158,18 @@ impl<F: Files + Drop> Names for Recorder<F> {
 }
 
 impl<F: Files + Drop> Files for Recorder<F> {
-    fn read(&mut self, name: &Name) -> Result<Option<Content>, FilesFault> {
+    ghost use Rattle.mk_paths.specs.FilesView.{Answers};
+    ghost use Rattle.read_trace.specs.Recording.{view_of, asked_files, AsksOnce, MayFail};
+
+    /// The content of the file of this name; `None` if it isn't there. The files are asked exactly once.
+    fn read(&mut self, name: &Name) -> Result<Option<Content>, FilesFault>
+        ensures answer { IfOk result (λ content. Answers (view_of F.view self.old)
+            (view_of F.view self.new) name.now (Contents content)) }
+        ensures fault { OnErr result (Fails (view_of F.view self.old) (view_of F.view self.new)) }
+        ensures kind { IfErr result (MayFail F.fails_with) }
+        ensures once { AsksOnce F.fails_with Contents (asked_files F.view self.old)
+            (asked_files F.view self.new) name.now result }
+    {
         match self.files.read(name) {
             Ok(content) => match self.note_content(name, content.as_ref()) {
                 Ok(()) => Ok(content),

@@ -1,3 +1,4 @@
 pub mod Tables
 pub mod Filled
 pub mod States
+pub mod Refused

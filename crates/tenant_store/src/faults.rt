@@ -1,5 +1,6 @@
 // Why a call of the store is refused.
-ghost use Rattle.std.specs.Prelude.{◌≡◌};
+ghost use Rattle.std.specs.Prelude.{◌≡◌, ◌↔◌};
+ghost use Rattle.table_facts.specs.Refused.{IsForMemory};
 ghost use Rattle.tenant_store.specs.declared.faults.PutFault.TheVariants as puts;
 
 use mk_paths::FilesFault;
@@ -34,8 +35,10 @@ impl From<FilesFault> for PutFault {
     }
 }
 
-/// The fault of a statement: out of memory, or whatever else the database refused.
-pub(crate) fn fault_of(error: &Error) -> FilesFault {
+/// The fault of a statement: `Memory` if memory ran out, and else `Store`.
+pub(crate) fn fault_of(error: &Error) -> FilesFault
+    ensures { (result ≡ FilesFault.Memory) ↔ IsForMemory error.now }
+{
     match error {
         Error::SqliteFailure(ErrorCode::OutOfMemory) => FilesFault::Memory,
         _ => FilesFault::Store,

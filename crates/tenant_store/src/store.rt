@@ -1,7 +1,7 @@
 // The store as its callers see it.
-ghost use Rattle.std.specs.Prelude.{◌≡◌, false, map, string_bytes, IfOk, IsErrOf, IsTrue, OnOk, OnErr};
+ghost use Rattle.std.specs.Prelude.{◌≡◌, false, map, string_bytes, IfOk, IsErrOf, IsTrue, None, OnOk, OnErr};
 ghost use Rattle.std.specs.FinMap.{get, keys, contains_key};
-ghost use Rattle.mk_paths.specs.SearchPath.{trees_of};
+ghost use Rattle.mk_paths.specs.SearchPath.{search_path, trees_of};
 ghost use Rattle.mk_paths.specs.World.{files_in, opening_world, with_file, without_file};
 ghost use Rattle.mk_paths.specs.World.{search_path_of, profile_of, with_search_path, with_profile};
 ghost use Rattle.mk_files.specs.Limits.{is_over};
@@ -182,7 +182,8 @@ impl TenantStore {
 
 // The search path of a text that the store holds.
 fn path_from(alloc: Global, text: &str) -> Result<SearchPath, FilesFault>
-    ensures { IfOk result (λ path. path ≡ trees_of text.now) }
+    ensures ok { IfOk result (λ path. path ≡ trees_of text.now) }
+    ensures store { IsErrOf result FilesFault.Store → search_path text.now ≡ None }
 {
     match SearchPath::read(alloc, text) {
         Ok(path) => Ok(path),

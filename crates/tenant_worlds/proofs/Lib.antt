@@ -2,3 +2,4 @@ mod KeptLemmas
 mod WorldLemmas
 mod JobLemmas
 mod TurnLemmas
+mod ShareLemmas

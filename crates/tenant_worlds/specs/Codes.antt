@@ -1,9 +1,11 @@
--- Jobs, as codes: so two proofs that two jobs are the same are one.
+-- Jobs, and what the tenants share, as codes: so two proofs that two of them are the same are one.
 use Rattle.std.specs.Prelude.{◌≡◌, ℕ, zero, suc, List, Option, refl}
 use Rattle.std.specs.Coded.{Coded, code_by, coded×, coded_list, coded_option, coded_ℕ}
 use Rattle.ports_http.specs.declared.method.Method.{Method}
 use Rattle.ports_http.specs.declared.method.Method.TheVariants.{Get, Put, Delete}
+use Rattle.mk_paths.specs.World.{World, world_code}
 use Rattle.ports_core.specs.Jobs.{TenantJob}
+use Rattle.ports_core.specs.Sharing.{Sharing}
 
 abbrev pub number_of : Method → ℕ
 number_of Get = 0
@@ -34,3 +36,22 @@ job_code =
 
 abbrev pub jobs_code : Coded (List (Option TenantJob))
 jobs_code = coded_list (coded_option job_code)
+
+abbrev pub sharing_code : Coded Sharing
+sharing_code =
+    code_by (ℕ × (ℕ × (ℕ × ℕ))) (coded× coded_ℕ (coded× coded_ℕ (coded× coded_ℕ coded_ℕ)))
+    (λ shared. (shared.sizes.parses, (shared.sizes.evals, (shared.counts.parses, shared.counts.evals))))
+    (λ code. record {
+      sizes = record { parses = code.0; evals = code.1.0 };
+      counts = record { parses = code.1.1.0; evals = code.1.1.1 };
+    })
+    (λ _. refl)
+
+-- the worlds of the tenants and their jobs, by the tenants' numbers, and what the tenants share
+abbrev pub Stored : Type 0
+Stored = List World × List (Option TenantJob) × Sharing
+
+abbrev pub stored_code : Coded Stored
+stored_code =
+    code_by (List World × (List (Option TenantJob) × Sharing)) (coded× (coded_list world_code) (coded× jobs_code sharing_code))
+    (λ stored. (stored.0, (stored.1, stored.2))) (λ code. (code.0, code.1.0, code.1.1)) (λ _. refl)

@@ -1,6 +1,7 @@
 //! The tenants, by their numbers.
 ghost use Rattle.std.specs.Prelude.{◌≡◌, ◌≢◌, ◌<◌, ℕ, [], ◌∷◌, ◌++◌, None, length, slice_get};
 ghost use Rattle.std.specs.Prelude.{IfOk, IfNone, OnOk, OnErr};
+ghost use Rattle.eval_cache.specs.Using.{UsesCache};
 ghost use Rattle.ports_core.specs.Jobs.{IsForRequest};
 ghost use Rattle.tenant_worlds.specs.Kept.{AreRight, HaveNoJob, HaveOpeningWorlds, KeepJobs, KeepWorlds, job_at, world_at};
 ghost use Rattle.tenant_worlds.specs.Turning.{WorksOn};
@@ -85,6 +86,7 @@ pub(crate) fn turn_at(
     ensures right { AreRight tenants.new }
     ensures same { (other : ℕ) → other ≢ number
         → slice_get tenants.new other ≡ slice_get tenants.old other }
+    ensures uses { UsesCache cache.old cache.new }
 {
     take_turn(alloc, &mut tenants[number], cache, incoming)
 }

@@ -1,15 +1,18 @@
 //! A request over the world of one tenant.
-ghost use Rattle.std.specs.Prelude.{◌≡◌, false, None, IfOk, IfSome, IfNone, IsErrOf, IsTrue, OnOk, OnErr};
+ghost use Rattle.std.specs.Prelude.{◌≡◌, false, Some, None, IfOk, IfSome, IfNone, IsErrOf, IsTrue, OnOk, OnErr};
 ghost use Rattle.mk_paths.specs.World.{files_in};
 ghost use Rattle.ports_plain.specs.Changing.{changed, overfills, settle_change};
 ghost use Rattle.ports_core.specs.Answering.{plain_request_of, AreBytesOf};
 ghost use Rattle.ports_core.specs.Jobs.{IsForRequest};
+ghost use Rattle.eval_cache.specs.Using.{UsesCache};
 ghost use Rattle.index_store.specs.PortTable.{stored_by};
 ghost use Rattle.index_keep.specs.Keeping.{IsKept, refresh_of};
+ghost use Rattle.index_keep.specs.Keeping.{rows_of};
 ghost use Rattle.kept_ports.specs.Calls.{request_of};
 ghost use Rattle.kept_ports.specs.Pending.{IsPendingFor};
 ghost use Rattle.kept_ports.specs.TurnsLeft.{IsRequestTurn};
 ghost use Rattle.tenant_worlds.specs.Kept.{IsRight, job_of, world_of};
+ghost use Rattle.tenant_worlds.specs.Marking.{Marks, MarksIfAny, MarksAtMost};
 ghost use Rattle.tenant_worlds.specs.Turning.{WorksOn};
 
 use crate::asking::{Asking, Turn};
@@ -54,6 +57,7 @@ pub(crate) fn take_turn(
     ensures err { OnErr result (world_of tenant.new ≡ world_of tenant.old) }
     ensures dropped { OnErr result (job_of tenant.new ≡ None) }
     ensures right { IsRight tenant.new }
+    ensures uses { UsesCache cache.old cache.new }
 {
     questions_have_the_answers();
     let (asked, turns, under_way) = TenantJob::parts(tenant.job.take());
@@ -95,6 +99,7 @@ fn turn_over<'x>(
         (request_of call.now) under_way) }
     ensures kept { IsKept stored_by (files_in store.old, call.now.settings.now) keeper.new }
     ensures same { store.new ≡ store.old }
+    ensures uses { UsesCache cache.old cache.new }
 {
     let mut turn = Turn {
         under_way,
@@ -140,6 +145,10 @@ fn settle(
         prepared.change ≡ (answer.reply, store.new)) }
     ensures bytes { IfOk result (λ answer. AreBytesOf answer.reply close answer.bytes) }
     ensures err { OnErr result (store.new ≡ store.old) }
+    ensures marks { OnOk result (MarksIfAny prepared.change
+        (rows_of stored_by keeper.old) (rows_of stored_by keeper.new)) }
+    ensures err_marks { OnErr result (MarksAtMost prepared.change
+        (rows_of stored_by keeper.old) (rows_of stored_by keeper.new)) }
     ensures kept { IsKept stored_by store.new keeper.new }
 {
     let Prepared { reply, change } = prepared;
@@ -166,7 +175,9 @@ fn answer_with_bytes(alloc: Global, reply: Reply, close: bool) -> Result<Answer,
 
 /// Carries out a change of a tenant's world. The tenant's keeper is told first what is about to change, so
 /// that it is right before the change and after it. The error is `Full` if the tenant would have more than
-/// it may, and another one if a store fails or memory runs out. If it fails, the world has not changed.
+/// it may, and another one if a store fails or memory runs out. If it fails, the world has not changed. If the
+/// error is none or `Full`, exactly those rows of the index are stale now that asked for the file's name, or all if the
+/// settings change.
 fn carry_out(
     alloc: Global,
     store: &mut TenantStore,
@@ -178,6 +189,11 @@ fn carry_out(
     ensures changes { OnOk result (store.new ≡ changed store.old change) }
     ensures full { IsErrOf result PutFault.Full → IsTrue (overfills store.old change) }
     ensures err { OnErr result (store.new ≡ store.old) }
+    ensures marks { OnOk result (Marks change (rows_of stored_by keeper.old) (rows_of stored_by keeper.new)) }
+    ensures full_marks { IsErrOf result PutFault.Full
+        → Marks change (rows_of stored_by keeper.old) (rows_of stored_by keeper.new) }
+    ensures err_marks { OnErr result (MarksAtMost (Some change)
+        (rows_of stored_by keeper.old) (rows_of stored_by keeper.new)) }
     ensures kept { IsKept stored_by store.new keeper.new }
 {
     match change {

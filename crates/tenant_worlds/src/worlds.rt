@@ -4,7 +4,7 @@ use crate::tenants::{limit_tenants, open_tenants, turn_at};
 use crate::world::Incoming;
 use eval_cache::EvalCache;
 use mk_paths::FilesFault;
-use ports_core::{Answer, Config, Job, Tenants, Worked};
+use ports_core::{Answer, Config, Counts, Job, Tenants, Worked};
 use ports_http::{Reply, Request};
 use ports_index::Spent;
 use ports_plain::{Plain, never_answers_503};
@@ -14,7 +14,7 @@ use std::marker::Model;
 /// The world of each tenant, by the tenants' numbers, and the plain service that answers over one of them. Each
 /// world and the index of each are in a database of their own. Parses and evaluations are kept in one cache, which
 /// all tenants share. Each tenant has at most one job: what is under way for its first request. A contract sees
-/// the worlds and the jobs.
+/// the worlds, the jobs, and how much is kept and was used.
 #[derive(Drop)]
 pub struct StoredTenants {
     tenants: Vec<Tenant>,
@@ -23,20 +23,15 @@ pub struct StoredTenants {
 }
 
 impl Model for StoredTenants {
-    ghost use Rattle.std.specs.Prelude.{List, Option};
-    ghost use Rattle.mk_paths.specs.World.{World};
-    ghost use Rattle.ports_core.specs.Jobs.{TenantJob};
     ghost use Rattle.tenant_worlds.specs.Kept.{AreRight, jobs_of, worlds_of};
+    ghost use Rattle.tenant_worlds.specs.Codes.{Stored, stored_code};
+    ghost use Rattle.tenant_worlds.specs.Shared.{sharing_in};
 
-    ghost Value = { List World × List (Option TenantJob) };
+    ghost Value = { Stored };
 
-    ghost use Rattle.std.specs.Coded.{coded×, coded_list};
-    ghost use Rattle.tenant_worlds.specs.Codes.{jobs_code};
-    ghost use Rattle.mk_paths.specs.World.{world_code};
+    ghost coded = { stored_code };
 
-    ghost coded = { coded× (coded_list world_code) jobs_code };
-
-    ghost view = { λ w. (worlds_of w.tenants.items, jobs_of w.tenants.items) };
+    ghost view = { λ w. (worlds_of w.tenants.items, jobs_of w.tenants.items, sharing_in w.cache) };
 
     ghost invariant = { λ w. AreRight w.tenants.items };
 }
@@ -45,6 +40,8 @@ impl Tenants for StoredTenants {
     ghost worlds = { λ w. w.0 };
 
     ghost jobs = { λ w. w.1 };
+
+    ghost sharing = { λ w. w.2 };
 
     fn new(alloc: Global, config: &Config) -> Result<StoredTenants, FilesFault> {
         let tenants = open_tenants(alloc, config.keys.len())?;
@@ -64,6 +61,7 @@ impl Tenants for StoredTenants {
             request,
             close,
         };
+        let _before = self.cache.counts(); // numbers of 64 bits
         match turn_at(alloc, &mut self.tenants, &mut self.cache, tenant, &incoming) {
             Ok(worked) => worked,
             Err(_refused) => Worked {
@@ -80,6 +78,14 @@ impl Tenants for StoredTenants {
         match self.tenants.get(tenant) {
             Some(tenant) => tenant.had(),
             None => Job::nothing(),
+        }
+    }
+
+    fn counts(&self) -> Counts {
+        let used = self.cache.counts();
+        Counts {
+            parses: used.parses,
+            evals: used.evals,
         }
     }
 

@@ -11,6 +11,7 @@ mod interrupted;
 mod loopback;
 mod orders;
 mod quiet;
+mod refusing;
 mod served;
 mod service;
 mod streams;

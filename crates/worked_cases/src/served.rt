@@ -89,6 +89,7 @@ pub fn answer(
         "turns" | "turns stopped in" => turns::turns_answer(alloc, service, given),
         "jobs" => turns::jobs_answer(alloc, service, given),
         "job while" => turns::job_while_answer(alloc, service, given),
+        "counts" => counts_answer(alloc, service, given),
         "fill" => fill(alloc, service, given),
         "PUT stopped by" => stopped(alloc, service, Method::Put, given),
         "DELETE stopped by" => stopped(alloc, service, Method::Delete, given),
@@ -135,6 +136,22 @@ fn units_answer(
     let mut answer = Answer::of_word(alloc, told.reply.status.as_str());
     answer.number(told.units());
     answer.number(told.checks());
+    Ok(answer)
+}
+
+/// `service counts`: how often a parse was used that was kept, and how often an evaluation.
+fn counts_answer(
+    alloc: Global,
+    service: &StoredService,
+    given: &[Vec<u8>],
+) -> Result<Answer, Trouble> {
+    if !given.is_empty() {
+        return Err(Trouble::NoCase);
+    }
+    let counts = service.counts();
+    let mut answer = Answer::new(alloc);
+    answer.number(counts.parses);
+    answer.number(counts.evals);
     Ok(answer)
 }
 

@@ -1,12 +1,13 @@
 //! The layers of the service: streams, replies, requests over a tenant's files, whole runs.
 use crate::quiet::QuietPorts;
+use crate::refusing::NeverKept;
 use case_lines::{Answer, Ran, Trouble, as_number, as_text, one_text};
 use computed_ports::{ComputedPorts, effort_for};
 use http::StatusCode;
 use make_cases::World;
 use mk_files::MemoryFiles;
 use mk_paths::Settings;
-use ports_core::{Config, Service, Transcript, replay};
+use ports_core::{Config, Service, Tenants, Transcript, replay};
 use ports_http::{
     Content, HeadFault, Method, Reply, Request, StreamEnd, decode, write_fixed, write_reply,
 };
@@ -210,6 +211,11 @@ pub fn reply_answer(alloc: Global, reply: &Reply) -> Answer {
 
 /// Runs the program on an input, with these words of its command line after its own name.
 pub fn run_program(alloc: Global, words: &str, input: &[u8]) -> Result<Ran, Trouble> {
+    run_over::<StoredTenants>(alloc, words, input)
+}
+
+/// The same over the worlds that `K` keeps.
+fn run_over<K: Tenants>(alloc: Global, words: &str, input: &[u8]) -> Result<Ran, Trouble> {
     let mut arguments = Vec::new(alloc);
     arguments.push(String::from_str(alloc, "portsd")?)?;
     for word in words.split(' ') {
@@ -220,7 +226,7 @@ pub fn run_program(alloc: Global, words: &str, input: &[u8]) -> Result<Ran, Trou
     let mut printed = Vec::new(alloc);
     let mut said = Vec::new(alloc);
     let mut reader = input;
-    let status = run_command::<StoredTenants, _, _, _, _>(
+    let status = run_command::<K, _, _, _, _>(
         alloc,
         arguments.as_slice(),
         &mut reader,
@@ -240,11 +246,23 @@ pub fn run(alloc: Global, given: &[Vec<u8>]) -> Result<Answer, Trouble> {
     let [words, input] = given else {
         return Err(Trouble::NoCase);
     };
-    let ran = run_program(alloc, as_text(words)?, input)?;
+    Ok(ran_answer(alloc, run_program(alloc, as_text(words)?, input)?))
+}
+
+/// `refused WORDS on INPUT`: the same of a service that can't begin, since what keeps the worlds refuses. If one
+/// parse is to be kept, there is no memory for it.
+pub fn run_refused(alloc: Global, given: &[Vec<u8>]) -> Result<Answer, Trouble> {
+    let [words, input] = given else {
+        return Err(Trouble::NoCase);
+    };
+    Ok(ran_answer(alloc, run_over::<NeverKept>(alloc, as_text(words)?, input)?))
+}
+
+fn ran_answer(alloc: Global, ran: Ran) -> Answer {
     let mut answer = status_answer(alloc, ran.status);
     answer.text(ran.printed.as_slice());
     answer.text(ran.said.as_slice());
-    Ok(answer)
+    answer
 }
 
 /// The status with which a program ended.

@@ -104,6 +104,7 @@ impl<N: Net> Bench for Subjects<'_, N> {
             "reply key" => service::key_reply(alloc),
             "reply store" => service::store_reply(alloc),
             "run on" => service::run(alloc, given),
+            "refused on" => service::run_refused(alloc, given),
             "input failing after" => streams::failing_input(alloc, given),
             "serve on within" => streams::narrow_serving(alloc, given),
             "trickle" => trickle::trickled(alloc, given),

@@ -2,9 +2,19 @@
 use Rattle.std.proofs.Common.{◌∙◌, ap, subst, sym, arith}
 use Rattle.read_trace.specs.declared.evaluating.Evaluation.{Evaluation}
 use Rattle.eval_cache.specs.Keys.{key_of}
-use Rattle.eval_cache.specs.Held.{AreKept, HasFewAnswers}
+use Rattle.eval_cache.specs.Held.{AreKept, HasFewAnswers, contents_of}
 use Rattle.eval_cache.proofs.EntryLemmas.{AreKept-after-put, AreKept-removed, items-AreRight}
+use Rattle.eval_cache.specs.Keeping.{Keeps}
+use Rattle.eval_cache.proofs.OrderLemmas.{Keeps-put, with_evals}
 use Rattle.eval_cache.proofs.cache.EvalCache.keep.Goals as goal
+
+pub returns-clause-keeps : goal.returns-clause-keeps
+returns-clause-keeps c =
+    let is = c.questions-answers.ensures ∙ ap (λ (evaluation : Evaluation). evaluation.trace) c.deref.ensures in
+    let few : HasFewAnswers c.args.evaluation.value.trace = subst HasFewAnswers is (omega (arith, c.if-answers-eq0.false), omega (arith, c.if-answers-gt-MOST_ANSWERS.false)) in
+    subst (λ cache. Keeps (key_of c.args.key) c.args.evaluation.value.trace cache (with_evals (contents_of c.self.inside.parses.entries) c.self.inside.parses.cap c.self.inside.counts c.put-kept.new.self)) c.self.view_is
+    (Keeps-put c.put-kept.result (contents_of c.self.inside.parses.entries) c.self.inside.parses.cap c.self.inside.counts c.self.inside.evals c.pop-older.new.self c.put-kept.new.self c.args.key c.args.evaluation.value
+    c.pop-older.result c.with_newest-kept.result few c.pop-older.ensures.value c.with_newest-kept.ensures c.len-all.ensures.valid.0 c.pop-older.ensures.entries c.put-kept.ensures.entries c.put-kept.ensures.err)
 
 pub invariant_of-self : goal.invariant_of-self
 invariant_of-self c =

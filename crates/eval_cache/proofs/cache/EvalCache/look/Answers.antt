@@ -5,6 +5,9 @@ use Rattle.eval_cache.specs.Keys.{same_key}
 use Rattle.eval_cache.specs.Cache.{traces_at}
 use Rattle.eval_cache.specs.Held.{AreKept, traces_by_key}
 use Rattle.eval_cache.proofs.EntryLemmas.{AreKept-promoted, traces-promoted}
+use Rattle.lru.specs.LruCache.{promoted}
+use Rattle.eval_cache.specs.Keys.{key_of}
+use Rattle.eval_cache.proofs.OrderLemmas.{traces-first}
 use Rattle.eval_cache.proofs.cache.EvalCache.look.Goals as goal
 
 pub invariant_of-self : goal.invariant_of-self
@@ -18,3 +21,9 @@ returns-in-Some-clause-traces g c = λ other.
     ap (λ cache. unwrap_or (lookup (same_key other) (traces_by_key cache.entries)) []) c.promote-there.ensures.entries
     ∙ ap (λ found. unwrap_or found []) (traces-promoted c.self.inside.evals.entries c.args.key.now other)
     ∙ ap (λ cache. traces_at cache other) c.self.view_is
+
+pub returns-in-Some-clause-order : goal.returns-in-Some-clause-order
+returns-in-Some-clause-order g c =
+    ap (λ cache. traces_by_key cache.entries) c.promote-there.ensures.entries
+    ∙ traces-first c.self.inside.evals.entries c.args.key.now
+    ∙ ap (λ cache. promoted (same_key (key_of c.args.key.now)) cache.traces) c.self.view_is

@@ -7,6 +7,7 @@ use Rattle.eval_cache.specs.declared.counting.Counts.{Counts}
 use Rattle.eval_cache.specs.declared.looking.Look.{Look}
 use Rattle.eval_cache.specs.declared.looking.Look.TheVariants.{Miss}
 use Rattle.read_trace.specs.Recording.{view_of}
+use Rattle.eval_cache.proofs.UseLemmas.{UsesCache-on, UsesCache-parses}
 use Rattle.index_keep.proofs.AskLemmas.{evals-missed, evals-new, OnErr-always}
 use Rattle.index_keep.proofs.asking.Ask.begin.Goals as goal
 
@@ -30,3 +31,19 @@ returns-in_ok-come_to-in-Miss-clause-counted g c =
     ap (λ (counts : Counts). counts.evals) c.come_to.ensures.counts
     ∙ evals-new c.in_ok-found.found cache c.look.new.self c.start.new.parses c.in-Miss.is c.in_ok-found.ensures.counted c.start.ensures.parses
     ∙ evals-missed files cache key _ c.in_ok-key.ensures missed
+
+pub returns-in_err-turned-in-Miss-clause-uses : goal.returns-in_err-turned-in-Miss-clause-uses
+returns-in_err-turned-in-Miss-clause-uses g c =
+    UsesCache-on c.args.cache.now c.look.new.self c.start.new.parses c.look.ensures.uses (UsesCache-parses c.look.new.self c.start.new.parses c.start.ensures.parses)
+
+pub returns-in_err-come_to-in-Miss-clause-uses : goal.returns-in_err-come_to-in-Miss-clause-uses
+returns-in_err-come_to-in-Miss-clause-uses g c =
+    UsesCache-on c.args.cache.now c.start.new.parses c.come_to.new.cache
+    (UsesCache-on c.args.cache.now c.look.new.self c.start.new.parses c.look.ensures.uses (UsesCache-parses c.look.new.self c.start.new.parses c.start.ensures.parses))
+    c.come_to.ensures.uses
+
+pub returns-in_ok-come_to-in-Miss-clause-uses : goal.returns-in_ok-come_to-in-Miss-clause-uses
+returns-in_ok-come_to-in-Miss-clause-uses g c =
+    UsesCache-on c.args.cache.now c.start.new.parses c.come_to.new.cache
+    (UsesCache-on c.args.cache.now c.look.new.self c.start.new.parses c.look.ensures.uses (UsesCache-parses c.look.new.self c.start.new.parses c.start.ensures.parses))
+    c.come_to.ensures.uses

@@ -5,6 +5,7 @@ use Rattle.std.specs.Result.{result_err}
 use Rattle.mk_paths.specs.FilesView.{FilesView}
 use Rattle.mk_paths.specs.World.{FileMap}
 use Rattle.mk_eval.specs.Sharing.{Agrees}
+use Rattle.eval_cache.proofs.UseLemmas.{UsesCache-on, UsesCache-parses}
 use Rattle.eval_cache.specs.declared.counting.Counts.{Counts}
 use Rattle.read_trace.specs.Recording.{view_of, MayFail}
 use Rattle.index_keep.specs.Asking.{key_in}
@@ -76,3 +77,14 @@ returns-clause-leaves g c =
     let under = under-way (seen c.args.files.now) (seen c.go_on.new.self) (seen c.turn.new.files) c.args.self.trace c.go_on.ensures key c.args.self.machine c.requires.under in
     let leaves = turned-leaves (seen c.args.files.now) (seen c.go_on.new.self) (seen c.turn.new.files) c.args.self.trace c.go_on.ensures (MayFail g.F.Names.fails_with) key c.in_ok-turned.turned (c.in_ok-turned.ensures.leaves key.settings key.name key.flavors c.args.self.trace under) in
     (ap (λ (view : FilesView). view.files) c.take_trace.ensures.rest ∙ leaves.0, ap (λ (view : FilesView). view.failures) c.take_trace.ensures.rest ∙ leaves.1)
+
+pub returns-in_err-turned-clause-uses : goal.returns-in_err-turned-clause-uses
+returns-in_err-turned-clause-uses g c = UsesCache-parses c.args.cache.now c.turn.new.parses c.turn.ensures.parses
+
+pub returns-in_err-come_to-clause-uses : goal.returns-in_err-come_to-clause-uses
+returns-in_err-come_to-clause-uses g c =
+    UsesCache-on c.args.cache.now c.turn.new.parses c.come_to.new.cache (UsesCache-parses c.args.cache.now c.turn.new.parses c.turn.ensures.parses) c.come_to.ensures.uses
+
+pub returns-clause-uses : goal.returns-clause-uses
+returns-clause-uses g c =
+    UsesCache-on c.args.cache.now c.turn.new.parses c.come_to.new.cache (UsesCache-parses c.args.cache.now c.turn.new.parses c.turn.ensures.parses) c.come_to.ensures.uses

@@ -65,7 +65,7 @@ returns-clause-turns g c =
     let is = subst (IsNamed path) c.in-Some.is (subst (λ text. IsNamed text c.in_ok-named.field-0) c.as_str.ensures.value c.in_ok-named.ensures) in
     let there = sym (c.in_ok-makefile.ensures.place ∙ ap (place world) c.directory.ensures) ∙ c.in-Some-makefile.is in
     let placed = c.in_ok-makefile.ensures.asked ∙ ap (places_asked files settings.path) c.directory.ensures in
-    let found : FoundPath = record { path = c.args.path; profile = settings.profile; named = named; makefile = makefile; placed = c.in_ok-makefile.placed } in
+    let found : FoundPath = record { path = c.args.path; named = named; makefile = makefile; placed = c.in_ok-makefile.placed } in
     let at : IsFoundAt world found = IsFoundAt-placed world path named is c.in_ok-makefile.placed placed c.in_ok-makefile.ensures.answered found refl refl refl there in
     let key = key_for settings makefile (option_map (λ (names : Bor (List (String Global))). map string_bytes names.now) c.flavors.result) in
     let come = subst (λ (f : FileMap). HasComeTo f key ask) c.in_ok-makefile.ensures.leaves.files c.in_ok-ask.ensures.comes in

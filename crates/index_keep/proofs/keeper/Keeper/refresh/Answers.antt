@@ -1,5 +1,6 @@
 -- Each turn leaves one path fewer, and as many units fewer as that path costs.
 use Rattle.std.proofs.Common.{◌≡◌, ◌≤◌, ◌+◌, ◌-◌, ◌^◌, ap, subst, sym, arith, None}
+use Rattle.eval_cache.proofs.UseLemmas.{UsesCache-on}
 use Rattle.mk_paths.specs.FilesView.{world_of}
 use Rattle.mk_paths.specs.World.{World, FileMap}
 use Rattle.ports_index.specs.Efforts.{cost_over, evaluations_at, evaluations_over}
@@ -13,6 +14,7 @@ use Rattle.index_keep.specs.declared.keeper.Turned.TheVariants.{More, Done}
 use Rattle.index_keep.specs.Turns.{RefreshView, EndsTurn, GoesOn, RenewsOne, KnowsAtEnd, paths_left, spent_in_all}
 use Rattle.index_keep.specs.Keeping.{refresh_of, IsKept}
 use Rattle.index_keep.proofs.KeepLemmas.{IsKept-same, begun-few, left_less}
+use Rattle.index_keep.proofs.ProfileLemmas.{WritesIn-on, WritesIn-kept}
 use Rattle.index_keep.proofs.SpendLemmas.{SoFar, SoFar-more, SpendsOnRows-all, evaluations-path}
 use Rattle.index_keep.proofs.WalkLemmas.{LeavesFiles-on}
 use Rattle.index_keep.proofs.keeper.Keeper.refresh.Goals as goal
@@ -54,9 +56,11 @@ loop-more-preserved g c =
     record {
       kept = subst (λ (files : FileMap). let w : World = (files, c.args.settings.now) in IsKept entries w c.turn.new.self) c.loop-more.invariant.files.files c.in_ok-more.ensures.kept;
       files = LeavesFiles-on None (seen c.args.files.now) (seen c.loop-more.files) (seen c.turn.new.files) c.loop-more.invariant.files c.in_ok-more.ensures.leaves;
+      written = WritesIn-on c.args.settings.now.profile (g.R.PathRows.profiles c.args.self.now.rows) (g.R.PathRows.profiles c.loop-more.self.rows) (g.R.PathRows.profiles c.turn.new.self.rows) c.loop-more.invariant.written c.in_ok-more.ensures.profiles;
       spent = subst (λ (s : Spent). SoFar (cost_over world paths) (evaluations_over world paths) first.begun new.begun s (cost_over world (paths_left world new.rows)) (evaluations_over world (paths_left world new.rows)))
           (sym c.and-spent.ensures)
           (subst (λ (b : Spent). SoFar (cost_over world paths) (evaluations_over world paths) first.begun b (spent_together c.loop-more.spent more) (cost_over world (paths_left world new.rows)) (evaluations_over world (paths_left world new.rows))) (sym turn.1) far);
+      uses = UsesCache-on c.args.cache.now c.loop-more.cache c.turn.new.cache c.loop-more.invariant.uses c.turn.ensures.uses;
     }
 
 -- a turn that spends all units that a number can count
@@ -111,3 +115,39 @@ returns-in-Done-None-clause-spent g c =
     SpendsOnRows-all world first old.rows c.loop-more.spent ends.0.fresh
     (subst (λ (begun : Spent). SoFar (cost_over world paths) (evaluations_over world paths) first.begun begun c.loop-more.spent (cost_over world (paths_left world old.rows)) (evaluations_over world (paths_left world old.rows)))
     ends.0.nothing_begun c.loop-more.invariant.spent)
+
+pub returns-in_err-more-clause-profiles : goal.returns-in_err-more-clause-profiles
+returns-in_err-more-clause-profiles g c =
+    let profiles = g.R.PathRows.profiles in
+    WritesIn-on c.args.settings.now.profile (profiles c.args.self.now.rows) (profiles c.loop-more.self.rows) (profiles c.turn.new.self.rows) c.loop-more.invariant.written c.in_err-more.ensures.profiles
+
+pub returns-in-Done-Some-clause-profiles : goal.returns-in-Done-Some-clause-profiles
+returns-in-Done-Some-clause-profiles g c =
+    let profiles = g.R.PathRows.profiles in
+    WritesIn-on c.args.settings.now.profile (profiles c.args.self.now.rows) (profiles c.loop-more.self.rows) (profiles c.turn.new.self.rows) c.loop-more.invariant.written c.in_ok-more.ensures.profiles
+
+pub returns-in_err-fresh_rows-in-Done-None-clause-profiles : goal.returns-in_err-fresh_rows-in-Done-None-clause-profiles
+returns-in_err-fresh_rows-in-Done-None-clause-profiles g c =
+    let profiles = g.R.PathRows.profiles in
+    WritesIn-kept c.args.settings.now.profile (profiles c.args.self.now.rows) (profiles c.turn.new.self.rows) (profiles c.fresh_rows.new.rows)
+    (WritesIn-on c.args.settings.now.profile (profiles c.args.self.now.rows) (profiles c.loop-more.self.rows) (profiles c.turn.new.self.rows) c.loop-more.invariant.written c.in_ok-more.ensures.profiles)
+    c.in_err-fresh_rows-in-Done-None.ensures.profiles
+
+pub returns-in-Done-None-clause-profiles : goal.returns-in-Done-None-clause-profiles
+returns-in-Done-None-clause-profiles g c =
+    let profiles = g.R.PathRows.profiles in
+    WritesIn-kept c.args.settings.now.profile (profiles c.args.self.now.rows) (profiles c.turn.new.self.rows) (profiles c.fresh_rows.new.rows)
+    (WritesIn-on c.args.settings.now.profile (profiles c.args.self.now.rows) (profiles c.loop-more.self.rows) (profiles c.turn.new.self.rows) c.loop-more.invariant.written c.in_ok-more.ensures.profiles)
+    c.in_ok-fresh_rows-in-Done-None.ensures.profiles
+
+pub returns-in_err-more-clause-uses : goal.returns-in_err-more-clause-uses
+returns-in_err-more-clause-uses g c = UsesCache-on c.args.cache.now c.loop-more.cache c.turn.new.cache c.loop-more.invariant.uses c.turn.ensures.uses
+
+pub returns-in-Done-Some-clause-uses : goal.returns-in-Done-Some-clause-uses
+returns-in-Done-Some-clause-uses g c = UsesCache-on c.args.cache.now c.loop-more.cache c.turn.new.cache c.loop-more.invariant.uses c.turn.ensures.uses
+
+pub returns-in_err-fresh_rows-in-Done-None-clause-uses : goal.returns-in_err-fresh_rows-in-Done-None-clause-uses
+returns-in_err-fresh_rows-in-Done-None-clause-uses g c = UsesCache-on c.args.cache.now c.loop-more.cache c.turn.new.cache c.loop-more.invariant.uses c.turn.ensures.uses
+
+pub returns-in-Done-None-clause-uses : goal.returns-in-Done-None-clause-uses
+returns-in-Done-None-clause-uses g c = UsesCache-on c.args.cache.now c.loop-more.cache c.turn.new.cache c.loop-more.invariant.uses c.turn.ensures.uses

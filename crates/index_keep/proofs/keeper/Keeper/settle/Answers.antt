@@ -15,7 +15,7 @@ returns-in_ok-walk-in-Made-clause-settles g c = λ world path units ready turns.
     let old = shown no_name (g.R.PathRows.entries c.args.self.now.rows) in
     let new = shown no_name (g.R.PathRows.entries c.put_row.new.rows) in
     let made = subst (TurnsPath world path units c.args.before) c.in-Made.is turns in
-    (renews-made world old new c.args.walk path ready c.in-Made.made made.0 c.in_ok-walk-in-Made.ensures.rows (spent_in_all c.args.before c.spent_since.result) c.spent_since.ensures, refl)
+    (renews-made world old new c.args.writing.walk path ready c.in-Made.made made.0 c.in_ok-walk-in-Made.ensures.rows (spent_in_all c.args.before c.spent_since.result) c.spent_since.ensures, refl)
 
 pub returns-in_ok-walk-in-Made-clause-kept : goal.returns-in_ok-walk-in-Made-clause-kept
 returns-in_ok-walk-in-Made-clause-kept g c = λ world path units ready turns.
@@ -23,8 +23,8 @@ returns-in_ok-walk-in-Made-clause-kept g c = λ world path units ready turns.
     let new = shown no_name (g.R.PathRows.entries c.put_row.new.rows) in
     let made = subst (TurnsPath world path units c.args.before) c.in-Made.is turns in
     record {
-      rows = kept-made world old new c.args.walk path ready c.in-Made.made made.0 c.in_ok-walk-in-Made.ensures.rows;
-      progress = c.in_ok-walk-in-Made.ensures.walk world old new ready.far (more-made world old new c.args.walk path ready c.in-Made.made made.0 c.in_ok-walk-in-Made.ensures.rows);
+      rows = kept-made world old new c.args.writing.walk path ready c.in-Made.made made.0 c.in_ok-walk-in-Made.ensures.rows;
+      progress = c.in_ok-walk-in-Made.ensures.walk world old new ready.far (more-made world old new c.args.writing.walk path ready c.in-Made.made made.0 c.in_ok-walk-in-Made.ensures.rows);
     }
 
 pub returns-in-More-clause-settles : goal.returns-in-More-clause-settles

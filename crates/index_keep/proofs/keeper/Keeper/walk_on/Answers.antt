@@ -46,3 +46,6 @@ returns-in_ok-turned-in-Lacks-clause-short g c =
 
 pub returns-in-All-clause-short : goal.returns-in-All-clause-short
 returns-in-All-clause-short g c = c.end.ensures.short c.args.units
+
+pub returns-in-All-clause-profiles : goal.returns-in-All-clause-profiles
+returns-in-All-clause-profiles g c = c.end.ensures.profiles c.args.settings.now.profile

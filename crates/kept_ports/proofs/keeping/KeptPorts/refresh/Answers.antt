@@ -1,5 +1,6 @@
 -- Each turn of the refresh leaves one path fewer, or ends the loop.
 use Rattle.std.proofs.Common.{◌∙◌, arith, subst}
+use Rattle.eval_cache.proofs.UseLemmas.{UsesCache-on}
 use Rattle.index_keep.specs.Keeping.{refresh_of}
 use Rattle.index_keep.specs.declared.keeper.Refreshed.TheVariants.{Evaluated, More, Done}
 use Rattle.index_keep.specs.Turns.{StaysShort}
@@ -41,6 +42,8 @@ loop-spent-preserved g c =
       leaves = record {
         world = c.in_ok-refresh_once.ensures.leaves.world ∙ c.loop-spent.invariant.leaves.world;
         keeper = c.in_ok-refresh_once.ensures.leaves.keeper ∙ c.loop-spent.invariant.leaves.keeper;
+        cache = c.in_ok-refresh_once.ensures.leaves.cache ∙ c.loop-spent.invariant.leaves.cache;
+        uses = UsesCache-on c.args.self.now.cache.now c.loop-spent.self.cache.now c.refresh_once.new.self.cache.now c.loop-spent.invariant.leaves.uses c.in_ok-refresh_once.ensures.leaves.uses;
       };
       spent = λ before is.
           renews_freely c.refreshing_pays.ensures world old new before c.in-Evaluated.spent (c.is_nothing.ensures.nothing c.if-not-is_nothing.false)

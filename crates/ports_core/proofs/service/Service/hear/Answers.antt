@@ -37,7 +37,7 @@ invariant_of-self g c =
 pub returns-clause-hears : goal.returns-clause-hears
 returns-clause-hears g c =
     rw (← c.self.view_is)
-    (heard (key_texts c.self.inside.keys.items) c.self.inside.next (g.K.Tenants.jobs c.self.inside.worlds) c.args.event.now c.args.conn c.hear_connection.result (g.K.Tenants.worlds c.self.inside.worlds)
+    (heard (key_texts c.self.inside.keys.items) c.self.inside.next (g.K.Tenants.jobs c.self.inside.worlds) (g.K.Tenants.sharing c.self.inside.worlds) c.args.event.now c.args.conn c.hear_connection.result (g.K.Tenants.worlds c.self.inside.worlds)
     c.self.inside.queues.items c.deref_mut.result.now c.hear_connection.new.queues _ c.self.inside.connections.entries c.hear_connection.new.connections.entries
     (key_texts c.deref.result.now) (ap key_texts c.deref.ensures.value) c.deref_mut.ensures.value
     (with_items_is c.self.inside.queues c.hear_connection.new.queues (c.hear_connection.auto.queues ∙ c.deref_mut.ensures.len))

@@ -3,6 +3,7 @@ use Rattle.std.proofs.Common.{ap, ◌∙◌, arith, Option, None}
 use Rattle.std.specs.Prelude.{replicate}
 use Rattle.mk_paths.specs.World.{opening_world}
 use Rattle.ports_core.specs.Jobs.{TenantJob}
+use Rattle.tenant_worlds.proofs.ShareLemmas.{unused-new}
 use Rattle.tenant_worlds.proofs.worlds.StoredTenantsTenants.new.Goals as goal
 
 pub returns-clause-worlds : goal.returns-clause-worlds
@@ -12,3 +13,6 @@ pub returns-clause-jobs : goal.returns-clause-jobs
 returns-clause-jobs c =
     let no_job : Option TenantJob = None in
     c.in_ok-tenants.ensures.jobs ∙ ap (λ n. replicate n no_job) (omega (arith, c.in_ok-tenants.ensures.count))
+
+pub returns-clause-sharing : goal.returns-clause-sharing
+returns-clause-sharing c = unused-new c.args.config.now c.in_ok-cache.cache c.requires c.in_ok-cache.ensures

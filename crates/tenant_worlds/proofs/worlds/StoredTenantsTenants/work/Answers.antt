@@ -1,14 +1,15 @@
 -- The world and the job of the tenant are those that change.
-use Rattle.std.proofs.Common.{◌<◌, ◌≢◌, ◌∙◌, ℕ, List, length, subst, sym, ap, arith, inr, Option}
+use Rattle.std.proofs.Common.{◌<◌, ◌≢◌, ◌∙◌, ℕ, List, length, subst, sym, ap, arith, inr}
 use Rattle.std.specs.Prelude.{slice_get}
-use Rattle.mk_paths.specs.World.{World}
 use Rattle.ports_http.specs.Messages.{ReplyMessage}
 use Rattle.ports_core.specs.Charging.{Charges, FitsTurn}
-use Rattle.ports_core.specs.Jobs.{TenantJob, IsForRequest, job_in, job_after, spent_on}
+use Rattle.ports_core.specs.Jobs.{IsForRequest, job_in, job_after, spent_on}
 use Rattle.tenant_worlds.specs.declared.tenant.Tenant.{Tenant}
+use Rattle.tenant_worlds.specs.Codes.{Stored}
 use Rattle.tenant_worlds.specs.Kept.{AreRight, job_at, world_at}
 use Rattle.tenant_worlds.specs.Turning.{AnswersOver, ChargesOver}
 use Rattle.tenant_worlds.proofs.KeptLemmas.{refill_same}
+use Rattle.tenant_worlds.proofs.ShareLemmas.{IsUsed-cache}
 use Rattle.tenant_worlds.proofs.JobLemmas.{job_same}
 use Rattle.tenant_worlds.proofs.WorldLemmas.{answers_for, work_answers, work_charges, work_goes_on, place_is, if_none}
 use Rattle.tenant_worlds.proofs.worlds.StoredTenantsTenants.work.Goals as goal
@@ -18,7 +19,7 @@ pub turn_at-requires-clause-there : goal.turn_at-requires-clause-there
 turn_at-requires-clause-there c =
     let items = c.self.inside.tenants.items in
     let within : c.args.tenant < length items =
-    place_is items c.args.tenant (subst (λ (v : List World × List (Option TenantJob)). c.args.tenant < length v.0) (sym c.self.view_is) c.requires.there) in
+    place_is items c.args.tenant (subst (λ (v : Stored). c.args.tenant < length v.0) (sym c.self.view_is) c.requires.there) in
     subst (λ n. c.args.tenant < n) (sym (ap length c.deref_mut.ensures.value)) within
 
 pub turn_at-requires-clause-right : goal.turn_at-requires-clause-right
@@ -27,14 +28,14 @@ turn_at-requires-clause-right c = subst AreRight (sym c.deref_mut.ensures.value)
 pub turn_at-requires-clause-for_request : goal.turn_at-requires-clause-for_request
 turn_at-requires-clause-for_request c =
     subst (λ (tenants : List Tenant). IsForRequest c.args.request.now (job_at c.args.tenant tenants)) (sym c.deref_mut.ensures.value)
-    (subst (λ (v : List World × List (Option TenantJob)). IsForRequest c.args.request.now (job_in c.args.tenant v.1)) (sym c.self.view_is) c.requires.for_request)
+    (subst (λ (v : Stored). IsForRequest c.args.request.now (job_in c.args.tenant v.1)) (sym c.self.view_is) c.requires.for_request)
 
 pub returns-clause-answers : goal.returns-clause-answers
 returns-clause-answers c =
     let items = c.self.inside.tenants.items in
     let slice = c.deref_mut.ensures.value in
     let within : c.args.tenant < length items =
-    place_is items c.args.tenant (subst (λ (v : List World × List (Option TenantJob)). c.args.tenant < length v.0) (sym c.self.view_is) c.requires.there) in
+    place_is items c.args.tenant (subst (λ (v : Stored). c.args.tenant < length v.0) (sym c.self.view_is) c.requires.there) in
     let lent = c.turn_at.ensures.count ∙ ap length slice in
     let refill = refill_same c.self.inside.tenants.len items c.turn_at.new.tenants lent (omega (arith, c.self.inside.tenants.ok)) in
     let count = ap length refill ∙ lent in
@@ -52,7 +53,7 @@ returns-clause-charges c =
     let items = c.self.inside.tenants.items in
     let slice = c.deref_mut.ensures.value in
     let within : c.args.tenant < length items =
-    place_is items c.args.tenant (subst (λ (v : List World × List (Option TenantJob)). c.args.tenant < length v.0) (sym c.self.view_is) c.requires.there) in
+    place_is items c.args.tenant (subst (λ (v : Stored). c.args.tenant < length v.0) (sym c.self.view_is) c.requires.there) in
     let new = c.turn_at.new.tenants in
     let lent = c.turn_at.ensures.count ∙ ap length slice in
     let others = λ (u : ℕ) (ne : u ≢ c.args.tenant). c.turn_at.ensures.same u ne ∙ ap (λ (ts : List Tenant). slice_get ts u) slice in
@@ -70,7 +71,7 @@ returns-clause-goes_on c =
     let items = c.self.inside.tenants.items in
     let slice = c.deref_mut.ensures.value in
     let within : c.args.tenant < length items =
-    place_is items c.args.tenant (subst (λ (v : List World × List (Option TenantJob)). c.args.tenant < length v.0) (sym c.self.view_is) c.requires.there) in
+    place_is items c.args.tenant (subst (λ (v : Stored). c.args.tenant < length v.0) (sym c.self.view_is) c.requires.there) in
     let lent = c.turn_at.ensures.count ∙ ap length slice in
     let refill = refill_same c.self.inside.tenants.len items c.turn_at.new.tenants lent (omega (arith, c.self.inside.tenants.ok)) in
     let count = ap length refill ∙ lent in
@@ -117,3 +118,8 @@ returns-clause-short c =
       | in-Ok w ↦ rw w.result-is w.in-Ok.ensures.works.short
       | in-Err w ↦ rw w.result-is (subst FitsTurn (sym w.nothing.ensures) (omega arith))
     ]
+
+pub returns-clause-uses : goal.returns-clause-uses
+returns-clause-uses c =
+    rw (← c.self.view_is)
+    (IsUsed-cache c.self.inside.cache c.turn_at.new.cache c.counts-before.result c.counts-before.ensures (omega arith) (omega arith) c.turn_at.ensures.uses)

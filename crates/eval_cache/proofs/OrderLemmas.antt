@@ -1,0 +1,253 @@
+-- What is seen of the tables has their order.
+use Rattle.std.proofs.Common.{◌≡◌, ◌∙◌, ap, refl, sym, cond, ℕ, ◌-◌, Bool, true, false, List, [], ◌∷◌, map, take, Option, Some, None, option_map, is_some, inl, inr, ◌⊎◌, Result, Ok, Err, OnOk, OnErr, Global}
+use Rattle.std.specs.List.{AllByRecursion, IsDistinct, list_any}
+use Rattle.std.specs.Map.{lookup, lookup_entry, remove_entry, keys_of}
+use Rattle.std.specs.Option.{option_map_or}
+use Rattle.std.proofs.lemmas.List.{take-map}
+use Rattle.std.proofs.lemmas.Bool.{true≢false}
+use Rattle.std.proofs.lemmas.Slice.Eq.{bytes_eq-Decides}
+use Rattle.std.specs.Str.{bytes_eq}
+use Rattle.std.specs.declared.rc.Rc.{Rc}
+use Rattle.std.specs.declared.vec.Vec.{Vec}
+use Rattle.lru.specs.LruCache.{LruCache, lru_cache, promoted, put_entries}
+use Rattle.lru.proofs.CallerLemmas.{Contains-lookup_entry}
+use Rattle.mk_ast.specs.declared.nodes.Makefile.{Makefile}
+use Rattle.mk_ast.specs.declared.parsing.ParseFault.{ParseFault}
+use Rattle.read_trace.specs.declared.evaluating.Evaluation.{Evaluation}
+use Rattle.mk_paths.specs.FilesView.{Question}
+use Rattle.eval_cache.specs.declared.contents.ContentKey.{ContentKey}
+use Rattle.eval_cache.specs.declared.counting.Counts.{Counts}
+use Rattle.eval_cache.specs.declared.key.EvalKey.{EvalKey}
+use Rattle.eval_cache.specs.Keys.{Key, key_of, same_key}
+use Rattle.eval_cache.specs.Cache.{CacheValue, traces_at, one_more, count_parse}
+use Rattle.eval_cache.specs.Held.{KeptParses, KeptEvaluations, contents_of, traces_of, traces_by_key, items_of, HasFewAnswers, AreNewest}
+use Rattle.eval_cache.specs.Keeping.{without, Keeps, HandsOut}
+use Rattle.eval_cache.proofs.KeyLemmas.{key_eq, key_eq-same_key, key_eq-≡, ≡-key_eq}
+use Rattle.eval_cache.proofs.EntryLemmas.{content_eq, kept_at, traces-of-kept, is_some-parse}
+
+-- ---- entries that are seen through a function of keys and one of values
+
+module _ {K L X Y : Type 0} (key : K → L) (value : X → Y) (test : K → Bool) (seen : L → Bool) (same : (k : K) → test k ≡ seen (key k)) where
+  abbrev shown : List (K × X) → List (L × Y)
+  shown entries = map (λ entry. (key entry.0, value entry.1)) entries
+
+  removed_step : (entry : K × X) (entries : List (K × X)) (b : Bool) (rest : List (L × Y)) → rest ≡ shown (remove_entry test entries)
+      → cond b (shown entries) ((key entry.0, value entry.1) ∷ rest) ≡ shown (cond b entries (entry ∷ remove_entry test entries))
+  removed_step entry entries true rest is = refl
+  removed_step entry entries false rest is = ap (λ more. (key entry.0, value entry.1) ∷ more) is
+
+  pub remove_entry-shown : (entries : List (K × X)) → remove_entry seen (shown entries) ≡ shown (remove_entry test entries)
+  remove_entry-shown [] = refl
+  remove_entry-shown (entry ∷ entries) =
+      ap (λ b. cond b (shown entries) ((key entry.0, value entry.1) ∷ remove_entry seen (shown entries))) (sym (same entry.0))
+      ∙ removed_step entry entries (test entry.0) (remove_entry seen (shown entries)) (remove_entry-shown entries)
+
+  found_step : (entry : K × X) (entries : List (K × X)) (b : Bool) (rest : Option (L × Y))
+      → rest ≡ option_map (λ e. (key e.0, value e.1)) (lookup_entry test entries)
+      → cond b (Some (key entry.0, value entry.1)) rest ≡ option_map (λ e. (key e.0, value e.1)) (cond b (Some entry) (lookup_entry test entries))
+  found_step entry entries true rest is = refl
+  found_step entry entries false rest is = is
+
+  lookup_entry-shown : (entries : List (K × X)) → lookup_entry seen (shown entries) ≡ option_map (λ e. (key e.0, value e.1)) (lookup_entry test entries)
+  lookup_entry-shown [] = refl
+  lookup_entry-shown (entry ∷ entries) =
+      ap (λ b. cond b (Some (key entry.0, value entry.1)) (lookup_entry seen (shown entries))) (sym (same entry.0))
+      ∙ found_step entry entries (test entry.0) (lookup_entry seen (shown entries)) (lookup_entry-shown entries)
+
+  first_step : (entries : List (K × X)) (found : Option (K × X)) (rest : List (L × Y)) → rest ≡ shown (remove_entry test entries)
+      → option_map_or (λ e. e ∷ rest) (option_map (λ (e : K × X). (key e.0, value e.1)) found) (shown entries)
+      ≡ shown (option_map_or (λ e. e ∷ remove_entry test entries) found entries)
+  first_step entries None rest is = refl
+  first_step entries (Some entry) rest is = ap (λ more. (key entry.0, value entry.1) ∷ more) is
+
+  pub promoted-shown : (entries : List (K × X)) → promoted seen (shown entries) ≡ shown (promoted test entries)
+  promoted-shown entries =
+      ap (λ found. option_map_or (λ e. e ∷ remove_entry seen (shown entries)) found (shown entries)) (lookup_entry-shown entries)
+      ∙ first_step entries (lookup_entry test entries) (remove_entry seen (shown entries)) (remove_entry-shown entries)
+
+-- the traces of a key that was used stand first
+pub traces-first : (evals : KeptEvaluations) (key : EvalKey)
+    → traces_by_key (promoted (key_eq key) evals) ≡ promoted (same_key (key_of key)) (traces_by_key evals)
+traces-first evals key =
+    sym (promoted-shown key_of (λ (kept : Vec (Rc Evaluation Global) Global). traces_of kept.items) (key_eq key) (same_key (key_of key)) (key_eq-same_key key) evals)
+
+traces-removed : (evals : KeptEvaluations) (key : EvalKey)
+    → traces_by_key (remove_entry (key_eq key) evals) ≡ remove_entry (same_key (key_of key)) (traces_by_key evals)
+traces-removed evals key =
+    sym (remove_entry-shown key_of (λ (kept : Vec (Rc Evaluation Global) Global). traces_of kept.items) (key_eq key) (same_key (key_of key)) (key_eq-same_key key) evals)
+
+-- ---- a key that is there at most once
+
+not_true : (b : Bool) → b ≡ true → b ≡ false → ⊥
+not_true b is isnt = true≢false (sym is ∙ isnt)
+
+differs : (b : Bool) → (b ≡ true → ⊥) → b ≡ false
+differs true never = absurd (never refl)
+differs false never = refl
+
+module _ {K X : Type 0} (eq : K → K → Bool) (test : K → Bool) (only : (one other : K) → test one ≡ true → test other ≡ true → eq one other ≡ true) where
+  none_after : (one : K) (entries : List (K × X)) → test one ≡ true → AllByRecursion (λ other. eq one other ≡ false) (keys_of entries) → lookup_entry test entries ≡ None
+  none_after one [] is apart = refl
+  none_after one (entry ∷ entries) is apart =
+      ap (λ b. cond b (Some entry) (lookup_entry test entries)) (differs (test entry.0) (λ too. not_true (eq one entry.0) (only one entry.0 is too) apart.0))
+      ∙ none_after one entries is apart.1
+
+  gone_step : (entry : K × X) (entries : List (K × X)) (b : Bool) → test entry.0 ≡ b → (b ≡ true → lookup_entry test entries ≡ None)
+      → lookup_entry test (remove_entry test entries) ≡ None → lookup_entry test (cond b entries (entry ∷ remove_entry test entries)) ≡ None
+  gone_step entry entries true is here rest = here refl
+  gone_step entry entries false is here rest = ap (λ b. cond b (Some entry) (lookup_entry test (remove_entry test entries))) is ∙ rest
+
+  pub lookup_entry-removed : (entries : List (K × X)) → IsDistinct eq (keys_of entries) → lookup_entry test (remove_entry test entries) ≡ None
+  unfolding IsDistinct
+  lookup_entry-removed [] distinct = refl
+  lookup_entry-removed (entry ∷ entries) distinct =
+      gone_step entry entries (test entry.0) refl (λ is. none_after entry.0 entries is distinct.0) (lookup_entry-removed entries distinct.1)
+
+one_key : (key one other : EvalKey) → key_eq key one ≡ true → key_eq key other ≡ true → key_eq one other ≡ true
+one_key key one other is too = ≡-key_eq one other (sym (key_eq-≡ key one is) ∙ key_eq-≡ key other too)
+
+put-new : {K X : Type 0} (eq : K → K → Bool) (cache : LruCache K X) (key : K) (value : X) → lookup_entry (eq key) cache.entries ≡ None
+    → put_entries eq cache key value ≡ (key, value) ∷ take (cache.cap - 1) cache.entries
+put-new eq cache key value none =
+    ap (λ found. option_map_or (λ e. (e.0, value) ∷ remove_entry (eq key) cache.entries) found ((key, value) ∷ take (cache.cap - 1) cache.entries)) none
+
+-- The evaluations of a key were taken out, and others put there, if there is memory for that. What is seen is that the
+-- traces of these stand first, or that those of the key are gone.
+pub traces-put : {A E : Type 0} (result : Result A E) (old middle new : LruCache EvalKey (Vec (Rc Evaluation Global) Global)) (key : EvalKey)
+    (kept : Vec (Rc Evaluation Global) Global) → IsDistinct key_eq (keys_of old.entries) → middle ≡ lru_cache (remove_entry (key_eq key) old.entries) old.cap
+    → OnOk result (new ≡ lru_cache (put_entries key_eq middle key kept) middle.cap) → OnErr result (new ≡ middle)
+    → (traces_by_key new.entries ≡ (key_of key, traces_of kept.items) ∷ take (old.cap - 1) (remove_entry (same_key (key_of key)) (traces_by_key old.entries)))
+    ⊎ (traces_by_key new.entries ≡ remove_entry (same_key (key_of key)) (traces_by_key old.entries))
+traces-put (Ok value) old middle new key kept distinct removed ok err =
+    let none : lookup_entry (key_eq key) middle.entries ≡ None =
+    ap (λ (c : LruCache EvalKey (Vec (Rc Evaluation Global) Global)). lookup_entry (key_eq key) c.entries) removed
+    ∙ lookup_entry-removed key_eq (key_eq key) (one_key key) old.entries distinct in
+    inl (
+    ap (λ (c : LruCache EvalKey (Vec (Rc Evaluation Global) Global)). traces_by_key c.entries) ok
+    ∙ ap traces_by_key (put-new key_eq middle key kept none)
+    ∙ ap (λ (c : LruCache EvalKey (Vec (Rc Evaluation Global) Global)). (key_of key, traces_of kept.items) ∷ traces_by_key (take (c.cap - 1) c.entries)) removed
+    ∙ ap (λ rest. (key_of key, traces_of kept.items) ∷ rest) (sym (take-map (λ (e : EvalKey × Vec (Rc Evaluation Global) Global). (key_of e.0, traces_of e.1.items)) (old.cap - 1) (remove_entry (key_eq key) old.entries)))
+    ∙ ap (λ rest. (key_of key, traces_of kept.items) ∷ take (old.cap - 1) rest) (traces-removed old.entries key)
+    )
+traces-put (Err fault) old middle new key kept distinct removed ok err =
+    inr (ap (λ (c : LruCache EvalKey (Vec (Rc Evaluation Global) Global)). traces_by_key c.entries) (err ∙ removed) ∙ traces-removed old.entries key)
+
+cap-put : {A E : Type 0} (result : Result A E) (old middle new : LruCache EvalKey (Vec (Rc Evaluation Global) Global)) (key : EvalKey)
+    (kept : Vec (Rc Evaluation Global) Global) → middle ≡ lru_cache (remove_entry (key_eq key) old.entries) old.cap
+    → OnOk result (new ≡ lru_cache (put_entries key_eq middle key kept) middle.cap) → OnErr result (new ≡ middle) → new.cap ≡ old.cap
+cap-put (Ok value) old middle new key kept removed ok err =
+    ap (λ (c : LruCache EvalKey (Vec (Rc Evaluation Global) Global)). c.cap) ok ∙ ap (λ (c : LruCache EvalKey (Vec (Rc Evaluation Global) Global)). c.cap) removed
+cap-put (Err fault) old middle new key kept removed ok err = ap (λ (c : LruCache EvalKey (Vec (Rc Evaluation Global) Global)). c.cap) (err ∙ removed)
+
+-- a cache whose evaluations are these
+abbrev pub with_evals : List (List ℕ) → ℕ → Counts → LruCache EvalKey (Vec (Rc Evaluation Global) Global) → CacheValue
+with_evals contents parses counts evals = record {
+  contents = contents;
+  traces = traces_by_key evals.entries;
+  sizes = record { parses = parses; keys = evals.cap };
+  counts = counts;
+}
+
+-- the newest evaluations of a key were put in place of the older ones
+pub Keeps-put : {A E : Type 0} (result : Result A E) (contents : List (List ℕ)) (parses : ℕ) (counts : Counts)
+    (old middle new : LruCache EvalKey (Vec (Rc Evaluation Global) Global)) (key : EvalKey) (evaluation : Evaluation)
+    (older : Option (Vec (Rc Evaluation Global) Global)) (kept : Vec (Rc Evaluation Global) Global)
+    → HasFewAnswers evaluation.trace → older ≡ kept_at old.entries key → AreNewest evaluation (items_of older) kept.items
+    → IsDistinct key_eq (keys_of old.entries) → middle ≡ lru_cache (remove_entry (key_eq key) old.entries) old.cap
+    → OnOk result (new ≡ lru_cache (put_entries key_eq middle key kept) middle.cap) → OnErr result (new ≡ middle)
+    → Keeps (key_of key) evaluation.trace (with_evals contents parses counts old) (with_evals contents parses counts new)
+Keeps-put result contents parses counts old middle new key evaluation older kept few found newest distinct removed ok err =
+    let first : List (List Question) → List (Key × List (List Question)) =
+    λ traces. (key_of key, traces) ∷ take (old.cap - 1) (remove_entry (same_key (key_of key)) (traces_by_key old.entries)) in
+    let before : traces_of (items_of older) ≡ traces_at (with_evals contents parses counts old) (key_of key) = traces-of-kept old.entries key older found in
+    record {
+      few = λ _. elim (traces-put result old middle new key kept distinct removed ok err) [
+        | inl put ↦ elim newest.traces [
+          | inl four ↦ inl (put ∙ ap first (four ∙ ap (λ traces. take 4 (evaluation.trace ∷ traces)) before))
+          | inr three ↦ inr (inl (put ∙ ap first (three ∙ ap (take 3) before)))
+        ]
+        | inr gone ↦ inr (inr gone)
+      ];
+      other = λ many. absurd (many few);
+      rest = ap (λ keys. record { contents = contents; traces = traces_by_key new.entries; sizes = record { parses = parses; keys = keys }; counts = counts })
+          (cap-put result old middle new key kept removed ok err);
+    }
+
+-- ---- contents
+
+without_step : (content : List ℕ) (entry : ContentKey × Result (Rc Makefile Global) ParseFault) (entries : KeptParses) (b : Bool) (rest : List (List ℕ))
+    → contents_of (remove_entry (λ k. bytes_eq content k.content) entries) ≡ rest
+    → contents_of (cond b entries (entry ∷ remove_entry (λ k. bytes_eq content k.content) entries)) ≡ cond b (contents_of entries) (entry.0.content ∷ rest)
+without_step content entry entries true rest is = refl
+without_step content entry entries false rest is = ap (λ more. entry.0.content ∷ more) is
+
+contents-removed : (parses : KeptParses) (key : ContentKey) → contents_of (remove_entry (content_eq key) parses) ≡ without key.content (contents_of parses)
+contents-removed [] key = refl
+contents-removed (entry ∷ parses) key =
+    without_step key.content entry parses (bytes_eq key.content entry.0.content) (without key.content (contents_of parses)) (contents-removed parses key)
+
+first-content : (parses : KeptParses) (key : ContentKey) (found : Option (ContentKey × Result (Rc Makefile Global) ParseFault))
+    → lookup_entry (content_eq key) parses ≡ found → is_some found ≡ true
+    → contents_of (option_map_or (λ e. e ∷ remove_entry (content_eq key) parses) found parses) ≡ key.content ∷ contents_of (remove_entry (content_eq key) parses)
+first-content parses key None is there = absurd (true≢false (sym there))
+first-content parses key (Some entry) is there =
+    ap (λ content. content ∷ contents_of (remove_entry (content_eq key) parses))
+    (sym ((bytes_eq-Decides key.content entry.0.content).0 (Contains-lookup_entry (content_eq key) parses entry is).1))
+
+is_some-entry : {K X : Type 0} (test : K → Bool) (entries : List (K × X)) → is_some (lookup_entry test entries) ≡ is_some (lookup test entries)
+is_some-entry test [] = refl
+is_some-entry test (entry ∷ entries) = by (test entry.0) (is_some-entry test entries)
+  where
+    by : (b : Bool) → is_some (lookup_entry test entries) ≡ is_some (lookup test entries)
+        → is_some (cond b (Some entry) (lookup_entry test entries)) ≡ is_some (cond b (Some entry.1) (lookup test entries))
+    by true same = refl
+    by false same = same
+
+-- the content of a parse that was used stands first
+pub contents-first : (parses : KeptParses) (key : ContentKey) → is_some (lookup (content_eq key) parses) ≡ true
+    → contents_of (promoted (content_eq key) parses) ≡ key.content ∷ without key.content (contents_of parses)
+contents-first parses key there =
+    first-content parses key (lookup_entry (content_eq key) parses) refl (is_some-entry (content_eq key) parses ∙ there)
+    ∙ ap (λ rest. key.content ∷ rest) (contents-removed parses key)
+
+is-none : {X : Type 0} (found : Option X) → is_some found ≡ false → found ≡ None
+is-none None isnt = refl
+is-none (Some value) isnt = absurd (true≢false isnt)
+
+-- so does that of a new one, if there is memory to keep it
+pub contents-put : {A E : Type 0} (result : Result A E) (old new : LruCache ContentKey (Result (Rc Makefile Global) ParseFault)) (key : ContentKey)
+    (parse : Result (Rc Makefile Global) ParseFault) → is_some (lookup (content_eq key) old.entries) ≡ false
+    → OnOk result (new ≡ lru_cache (put_entries content_eq old key parse) old.cap) → OnErr result (new ≡ old)
+    → (contents_of new.entries ≡ key.content ∷ take (old.cap - 1) (contents_of old.entries)) ⊎ (contents_of new.entries ≡ contents_of old.entries)
+contents-put (Ok value) old new key parse none ok err =
+    inl (
+    ap (λ (c : LruCache ContentKey (Result (Rc Makefile Global) ParseFault)). contents_of c.entries) ok
+    ∙ ap contents_of (put-new content_eq old key parse (is-none _ (is_some-entry (content_eq key) old.entries ∙ none)))
+    ∙ ap (λ rest. key.content ∷ rest) (sym (take-map (λ (e : ContentKey × Result (Rc Makefile Global) ParseFault). e.0.content) (old.cap - 1) old.entries))
+    )
+contents-put (Err fault) old new key parse none ok err =
+    inr (ap (λ (c : LruCache ContentKey (Result (Rc Makefile Global) ParseFault)). contents_of c.entries) err)
+
+-- a cache whose parses are these
+abbrev pub with_parses : List (Key × List (List Question)) → ℕ → Counts → LruCache ContentKey (Result (Rc Makefile Global) ParseFault) → CacheValue
+with_parses traces keys counts parses = record {
+  contents = contents_of parses.entries;
+  traces = traces;
+  sizes = record { parses = parses.cap; keys = keys };
+  counts = counts;
+}
+
+-- a parse that was kept was used
+pub HandsOut-kept : (traces : List (Key × List (List Question))) (keys : ℕ) (counts more : Counts)
+    (old new : LruCache ContentKey (Result (Rc Makefile Global) ParseFault)) (key : ContentKey) → is_some (lookup (content_eq key) old.entries) ≡ true
+    → new ≡ lru_cache (promoted (content_eq key) old.entries) old.cap → more ≡ record counts { parses = one_more counts.parses }
+    → HandsOut key.content (with_parses traces keys counts old) (with_parses traces keys more new)
+HandsOut-kept traces keys counts more old new key there first counted =
+    let held : list_any (bytes_eq key.content) (contents_of old.entries) ≡ true = sym (is_some-parse old.entries key) ∙ there in
+    record {
+      kept = λ _. ap (λ (c : LruCache ContentKey (Result (Rc Makefile Global) ParseFault)). contents_of c.entries) first ∙ contents-first old.entries key there;
+      made = λ isnt. absurd (true≢false (sym held ∙ isnt));
+      counts = counted ∙ ap (λ b. count_parse b counts) (sym held);
+      traces = refl;
+      sizes = ap (λ (c : LruCache ContentKey (Result (Rc Makefile Global) ParseFault)). record { parses = c.cap; keys = keys }) first;
+    }
