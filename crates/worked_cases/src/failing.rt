@@ -2,6 +2,10 @@
 use crate::service::reply_answer;
 use case_lines::{Answer, Trouble, one_text};
 use computed_ports::ComputedPorts;
+use eval_cache::EvalCache;
+use index_keep::Keeper;
+use index_store::IndexStore;
+use kept_ports::{CallTurned, PlainCall};
 use make_cases::{Asking, FailingFiles, World, failing_answer};
 use mk_files::Listing;
 use mk_paths::{FilesFault, Settings};
@@ -49,4 +53,56 @@ fn answer_to<F: Listing>(
     let plain = Plain::new(alloc)?;
     let (prepared, _spent) = plain.prepare(alloc, &mut ports, Method::Get, target, &[])?;
     Ok(reply_answer(alloc, &prepared.reply))
+}
+
+/// `turn failing TARGET`: the same of the first turn of the GET, over an index and a cache that keep nothing yet. If that
+/// turn has no answer, it is `more`.
+pub fn turned(alloc: Global, world: &mut World, given: &[Vec<u8>]) -> Result<Answer, Trouble> {
+    let target = one_text(given)?;
+    let World {
+        files,
+        settings,
+        ..
+    } = world;
+    failing_answer(alloc, files, &mut Turning { settings, target })
+}
+
+/// The first turn of a GET of a target.
+#[derive(Drop)]
+struct Turning<'a> {
+    settings: &'a Settings,
+    target: &'a str,
+}
+
+impl Asking for Turning<'_> {
+    fn ask(
+        &mut self,
+        alloc: Global,
+        files: &mut FailingFiles<'_>,
+    ) -> Result<Result<Answer, Trouble>, FilesFault> {
+        Ok(Ok(turn_to(alloc, files, self.settings, self.target)?))
+    }
+}
+
+/// The status and the body of the reply to a GET over these files, if it is answered in its first turn.
+fn turn_to<F: Listing>(
+    alloc: Global,
+    files: &mut F,
+    settings: &Settings,
+    target: &str,
+) -> Result<Answer, FilesFault> {
+    let plain = Plain::new(alloc)?;
+    let mut cache = EvalCache::new(alloc, 16, 16)?;
+    let mut keeper = Keeper::new(alloc, IndexStore::open_in_memory(alloc)?);
+    let call = PlainCall {
+        plain: &plain,
+        settings,
+        method: Method::Get,
+        target,
+        body: &[],
+    };
+    match call.turn(alloc, &mut cache, files, &mut keeper, None)? {
+        CallTurned::Done(prepared, _spent) => Ok(reply_answer(alloc, &prepared.reply)),
+        CallTurned::More(_, _) => Ok(Answer::of_word(alloc, "more")),
+    }
 }

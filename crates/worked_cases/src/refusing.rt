@@ -1,45 +1,44 @@
 //! Tenants whose worlds can't be kept, so that no service over them begins.
-ghost use Rattle.std.specs.Prelude.{[]};
 
 use mk_paths::FilesFault;
 use ports_core::{Config, Counts, Job, Tenants, Worked};
 use ports_http::Request;
 use std::alloc::Global;
 
-/// Tenants of which there never are any: what would keep their worlds refuses. If one parse is to be kept, there is no
-/// memory for it.
+/// Tenants as `K` keeps them, but that never begin: what would keep their worlds refuses. If one parse is to be kept,
+/// there is no memory for it.
 #[derive(Drop)]
-pub enum NeverKept {}
+pub struct NeverKept<K> {
+    kept: K,
+}
 
-impl Tenants for NeverKept {
-    ghost worlds = { λ _. [] };
+impl<K: Tenants> Tenants for NeverKept<K> {
+    ghost worlds = { λ never. K.worlds never.kept };
 
-    ghost jobs = { λ _. [] };
+    ghost jobs = { λ never. K.jobs never.kept };
 
-    ghost use Rattle.ports_core.specs.Sharing.{unused};
+    ghost sharing = { λ never. K.sharing never.kept };
 
-    ghost sharing = { λ _. unused (record { parses = 1; evals = 1 }) };
-
-    fn new(_alloc: Global, config: &Config) -> Result<NeverKept, FilesFault> {
+    fn new(_alloc: Global, config: &Config) -> Result<NeverKept<K>, FilesFault> {
         match config.parses {
             1 => Err(FilesFault::Memory),
             _ => Err(FilesFault::Store),
         }
     }
 
-    fn work(&mut self, _alloc: Global, _tenant: usize, _request: &Request, _close: bool) -> Worked {
-        match *self {}
+    fn work(&mut self, alloc: Global, tenant: usize, request: &Request, close: bool) -> Worked {
+        self.kept.work(alloc, tenant, request, close)
     }
 
-    fn job(&self, _tenant: usize) -> Job {
-        match *self {}
+    fn job(&self, tenant: usize) -> Job {
+        self.kept.job(tenant)
     }
 
     fn counts(&self) -> Counts {
-        match *self {}
+        self.kept.counts()
     }
 
-    fn limit_steps(&mut self, _limit: Option<u64>) {
-        match *self {}
+    fn limit_steps(&mut self, limit: Option<u64>) {
+        self.kept.limit_steps(limit);
     }
 }

@@ -255,7 +255,10 @@ pub fn run_refused(alloc: Global, given: &[Vec<u8>]) -> Result<Answer, Trouble> 
     let [words, input] = given else {
         return Err(Trouble::NoCase);
     };
-    Ok(ran_answer(alloc, run_over::<NeverKept>(alloc, as_text(words)?, input)?))
+    Ok(ran_answer(
+        alloc,
+        run_over::<NeverKept<StoredTenants>>(alloc, as_text(words)?, input)?,
+    ))
 }
 
 fn ran_answer(alloc: Global, ran: Ran) -> Answer {

@@ -94,6 +94,7 @@ impl<N: Net> Bench for Subjects<'_, N> {
             "PUT" => service::request(alloc, &mut self.setup.world, Method::Put, given),
             "DELETE" => service::request(alloc, &mut self.setup.world, Method::Delete, given),
             "GET failing" => failing::answered(alloc, &mut self.setup.world, given),
+            "turn failing" => failing::turned(alloc, &mut self.setup.world, given),
             "rests" => service::rests(alloc, &mut self.setup.world, given),
             "bound" => service::bound(alloc, &mut self.setup.world, given),
             "stream" => service::stream(alloc, given),
