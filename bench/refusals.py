@@ -13,7 +13,7 @@ PROGRAM runs the scripts. Each run has to end in one of these ways:
 CASES is `worked_cases`, which runs the script `kept` as cases, since they say what was spent. A makefile that two
 tenants have is evaluated for the first, and the second is answered by what the cache kept. A growth of the cache that is
 refused ends no request: both are told their value, and the second one's request spends what it would alone. At least one
-run has to end so.
+run has to end so. A request whose connection is refused is no case.
 
 Prints for each script how many runs ended in each way. At the first run that ends in another it prints that run, and
 ends with status 1. The last line has the number of runs with a refusal, and of those that differed."""
@@ -212,16 +212,18 @@ def tell(name, ways):
 def kept_way(run):
     """How a run of the cases of KEPT ended; raises Odd if it is none of the ways allowed."""
     wrong = dict(re.findall(r"(?m)^standard input:(\d+): (.*), not .*$", run.out))
-    if run.status and not wrong:
-        return BEFORE
+    lost = re.findall(r"(?m)^standard input:(\d+): no case$", run.out)
     failed = [line for line, given in wrong.items() if given.startswith("503 ")]
-    if not wrong:
+    if not wrong and (run.status or len(lost) == len(KEPT.splitlines())):
+        return BEFORE
+    if not lost and not wrong:
         return PLAIN
-    if wrong == {"5": "200 4 0"}:
+    if not lost and wrong == {"5": "200 4 0"}:
         return ANEW
     # (what comes after a file that wasn't stored isn't found, and what wasn't evaluated is)
-    if len(failed) == 1 and all(it in failed or given in ("404 0 0", "200 4 0") for it, given in wrong.items()):
-        return FAILING
+    follows = all(it in failed or given in ("404 0 0", "200 4 0") for it, given in wrong.items())
+    if follows and len(failed) + len(lost) == 1:
+        return FAILING if failed else REFUSED
     raise Odd(shown(run))
 
 

@@ -1,6 +1,7 @@
 //! What a call gives, in the words of a case.
 use mk_base::{FaultKind, Stop};
 use mk_paths::FilesFault;
+use refusals::OutOfMemory;
 use std::alloc::{AllocError, AllocFailed, Global};
 use std::fmt::{Debug, Display, Write};
 
@@ -10,26 +11,26 @@ pub enum Trouble {
     /// The line is in no form of a case, or what it sets up can't be made.
     NoCase,
     /// There was no memory.
-    Memory,
+    Memory(OutOfMemory),
 }
 
 impl From<AllocError> for Trouble {
-    fn from(_error: AllocError) -> Trouble {
-        Trouble::Memory
+    fn from(error: AllocError) -> Trouble {
+        Trouble::Memory(OutOfMemory::from(error))
     }
 }
 
 impl<T: Drop> From<AllocFailed<T>> for Trouble {
-    fn from(_error: AllocFailed<T>) -> Trouble {
-        Trouble::Memory
+    fn from(error: AllocFailed<T>) -> Trouble {
+        Trouble::Memory(OutOfMemory::from(error))
     }
 }
 
 impl From<FilesFault> for Trouble {
     fn from(fault: FilesFault) -> Trouble {
         match fault {
-            FilesFault::Store => Trouble::NoCase,
-            FilesFault::Memory => Trouble::Memory,
+            FilesFault::Store(_) => Trouble::NoCase,
+            FilesFault::Memory(refused) => Trouble::Memory(refused),
         }
     }
 }
@@ -40,14 +41,14 @@ impl From<FilesFault> for Trouble {
 pub struct Answer {
     said: String,
     /// Whether there was memory for every part.
-    is_whole: bool,
+    refused: Option<OutOfMemory>,
 }
 
 impl Answer {
     pub fn new(alloc: Global) -> Answer {
         Answer {
             said: String::new(alloc),
-            is_whole: true,
+            refused: None,
         }
     }
 
@@ -92,8 +93,8 @@ impl Answer {
     pub fn stop(&mut self, stop: Stop<FaultKind>) {
         match stop {
             Stop::Fault(kind) => self.kind(&kind),
-            Stop::Store => self.word("Store"),
-            Stop::Memory => self.is_whole = false,
+            Stop::Store(_) => self.word("Store"),
+            Stop::Memory(refused) => self.refused = Some(refused),
         }
     }
 
@@ -108,16 +109,15 @@ impl Answer {
     pub fn printed<V: Display>(&mut self, alloc: Global, value: &V) {
         match format!(in alloc; "{value}") {
             Ok(printed) => self.text(printed.as_bytes()),
-            Err(_) => self.is_whole = false,
+            Err(error) => self.note(Err(error)),
         }
     }
 
     /// All that was said. It fails only if there was no memory for a part of it.
     pub fn whole(&self) -> Result<&str, Trouble> {
-        if self.is_whole {
-            Ok(self.said.as_str())
-        } else {
-            Err(Trouble::Memory)
+        match self.refused {
+            None => Ok(self.said.as_str()),
+            Some(refused) => Err(Trouble::Memory(refused)),
         }
     }
 
@@ -127,7 +127,9 @@ impl Answer {
     }
 
     fn note(&mut self, said: Result<(), AllocError>) {
-        self.is_whole = self.is_whole && said.is_ok();
+        if let Err(error) = said {
+            self.refused = Some(OutOfMemory::from(error));
+        }
     }
 
     /// What was said, with a blank after it if something was.

@@ -167,7 +167,7 @@ impl<B: Bench> Cases<B> {
         let line = call.line;
         match self.answer(call) {
             Ok(wrong) => Ok(wrong),
-            Err(Trouble::Memory) => Err(AllocError),
+            Err(Trouble::Memory(refused)) => Err(refused.into()),
             Err(Trouble::NoCase) => self.no_case(line),
         }
     }
@@ -218,7 +218,7 @@ impl<B: Bench> Cases<B> {
         };
         match judged {
             Ok(wrong) => Ok(wrong),
-            Err(Trouble::Memory) => Err(AllocError),
+            Err(Trouble::Memory(refused)) => Err(refused.into()),
             Err(Trouble::NoCase) => self.no_case(self.line),
         }
     }

@@ -7,6 +7,7 @@ mod bench;
 mod cases;
 mod line;
 mod reader;
+mod refused;
 mod writer;
 
 pub use answer::{Answer, Trouble};
@@ -14,4 +15,5 @@ pub use bench::{Bench, Ran};
 pub use cases::Cases;
 pub use line::{as_number, as_text, one_text};
 pub use reader::FailingReader;
+pub use refused::{no_memory, no_statement};
 pub use writer::FailingWriter;

@@ -5,16 +5,17 @@ use Rattle.mk_paths.specs.declared.asking.FilesFault.{FilesFault}
 use Rattle.mk_paths.specs.declared.asking.FilesFault.TheVariants.{Memory}
 use Rattle.ports_index.specs.Keeping.{Keeps}
 use Rattle.ports_query.specs.Failing.{EitherMayFail}
+use Rattle.refusals.specs.Refused.{refused}
 
 pub Keeps-nothing : (world : FilesView) → Keeps None world world
 Keeps-nothing world = record { files = refl; failures = refl }
 
 -- after work that went well memory may run out
-pub Keeps-memory : (old new : FilesView) → Keeps None old new → Keeps (Some Memory) old new
+pub Keeps-memory : (old new : FilesView) → Keeps None old new → Keeps (Some (Memory refused)) old new
 Keeps-memory old new keeps = record { files = keeps.files; failures = inl keeps.failures }
 
 -- rows that never fail can only be short of memory
-of_memory : (fault : FilesFault) → EitherMayFail (λ _. ⊥) (λ _. ⊥) fault → fault ≡ Memory
+of_memory : (fault : FilesFault) → EitherMayFail (λ _. ⊥) (λ _. ⊥) fault → fault ≡ Memory refused
 of_memory fault (inl (inl never)) = absurd never
 of_memory fault (inl (inr is)) = is
 of_memory fault (inr (inl never)) = absurd never

@@ -100,7 +100,7 @@ fn value_after(
             (Ok(found), units)
         }
         Err(PureStop::Fault(failed)) => failure(failed),
-        Err(PureStop::Memory) => return Err(AllocError),
+        Err(PureStop::Memory(refused)) => return Err(refused.into()),
     };
     Ok((found, evaluated.cost.saturating_add(more)))
 }
@@ -207,7 +207,7 @@ fn port_record(
             (Ok(Some(recorded)), units)
         }
         Err(PureStop::Fault(failed)) => failure(failed),
-        Err(PureStop::Memory) => return Err(AllocError),
+        Err(PureStop::Memory(refused)) => return Err(refused.into()),
     };
     Ok((found, evaluated.cost.saturating_add(more)))
 }
@@ -227,8 +227,8 @@ fn evaluation<F: Files>(
     match evaluate(alloc, files, settings, makefile, flavors) {
         Ok(evaluated) => Ok(Ok(evaluated)),
         Err(Stop::Fault(failed)) => Ok(Err(failed)),
-        Err(Stop::Store) => Err(FilesFault::Store),
-        Err(Stop::Memory) => Err(FilesFault::Memory),
+        Err(Stop::Store(refusal)) => Err(FilesFault::Store(refusal)),
+        Err(Stop::Memory(refused)) => Err(FilesFault::Memory(refused)),
     }
 }
 

@@ -22,7 +22,7 @@ pub record IsConditionOf (text : List ℕ) (tree : OrTree) : Type 0 where
 abbrev pub IsFaultOf : List ℕ → ConditionError → Type 0
 IsFaultOf text Unclosed = left_of text ≢ []
 IsFaultOf text Unreadable = (left_of text ≡ []) × ((tree : OrTree) → IsConditionOf text tree → ⊥)
-IsFaultOf text Memory = ⊤
+IsFaultOf text (Memory _) = ⊤
 
 -- the tree of tokens, if there are any
 abbrev pub tree_on : Option (List Token) → Option OrTree

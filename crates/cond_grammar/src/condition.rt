@@ -1,5 +1,6 @@
 //! Conditions read into their trees.
 ghost use Rattle.std.specs.Prelude.{◌≡◌, ◌≢◌, [], true, false, option_map, All, IfOk, IfErr};
+ghost use Rattle.refusals.specs.Refused.{refused};
 ghost use Rattle.cond_grammar.specs.declared.condition.ConditionError.TheVariants as errors;
 ghost use Rattle.mk_ref.specs.Units.{left_of};
 ghost use Rattle.cond_grammar.specs.Trees.{or_tokens};
@@ -11,6 +12,7 @@ use crate::nodes::Condition;
 use crate::reading::read;
 use crate::scanning::tokens;
 use mk_ref::{PiecesFault, outside, outside_keeps_places, pieces};
+use refusals::OutOfMemory;
 use std::alloc::{AllocError, Global};
 use thiserror::Error;
 
@@ -28,14 +30,14 @@ pub enum ConditionError {
     Unreadable,
     /// Memory ran out.
     #[error("out of memory")]
-    Memory,
+    Memory(OutOfMemory),
 }
 
 impl From<AllocError> for ConditionError {
-    ghost from_gives = { λ _ error. error ≡ errors.Memory };
+    ghost from_gives = { λ _ error. error ≡ errors.Memory refused };
 
-    fn from(_: AllocError) -> ConditionError {
-        ConditionError::Memory
+    fn from(error: AllocError) -> ConditionError {
+        ConditionError::Memory(OutOfMemory::from(error))
     }
 }
 
@@ -81,7 +83,7 @@ fn ends_each_reference(alloc: Global, text: &str) -> Result<bool, AllocError>
     match pieces(alloc, text) {
         Ok(_) => Ok(true),
         Err(PiecesFault::Unclosed { at: _ }) => Ok(false),
-        Err(PiecesFault::Memory) => Err(AllocError),
+        Err(PiecesFault::Memory(refused)) => Err(refused.into()),
     }
 }
 

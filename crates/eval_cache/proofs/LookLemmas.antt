@@ -15,6 +15,7 @@ use Rattle.eval_cache.specs.Keys.{Key}
 use Rattle.eval_cache.specs.Right.{IsRight}
 use Rattle.eval_cache.specs.Looking.{after, agreeing, checked_in, checked_among, FailsAmong, IsAgreed}
 use Rattle.eval_cache.specs.Held.{AreRight, AreShort, HasFewAnswers, IsOneOf, traces_of}
+use Rattle.refusals.specs.Refused.{refused}
 
 -- what is right of each is right of one of them
 pub AreRight-IsOneOf : (key : Key) (kept : List (Rc Evaluation Global)) (evaluation : Evaluation)
@@ -130,8 +131,8 @@ Checked-fails may old traces rest count middle new fault so_far kind failed =
     LeavesAtStop-on may old middle new (stop_of fault) (record { questions = so_far.before; in_log = so_far.in_log }) (at_once fault kind)
   where
     at_once : (fault : FilesFault) → may fault → FailsAmong may middle new fault
-    at_once faults.Store kind = (kind, failed)
-    at_once faults.Memory kind = inr (kind, failed)
+    at_once (faults.Store _) kind = (kind, failed)
+    at_once (faults.Memory _) kind = inr (kind, failed)
 
 -- the rest of the traces from a place on begins with the one there
 pub Checked-at : (old : FilesView) (kept : List (Rc Evaluation Global)) (i : ℕ) (one : Rc Evaluation Global) (evaluation : Evaluation) (count : ℕ) (new : FilesView)
@@ -157,7 +158,7 @@ AreRight-found files key checked kept (Some evaluation) right found = record {
 -- no more can share an evaluation whose trace agrees
 pub Checked-alone : (may : FilesFault → Type 0) (old : FilesView) (traces : List (List Question)) (trace : List Question) (rest : List (List Question)) (count : ℕ)
     (answer : Bool × ℕ) (middle new : FilesView) → Checked old traces (trace ∷ rest) count middle → answer ≡ agreement middle.files trace
-    → AsksAgain middle trace answer.1 new → FailsAmong may old new faults.Memory
+    → AsksAgain middle trace answer.1 new → FailsAmong may old new (faults.Memory refused)
 Checked-alone may old traces trace rest count answer middle new so_far found asks =
     let same = agreement-checked old middle so_far.before trace answer so_far.in_log found in
     inl (record {

@@ -282,7 +282,7 @@ fn parse_anew(alloc: Global, content: &Content) -> Result<Parse, AllocError>
     match parse(alloc, content.as_slice()) {
         Ok(makefile) => Ok(Ok(Rc::new(alloc, makefile)?)),
         Err(ParseError::Fault(fault)) => Ok(Err(fault)),
-        Err(ParseError::Memory) => Err(AllocError),
+        Err(ParseError::Memory(refused)) => Err(refused.into()),
     }
 }
 

@@ -66,16 +66,16 @@ OnErr-always (Err fault) p = p
 -- ---- a turn of a machine, for which files go on with a trace
 
 failed_once : (fault : FilesFault) (may : FilesFault → Type 0) (middle last : FilesView) → LeavesAtFailure may middle last fault → LeavesMap (Some fault) middle last
-failed_once faults.Store may middle last leaves = (ap (λ (view : FilesView). view.files) leaves.1.counted, inr (ap (λ (view : FilesView). view.failures) leaves.1.counted))
-failed_once faults.Memory may middle last leaves = elim leaves [
+failed_once (faults.Store _) may middle last leaves = (ap (λ (view : FilesView). view.files) leaves.1.counted, inr (ap (λ (view : FilesView). view.failures) leaves.1.counted))
+failed_once (faults.Memory _) may middle last leaves = elim leaves [
   | inl more ↦ (ap (λ (view : FilesView). view.files) more.in_log, inl (ap (λ (view : FilesView). view.failures) more.in_log))
   | inr failing ↦ (ap (λ (view : FilesView). view.files) failing.1.counted, inr (ap (λ (view : FilesView). view.failures) failing.1.counted))
 ]
 
 -- it failed as the files may
 pub failed_as : (fault : FilesFault) (may : FilesFault → Type 0) (middle last : FilesView) → LeavesAtFailure (MayFail may) middle last fault → MayFail may fault
-failed_as faults.Store may middle last leaves = leaves.0
-failed_as faults.Memory may middle last leaves = inr refl
+failed_as (faults.Store _) may middle last leaves = leaves.0
+failed_as (faults.Memory _) may middle last leaves = inr refl
 
 -- files that didn't fail, whatever else did
 pub LeavesMap-any : (fault : Option FilesFault) (first last : FilesView) → last.files ≡ first.files → last.failures ≡ first.failures → LeavesMap fault first last

@@ -231,7 +231,7 @@ impl<R: PathRows + Drop> Keeper<R> {
         known_rows_are_enough();
         let (mut known, spent) = self.refresh(alloc, cache, files, settings)?;
         let Progress::Current(listed) = &self.progress else {
-            return Err(FilesFault::Memory);
+            unreachable!(); // the refresh is done
         };
         Ok((roots_of_all(alloc, listed, &mut known)?, spent))
     }
@@ -260,7 +260,7 @@ impl<R: PathRows + Drop> Keeper<R> {
         known_rows_are_enough();
         let (mut known, spent) = self.refresh(alloc, cache, files, settings)?;
         let Progress::Current(listed) = &self.progress else {
-            return Err(FilesFault::Memory);
+            unreachable!(); // the refresh is done
         };
         let edges = edges_among(alloc, listed, &known)?;
         Ok((roots_of_all(alloc, listed, &mut known)?, edges, spent))

@@ -15,7 +15,7 @@ pub(crate) fn insert_name(names: &mut BTreeSet<String>, name: String) -> Result<
 {
     match names.insert(name) {
         Ok(_is_new) => Ok(()),
-        Err(_failed) => Err(AllocError),
+        Err(failed) => Err(failed.into()),
     }
 }
 

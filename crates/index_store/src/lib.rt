@@ -1,7 +1,6 @@
 //! The rows of one tenant's index, in a database in memory.
 #![tactic(auto)]
 
-mod faults;
 mod path_rows;
 mod port_table;
 mod reading;

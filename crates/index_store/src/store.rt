@@ -3,7 +3,6 @@ ghost use Rattle.std.specs.Prelude.{IfOk, OnOk, OnErr, None};
 ghost use Rattle.index_store.specs.Entries.{HasNoRow, PutsRow, PutsProfile, SameRows, SameProfiles};
 ghost use Rattle.index_store.specs.PortTable.{stored_by, profiles_by};
 
-use crate::faults::fault_of;
 use crate::path_rows::{PathRows, StoredRow};
 use crate::reading::{read_paths, read_rows};
 use crate::writing::{mark_paths, mark_rows, open, put_earlier_row, put_row, take_paths};
@@ -12,6 +11,7 @@ use mk_text::Profile;
 use sqlite::{Connection, MemStore};
 use std::alloc::Global;
 use std::marker::Model;
+use table_facts::Sqlite;
 
 /// The rows of one tenant's index, in a database in memory of its own. Clauses see what is stored for each
 /// path (`stored_by`), and with which profile (`profiles_by`).
@@ -44,7 +44,7 @@ impl IndexStore {
     {
         match open(alloc) {
             Ok(conn) => Ok(IndexStore { conn }),
-            Err(error) => Err(fault_of(&error)),
+            Err(error) => Err(FilesFault::of_statement::<Sqlite>(&error)),
         }
     }
 
@@ -65,7 +65,7 @@ impl IndexStore {
     {
         match put_earlier_row(&mut self.conn, path, text) {
             Ok(()) => Ok(()),
-            Err(error) => Err(fault_of(&error)),
+            Err(error) => Err(FilesFault::of_statement::<Sqlite>(&error)),
         }
     }
 }
@@ -78,42 +78,42 @@ impl PathRows for IndexStore {
     fn rows(&mut self, alloc: Global) -> Result<Vec<StoredRow>, FilesFault> {
         match read_rows(&mut self.conn, alloc) {
             Ok(rows) => Ok(rows),
-            Err(error) => Err(fault_of(&error)),
+            Err(error) => Err(FilesFault::of_statement::<Sqlite>(&error)),
         }
     }
 
     fn paths(&mut self, alloc: Global) -> Result<Vec<String>, FilesFault> {
         match read_paths(&mut self.conn, alloc) {
             Ok(paths) => Ok(paths),
-            Err(error) => Err(fault_of(&error)),
+            Err(error) => Err(FilesFault::of_statement::<Sqlite>(&error)),
         }
     }
 
     fn put(&mut self, path: &str, profile: Profile, text: &[u8]) -> Result<(), FilesFault> {
         match put_row(&mut self.conn, path, profile, text) {
             Ok(()) => Ok(()),
-            Err(error) => Err(fault_of(&error)),
+            Err(error) => Err(FilesFault::of_statement::<Sqlite>(&error)),
         }
     }
 
     fn mark(&mut self, paths: &[String]) -> Result<(), FilesFault> {
         match mark_paths(&mut self.conn, paths) {
             Ok(()) => Ok(()),
-            Err(error) => Err(fault_of(&error)),
+            Err(error) => Err(FilesFault::of_statement::<Sqlite>(&error)),
         }
     }
 
     fn mark_all(&mut self) -> Result<(), FilesFault> {
         match mark_rows(&mut self.conn) {
             Ok(()) => Ok(()),
-            Err(error) => Err(fault_of(&error)),
+            Err(error) => Err(FilesFault::of_statement::<Sqlite>(&error)),
         }
     }
 
     fn take_out(&mut self, paths: &[String]) -> Result<(), FilesFault> {
         match take_paths(&mut self.conn, paths) {
             Ok(()) => Ok(()),
-            Err(error) => Err(fault_of(&error)),
+            Err(error) => Err(FilesFault::of_statement::<Sqlite>(&error)),
         }
     }
 

@@ -150,7 +150,7 @@ fn add_value(
             Ok(answer)
         }
         Err(PureStop::Fault(failed)) => failure(alloc, &failed),
-        Err(PureStop::Memory) => Err(Trouble::Memory),
+        Err(PureStop::Memory(refused)) => Err(Trouble::Memory(refused)),
     }
 }
 
@@ -244,8 +244,8 @@ fn outcome_by<F: Files + Drop>(
         Way::Whole => match evaluate(alloc, files, settings, name, flavors) {
             Ok(evaluated) => Ok(Some(Ok(evaluated))),
             Err(Stop::Fault(failed)) => Ok(Some(Err(failed))),
-            Err(Stop::Store) => Err(FilesFault::Store),
-            Err(Stop::Memory) => Err(FilesFault::Memory),
+            Err(Stop::Store(refusal)) => Err(FilesFault::Store(refusal)),
+            Err(Stop::Memory(refused)) => Err(FilesFault::Memory(refused)),
         },
         Way::Turns(units) => {
             let ended = by_turns(alloc, files, settings, name, flavors, units)?;

@@ -3,7 +3,7 @@ ghost use Rattle.std.specs.Prelude.{◌≡◌, ◌+◌, IfErr, OnOk, OnErr};
 ghost use Rattle.mk_paths.specs.FilesView.{Fails};
 ghost use Rattle.make_cases.specs.Failing.{view_of};
 
-use case_lines::{Answer, Trouble};
+use case_lines::{Answer, Trouble, no_memory, no_statement};
 use mk_files::{Content, Files, Listing, MemoryFiles};
 use mk_paths::{FilesFault, Name, Names};
 use std::alloc::Global;
@@ -102,8 +102,8 @@ pub fn failing_answer<A: Asking>(
     files: &mut MemoryFiles,
     asking: &mut A,
 ) -> Result<Answer, Trouble> {
-    let mut answer = answer_after(alloc, files, FilesFault::Store, asking)?;
-    let other = answer_after(alloc, files, FilesFault::Memory, asking)?;
+    let mut answer = answer_after(alloc, files, no_statement(alloc), asking)?;
+    let other = answer_after(alloc, files, FilesFault::Memory(no_memory(alloc)?), asking)?;
     if !answer.is_same(&other)? {
         answer.word("or");
         answer.word(other.whole()?);

@@ -1,6 +1,6 @@
 //! Names of files, search paths, and worlds of files.
 use case_lines::{Answer, Trouble, as_number, as_text, one_text};
-use mk_base::{Budget, FaultKind, UNITS};
+use mk_base::{Budget, FaultKind, Stop, UNITS};
 use mk_files::{Content, Files, Listing, MemoryFiles, ask_has, ask_read, look_has, look_read};
 use mk_paths::{Name, NameFault, Names, PathFault, SearchPath, find};
 use std::alloc::Global;
@@ -17,7 +17,7 @@ pub fn name_of(alloc: Global, given: &[Vec<u8>]) -> Result<Answer, Trouble> {
         Ok(name) => Ok(name_answer(alloc, name)),
         Err(NameFault::BadName) => Ok(Answer::of_word(alloc, "BadName")),
         Err(NameFault::Above) => Ok(Answer::of_word(alloc, "Above")),
-        Err(NameFault::Memory) => Err(Trouble::Memory),
+        Err(NameFault::Memory(refused)) => Err(Trouble::Memory(refused)),
     }
 }
 
@@ -43,7 +43,7 @@ pub fn trees_of(alloc: Global, given: &[Vec<u8>]) -> Result<Answer, Trouble> {
     match SearchPath::read(alloc, one_text(given)?) {
         Ok(path) => Ok(trees_answer(alloc, &path)),
         Err(PathFault::BadPath) => Ok(Answer::of_word(alloc, "BadPath")),
-        Err(PathFault::Memory) => Err(Trouble::Memory),
+        Err(PathFault::Memory(refused)) => Err(Trouble::Memory(refused)),
     }
 }
 
@@ -64,7 +64,7 @@ pub fn trees_answer(alloc: Global, path: &SearchPath) -> Answer {
 /// A name that a case gives.
 pub fn given_name(alloc: Global, text: &[u8]) -> Result<Name, Trouble> {
     Name::read(alloc, as_text(text)?).map_err(|fault| match fault {
-        NameFault::Memory => Trouble::Memory,
+        NameFault::Memory(refused) => Trouble::Memory(refused),
         _ => Trouble::NoCase,
     })
 }
@@ -107,7 +107,7 @@ pub fn read(alloc: Global, world: &mut MemoryFiles, given: &[Vec<u8>]) -> Result
     let name = given_name(alloc, name)?;
     let is_there = is_there(world, &name)?;
     let read = world.read(&name)?;
-    let seen = look_read::<MemoryFiles, FaultKind>(world, &name).map_err(|_| Trouble::Memory)?;
+    let seen = look_read::<MemoryFiles, FaultKind>(world, &name).map_err(trouble_of)?;
     Ok(match (read, seen) {
         (Some(read), Some(seen)) if is_there == Some(true) => {
             two_answer(alloc, read.as_slice(), seen.as_slice())
@@ -117,6 +117,14 @@ pub fn read(alloc: Global, world: &mut MemoryFiles, given: &[Vec<u8>]) -> Result
     })
 }
 
+/// What kept a question from being asked.
+fn trouble_of(stop: Stop<FaultKind>) -> Trouble {
+    match stop {
+        Stop::Memory(refused) => Trouble::Memory(refused),
+        Stop::Fault(_) | Stop::Store(_) => Trouble::NoCase,
+    }
+}
+
 /// Whether a file is there. `None` if two ways of asking give different answers.
 fn is_there(world: &mut MemoryFiles, name: &Name) -> Result<Option<bool>, Trouble> {
     let has = world.has(name)?;
@@ -124,7 +132,7 @@ fn is_there(world: &mut MemoryFiles, name: &Name) -> Result<Option<bool>, Troubl
     match look_has::<MemoryFiles, FaultKind>(world, name) {
         Ok(seen) if seen == has && is_held == has => Ok(Some(has)),
         Ok(_) => Ok(None),
-        Err(_) => Err(Trouble::Memory),
+        Err(stop) => Err(trouble_of(stop)),
     }
 }
 
@@ -203,7 +211,7 @@ pub fn place(alloc: Global, world: &mut MemoryFiles, given: &[Vec<u8>]) -> Resul
 /// A search path that a case gives.
 pub fn given_path(alloc: Global, text: &[u8]) -> Result<SearchPath, Trouble> {
     SearchPath::read(alloc, as_text(text)?).map_err(|fault| match fault {
-        PathFault::Memory => Trouble::Memory,
+        PathFault::Memory(refused) => Trouble::Memory(refused),
         PathFault::BadPath => Trouble::NoCase,
     })
 }

@@ -71,8 +71,8 @@ pub fn blamed(alloc: Global, given: &[Vec<u8>]) -> Result<Answer, Trouble> {
     let stop = Stop::Fault(FaultKind::Reference);
     match stop.blame(alloc, as_text(name)?, as_number(line)?) {
         Stop::Fault(fault) => fault_answer(alloc, &fault),
-        Stop::Store => Ok(Answer::of_word(alloc, "Store")),
-        Stop::Memory => Err(Trouble::Memory),
+        Stop::Store(_) => Ok(Answer::of_word(alloc, "Store")),
+        Stop::Memory(refused) => Err(Trouble::Memory(refused)),
     }
 }
 

@@ -40,7 +40,7 @@ parses-parsed bytes = parses-by bytes (is_utf8 bytes) refl
 pub answers-parses : (bytes : List ℕ) (result : Result Makefile ParseError) → Answers result (λ answer. answer ≡ parsed bytes) → Answers result (IsParse bytes)
 answers-parses bytes (Ok makefile) is = subst (IsParse bytes) (sym is) (parses-parsed bytes)
 answers-parses bytes (Err (errors.Fault fault)) is = subst (IsParse bytes) (sym is) (parses-parsed bytes)
-answers-parses bytes (Err errors.Memory) is = tt
+answers-parses bytes (Err (errors.Memory _)) is = tt
 
 pub parse-once : (bytes : List ℕ) (result : Result Block ParseFault) → IsParse bytes result → result ≡ parsed bytes
 parse-once bytes (Ok block) is = ap with_kind (read-once BLOCKS (logical_lines bytes) (Ok block) is.1) ∙ sym (by_test bytes true is.0)

@@ -47,4 +47,4 @@ parsed bytes = if is_utf8 bytes then with_kind (blocks_of BLOCKS (logical_lines 
 abbrev pub Answers : Result Makefile ParseError → (Result Block ParseFault → Type 0) → Type 0
 Answers (Ok makefile) says = says (Ok (makefile_tree makefile))
 Answers (Err (errors.Fault fault)) says = says (Err fault)
-Answers (Err errors.Memory) says = Unit {0}
+Answers (Err (errors.Memory _)) says = Unit {0}

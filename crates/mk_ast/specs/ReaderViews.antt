@@ -41,7 +41,7 @@ state_of reader = record { current = block_of reader.current.items; stack = reve
 abbrev pub Steps : Result Reader ParseError → ℕ → Option ReadingState → Type 0
 Steps (Ok reader) number outcome = outcome ≡ Some (state_of reader)
 Steps (Err (errors.Fault fault)) number outcome = (outcome ≡ None) × (fault ≡ block_fault number)
-Steps (Err errors.Memory) number outcome = Unit {0}
+Steps (Err (errors.Memory _)) number outcome = Unit {0}
 
 -- the state after a part had its effect; other blocks are open around this one
 abbrev pub state_after : PartEffect → List Open → ReadingState
@@ -53,4 +53,4 @@ state_after (f.Ends nodes) stack = record { current = block_of nodes.items; stac
 abbrev pub HasEffect : Result PartEffect ParseError → ℕ → Open → blocks.PartEffect → Type 0
 HasEffect (Ok effect) number innermost is = (stack : List Open) → apply_effect innermost stack is ≡ Some (state_after effect stack)
 HasEffect (Err (errors.Fault fault)) number innermost is = (is ≡ Wrong) × (fault ≡ block_fault number)
-HasEffect (Err errors.Memory) number innermost is = Unit {0}
+HasEffect (Err (errors.Memory _)) number innermost is = Unit {0}

@@ -1,5 +1,6 @@
 //! A makefile read into its tree.
 ghost use Rattle.std.specs.Prelude.{◌≡◌, ◌≤◌, ◌+◌, ◌==◌, length, take, count_by};
+ghost use Rattle.refusals.specs.Refused.{refused};
 ghost use Rattle.mk_text.specs.Lines.{logical_lines};
 ghost use Rattle.mk_ast.specs.declared.parsing.ParseError.TheVariants as errors;
 ghost use Rattle.mk_ast.specs.Blocks.{blocks_of};
@@ -9,6 +10,7 @@ use crate::nodes::{BLOCKS, Makefile};
 use crate::reader::Reader;
 use mk_base::FaultKind;
 use mk_text::logical_lines;
+use refusals::OutOfMemory;
 use std::alloc::{AllocError, AllocFailed, Global};
 use thiserror::Error;
 
@@ -30,22 +32,22 @@ pub enum ParseError {
     Fault(ParseFault),
     /// Memory ran out.
     #[error("out of memory")]
-    Memory,
+    Memory(OutOfMemory),
 }
 
 impl From<AllocError> for ParseError {
-    ghost from_gives = { λ _ error. error ≡ errors.Memory };
+    ghost from_gives = { λ _ error. error ≡ errors.Memory refused };
 
-    fn from(_: AllocError) -> ParseError {
-        ParseError::Memory
+    fn from(error: AllocError) -> ParseError {
+        ParseError::Memory(OutOfMemory::from(error))
     }
 }
 
 impl<T: Drop> From<AllocFailed<T>> for ParseError {
-    ghost from_gives = { λ _ error. error ≡ errors.Memory };
+    ghost from_gives = { λ _ error. error ≡ errors.Memory refused };
 
-    fn from(_: AllocFailed<T>) -> ParseError {
-        ParseError::Memory
+    fn from(error: AllocFailed<T>) -> ParseError {
+        ParseError::Memory(OutOfMemory::from(error))
     }
 }
 

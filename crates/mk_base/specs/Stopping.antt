@@ -7,8 +7,8 @@ use Rattle.mk_base.specs.declared.stopping.Stop.TheVariants as stops
 -- The work stopped at this fault. If memory ran out or the store refused, nothing is said.
 abbrev pub StopsAt : {A F M : Type 0} → Stop F → M → Result (A × M) (F × M) → Type 0
 StopsAt (stops.Fault fault) state outcome = outcome ≡ Err (fault, state)
-StopsAt stops.Store state outcome = Unit {0}
-StopsAt stops.Memory state outcome = Unit {0}
+StopsAt (stops.Store _) state outcome = Unit {0}
+StopsAt (stops.Memory _) state outcome = Unit {0}
 
 -- What a function answered, seen by view, and the state that it left are those of the definition.
 abbrev pub Gives : {R A F M : Type 0} → (R → A) → Result R (Stop F) → M → Result (A × M) (F × M) → Type 0
@@ -25,13 +25,13 @@ pub StopsAt-whole : {A B F M : Type 0} (stop : Stop F) (state : M) (part : Resul
     (whole : Result (B × M) (F × M)) → ((end : F × M) → part ≡ Err end → whole ≡ Err end) → StopsAt stop state part
     → StopsAt stop state whole
 StopsAt-whole (stops.Fault fault) state part whole passes at = passes (fault, state) at
-StopsAt-whole stops.Store state part whole passes at = tt
-StopsAt-whole stops.Memory state part whole passes at = tt
+StopsAt-whole (stops.Store _) state part whole passes at = tt
+StopsAt-whole (stops.Memory _) state part whole passes at = tt
 
 -- The same for work that looks at no file: it stopped at this fault. If memory ran out, nothing is said.
 abbrev pub StopsPurelyAt : {A F M : Type 0} → PureStop F → M → Result (A × M) (F × M) → Type 0
 StopsPurelyAt (pure.Fault fault) state outcome = outcome ≡ Err (fault, state)
-StopsPurelyAt pure.Memory state outcome = Unit {0}
+StopsPurelyAt (pure.Memory _) state outcome = Unit {0}
 
 -- What such a function answered, seen by view, and the state that it left are those of the definition.
 abbrev pub GivesPurely : {R A F M : Type 0} → (R → A) → Result R (PureStop F) → M → Result (A × M) (F × M) → Type 0
@@ -43,9 +43,9 @@ pub StopsPurelyAt-whole : {A B F M : Type 0} (stop : PureStop F) (state : M) (pa
     (whole : Result (B × M) (F × M)) → ((end : F × M) → part ≡ Err end → whole ≡ Err end) → StopsPurelyAt stop state part
     → StopsPurelyAt stop state whole
 StopsPurelyAt-whole (pure.Fault fault) state part whole passes at = passes (fault, state) at
-StopsPurelyAt-whole pure.Memory state part whole passes at = tt
+StopsPurelyAt-whole (pure.Memory _) state part whole passes at = tt
 
 -- the stop of work that looks at no file, as a stop of any work
 abbrev pub stop_of_pure : {F : Type 0} → PureStop F → Stop F
 stop_of_pure (pure.Fault fault) = stops.Fault fault
-stop_of_pure pure.Memory = stops.Memory
+stop_of_pure (pure.Memory refused) = stops.Memory refused

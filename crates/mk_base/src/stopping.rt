@@ -1,10 +1,12 @@
 ghost use Rattle.std.specs.Prelude.{◌≡◌};
+ghost use Rattle.refusals.specs.Refused.{refused};
 ghost use Rattle.mk_base.specs.declared.stopping.PureStop.TheVariants as pure;
 ghost use Rattle.mk_base.specs.declared.stopping.Stop.TheVariants as stops;
 ghost use Rattle.mk_base.specs.Blame.{IsBlamed, IsBlamedPurely};
 ghost use Rattle.mk_base.specs.Stopping.{stop_of_pure};
 
 use super::{Fault, FaultKind};
+use refusals::{OutOfMemory, StoreRefusal};
 use std::alloc::{AllocError, AllocFailed, Global};
 use std::fmt::Display;
 use thiserror::Error;
@@ -19,22 +21,22 @@ pub enum PureStop<F> {
     Fault(F),
     /// Memory ran out.
     #[error("out of memory")]
-    Memory,
+    Memory(OutOfMemory),
 }
 
 impl<F> From<AllocError> for PureStop<F> {
-    ghost from_gives = { λ _ stop. stop ≡ pure.Memory };
+    ghost from_gives = { λ _ stop. stop ≡ pure.Memory refused };
 
-    fn from(_error: AllocError) -> PureStop<F> {
-        PureStop::Memory
+    fn from(error: AllocError) -> PureStop<F> {
+        PureStop::Memory(OutOfMemory::from(error))
     }
 }
 
 impl<F, T: Drop> From<AllocFailed<T>> for PureStop<F> {
-    ghost from_gives = { λ _ stop. stop ≡ pure.Memory };
+    ghost from_gives = { λ _ stop. stop ≡ pure.Memory refused };
 
-    fn from(_error: AllocFailed<T>) -> PureStop<F> {
-        PureStop::Memory
+    fn from(error: AllocFailed<T>) -> PureStop<F> {
+        PureStop::Memory(OutOfMemory::from(error))
     }
 }
 
@@ -55,9 +57,9 @@ impl PureStop<FaultKind> {
         match self {
             PureStop::Fault(kind) => match Fault::new(alloc, kind, name, line) {
                 Ok(fault) => PureStop::Fault(fault),
-                Err(_error) => PureStop::Memory,
+                Err(error) => PureStop::from(error),
             },
-            PureStop::Memory => PureStop::Memory,
+            PureStop::Memory(refused) => PureStop::Memory(refused),
         }
     }
 }
@@ -72,25 +74,25 @@ pub enum Stop<F> {
     Fault(F),
     /// The store of the files refused.
     #[error("the store of the files failed")]
-    Store,
+    Store(StoreRefusal),
     /// Memory ran out.
     #[error("out of memory")]
-    Memory,
+    Memory(OutOfMemory),
 }
 
 impl<F> From<AllocError> for Stop<F> {
-    ghost from_gives = { λ _ stop. stop ≡ stops.Memory };
+    ghost from_gives = { λ _ stop. stop ≡ stops.Memory refused };
 
-    fn from(_error: AllocError) -> Stop<F> {
-        Stop::Memory
+    fn from(error: AllocError) -> Stop<F> {
+        Stop::Memory(OutOfMemory::from(error))
     }
 }
 
 impl<F, T: Drop> From<AllocFailed<T>> for Stop<F> {
-    ghost from_gives = { λ _ stop. stop ≡ stops.Memory };
+    ghost from_gives = { λ _ stop. stop ≡ stops.Memory refused };
 
-    fn from(_error: AllocFailed<T>) -> Stop<F> {
-        Stop::Memory
+    fn from(error: AllocFailed<T>) -> Stop<F> {
+        Stop::Memory(OutOfMemory::from(error))
     }
 }
 
@@ -100,7 +102,7 @@ impl<F> From<PureStop<F>> for Stop<F> {
     fn from(stop: PureStop<F>) -> Stop<F> {
         match stop {
             PureStop::Fault(fault) => Stop::Fault(fault),
-            PureStop::Memory => Stop::Memory,
+            PureStop::Memory(refused) => Stop::Memory(refused),
         }
     }
 }
@@ -121,8 +123,8 @@ impl Stop<FaultKind> {
     {
         match self {
             Stop::Fault(kind) => Stop::from(PureStop::Fault(kind).blame(alloc, name, line)),
-            Stop::Store => Stop::Store,
-            Stop::Memory => Stop::Memory,
+            Stop::Store(refusal) => Stop::Store(refusal),
+            Stop::Memory(refused) => Stop::Memory(refused),
         }
     }
 }

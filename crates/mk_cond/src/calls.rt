@@ -82,6 +82,6 @@ fn exists<F: Names>(
     match Name::under(alloc, setting.makefile.directory(), file.as_str()) {
         Ok(name) => ask_has(files, &name, budget),
         Err(NameFault::BadName | NameFault::Above) => Ok(false),
-        Err(NameFault::Memory) => Err(Stop::Memory),
+        Err(NameFault::Memory(refused)) => Err(Stop::Memory(refused)),
     }
 }

@@ -102,6 +102,6 @@ fn text_truth<F: Names>(
         Ok(condition) => condition_truth(alloc, setting, &condition, files, budget),
         Err(ConditionError::Unclosed) => Err(Stop::Fault(FaultKind::Reference)),
         Err(ConditionError::Unreadable) => Err(Stop::Fault(FaultKind::Condition)),
-        Err(ConditionError::Memory) => Err(Stop::Memory),
+        Err(ConditionError::Memory(refused)) => Err(Stop::Memory(refused)),
     }
 }

@@ -105,7 +105,7 @@ fn has_reference(alloc: Global, text: &str) -> Result<bool, AllocError>
     match pieces(alloc, text) {
         Ok(found) => Ok(refers(found.as_slice())),
         Err(PiecesFault::Unclosed { at: _ }) => Ok(true),
-        Err(PiecesFault::Memory) => Err(AllocError),
+        Err(PiecesFault::Memory(refused)) => Err(refused.into()),
     }
 }
 

@@ -42,7 +42,7 @@ text_meaning-unclosed references text m some = left-over references (left_of tex
 pub text_meaning-uncut : (references : References) (text : List ℕ) (stop : PureStop FaultKind) (m : Meter) → IsUncut text stop → StopsPurelyAt stop m (text_meaning references text m)
 text_meaning-uncut references text (pure.Fault kind) m uncut =
     text_meaning-unclosed references text m uncut.1 ∙ ap (λ found. Err (found, m)) (sym uncut.0)
-text_meaning-uncut references text pure.Memory m uncut = tt
+text_meaning-uncut references text (pure.Memory _) m uncut = tt
 
 pub bounded-small : (text : List ℕ) (m : Meter) → length text ≤ TEXT_LIMIT → bounded text m ≡ Ok (text, m)
 bounded-small text m small = ap (λ test. if test then fail kinds.Length m else give text m) (le-ltb TEXT_LIMIT (length text) small)
@@ -115,7 +115,7 @@ reference-unbegun undefined_gives (suc levels) variables active written name mod
 
 stops-long : (text : List ℕ) (m : Meter) (stop : PureStop FaultKind) (outcome : Result (List ℕ × Meter) (FaultKind × Meter)) → IsTooLong text stop → outcome ≡ bounded text m → StopsPurelyAt stop m outcome
 stops-long text m (pure.Fault kind) outcome long is = is ∙ bounded-long text m long.1 ∙ ap (λ found. Err (found, m)) (sym long.0)
-stops-long text m pure.Memory outcome long is = tt
+stops-long text m (pure.Memory _) outcome long is = tt
 
 -- a text that was added, or was too long, was joined on
 pub Gives-joined : (result : Result (Unit {0}) (PureStop FaultKind)) (whole made : List ℕ) (m : Meter) (outcome : Result (List ℕ × Meter) (FaultKind × Meter))

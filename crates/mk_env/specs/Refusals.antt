@@ -10,7 +10,7 @@ use Rattle.mk_ref.specs.Units.{left_of}
 -- it stopped at a fault of this kind, and this holds, or it was out of memory
 abbrev pub StopsBy : FaultKind → Type 0 → PureStop FaultKind → Type 0
 StopsBy kind reason (pure.Fault found) = (found ≡ kind) × reason
-StopsBy kind reason pure.Memory = Unit {0}
+StopsBy kind reason (pure.Memory _) = Unit {0}
 
 -- why a text wasn't cut: a reference in it doesn't end
 abbrev pub IsUncut : List ℕ → PureStop FaultKind → Type 0

@@ -19,7 +19,7 @@ pub(crate) fn push_bounded(joined: &mut String, text: &str) -> Result<(), PureSt
     match add_text(joined, text) {
         Ok(()) => Ok(()),
         Err(TextFault::Length) => Err(PureStop::Fault(FaultKind::Length)),
-        Err(TextFault::Memory) => Err(PureStop::Memory),
+        Err(TextFault::Memory(refused)) => Err(PureStop::Memory(refused)),
     }
 }
 

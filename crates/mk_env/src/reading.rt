@@ -65,7 +65,7 @@ pub(crate) fn cut(alloc: Global, text: &str) -> Result<Vec<Piece>, PureStop<Faul
     match pieces(alloc, text) {
         Ok(found) => Ok(found),
         Err(PiecesFault::Unclosed { at: _ }) => Err(PureStop::Fault(FaultKind::Reference)),
-        Err(PiecesFault::Memory) => Err(PureStop::Memory),
+        Err(PiecesFault::Memory(refused)) => Err(PureStop::Memory(refused)),
     }
 }
 
@@ -87,7 +87,7 @@ pub(crate) fn read_modifiers(
     match Mods::read(alloc, text, profile) {
         Ok(mods) => Ok(mods.modifiers),
         Err(ModsFault::BadMod) => Err(PureStop::Fault(FaultKind::Modifier)),
-        Err(ModsFault::Memory) => Err(PureStop::Memory),
+        Err(ModsFault::Memory(refused)) => Err(PureStop::Memory(refused)),
     }
 }
 
@@ -105,7 +105,7 @@ pub(crate) fn apply_expanded(
     match apply(alloc, modifier, value) {
         Ok(made) => Ok(made),
         Err(TextFault::Length) => Err(PureStop::Fault(FaultKind::Length)),
-        Err(TextFault::Memory) => Err(PureStop::Memory),
+        Err(TextFault::Memory(refused)) => Err(PureStop::Memory(refused)),
     }
 }
 
@@ -127,6 +127,6 @@ pub(crate) fn apply_substitution(
     match substitute(alloc, substitution, old, new, value) {
         Ok(made) => Ok(made),
         Err(TextFault::Length) => Err(PureStop::Fault(FaultKind::Length)),
-        Err(TextFault::Memory) => Err(PureStop::Memory),
+        Err(TextFault::Memory(refused)) => Err(PureStop::Memory(refused)),
     }
 }

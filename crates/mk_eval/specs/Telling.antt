@@ -14,8 +14,8 @@ use Rattle.mk_eval.specs.declared.outcome.Failed.{Failed}
 -- Work stopped with this fault. If it stopped because memory ran out or the store failed, nothing is said.
 abbrev pub FailsWith : {A F : Type 0} → Stop F → Result A F → Type 0
 FailsWith (stops.Fault fault) meaning = meaning ≡ Err fault
-FailsWith stops.Store meaning = Unit {0}
-FailsWith stops.Memory meaning = Unit {0}
+FailsWith (stops.Store _) meaning = Unit {0}
+FailsWith (stops.Memory _) meaning = Unit {0}
 
 -- What a function answered, seen by view, is the meaning.
 abbrev pub Tells : {R A F : Type 0} → (R → A) → Result R (Stop F) → Result A F → Type 0
@@ -25,7 +25,7 @@ Tells view (Err stop) meaning = FailsWith stop meaning
 -- The same for work that looks at no file.
 abbrev pub FailsPurelyWith : {A F : Type 0} → PureStop F → Result A F → Type 0
 FailsPurelyWith (pure.Fault fault) meaning = meaning ≡ Err fault
-FailsPurelyWith pure.Memory meaning = Unit {0}
+FailsPurelyWith (pure.Memory _) meaning = Unit {0}
 
 abbrev pub TellsPurely : {R A F : Type 0} → (R → A) → Result R (PureStop F) → Result A F → Type 0
 TellsPurely view (Ok x) meaning = meaning ≡ Ok (view x)
@@ -35,19 +35,19 @@ TellsPurely view (Err stop) meaning = FailsPurelyWith stop meaning
 abbrev pub CostsAtMost : {R : Type 0} → (R → ℕ) → ℕ → Result R (Stop Failed) → Type 0
 CostsAtMost cost most (Ok x) = cost x ≤ most
 CostsAtMost cost most (Err (stops.Fault failed)) = failed.cost ≤ most
-CostsAtMost cost most (Err stops.Store) = Unit {0}
-CostsAtMost cost most (Err stops.Memory) = Unit {0}
+CostsAtMost cost most (Err (stops.Store _)) = Unit {0}
+CostsAtMost cost most (Err (stops.Memory _)) = Unit {0}
 
 -- The same for work that looks at no file.
 abbrev pub CostsPurelyAtMost : {R : Type 0} → (R → ℕ) → ℕ → Result R (PureStop Failed) → Type 0
 CostsPurelyAtMost cost most (Ok x) = cost x ≤ most
 CostsPurelyAtMost cost most (Err (pure.Fault failed)) = failed.cost ≤ most
-CostsPurelyAtMost cost most (Err pure.Memory) = Unit {0}
+CostsPurelyAtMost cost most (Err (pure.Memory _)) = Unit {0}
 
 -- the stop of work that looks at no file; a fault gets the units that were spent
 abbrev pub with_units : ℕ → PureStop FaultAt → PureStop Failed
 with_units cost (pure.Fault fault) = pure.Fault (record { fault = fault; cost = cost })
-with_units cost pure.Memory = pure.Memory
+with_units cost (pure.Memory refused) = pure.Memory refused
 
 -- What an evaluation left of a world of files. At its end, and at a fault, these questions were asked
 -- and answered: those in a budget of the units that were spent. It stops at `Store` only if the files
@@ -56,5 +56,6 @@ with_units cost pure.Memory = pure.Memory
 abbrev pub LeavesAsked : (FilesFault → Type 0) → FilesView → FilesView → (ℕ → List Question) → Result Evaluated (Stop Failed) → Type 0
 LeavesAsked may old new asked (Ok evaluated) = new ≡ noted old (asked evaluated.cost)
 LeavesAsked may old new asked (Err (stops.Fault failed)) = new ≡ noted old (asked failed.cost)
-LeavesAsked may old new asked (Err stops.Store) = may faults.Store × AfterFailedQuestion old new
-LeavesAsked may old new asked (Err stops.Memory) = AfterQuestions old new ⊎ (may faults.Memory × AfterFailedQuestion old new)
+LeavesAsked may old new asked (Err (stops.Store refusal)) = may (faults.Store refusal) × AfterFailedQuestion old new
+LeavesAsked may old new asked (Err (stops.Memory refused)) =
+    AfterQuestions old new ⊎ (may (faults.Memory refused) × AfterFailedQuestion old new)

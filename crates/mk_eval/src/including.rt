@@ -100,7 +100,7 @@ fn open_own<F: Files>(
     match Name::under(alloc, here.file.directory(), file) {
         Ok(name) => open_named(name, optional, files, budget),
         Err(NameFault::BadName | NameFault::Above) => Err(Stop::Fault(FaultKind::Include)),
-        Err(NameFault::Memory) => Err(Stop::Memory),
+        Err(NameFault::Memory(refused)) => Err(Stop::Memory(refused)),
     }
 }
 
@@ -190,7 +190,7 @@ pub(crate) fn open_if_there<F: Files>(
     match Name::under(alloc, directory, file) {
         Ok(name) => open_inside(here, name, true, files, budget),
         Err(NameFault::BadName | NameFault::Above) => Ok(None),
-        Err(NameFault::Memory) => Err(Stop::Memory),
+        Err(NameFault::Memory(refused)) => Err(Stop::Memory(refused)),
     }
 }
 

@@ -128,7 +128,7 @@ pub fn open_module<F: Files>(
                 budget,
             )
         }
-        Err(_failed) => Err(Stop::Memory),
+        Err(error) => Err(Stop::from(error)),
     };
     match opened {
         Ok(opened) => Ok(opened),

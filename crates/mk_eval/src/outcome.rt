@@ -83,6 +83,6 @@ pub fn with_units(stop: PureStop<Fault>, cost: u64) -> PureStop<Failed>
 {
     match stop {
         PureStop::Fault(fault) => PureStop::Fault(Failed { fault, cost }),
-        PureStop::Memory => PureStop::Memory,
+        PureStop::Memory(refused) => PureStop::Memory(refused),
     }
 }

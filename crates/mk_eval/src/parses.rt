@@ -54,7 +54,7 @@ impl Parses for Anew {
         match parse(self.alloc, content.as_slice()) {
             Ok(makefile) => Ok(Ok(Rc::new(self.alloc, makefile)?)),
             Err(ParseError::Fault(fault)) => Ok(Err(fault)),
-            Err(ParseError::Memory) => Err(AllocError),
+            Err(ParseError::Memory(refused)) => Err(refused.into()),
         }
     }
 }

@@ -7,6 +7,7 @@ use Rattle.mk_paths.specs.declared.asking.FilesFault.{FilesFault}
 use Rattle.mk_paths.specs.declared.asking.FilesFault.TheVariants.{Memory}
 use Rattle.mk_paths.specs.World.{FileMap}
 use Rattle.mk_paths.specs.FilesView.{FilesView}
+use Rattle.refusals.specs.Refused.{refused}
 
 -- the files, and how many readings failed
 pub record Holding : Type 0 where
@@ -37,7 +38,7 @@ view_of held = record { files = held.files; log = None; failures = held.failures
 
 -- files in memory fail only if memory runs out: there is no store
 abbrev pub IsMemory : FilesFault → Type 0
-IsMemory fault = fault ≡ Memory
+IsMemory fault = fault ≡ Memory refused
 
 -- the map of these names and contents
 abbrev pub files_of : List (String Global × List ℕ) → FileMap

@@ -15,20 +15,20 @@ looked world name = noted world ((name, Contents (get world.files name)) ∷ [])
 -- a stop that isn't a fault of a makefile, but a failure that the files may have
 abbrev pub Refuses : {F : Type 0} → (FilesFault → Type 0) → Stop F → Type 0
 Refuses may (stops.Fault fault) = ⊥
-Refuses may stops.Store = may faults.Store
-Refuses may stops.Memory = may faults.Memory
+Refuses may (stops.Store refusal) = may (faults.Store refusal)
+Refuses may (stops.Memory refused) = may (faults.Memory refused)
 
 -- What a question that stopped left of the files. If it was one too many, nothing was asked. Otherwise the
 -- files failed, with a fault that they may give.
 abbrev pub AsksAndStops : {F : Type 0} → (FilesFault → Type 0) → FilesView → FilesView → Stop F → Type 0
 AsksAndStops may old new (stops.Fault fault) = new ≡ old
-AsksAndStops may old new stops.Store = may faults.Store × (new ≡ failed old)
-AsksAndStops may old new stops.Memory = may faults.Memory × (new ≡ failed old)
+AsksAndStops may old new (stops.Store refusal) = may (faults.Store refusal) × (new ≡ failed old)
+AsksAndStops may old new (stops.Memory refused) = may (faults.Memory refused) × (new ≡ failed old)
 
 -- how work stops if the files failed with this fault
 abbrev pub stop_of : {F : Type 0} → FilesFault → Stop F
-stop_of faults.Store = stops.Store
-stop_of faults.Memory = stops.Memory
+stop_of (faults.Store refusal) = stops.Store refusal
+stop_of (faults.Memory refused) = stops.Memory refused
 
 -- the view after some questions, or none, that were answered: they are in the log with their answers,
 -- if one is kept
@@ -46,8 +46,8 @@ pub record AfterFailedQuestion (old new : FilesView) : Type 0 where
 -- for the work itself.
 abbrev pub LeavesAtStop : {F : Type 0} → (FilesFault → Type 0) → FilesView → FilesView → Stop F → Type 0
 LeavesAtStop may old new (stops.Fault fault) = AfterQuestions old new
-LeavesAtStop may old new stops.Store = may faults.Store × AfterFailedQuestion old new
-LeavesAtStop may old new stops.Memory = AfterQuestions old new ⊎ (may faults.Memory × AfterFailedQuestion old new)
+LeavesAtStop may old new (stops.Store refusal) = may (faults.Store refusal) × AfterFailedQuestion old new
+LeavesAtStop may old new (stops.Memory refused) = AfterQuestions old new ⊎ (may (faults.Memory refused) × AfterFailedQuestion old new)
 
 -- a question that was answered
 pub AfterQuestions-one : (old new : FilesView) (question : Question) → new ≡ noted old (question ∷ []) → AfterQuestions old new
@@ -77,8 +77,8 @@ AfterFailedQuestion-on old middle new first second = record {
 pub LeavesAtStop-on : {F : Type 0} (may : FilesFault → Type 0) (old middle new : FilesView) (stop : Stop F)
     → AfterQuestions old middle → LeavesAtStop may middle new stop → LeavesAtStop may old new stop
 LeavesAtStop-on may old middle new (stops.Fault fault) first second = AfterQuestions-on old middle new first second
-LeavesAtStop-on may old middle new stops.Store first second = (second.0, AfterFailedQuestion-on old middle new first second.1)
-LeavesAtStop-on may old middle new stops.Memory first second =
+LeavesAtStop-on may old middle new (stops.Store _) first second = (second.0, AfterFailedQuestion-on old middle new first second.1)
+LeavesAtStop-on may old middle new (stops.Memory _) first second =
     elim second [
       | inl more ↦ inl (AfterQuestions-on old middle new first more)
       | inr failing ↦ inr
@@ -92,5 +92,5 @@ vain old new is = record { questions = []; counted = is ∙ ap failed (noted-not
 pub LeavesAtStop-one : {F : Type 0} (may : FilesFault → Type 0) (old new : FilesView) (stop : Stop F)
     → AsksAndStops may old new stop → LeavesAtStop may old new stop
 LeavesAtStop-one may old new (stops.Fault fault) asks = record { questions = []; in_log = asks ∙ noted-nothing old }
-LeavesAtStop-one may old new stops.Store asks = (asks.0, vain old new asks.1)
-LeavesAtStop-one may old new stops.Memory asks = inr (asks.0, vain old new asks.1)
+LeavesAtStop-one may old new (stops.Store _) asks = (asks.0, vain old new asks.1)
+LeavesAtStop-one may old new (stops.Memory _) asks = inr (asks.0, vain old new asks.1)

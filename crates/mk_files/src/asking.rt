@@ -21,8 +21,8 @@ fn stop_of<K>(fault: FilesFault) -> Stop<K>
     ensures { result ≡ looking.stop_of fault }
 {
     match fault {
-        FilesFault::Store => Stop::Store,
-        FilesFault::Memory => Stop::Memory,
+        FilesFault::Store(refusal) => Stop::Store(refusal),
+        FilesFault::Memory(refused) => Stop::Memory(refused),
     }
 }
 

@@ -1,5 +1,6 @@
 // A world of files kept in memory.
 ghost use Rattle.std.specs.Prelude.{◌≡◌, map as map_list, string_bytes, IfOk, OnOk, OnErr};
+ghost use Rattle.refusals.specs.Refused.{refused};
 ghost use Rattle.std.specs.Option.{option_copied};
 ghost use Rattle.std.specs.FinMap as map;
 ghost use Rattle.mk_paths.specs.FilesView.{Fails};
@@ -66,13 +67,13 @@ impl MemoryFiles {
         self.files.get(name.as_str())
     }
 
-    // Counts one more reading that failed, and gives its fault: memory ran out.
-    fn fail(&mut self) -> FilesFault
+    // Counts one more reading that failed, and gives its fault.
+    fn failed(&mut self, error: AllocError) -> FilesFault
         ensures counted { Fails (view_of self.old) (view_of self.new) }
-        ensures memory { result ≡ FilesFault.Memory }
+        ensures memory { result ≡ FilesFault.Memory refused }
     {
         self.failures = self.failures.saturating_add(1);
-        FilesFault::Memory
+        FilesFault::from(error)
     }
 }
 
@@ -93,17 +94,17 @@ impl Files for MemoryFiles {
         };
         match content.share() {
             Ok(shared) => Ok(Some(shared)),
-            Err(_error) => Err(self.fail()),
+            Err(error) => Err(self.failed(error)),
         }
     }
 }
 
 impl Listing for MemoryFiles {
     fn names(&mut self, alloc: Global) -> Result<Vec<String>, FilesFault> {
-        let Ok(names) = names_of(alloc, &self.files) else {
-            return Err(self.fail());
-        };
-        Ok(names)
+        match names_of(alloc, &self.files) {
+            Ok(names) => Ok(names),
+            Err(error) => Err(self.failed(error)),
+        }
     }
 }
 

@@ -57,7 +57,7 @@ impl Joined {
                 replaced: true,
             }),
             Err(TextFault::Length) => Err(PureStop::Fault(FaultKind::Length)),
-            Err(TextFault::Memory) => Err(PureStop::Memory),
+            Err(TextFault::Memory(refused)) => Err(PureStop::Memory(refused)),
         }
     }
 

@@ -77,6 +77,6 @@ fn check_closed(alloc: Global, line: &str) -> Result<(), PureStop<FaultKind>>
     match pieces(alloc, line) {
         Ok(_pieces) => Ok(()),
         Err(PiecesFault::Unclosed { at: _ }) => Err(PureStop::Fault(FaultKind::Reference)),
-        Err(PiecesFault::Memory) => Err(PureStop::Memory),
+        Err(PiecesFault::Memory(refused)) => Err(PureStop::Memory(refused)),
     }
 }

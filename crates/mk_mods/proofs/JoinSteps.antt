@@ -77,7 +77,7 @@ next-word text spans words at d is near =
 -- what is at least as long as a text that is too long
 pub too_long-over : (text whole : List ℕ) (fault : TextFault) → length text ≤ length whole → IsTooLong text fault → IsTooLong whole fault
 too_long-over text whole faults.Length at_least long = omega arith
-too_long-over text whole faults.Memory at_least long = tt
+too_long-over text whole (faults.Memory _) at_least long = tt
 
 -- what the comparison of a match with whether matches are wanted says
 kept-is : (matching is : Bool) → kept matching is ≡ beq is matching

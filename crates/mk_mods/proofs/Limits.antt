@@ -23,7 +23,7 @@ within-made text made is = within-small text is.0 ∙ ap Some (sym is.1)
 
 pub within-unmade : (text : List ℕ) (fault : TextFault) → IsTooLong text fault → IsUnmade (within_limit text) fault
 within-unmade text faults.Length long = within-long text long
-within-unmade text faults.Memory long = tt
+within-unmade text (faults.Memory _) long = tt
 
 pub ok-within : (r : Result (String Global) TextFault) (text : List ℕ) → IfOk r (IsMade text) → IfOk r (λ made. within_limit text ≡ Some (string_bytes made))
 ok-within (Ok made) text is = within-made text made is
@@ -47,4 +47,4 @@ substituted-unmade s words old faults.Length is_old long =
     let after : Option (List (List ℕ)) → Option (List ℕ) = option_and_then (λ changed. within_limit (joined changed)) in
     ap (λ o. after (option_and_then (λ old. option_map (λ new. substituted s old new words) (within_limit (text_of old s.new))) o)) is_old
     ∙ ap (λ o. after (option_map (λ new. substituted s old new words) o)) (within-long (text_of old s.new) long)
-substituted-unmade s words old faults.Memory is_old long = tt
+substituted-unmade s words old (faults.Memory _) is_old long = tt

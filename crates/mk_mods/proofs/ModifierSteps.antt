@@ -54,9 +54,9 @@ reads-more profile marks done behind action mark later rest so_far next colon is
 pub modifiers-unmarked : (profile : Profile) (text : List ℕ) (fault : ModsFault) → IsUnread (marks_of text) fault → IsUnread (modifiers_of profile text) fault
 unfolding modifiers_of
 modifiers-unmarked profile text faults.BadMod none = ap (option_and_then (modifiers_in profile)) none
-modifiers-unmarked profile text faults.Memory none = tt
+modifiers-unmarked profile text (faults.Memory _) none = tt
 
 pub modifiers-unread : (profile : Profile) (text : List ℕ) (marks : List TextMark) (fault : ModsFault) → marks_of text ≡ Some marks → IsUnread (modifiers_in profile marks) fault → IsUnread (modifiers_of profile text) fault
 unfolding modifiers_of
 modifiers-unread profile text marks faults.BadMod is none = ap (option_and_then (modifiers_in profile)) is ∙ none
-modifiers-unread profile text marks faults.Memory is none = tt
+modifiers-unread profile text marks (faults.Memory _) is none = tt

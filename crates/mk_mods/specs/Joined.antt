@@ -7,6 +7,7 @@ use Rattle.mk_text.specs.declared.limits.TheConstants.{TEXT_LIMIT}
 use Rattle.mk_text.specs.TextLimit.{IsTooLong}
 use Rattle.mk_text.specs.declared.limits.TextFault.{TextFault}
 use Rattle.mk_text.specs.declared.limits.TextFault.TheVariants as faults
+use Rattle.refusals.specs.Refused.{refused}
 
 -- whether a text isn't empty
 abbrev pub has_bytes : List ℕ → Bool
@@ -24,7 +25,7 @@ within_limit text = if nat_le (length text) TEXT_LIMIT then Some text else None
 -- why a text wasn't made: it would be too long, or memory ran out, which says nothing about the text
 abbrev pub IsUnmade : {X : Type 0} → Option X → TextFault → Type 0
 IsUnmade made faults.Length = made ≡ None
-IsUnmade made faults.Memory = Unit {0}
+IsUnmade made (faults.Memory _) = Unit {0}
 
 -- words that are joined, with one more at their end
 abbrev pub with_word : List ℕ → List ℕ → List ℕ
@@ -38,5 +39,5 @@ IsMade text made = (length text ≤ TEXT_LIMIT) × (string_bytes made ≡ text)
 
 -- why a text wasn't made, if there is one to make; if there is none, memory ran out
 abbrev pub IsOverlong : Option (List ℕ) → TextFault → Type 0
-IsOverlong None fault = fault ≡ faults.Memory
+IsOverlong None fault = fault ≡ faults.Memory refused
 IsOverlong (Some text) fault = IsTooLong text fault

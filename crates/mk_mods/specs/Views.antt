@@ -27,12 +27,12 @@ shown_sign (signs.Reference source) = Inner source.now
 -- why a text wasn't read: it can't be, or memory ran out, which says nothing about the text
 abbrev pub IsUnread : {X : Type 0} → Option X → ModsFault → Type 0
 IsUnread read faults.BadMod = read ≡ None
-IsUnread read faults.Memory = Unit {0}
+IsUnread read (faults.Memory _) = Unit {0}
 
 -- how a text without pieces is reported: if a reference doesn't end, the text isn't modifiers
 abbrev pub unread_by : PiecesFault → ModsFault
 unread_by (pieces_faults.Unclosed at) = faults.BadMod
-unread_by pieces_faults.Memory = faults.Memory
+unread_by (pieces_faults.Memory refused) = faults.Memory refused
 
 -- what a change makes of a word
 abbrev pub changed_by : WordChange → List ℕ → List ℕ

@@ -1,5 +1,6 @@
 //! Modifiers read from a text.
 ghost use Rattle.std.specs.Prelude.{◌≡◌, ◌<◌, ◌≤◌, false, length, map, string_bytes, Some, IfOk, IfErr};
+ghost use Rattle.refusals.specs.Refused.{refused};
 ghost use Rattle.mk_mods.specs.Actions.{action_of, replacement_of};
 ghost use Rattle.mk_mods.specs.Grammar.{pattern_from, flags_of, substitution_from, word_map_of, lettered_modifier};
 ghost use Rattle.mk_mods.specs.Grammar.{suffix_or_lettered, first_modifier, modifiers_in, modifiers_of};
@@ -12,6 +13,7 @@ use crate::signs::{parts_of, signs_before, without_end, without_start};
 use crate::suffixes::{suffix_modifier, takes_text};
 use mk_ref::PiecesFault;
 use mk_text::Profile;
+use refusals::OutOfMemory;
 use std::alloc::{AllocError, AllocFailed, Global};
 use thiserror::Error;
 
@@ -23,22 +25,22 @@ pub enum ModsFault {
     BadMod,
     /// Memory ran out.
     #[error("out of memory")]
-    Memory,
+    Memory(OutOfMemory),
 }
 
 impl From<AllocError> for ModsFault {
-    ghost from_gives = { λ _ fault. fault ≡ Memory };
+    ghost from_gives = { λ _ fault. fault ≡ Memory refused };
 
-    fn from(_failed: AllocError) -> ModsFault {
-        ModsFault::Memory
+    fn from(error: AllocError) -> ModsFault {
+        ModsFault::Memory(OutOfMemory::from(error))
     }
 }
 
 impl<T: Drop> From<AllocFailed<T>> for ModsFault {
-    ghost from_gives = { λ _ fault. fault ≡ Memory };
+    ghost from_gives = { λ _ fault. fault ≡ Memory refused };
 
-    fn from(_failed: AllocFailed<T>) -> ModsFault {
-        ModsFault::Memory
+    fn from(error: AllocFailed<T>) -> ModsFault {
+        ModsFault::Memory(OutOfMemory::from(error))
     }
 }
 
@@ -48,7 +50,7 @@ impl From<PiecesFault> for ModsFault {
     fn from(fault: PiecesFault) -> ModsFault {
         match fault {
             PiecesFault::Unclosed { .. } => ModsFault::BadMod,
-            PiecesFault::Memory => ModsFault::Memory,
+            PiecesFault::Memory(refused) => ModsFault::Memory(refused),
         }
     }
 }

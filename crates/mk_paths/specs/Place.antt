@@ -8,6 +8,7 @@ use Rattle.mk_paths.specs.World.{FileMap, World, files_in, search_path_of}
 use Rattle.mk_paths.specs.FilesView.{Presence, Question, FilesView, noted, failed}
 use Rattle.mk_paths.specs.declared.asking.FilesFault.{FilesFault}
 use Rattle.mk_paths.specs.declared.asking.FilesFault.TheVariants.{Memory}
+use Rattle.refusals.specs.Refused.{refused}
 
 -- the makefile of a directory in a tree, as it is written
 abbrev pub makefile_in : List ℕ → List ℕ → List ℕ
@@ -44,4 +45,4 @@ AsksPlaces old new trees directory = new ≡ noted old (places_asked old.files t
 abbrev pub StopsAsking : (FilesFault → Type 0) → FilesView → FilesView → List (List ℕ) → List ℕ → FilesFault → Type 0
 StopsAsking may old new trees directory fault =
     (asked : List Question) × (rest : List Question) × (places_asked old.files trees directory ≡ asked ++ rest)
-    × (((new ≡ failed (noted old asked)) × may fault) ⊎ ((fault ≡ Memory) × (new ≡ noted old asked)))
+    × (((new ≡ failed (noted old asked)) × may fault) ⊎ ((fault ≡ Memory refused) × (new ≡ noted old asked)))

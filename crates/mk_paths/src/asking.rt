@@ -1,11 +1,13 @@
 // Asking whether files are there.
-ghost use Rattle.std.specs.Prelude.{◌≡◌, IfOk, IfErr, OnErr};
+ghost use Rattle.std.specs.Prelude.{◌≡◌, ◌↔◌, IfOk, IfErr, OnErr};
+ghost use Rattle.refusals.specs.Refused.{refused};
 ghost use Rattle.mk_paths.specs.FilesView.{FilesView, Presence, Answers, Fails};
 ghost use Rattle.mk_paths.specs.declared.asking.FilesFault.{FilesFault};
 ghost use Rattle.mk_paths.specs.declared.asking.FilesFault.TheVariants.{Memory};
 
 use crate::file_name::Name;
-use std::alloc::AllocError;
+use refusals::{Database, OutOfMemory, Refusal, StoreRefusal};
+use std::alloc::{AllocError, AllocFailed};
 use thiserror::Error;
 
 /// Why a question about files got no answer.
@@ -13,17 +15,37 @@ use thiserror::Error;
 pub enum FilesFault {
     /// The store of the files failed.
     #[error("the store of the files failed")]
-    Store,
+    Store(StoreRefusal),
     /// There was no memory for the answer.
     #[error("out of memory")]
-    Memory,
+    Memory(OutOfMemory),
 }
 
 impl From<AllocError> for FilesFault {
-    ghost from_gives = { λ _ fault. fault ≡ Memory };
+    ghost from_gives = { λ _ fault. fault ≡ Memory refused };
 
-    fn from(_failed: AllocError) -> FilesFault {
-        FilesFault::Memory
+    fn from(error: AllocError) -> FilesFault {
+        FilesFault::Memory(OutOfMemory::from(error))
+    }
+}
+
+impl<T: Drop> From<AllocFailed<T>> for FilesFault {
+    ghost from_gives = { λ _ fault. fault ≡ Memory refused };
+
+    fn from(error: AllocFailed<T>) -> FilesFault {
+        FilesFault::Memory(OutOfMemory::from(error))
+    }
+}
+
+impl FilesFault {
+    /// The fault of files whose database refused a statement with this error.
+    pub fn of_statement<D: Database>(error: &D::Error) -> FilesFault
+        ensures { (result ≡ Memory refused) ↔ D.for_memory error.now }
+    {
+        match Refusal::of::<D>(error) {
+            Refusal::Memory(refused) => FilesFault::Memory(refused),
+            Refusal::Store(refusal) => FilesFault::Store(refusal),
+        }
     }
 }
 

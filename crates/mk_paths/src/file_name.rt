@@ -1,11 +1,13 @@
 // Names of files as a world of files knows them.
 ghost use Rattle.std.specs.Prelude.{◌≡◌, IfOk, IsErrOf, option_map, [], if◌then◌else◌};
+ghost use Rattle.refusals.specs.Refused.{refused};
 ghost use Rattle.std.specs.List.{list_all};
 ghost use Rattle.std.specs.String.{string_bytes};
 ghost use Rattle.mk_paths.specs.FileName.{resolved, IsResolved, name_under, directory_of, is_plain, kept_parts, with_part, joined};
 ghost use Rattle.text_parts.specs.Cuts.{now_all};
 ghost use Rattle.mk_paths.specs.declared.file_name.NameFault.TheVariants.{Memory};
 
+use refusals::OutOfMemory;
 use std::alloc::{AllocError, Global};
 use std::marker::Model;
 use text_parts::split_at;
@@ -26,14 +28,14 @@ pub enum NameFault {
     Above,
     /// There was no memory for the resolved name.
     #[error("out of memory")]
-    Memory,
+    Memory(OutOfMemory),
 }
 
 impl From<AllocError> for NameFault {
-    ghost from_gives = { λ _ fault. fault ≡ Memory };
+    ghost from_gives = { λ _ fault. fault ≡ Memory refused };
 
-    fn from(_failed: AllocError) -> NameFault {
-        NameFault::Memory
+    fn from(error: AllocError) -> NameFault {
+        NameFault::Memory(OutOfMemory::from(error))
     }
 }
 

@@ -53,7 +53,7 @@ fn candidate(alloc: Global, tree: &str, directory: &str) -> Result<Option<Name>,
     text.push_str("/Makefile")?;
     match Name::read(alloc, text.as_str()) {
         Ok(name) => Ok(Some(name)),
-        Err(NameFault::Memory) => Err(AllocError),
+        Err(NameFault::Memory(refused)) => Err(refused.into()),
         Err(NameFault::BadName | NameFault::Above) => Ok(None),
     }
 }

@@ -1,5 +1,6 @@
 // The ports trees that are searched for a port's directory.
 ghost use Rattle.std.specs.Prelude.{◌≡◌, IfOk, IsErrOf, map};
+ghost use Rattle.refusals.specs.Refused.{refused};
 ghost use Rattle.std.specs.List.{list_all};
 ghost use Rattle.std.specs.String.{string_bytes};
 ghost use Rattle.mk_paths.specs.SearchPath.{search_path, is_search_path, may_be_in_part, is_part, is_tree, standard_trees, IsSearchPath};
@@ -8,6 +9,7 @@ ghost use Rattle.mk_paths.specs.declared.search_path.PathFault.TheVariants.{Memo
 
 use crate::file_name::is_plain_byte;
 use mk_text::Profile;
+use refusals::OutOfMemory;
 use std::alloc::{AllocError, Global};
 use std::marker::Model;
 use text_parts::{clones_of, copies_of, split_at};
@@ -24,14 +26,14 @@ pub enum PathFault {
     BadPath,
     /// There was no memory for the trees.
     #[error("out of memory")]
-    Memory,
+    Memory(OutOfMemory),
 }
 
 impl From<AllocError> for PathFault {
-    ghost from_gives = { λ _ fault. fault ≡ Memory };
+    ghost from_gives = { λ _ fault. fault ≡ Memory refused };
 
-    fn from(_failed: AllocError) -> PathFault {
-        PathFault::Memory
+    fn from(error: AllocError) -> PathFault {
+        PathFault::Memory(OutOfMemory::from(error))
     }
 }
 
@@ -77,7 +79,9 @@ impl SearchPath {
     pub fn standard(alloc: Global) -> Result<SearchPath, AllocError>
         ensures { IfOk result (λ path. path ≡ standard_trees) }
     {
-        SearchPath::read(alloc, "/ports:/mystuff").map_err(|_| AllocError)
+        Ok(SearchPath {
+            trees: copies_of(alloc, &["/ports", "/mystuff"])?,
+        })
     }
 
     /// The same path once more. It fails only if memory runs out.

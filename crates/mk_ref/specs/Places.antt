@@ -72,4 +72,4 @@ pub record IsUnclosedAt (text : List ℕ) (at : ℕ) : Type 0 where
 -- says nothing
 abbrev pub IsFaultOf : List ℕ → PiecesFault → Type 0
 IsFaultOf text (f.Unclosed at) = IsUnclosedAt text at
-IsFaultOf text f.Memory = ⊤
+IsFaultOf text (f.Memory _) = ⊤

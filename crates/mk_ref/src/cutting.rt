@@ -1,5 +1,6 @@
 //! The pieces of a text: literals, pairs and references.
 ghost use Rattle.std.specs.Prelude.{◌≡◌, ◌<◌, ◌≤◌, ◌+◌, ◌^◌, [], ◌∷◌, ◌++◌, length, drop, map, All, Some, IfOk, IfErr, OnOk};
+ghost use Rattle.refusals.specs.Refused.{refused};
 ghost use Rattle.std.specs.Option.{ForSome};
 ghost use Rattle.mk_ref.specs.declared.cutting.PiecesFault.TheVariants as faults;
 ghost use Rattle.mk_ref.specs.Units.{opening_of, units_of, left_of};
@@ -10,6 +11,7 @@ ghost use Rattle.mk_ref.specs.Firsts.{literal_at, reference_at, BeginsAt};
 use crate::ending::{Inside, inside_from};
 use crate::opening::{Opening, opening_at};
 use mk_text::Span;
+use refusals::OutOfMemory;
 use std::alloc::{AllocError, Global};
 use thiserror::Error;
 
@@ -48,14 +50,14 @@ pub enum PiecesFault {
     },
     /// Memory ran out.
     #[error("out of memory")]
-    Memory,
+    Memory(OutOfMemory),
 }
 
 impl From<AllocError> for PiecesFault {
-    ghost from_gives = { λ _ fault. fault ≡ faults.Memory };
+    ghost from_gives = { λ _ fault. fault ≡ faults.Memory refused };
 
-    fn from(_: AllocError) -> PiecesFault {
-        PiecesFault::Memory
+    fn from(error: AllocError) -> PiecesFault {
+        PiecesFault::Memory(OutOfMemory::from(error))
     }
 }
 

@@ -21,7 +21,7 @@ pub fn outside(alloc: Global, text: &str) -> Result<Vec<u8>, AllocError>
     match pieces(alloc, text) {
         Ok(found) => covered(alloc, text, found.as_slice()),
         Err(PiecesFault::Unclosed { at }) => outside_up_to(alloc, text, at),
-        Err(PiecesFault::Memory) => Err(AllocError),
+        Err(PiecesFault::Memory(refused)) => Err(refused.into()),
     }
 }
 
@@ -39,7 +39,7 @@ fn outside_up_to(alloc: Global, text: &str, at: usize) -> Result<Vec<u8>, AllocE
         }
         // Before the first reference that doesn't end, each reference ends.
         Err(PiecesFault::Unclosed { at: _ }) => unreachable!(),
-        Err(PiecesFault::Memory) => Err(AllocError),
+        Err(PiecesFault::Memory(refused)) => Err(refused.into()),
     }
 }
 

@@ -31,6 +31,7 @@ use Rattle.mk_step.specs.Points.{Point, with_asked, HasCome, EndsSo}
 use Rattle.mk_step.specs.Turning.{Begins}
 use Rattle.mk_step.specs.Views.{point_of}
 use Rattle.mk_step.specs.declared.machine.Machine.{Machine}
+use Rattle.refusals.specs.Refused.{refused}
 
 after-give : {M F A : Type 0} (r : Result (A × M) (F × M)) → after r give ≡ r
 after-give (Ok end) = refl
@@ -102,11 +103,11 @@ module _ (files : FileMap) (settings : Settings) (name : List ℕ) (flavors : Op
 module _ (may : FilesFault → Type 0) (old new : FilesView) (settings : Settings) (name : List ℕ) (flavors : Option (List (List ℕ))) where
   pub look-stops : (stop : Stop FaultAt) → Refuses may stop → Fails old new → Begins may old new (old.files, settings) name flavors (Err stop)
   look-stops (stops.Fault fault) refuses fails = absurd refuses
-  look-stops stops.Store refuses fails = LeavesAtStop-one may old new (stop_at stops.Store) (refuses, fails)
-  look-stops stops.Memory refuses fails = LeavesAtStop-one may old new (stop_at stops.Memory) (refuses, fails)
+  look-stops (stops.Store refusal) refuses fails = LeavesAtStop-one may old new (stop_at (stops.Store refusal)) (refuses, fails)
+  look-stops (stops.Memory refused) refuses fails = LeavesAtStop-one may old new (stop_at (stops.Memory refused)) (refuses, fails)
 
   module _ (is : new ≡ looked old name) where
-    pub memory-stops : Begins may old new (old.files, settings) name flavors (Err stops.Memory)
+    pub memory-stops : Begins may old new (old.files, settings) name flavors (Err (stops.Memory refused))
     memory-stops = inl (AfterQuestions-one old new _ is)
 
     pub missing-stops : (stop : Stop FaultAt) → get old.files name ≡ None → IsBlamed name 0 (stops.Fault kinds.Include) stop → Begins may old new (old.files, settings) name flavors (Err stop)
@@ -127,7 +128,7 @@ module _ (may : FilesFault → Type 0) (old new : FilesView) (settings : Setting
       so = unreadable old.files settings name flavors bytes there fault fails;
       noted = is ∙ ap (λ content. noted old ((name, Contents content) ∷ [])) there;
     }
-    reading-stops pure.Memory bytes there fails = memory-stops
+    reading-stops (pure.Memory _) bytes there fails = memory-stops
 
     pub begins : (machine : Machine) (frame : Frame) (bytes : List ℕ) → get old.files name ≡ Some bytes → ((s : EvalState) (a : Account) → read_lines name 16 (parsed bytes) s a ≡ Ok ((s, Some frame), a))
         → point_of machine ≡ record { makefile = name; frames = frame ∷ []; state = opening (old.files, settings) name flavors; meter = full UNITS }

@@ -20,18 +20,18 @@ module _ (may : FilesFault → Type 0) (old new : FilesView) (settings : Setting
   -- the beginning stopped
   pub begin-tells : (stop : Stop FaultAt) → Begins may old new (old.files, settings) name flavors (Err stop) → TellsIfDone (stopped stop 0) (means (old.files, settings) name flavors)
   begin-tells (stops.Fault fault) begins = means-end old.files settings name flavors begins.more (Err (fault, full UNITS)) begins.so
-  begin-tells stops.Store begins = tt
-  begin-tells stops.Memory begins = tt
+  begin-tells (stops.Store _) begins = tt
+  begin-tells (stops.Memory _) begins = tt
 
   pub begin-leaves : (stop : Stop FaultAt) → Begins may old new (old.files, settings) name flavors (Err stop) → Leaves may old new (old.files, settings) name flavors [] (stopped stop 0)
   begin-leaves (stops.Fault fault) begins = record { more = begins.more; so = asks-end old.files settings name flavors begins.more (Err (fault, full UNITS)) begins.so; noted = begins.noted }
-  begin-leaves stops.Store begins = begins
-  begin-leaves stops.Memory begins = begins
+  begin-leaves (stops.Store _) begins = begins
+  begin-leaves (stops.Memory _) begins = begins
 
   pub begin-new : (stop : Stop FaultAt) → IsNew (stopped stop 0)
   begin-new (stops.Fault fault) = refl
-  begin-new stops.Store = tt
-  begin-new stops.Memory = tt
+  begin-new (stops.Store _) = tt
+  begin-new (stops.Memory _) = tt
 
   module _ (asked : List Question) (start end : Point) (has : HasCome (old.files, settings) name flavors asked start) (fits : end.meter.spent ≤ end.meter.limit) (later : IsLater start.meter end.meter) where
     -- there is more to do
@@ -54,17 +54,17 @@ module _ (may : FilesFault → Type 0) (old new : FilesView) (settings : Setting
     -- it stopped
     pub stop-tells : (units : ℕ) (stop : Stop FaultAt) → RunsOn may old new start end units (Err stop) → TellsIfDone (stopped stop end.meter.spent) (means (old.files, settings) name flavors)
     stop-tells units (stops.Fault fault) runs = means-end old.files settings name flavors (asked ++ runs.0.more) (Err (fault, end.meter)) (fails fault runs.0.more runs.0.so)
-    stop-tells units stops.Store runs = tt
-    stop-tells units stops.Memory runs = tt
+    stop-tells units (stops.Store _) runs = tt
+    stop-tells units (stops.Memory _) runs = tt
 
     pub stop-leaves : (units : ℕ) (stop : Stop FaultAt) → RunsOn may old new start end units (Err stop) → Leaves may old new (old.files, settings) name flavors asked (stopped stop end.meter.spent)
     stop-leaves units (stops.Fault fault) runs = record { more = runs.0.more; so = asks-end old.files settings name flavors (asked ++ runs.0.more) (Err (fault, end.meter)) (fails fault runs.0.more runs.0.so); noted = runs.0.noted }
-    stop-leaves units stops.Store runs = runs
-    stop-leaves units stops.Memory runs = runs
+    stop-leaves units (stops.Store _) runs = runs
+    stop-leaves units (stops.Memory _) runs = runs
 
 -- a stop comes in time
 pub stop-spends : (may : FilesFault → Type 0) (old new : FilesView) (machine : Machine) (end : Point) (units : ℕ) (stop : Stop FaultAt) → RunsOn may old new (point_of machine) end units (Err stop)
     → Spends old.files units machine (stopped stop end.meter.spent)
 stop-spends may old new machine end units (stops.Fault fault) runs = runs.1
-stop-spends may old new machine end units stops.Store runs = tt
-stop-spends may old new machine end units stops.Memory runs = tt
+stop-spends may old new machine end units (stops.Store _) runs = tt
+stop-spends may old new machine end units (stops.Memory _) runs = tt

@@ -127,5 +127,5 @@ module _ (may : FilesFault → Type 0) (first : FilesView) (start : Point) (unit
       subst (λ (m : Meter). StopsInTime first.files units start m.spent) (sym same)
           (record { onward = omega (arith, way.goes.so.later.spent, later.spent); last = inr (last_at (Err (fault, account m' new)) low at) }),
     )
-    way-stops stops.Store end same at leaves low = LeavesAtStop-on may first old new (stop_at stops.Store) asked_so_far leaves
-    way-stops stops.Memory end same at leaves low = LeavesAtStop-on may first old new (stop_at stops.Memory) asked_so_far leaves
+    way-stops (stops.Store refusal) end same at leaves low = LeavesAtStop-on may first old new (stop_at (stops.Store refusal)) asked_so_far leaves
+    way-stops (stops.Memory refused) end same at leaves low = LeavesAtStop-on may first old new (stop_at (stops.Memory refused)) asked_so_far leaves

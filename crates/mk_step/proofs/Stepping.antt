@@ -110,7 +110,7 @@ module _ (here : ExecutedFile) (files : FileMap) (makefile : List ℕ) (site : S
   pub turns-stop : (stop : PureStop FaultAt) (end : Meter) → StopsPurelyAt stop end (tell (at here.file.now line) (pay m))
       → StopsPurelyAt stop (record { meter = end; log = log }) (advance files makefile (Turns site line body (drop next turns)) frames s (record { meter = m; log = log }))
   turns-stop (pure.Fault fault) end stops = begun ∙ ap (λ r. after r left_begun) (told-stops (at here.file.now line) log (pay m) fault end stops)
-  turns-stop pure.Memory end stops = tt
+  turns-stop (pure.Memory _) end stops = tt
 
   pub turns-go : (end : Meter) (frames' : List Frame) → tell (at here.file.now line) (pay m) ≡ Ok (tt, end)
       → Lines (record site { loops = inside_turn site.loops (get_or turns next []) }) body ∷ Turns site line body (drop (next + 1) turns) ∷ frames ≡ frames'
@@ -131,12 +131,12 @@ module _ (here : ExecutedFile) (files : FileMap) (makefile : List ℕ) (site : S
   pub modules-stop : (stop : PureStop FaultAt) (end : Meter) → StopsPurelyAt stop end (tell (at here.file.now line) (module_words s.variables m))
       → StopsPurelyAt stop (record { meter = end; log = log }) (advance files makefile (Modules site line) frames s (record { meter = m; log = log }))
   modules-stop (pure.Fault fault) end stops = expanded ∙ ap (λ r. after r left_expanded) (told-stops (at here.file.now line) log (module_words s.variables m) fault end stops)
-  modules-stop pure.Memory end stops = tt
+  modules-stop (pure.Memory _) end stops = tt
 
 -- a stop of work that looks at no file, as a stop of any work
 pub stops-purely : {A M : Type 0} (stop : PureStop FaultAt) (end : M) (outcome : Result (A × M) (FaultAt × M)) → StopsPurelyAt stop end outcome → StopsAt (stop_of_pure stop) end outcome
 stops-purely (pure.Fault fault) end outcome stops = stops
-stops-purely pure.Memory end outcome stops = tt
+stops-purely (pure.Memory _) end outcome stops = tt
 
 enters-file : (levels : ℕ) (file : File) (s : EvalState) (a : Account) → (levels ≡ 0 → ⊥) → file_lines levels file s a ≡ read_lines file.0 (levels - 1) (parsed file.1) s a
 enters-file zero file s a some = absurd (some refl)
@@ -182,7 +182,7 @@ module _ (here : ExecutedFile) (files : FileMap) (makefile : List ℕ) (site : S
   pub line-unread : (s' : EvalState) (file : File) (end : Account) (stop : PureStop FaultAt) → opening ≡ Ok ((s', Some file), end) → (site.levels ≡ 0 → ⊥)
       → StopsPurelyAt stop end (read_lines file.0 (site.levels - 1) (parsed file.1) s' end) → StopsAt (stop_of_pure stop) end (do_line files makefile site line s a)
   line-unread s' file end (pure.Fault fault) gives some stops = line-enters s' file end gives some ∙ ap (λ r. after r (left_of_file s')) stops
-  line-unread s' file end pure.Memory gives some stops = tt
+  line-unread s' file end (pure.Memory _) gives some stops = tt
 
 pub may-open : (levels levels' : ℕ) (old new : Meter) (found : Option Included) (included : Included) → levels ≡ levels' → found ≡ Some included → Opens levels old new found → levels' ≡ 0 → ⊥
 may-open levels levels' old new found included same is opens none = let may = subst (Opens levels old new) is opens in may.0 (same ∙ none)
@@ -237,7 +237,7 @@ module _ (here : ExecutedFile) (files : FileMap) (makefile : List ℕ) (site : S
 
   pub loop-stops : (stop : PureStop FaultAt) (end : Meter) → StopsPurelyAt stop end reading → StopsAt (stop_of_pure stop) (record { meter = end; log = log }) (do_tree files makefile site (tree_of node) s (record { meter = m; log = log }))
   loop-stops (pure.Fault fault) end stops = reads ∙ ap (λ r. after r left_read) (told-stops (at here.file.now head.line) log (turns s.variables (loops_of loops) head.text m) fault end stops)
-  loop-stops pure.Memory end stops = tt
+  loop-stops (pure.Memory _) end stops = tt
 
 pub may-search : (levels levels' : ℕ) (found : Option Included) (included : Included) → levels ≡ levels' → found ≡ Some included → MayOpen levels found → levels' ≡ 0 → ⊥
 may-search levels levels' found included same is opens none = let may = subst (MayOpen levels) is opens in may (same ∙ none)
@@ -286,4 +286,4 @@ module _ (here : ExecutedFile) (files : FileMap) (makefile : List ℕ) (site : S
       pub search-unread : (stop : PureStop FaultAt) → StopsPurelyAt stop end (read_lines included.name (site.levels - 1) (parsed included.content) s end)
           → StopsAt (stop_of_pure stop) end (advance files makefile (Searches site line words) frames s a)
       search-unread (pure.Fault fault) stops = enters ∙ ap (λ r. after r left_entered) stops
-      search-unread pure.Memory stops = tt
+      search-unread (pure.Memory _) stops = tt

@@ -102,8 +102,8 @@ Spends files units old (Err fault) = Unit {0}
 -- a stop after this many units, as what a turn leaves
 abbrev pub stopped : Stop FaultAt → ℕ → Result Turned FilesFault
 stopped (stops.Fault fault) cost = Ok (Done (Err (record { fault = fault; cost = cost })))
-stopped stops.Store cost = Err faults.Store
-stopped stops.Memory cost = Err faults.Memory
+stopped (stops.Store refusal) cost = Err (faults.Store refusal)
+stopped (stops.Memory refused) cost = Err (faults.Memory refused)
 
 -- What a run of a machine did that was given some units, from one point to another. The answer is whether nothing is
 -- to be done any more.
@@ -117,8 +117,8 @@ RunsOn may old new start end units (Ok false) =
     × StopsInTime old.files units start end.meter.spent
 RunsOn may old new start end units (Err (stops.Fault fault)) =
     AsksMore old new (StopsWith old.files start fault end.meter) × StopsInTime old.files units start end.meter.spent
-RunsOn may old new start end units (Err stops.Store) = LeavesAtStop {F = FaultAt} may old new stops.Store
-RunsOn may old new start end units (Err stops.Memory) = LeavesAtStop {F = FaultAt} may old new stops.Memory
+RunsOn may old new start end units (Err (stops.Store refusal)) = LeavesAtStop {F = FaultAt} may old new (stops.Store refusal)
+RunsOn may old new start end units (Err (stops.Memory refused)) = LeavesAtStop {F = FaultAt} may old new (stops.Memory refused)
 
 -- What the beginning of an evaluation did: the machine is at the first line, and nothing is spent; or the makefile isn't
 -- there or can't be read.
@@ -128,8 +128,8 @@ Begins may old new world name flavors (Ok machine) =
     AsksMore old new (λ asked. IsUnderWay world name flavors asked machine) × (machine.budget ≡ full UNITS)
 Begins may old new world name flavors (Err (stops.Fault fault)) =
     AsksMore old new (λ asked. EndsSo world name flavors asked (Err (fault, full UNITS)))
-Begins may old new world name flavors (Err stops.Store) = LeavesAtStop {F = FaultAt} may old new stops.Store
-Begins may old new world name flavors (Err stops.Memory) = LeavesAtStop {F = FaultAt} may old new stops.Memory
+Begins may old new world name flavors (Err (stops.Store refusal)) = LeavesAtStop {F = FaultAt} may old new (stops.Store refusal)
+Begins may old new world name flavors (Err (stops.Memory refused)) = LeavesAtStop {F = FaultAt} may old new (stops.Memory refused)
 
 -- if it isn't done, it has spent this many units or more
 abbrev pub HasSpent : ℕ → Result Turned FilesFault → Type 0

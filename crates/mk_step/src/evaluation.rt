@@ -90,8 +90,8 @@ pub fn evaluate_with<F: Files, P: Parses>(
         Ok(Turned::Done(Ok(evaluated))) => Ok(evaluated),
         Ok(Turned::Done(Err(failed))) => Err(Stop::Fault(failed)),
         Ok(Turned::More(_)) => unreachable!(), // no evaluation spends that much
-        Err(FilesFault::Store) => Err(Stop::Store),
-        Err(FilesFault::Memory) => Err(Stop::Memory),
+        Err(FilesFault::Store(refusal)) => Err(Stop::Store(refusal)),
+        Err(FilesFault::Memory(refused)) => Err(Stop::Memory(refused)),
     }
 }
 

@@ -202,7 +202,7 @@ fn ended(stop: Stop<Fault>, cost: u64) -> Result<Turned, FilesFault>
 {
     match stop {
         Stop::Fault(fault) => Ok(Turned::Done(Err(Failed { fault, cost }))),
-        Stop::Store => Err(FilesFault::Store),
-        Stop::Memory => Err(FilesFault::Memory),
+        Stop::Store(refusal) => Err(FilesFault::Store(refusal)),
+        Stop::Memory(refused) => Err(FilesFault::Memory(refused)),
     }
 }

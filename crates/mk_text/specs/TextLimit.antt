@@ -7,4 +7,4 @@ use Rattle.mk_text.specs.declared.limits.TextFault.TheVariants as faults
 -- why a text wasn't made: it would be too long, or memory ran out, which says nothing about the text
 abbrev pub IsTooLong : List ℕ → TextFault → Type 0
 IsTooLong whole faults.Length = TEXT_LIMIT < length whole
-IsTooLong whole faults.Memory = Unit {0}
+IsTooLong whole (faults.Memory _) = Unit {0}

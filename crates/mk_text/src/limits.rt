@@ -1,8 +1,10 @@
 //! The limit of a text.
 ghost use Rattle.std.specs.Prelude.{◌≡◌, ◌≤◌, ◌++◌, string_bytes, length, IfOk, IfErr, OnErr};
+ghost use Rattle.refusals.specs.Refused.{refused};
 ghost use Rattle.mk_text.specs.TextLimit.{IsTooLong};
 ghost use Rattle.mk_text.specs.declared.limits.TextFault.TheVariants.{Memory};
 
+use refusals::OutOfMemory;
 use std::alloc::AllocError;
 use thiserror::Error;
 
@@ -18,14 +20,14 @@ pub enum TextFault {
     Length,
     /// Memory ran out.
     #[error("out of memory")]
-    Memory,
+    Memory(OutOfMemory),
 }
 
 impl From<AllocError> for TextFault {
-    ghost from_gives = { λ _ fault. fault ≡ Memory };
+    ghost from_gives = { λ _ fault. fault ≡ Memory refused };
 
-    fn from(_failed: AllocError) -> TextFault {
-        TextFault::Memory
+    fn from(error: AllocError) -> TextFault {
+        TextFault::Memory(OutOfMemory::from(error))
     }
 }
 

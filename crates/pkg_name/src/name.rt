@@ -1,5 +1,6 @@
 // Names of packages: cutting them into stem, version and flavors, and printing them.
 ghost use Rattle.std.specs.Prelude.{◌≡◌, not, IfOk, IsErrOf, Some, None, map, MatchOption};
+ghost use Rattle.refusals.specs.Refused.{refused};
 ghost use Rattle.std.specs.List.{list_all};
 ghost use Rattle.std.specs.String.{string_bytes};
 ghost use Rattle.pkg_name.specs.Version.{is_version};
@@ -8,6 +9,7 @@ ghost use Rattle.text_parts.specs.Cuts.{now_all};
 ghost use Rattle.pkg_name.specs.declared.name.NameFault.TheVariants.{Memory};
 
 use crate::version::{Version, VersionFault, begins_with_digit};
+use refusals::OutOfMemory;
 use std::alloc::{AllocError, Global};
 use std::fmt;
 use std::marker::Model;
@@ -23,14 +25,14 @@ pub enum NameFault {
     NoName,
     /// There was no memory for the name.
     #[error("out of memory")]
-    Memory,
+    Memory(OutOfMemory),
 }
 
 impl From<AllocError> for NameFault {
-    ghost from_gives = { λ _ fault. fault ≡ Memory };
+    ghost from_gives = { λ _ fault. fault ≡ Memory refused };
 
-    fn from(_failed: AllocError) -> NameFault {
-        NameFault::Memory
+    fn from(error: AllocError) -> NameFault {
+        NameFault::Memory(OutOfMemory::from(error))
     }
 }
 
@@ -83,13 +85,29 @@ impl PkgName {
         let version = match Version::read(alloc, version) {
             Ok(version) => version,
             Err(VersionFault::NoVersion) => return Err(NameFault::NoName),
-            Err(VersionFault::Memory) => return Err(NameFault::Memory),
+            Err(VersionFault::Memory(refused)) => return Err(NameFault::Memory(refused)),
         };
         Ok(PkgName {
             stem: String::from_str(alloc, stem)?,
             version,
             flavors: copies_of(alloc, flavors)?,
         })
+    }
+
+    /// The text of the name, which is split into the same name again. It fails only if memory runs out.
+    pub fn text(&self, alloc: Global) -> Result<String, AllocError>
+        ensures text { IfOk result (λ text. string_bytes text ≡ name_text self.now) }
+        ensures split { IfOk result (λ text. split_name (string_bytes text) ≡ Some self.now) }
+    {
+        self.is_split_from_its_text();
+        format!(in alloc; "{self}")
+    }
+
+    // What is so of each name. The function does nothing.
+    fn is_split_from_its_text(&self)
+        ensures { split_name (name_text self.now) ≡ Some self.now }
+    {
+        let _stem = self.stem.as_str();
     }
 
     /// The stem: what is before the version.

@@ -1,5 +1,6 @@
 // Versions of packages: reading, printing and comparing them.
 ghost use Rattle.std.specs.Prelude.{◌≡◌, IfOk, IsErrOf, Some, false, true, refl};
+ghost use Rattle.refusals.specs.Refused.{refused};
 ghost use Rattle.std.specs.List.{list_all};
 ghost use Rattle.std.specs.Char.{is_ascii_digit};
 ghost use Rattle.std.specs.Str.{bytes_eq};
@@ -11,6 +12,7 @@ ghost use Rattle.pkg_name.specs.OrderLaws.{version_cmp_total, version_cmp_ties, 
 ghost use Rattle.pkg_name.specs.declared.version.VersionFault.TheVariants.{Memory};
 
 use crate::order::compare_versions;
+use refusals::OutOfMemory;
 use std::alloc::{AllocError, Global};
 use std::cmp::Ordering;
 use std::fmt;
@@ -28,14 +30,14 @@ pub enum VersionFault {
     NoVersion,
     /// There was no memory for the version.
     #[error("out of memory")]
-    Memory,
+    Memory(OutOfMemory),
 }
 
 impl From<AllocError> for VersionFault {
-    ghost from_gives = { λ _ fault. fault ≡ Memory };
+    ghost from_gives = { λ _ fault. fault ≡ Memory refused };
 
-    fn from(_failed: AllocError) -> VersionFault {
-        VersionFault::Memory
+    fn from(error: AllocError) -> VersionFault {
+        VersionFault::Memory(OutOfMemory::from(error))
     }
 }
 

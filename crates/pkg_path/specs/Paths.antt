@@ -108,7 +108,7 @@ abbrev pub refusal_number : PkgPathFault → Option ℕ
 refusal_number Empty = Some 1
 refusal_number TwoSubpackages = Some 2
 refusal_number BadCharacter = Some 3
-refusal_number Memory = None
+refusal_number (Memory _) = None
 
 -- the flavors as choices: the empty flavor is an empty choice
 abbrev pub flavor_choices : Option (List (List ℕ)) → List (List ℕ)

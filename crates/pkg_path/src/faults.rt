@@ -1,8 +1,10 @@
 // Why a text names no path.
 ghost use Rattle.std.specs.Prelude.{◌≡◌};
+ghost use Rattle.refusals.specs.Refused.{refused};
 ghost use Rattle.pkg_path.specs.Paths.{refusal_number};
 ghost use Rattle.pkg_path.specs.declared.faults.PkgPathFault.TheVariants.{Memory};
 
+use refusals::OutOfMemory;
 use std::alloc::AllocError;
 use thiserror::Error;
 
@@ -21,7 +23,7 @@ pub enum PkgPathFault {
     BadCharacter,
     /// There was no memory for the path.
     #[error("out of memory")]
-    Memory,
+    Memory(OutOfMemory),
 }
 
 impl PkgPathFault {
@@ -33,15 +35,15 @@ impl PkgPathFault {
             PkgPathFault::Empty => Some(1),
             PkgPathFault::TwoSubpackages => Some(2),
             PkgPathFault::BadCharacter => Some(3),
-            PkgPathFault::Memory => None,
+            PkgPathFault::Memory(_) => None,
         }
     }
 }
 
 impl From<AllocError> for PkgPathFault {
-    ghost from_gives = { λ _ fault. fault ≡ Memory };
+    ghost from_gives = { λ _ fault. fault ≡ Memory refused };
 
-    fn from(_failed: AllocError) -> PkgPathFault {
-        Self::Memory
+    fn from(error: AllocError) -> PkgPathFault {
+        Self::Memory(OutOfMemory::from(error))
     }
 }

@@ -98,7 +98,7 @@ impl PkgPath {
             Err(PkgPathFault::Empty) => Ok(None),
             Err(PkgPathFault::TwoSubpackages) => Ok(None),
             Err(PkgPathFault::BadCharacter) => Ok(None),
-            Err(PkgPathFault::Memory) => Err(AllocError),
+            Err(PkgPathFault::Memory(refused)) => Err(refused.into()),
         }
     }
 

@@ -111,7 +111,7 @@ abbrev pub refusal_number : SpecFault → Option ℕ
 refusal_number NoStem = Some 1
 refusal_number BadVersion = Some 2
 refusal_number EmptyAlternative = Some 3
-refusal_number Memory = None
+refusal_number (Memory _) = None
 
 -- a reading had this refusal
 abbrev pub is_refused : SpecFault → Result AlternativeValue SpecFault → Bool

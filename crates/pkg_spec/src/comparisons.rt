@@ -44,7 +44,7 @@ impl Comparison {
         match Version::read(alloc, version) {
             Ok(version) => Ok(Some(Comparison { sign, version })),
             Err(VersionFault::NoVersion) => Ok(None),
-            Err(VersionFault::Memory) => Err(AllocError),
+            Err(VersionFault::Memory(refused)) => Err(refused.into()),
         }
     }
 

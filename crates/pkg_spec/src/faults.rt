@@ -1,8 +1,10 @@
 // Why a text is no spec.
 ghost use Rattle.std.specs.Prelude.{◌≡◌};
+ghost use Rattle.refusals.specs.Refused.{refused};
 ghost use Rattle.pkg_spec.specs.Alternatives.{refusal_number};
 ghost use Rattle.pkg_spec.specs.declared.faults.SpecFault.TheVariants.{Memory};
 
+use refusals::OutOfMemory;
 use std::alloc::AllocError;
 use thiserror::Error;
 
@@ -21,7 +23,7 @@ pub enum SpecFault {
     EmptyAlternative,
     /// There was no memory for the spec.
     #[error("out of memory")]
-    Memory,
+    Memory(OutOfMemory),
 }
 
 impl SpecFault {
@@ -33,15 +35,15 @@ impl SpecFault {
             SpecFault::NoStem => Some(1),
             SpecFault::BadVersion => Some(2),
             SpecFault::EmptyAlternative => Some(3),
-            SpecFault::Memory => None,
+            SpecFault::Memory(_) => None,
         }
     }
 }
 
 impl From<AllocError> for SpecFault {
-    ghost from_gives = { λ _ fault. fault ≡ Memory };
+    ghost from_gives = { λ _ fault. fault ≡ Memory refused };
 
-    fn from(_failed: AllocError) -> SpecFault {
-        Self::Memory
+    fn from(error: AllocError) -> SpecFault {
+        Self::Memory(OutOfMemory::from(error))
     }
 }

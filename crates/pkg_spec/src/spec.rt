@@ -147,7 +147,7 @@ impl Reading {
             Err(SpecFault::NoStem) => self.no_stem = true,
             Err(SpecFault::BadVersion) => self.bad_version = true,
             Err(SpecFault::EmptyAlternative) => self.empty = true,
-            Err(SpecFault::Memory) => return Err(AllocError),
+            Err(SpecFault::Memory(refused)) => return Err(refused.into()),
         }
         Ok(self)
     }

@@ -131,7 +131,7 @@ pub fn listed(alloc: Global, world: &mut World, given: &[Vec<u8>]) -> Result<Ans
             Ok(packages_answer(alloc, packages.as_slice()))
         }
         Err(QueryFault::BadQuery) => Ok(Answer::of_word(alloc, "BadQuery")),
-        Err(QueryFault::Memory) => Err(Trouble::Memory),
+        Err(QueryFault::Memory(refused)) => Err(Trouble::Memory(refused)),
     }
 }
 
@@ -143,7 +143,7 @@ pub fn matched(alloc: Global, world: &mut World, given: &[Vec<u8>]) -> Result<An
             let packages = admitted(alloc, &spec, &mut roots)?;
             Ok(packages_answer(alloc, packages.as_slice()))
         }
-        Err(SpecFault::Memory) => Err(Trouble::Memory),
+        Err(SpecFault::Memory(refused)) => Err(Trouble::Memory(refused)),
         Err(_) => Ok(Answer::of_word(alloc, "BadSpec")),
     }
 }

@@ -33,7 +33,7 @@ fn port_answer(alloc: Global, path: &PkgPath, evaluated: &Evaluated) -> Result<A
             Ok(answer)
         }
         Err(PureStop::Fault(failed)) => failure(alloc, &failed),
-        Err(PureStop::Memory) => Err(Trouble::Memory),
+        Err(PureStop::Memory(refused)) => Err(Trouble::Memory(refused)),
     }
 }
 

@@ -204,8 +204,8 @@ fn stopped_in(
         match turns_of_stale(alloc, files, settings, units, Limit::In(number, steps)) {
             Ok(_turns) if steps == 1 => return Ok("never"),
             Ok(_turns) => return Ok("Store"),
-            Err(FilesFault::Store) => {}
-            Err(FilesFault::Memory) => return Ok("wrong"),
+            Err(FilesFault::Store(_)) => {}
+            Err(FilesFault::Memory(_)) => return Ok("wrong"),
         }
     }
     Err(Trouble::NoCase)
@@ -266,9 +266,7 @@ fn turns_of<F: Listing + Drop>(
     for number in 0..MOST_TURNS {
         let steps = limit.in_turn(number);
         let turn = turn_within(alloc, cache, keeper, files, settings, units, steps)?;
-        if turns.push(turn).is_err() {
-            return Err(FilesFault::Memory);
-        }
+        turns.push(turn)?;
         if turn == Refreshed::Done {
             return Ok(Some(turns));
         }

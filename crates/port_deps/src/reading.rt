@@ -171,6 +171,6 @@ fn read_spec(alloc: Global, text: &str) -> Result<Option<Spec>, AllocError>
         Err(SpecFault::NoStem) => Ok(None),
         Err(SpecFault::BadVersion) => Ok(None),
         Err(SpecFault::EmptyAlternative) => Ok(None),
-        Err(SpecFault::Memory) => Err(AllocError),
+        Err(SpecFault::Memory(refused)) => Err(refused.into()),
     }
 }

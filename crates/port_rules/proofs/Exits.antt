@@ -10,7 +10,7 @@ use Rattle.mk_base.specs.declared.stopping.PureStop.TheVariants as pure
 -- where a part stops that comes first, so does the whole
 pub stops-too : {A B F M : Type 0} (stop : PureStop F) (state : M) (part : Result (B × M) (F × M)) (next : B → Work M F A) → StopsPurelyAt stop state part → StopsPurelyAt stop state (after part next)
 stops-too (pure.Fault fault) state part next is = ap (λ end. after end next) is
-stops-too pure.Memory state part next is = tt
+stops-too (pure.Memory _) state part next is = tt
 
 -- a stop of the part that comes first is one of the whole
 pub exit : {R A B F M : Type 0} (view : R → A) (result : Result R (PureStop F)) (stop : PureStop F) (state : M) (part : Result (B × M) (F × M)) (next : B → Work M F A)

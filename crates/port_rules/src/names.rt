@@ -118,7 +118,7 @@ fn read_name(alloc: Global, text: &str) -> Result<PkgName, PureStop<FaultKind>>
     match PkgName::split(alloc, text) {
         Ok(name) => Ok(name),
         Err(NameFault::NoName) => Err(PureStop::Fault(FaultKind::BadName)),
-        Err(NameFault::Memory) => Err(PureStop::Memory),
+        Err(NameFault::Memory(refused)) => Err(PureStop::Memory(refused)),
     }
 }
 

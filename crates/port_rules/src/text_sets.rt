@@ -44,7 +44,7 @@ impl<'a> TextSet<'a> {
     {
         match self.texts.insert(text) {
             Ok(is_new) => Ok(is_new),
-            Err(_failed) => Err(AllocError),
+            Err(failed) => Err(failed.into()),
         }
     }
 

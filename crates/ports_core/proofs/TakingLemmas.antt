@@ -44,7 +44,7 @@ takes_off : (old new : Incoming) (answer : Taking) → TakesOrLoses old answer n
 takes_off old new (Ok None) takes = takes
 takes_off old new (Ok (Some (Ok request))) takes = takes
 takes_off old new (Ok (Some (Err fault))) takes = takes
-takes_off old new (Err (Memory close)) takes = takes
+takes_off old new (Err (Memory close _)) takes = takes
 
 module _ (keys : List (List ℕ)) (c : ℕ) (queues : List Queue) where
   pub joins_none : (taken : Taken) → ((t : ℕ) → entering keys c taken t ≡ []) → Joins keys c taken queues queues

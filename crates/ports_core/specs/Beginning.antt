@@ -6,5 +6,5 @@ use Rattle.ports_core.specs.declared.service.NewFault.TheVariants as news
 
 -- a fault of the files, as a reason why a service can't begin
 abbrev pub new_fault : FilesFault → NewFault
-new_fault faults.Store = news.Store
-new_fault faults.Memory = news.Memory
+new_fault (faults.Store refusal) = news.Store refusal
+new_fault (faults.Memory refused) = news.Memory refused

@@ -39,6 +39,6 @@ StopsAt config events index steps service =
 abbrev pub EndsEarly : {W : Type 0} → Config → List Event → ReplayFault W → Type 0
 EndsEarly config events (NotAllowed index done) = StopsAt config events index done.steps.items done.service
 EndsEarly config events (New new.Config) = is_fit config ≡ false
-EndsEarly config events (New new.Memory) = is_fit config ≡ true
-EndsEarly config events (New new.Store) = is_fit config ≡ true
-EndsEarly config events Memory = is_fit config ≡ true
+EndsEarly config events (New (new.Memory _)) = is_fit config ≡ true
+EndsEarly config events (New (new.Store _)) = is_fit config ≡ true
+EndsEarly config events (Memory _) = is_fit config ≡ true

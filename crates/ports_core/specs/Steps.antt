@@ -15,6 +15,7 @@ use Rattle.ports_core.specs.Taking.{Taken, Joins}
 use Rattle.ports_core.specs.Opened.{KeepsConnections, KeepsOthers}
 use Rattle.ports_core.specs.Books.{HearsOn, TellsOn}
 use Rattle.ports_core.specs.State.{State, keys_of, worlds_of, queues_of, world_at, queue_at, connection_of, book_of, next_of, is_full}
+use Rattle.refusals.specs.Refused.{refused}
 
 -- the keys and the next number stay as they were
 pub record Keeps (old new : State) : Type 0 where
@@ -56,7 +57,7 @@ pub record IsOpened (told : Told) (old new : State) : Type 0 where
 -- a connection isn't opened, and nothing changes
 pub record IsRefused (told : Told) (old new : State) : Type 0 where
   pub reply : told.reply ≡ None
-  pub refused : told.refused ≡ Some (if is_full old then Connections else Memory)
+  pub refused : told.refused ≡ Some (if is_full old then Connections else Memory refused)
   pub closed : told.closed ≡ None
   pub same : IsSame old new
 

@@ -29,7 +29,7 @@ abbrev pub taken_of : Result (Option (Result RequestMessage HeadFault)) TakeErro
 taken_of (Ok None) = Nothing
 taken_of (Ok (Some (Ok request))) = Whole request
 taken_of (Ok (Some (Err fault))) = Refusal fault
-taken_of (Err (Memory close)) = Lost close
+taken_of (Err (Memory close _)) = Lost close
 
 -- this comes first in the stream, and the new stream is what follows it
 abbrev pub TakesOff : Incoming → Taken → Incoming → Type 0

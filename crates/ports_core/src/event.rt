@@ -4,6 +4,7 @@ ghost use Rattle.ports_core.specs.Telling.{CountsNone, spent_in};
 
 use ports_http::Reply;
 use ports_index::Spent;
+use refusals::OutOfMemory;
 
 /// Something that happens to a service. Connections go by the number that they had when they opened,
 /// tenants by the place of their key.
@@ -39,7 +40,7 @@ pub enum Refused {
     /// 16 connections are open, or no number is left.
     Connections,
     /// There was no memory for its buffers.
-    Memory,
+    Memory(OutOfMemory),
 }
 
 /// What an event told: at most one reply, the refusal of a connection that was to open, the connection that

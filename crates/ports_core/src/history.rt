@@ -1,5 +1,6 @@
 //! A whole run.
 ghost use Rattle.std.specs.Prelude.{◌≡◌, IfOk, IfErr, OnOk};
+ghost use Rattle.refusals.specs.Refused.{refused};
 ghost use Rattle.ports_core.specs.State.{IsAllowed};
 ghost use Rattle.ports_core.specs.Runs.{sent_by};
 ghost use Rattle.ports_core.specs.Keys.{key_texts};
@@ -12,6 +13,7 @@ use crate::event::{Event, Told};
 use crate::keys::Config;
 use crate::service::{NewFault, Service};
 use crate::tenants::Tenants;
+use refusals::OutOfMemory;
 use std::alloc::{AllocError, AllocFailed, Global};
 use std::marker::Model;
 
@@ -48,7 +50,7 @@ pub enum ReplayFault<K: Tenants> {
     /// The service couldn't begin.
     New(NewFault),
     /// There was no memory for the transcript.
-    Memory,
+    Memory(OutOfMemory),
 }
 
 impl<K: Tenants> From<NewFault> for ReplayFault<K> {
@@ -60,18 +62,18 @@ impl<K: Tenants> From<NewFault> for ReplayFault<K> {
 }
 
 impl<K: Tenants> From<AllocError> for ReplayFault<K> {
-    ghost from_gives = { λ _ fault. fault ≡ faults.Memory };
+    ghost from_gives = { λ _ fault. fault ≡ faults.Memory refused };
 
-    fn from(_error: AllocError) -> ReplayFault<K> {
-        ReplayFault::Memory
+    fn from(error: AllocError) -> ReplayFault<K> {
+        ReplayFault::Memory(OutOfMemory::from(error))
     }
 }
 
 impl<K: Tenants, T: Drop> From<AllocFailed<T>> for ReplayFault<K> {
-    ghost from_gives = { λ _ fault. fault ≡ faults.Memory };
+    ghost from_gives = { λ _ fault. fault ≡ faults.Memory refused };
 
-    fn from(_error: AllocFailed<T>) -> ReplayFault<K> {
-        ReplayFault::Memory
+    fn from(error: AllocFailed<T>) -> ReplayFault<K> {
+        ReplayFault::Memory(OutOfMemory::from(error))
     }
 }
 

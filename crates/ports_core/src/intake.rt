@@ -54,7 +54,7 @@ fn settle(
         Ok(None) => None,
         Ok(Some(Ok(request))) => admit(keys, queues, conn, connection, request),
         Ok(Some(Err(fault))) => Some(connection.tell(conn, fault.reply(), true)),
-        Err(TakeError::Memory { close }) => Some(connection.tell(
+        Err(TakeError::Memory { close, .. }) => Some(connection.tell(
             conn,
             Reply::store_failed(),
             close,

@@ -1,5 +1,6 @@
 //! The service, one event at a time.
 ghost use Rattle.std.specs.Prelude.{◌≡◌, ◌<◌, ◌↔◌, false, Bool, [], IsTrue, IfOk, IsErrOf, length, replicate};
+ghost use Rattle.refusals.specs.Refused.{refused};
 ghost use Rattle.ports_core.specs.declared.service.NewFault.TheVariants.{Memory};
 ghost use Rattle.ports_core.specs.Beginning.{new_fault};
 
@@ -15,6 +16,7 @@ use crate::queue::Queue;
 use crate::tenants::{Answer, Tenants, Worked};
 use arrayvec::ArrayVec;
 use mk_paths::FilesFault;
+use refusals::{OutOfMemory, StoreRefusal};
 use std::alloc::{AllocError, Global};
 use std::collections::BTreeMap;
 use std::marker::Model;
@@ -28,17 +30,17 @@ pub enum NewFault {
     Config,
     /// The store of the worlds failed.
     #[error("the store of the worlds failed")]
-    Store,
+    Store(StoreRefusal),
     /// There was no memory.
     #[error("out of memory")]
-    Memory,
+    Memory(OutOfMemory),
 }
 
 impl From<AllocError> for NewFault {
-    ghost from_gives = { λ _ fault. fault ≡ Memory };
+    ghost from_gives = { λ _ fault. fault ≡ Memory refused };
 
-    fn from(_error: AllocError) -> NewFault {
-        NewFault::Memory
+    fn from(error: AllocError) -> NewFault {
+        NewFault::Memory(OutOfMemory::from(error))
     }
 }
 
@@ -47,8 +49,8 @@ impl From<FilesFault> for NewFault {
 
     fn from(why: FilesFault) -> NewFault {
         match why {
-            FilesFault::Store => NewFault::Store,
-            FilesFault::Memory => NewFault::Memory,
+            FilesFault::Store(refusal) => NewFault::Store(refusal),
+            FilesFault::Memory(refused) => NewFault::Memory(refused),
         }
     }
 }
@@ -256,11 +258,12 @@ impl<K: Tenants> Service<K> {
         if self.connections.len() >= MOST_CONNECTIONS || self.next == u64::MAX {
             return Told::refusal(Refused::Connections);
         }
-        let Ok(connection) = Connection::new(self.alloc) else {
-            return Told::refusal(Refused::Memory);
+        let connection = match Connection::new(self.alloc) {
+            Ok(connection) => connection,
+            Err(error) => return Told::refusal(Refused::Memory(OutOfMemory::from(error))),
         };
-        if self.connections.insert(self.next, connection).is_err() {
-            return Told::refusal(Refused::Memory);
+        if let Err(failed) = self.connections.insert(self.next, connection) {
+            return Told::refusal(Refused::Memory(OutOfMemory::from(failed)));
         }
         self.next += 1;
         Told::nothing()

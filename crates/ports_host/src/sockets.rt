@@ -40,8 +40,8 @@ impl<R: Net> Listen for Loopback<'_, R> {
     ghost listens_on = { λ port wire. Unit {0} };
 
     fn listen(&self, alloc: Global, port: u16) -> Result<Sockets, ListenFault> {
-        let clients = Vec::with_capacity(alloc, MOST_CLIENTS).map_err(|_| ListenFault::Memory)?;
-        let events = Events::with_capacity(alloc, MOST_EVENTS).map_err(|_| ListenFault::Memory)?;
+        let clients = Vec::with_capacity(alloc, MOST_CLIENTS)?;
+        let events = Events::with_capacity(alloc, MOST_EVENTS)?;
         let (poll, listener) = begin(self.net, port).map_err(|_| ListenFault::Port)?;
         Ok(Sockets {
             poll,
@@ -97,7 +97,7 @@ impl Sockets {
     /// Takes a client in. If it fails, the client is dropped.
     fn take(&mut self, conn: u64, mut stream: TcpStream) -> io::Result<()> {
         if self.clients.len() >= MOST_CLIENTS {
-            return Err(io::Error::from(ErrorKind::OutOfMemory));
+            return Err(io::Error::from(ErrorKind::QuotaExceeded));
         }
         stream.set_nodelay(true)?;
         self.poll.registry().register(

@@ -58,4 +58,4 @@ Loses old close new = (request : RequestMessage) × Removes old request new × (
 -- what a call gives that takes the next request; with the error `Memory` the request is lost
 abbrev pub TakesOrLoses : Incoming → Result (Option (Result RequestMessage HeadFault)) TakeError → Incoming → Type 0
 TakesOrLoses old (Ok answer) new = Takes old answer new
-TakesOrLoses old (Err (Memory close)) new = Loses old close new
+TakesOrLoses old (Err (Memory close _)) new = Loses old close new

@@ -8,6 +8,7 @@ use crate::fault::HeadFault;
 use crate::first::{First, Whole, read_first};
 use crate::request::{Request, TakeError};
 use httparse::spans::Span;
+use refusals::OutOfMemory;
 use std::alloc::{AllocError, Global};
 use std::marker::Model;
 use std::str;
@@ -137,7 +138,10 @@ impl Conn {
                 self.pass(whole.body.end, whole.close);
                 match copied {
                     Ok(request) => Ok(Some(Ok(request))),
-                    Err(_) => Err(TakeError::Memory { close: whole.close }),
+                    Err(error) => Err(TakeError::Memory {
+                        close: whole.close,
+                        refused: OutOfMemory::from(error),
+                    }),
                 }
             }
         }

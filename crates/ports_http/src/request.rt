@@ -1,5 +1,6 @@
 //! Requests.
 use crate::method::Method;
+use refusals::OutOfMemory;
 use std::error::Error;
 use std::fmt;
 use std::marker::Model;
@@ -32,7 +33,7 @@ impl Model for Request {
 #[derive(Clone, Copy, Debug, PartialEq, Eq)]
 pub enum TakeError {
     /// There was no memory for the request. Its bytes are lost; `close` is what the request said.
-    Memory { close: bool },
+    Memory { close: bool, refused: OutOfMemory },
 }
 
 impl fmt::Display for TakeError {

@@ -79,7 +79,7 @@ fn take_all(alloc: Global, conn: &mut Conn, decoded: &mut Decoded) -> Result<(),
             Ok(None) => return Ok(()),
             Ok(Some(found)) => note(found, decoded)?,
             Err(error) => match error {
-                TakeError::Memory { .. } => return Err(AllocError),
+                TakeError::Memory { refused, .. } => return Err(refused.into()),
             },
         }
     }

@@ -7,8 +7,8 @@ use Rattle.ports_index.specs.Keeping.{Counts, Keeps}
 
 counts : (fault : Option FilesFault) (first middle last : FilesView) → middle.failures ≡ first.failures → Counts fault middle last → Counts fault first last
 counts None first middle last same more = more ∙ same
-counts (Some faults.Store) first middle last same more = more ∙ ap (λ n. min (n + 1) (2 ^ 64 - 1)) same
-counts (Some faults.Memory) first middle last same more =
+counts (Some (faults.Store _)) first middle last same more = more ∙ ap (λ n. min (n + 1) (2 ^ 64 - 1)) same
+counts (Some (faults.Memory _)) first middle last same more =
     elim more [ inl e ↦ inl (e ∙ same) | inr e ↦ inr (e ∙ ap (λ n. min (n + 1) (2 ^ 64 - 1)) same) ]
 
 -- work that went well, and then more

@@ -8,8 +8,8 @@ use Rattle.mk_paths.specs.declared.asking.FilesFault.TheVariants as faults
 -- Without a fault, none is.
 abbrev pub Counts : Option FilesFault → FilesView → FilesView → Type 0
 Counts None old new = new.failures ≡ old.failures
-Counts (Some faults.Store) old new = new.failures ≡ (failed old).failures
-Counts (Some faults.Memory) old new = (new.failures ≡ old.failures) ⊎ (new.failures ≡ (failed old).failures)
+Counts (Some (faults.Store _)) old new = new.failures ≡ (failed old).failures
+Counts (Some (faults.Memory _)) old new = (new.failures ≡ old.failures) ⊎ (new.failures ≡ (failed old).failures)
 
 -- Work that ended with this fault, or with none, left the map of the files as it was. The count of their
 -- failures changed only as `Counts` says.

@@ -133,8 +133,8 @@ fn finding_at<F: Files>(
     let outcome = match evaluate(alloc, files, settings, makefile, flavors) {
         Ok(evaluated) => Ok(evaluated),
         Err(Stop::Fault(failed)) => Err(failed),
-        Err(Stop::Store) => return Err(FilesFault::Store),
-        Err(Stop::Memory) => return Err(FilesFault::Memory),
+        Err(Stop::Store(refusal)) => return Err(FilesFault::Store(refusal)),
+        Err(Stop::Memory(refused)) => return Err(FilesFault::Memory(refused)),
     };
     Ok(finding_of(alloc, &outcome, makefile, flavors)?)
 }
@@ -210,7 +210,7 @@ fn port_finding(
             row: Row::BadPort(failed.fault),
             cost: evaluated.cost.saturating_add(failed.cost),
         }),
-        Err(PureStop::Memory) => Err(AllocError),
+        Err(PureStop::Memory(refused)) => Err(refused.into()),
     }
 }
 
@@ -239,6 +239,6 @@ fn list_finding(
             row: Row::BadList(failed.fault),
             cost: evaluated.cost.saturating_add(failed.cost),
         }),
-        Err(PureStop::Memory) => Err(AllocError),
+        Err(PureStop::Memory(refused)) => Err(refused.into()),
     }
 }

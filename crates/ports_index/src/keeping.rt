@@ -63,7 +63,7 @@ impl Rows for MemoryRows {
     fn put(&mut self, path: String, row: Row) -> Result<(), AllocError> {
         match self.rows.insert(path, row) {
             Ok(_before) => Ok(()),
-            Err(_failed) => Err(AllocError),
+            Err(failed) => Err(failed.into()),
         }
     }
 

@@ -1,7 +1,8 @@
 -- The table of the routes as a router keeps it.
-use Rattle.std.specs.Prelude.{ℕ, List, [], map}
+use Rattle.std.specs.Prelude.{◌≡◌, ℕ, List, [], map, Ok, None}
 use Rattle.matchit.specs.Rows.{RowsOf}
-use Rattle.matchit.specs.Router.{RouteOf}
+use Rattle.matchit.specs.Router.{RouteOf, nearest}
+use Rattle.matchit.specs.Route.{Scan, parse_route}
 use Rattle.ports_plain.specs.declared.routing.Route.{Route}
 use Rattle.ports_plain.specs.Routes.{table}
 
@@ -11,3 +12,7 @@ row entry = (entry.0, record { pattern = entry.0; text = entry.0; names = []; va
 
 abbrev pub rows : RowsOf (RouteOf Route)
 rows = map row table
+
+-- a path that reads as a pattern, with which no row conflicts
+abbrev pub IsFree : List ℕ → RowsOf (RouteOf Route) → Type 0
+IsFree path old = (s : Scan) × (parse_route path ≡ Ok s) × (nearest s.pattern old ≡ None)

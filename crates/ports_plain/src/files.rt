@@ -34,7 +34,7 @@ pub fn file_question(
     };
     match Name::read(alloc, text.as_str()) {
         Ok(name) => named_file_question(alloc, method, name, body),
-        Err(NameFault::Memory) => Err(AllocError),
+        Err(NameFault::Memory(refused)) => Err(refused.into()),
         Err(NameFault::BadName | NameFault::Above) => {
             Question::refused(alloc, StatusCode::BAD_REQUEST, "Name")
         }

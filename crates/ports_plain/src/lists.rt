@@ -26,7 +26,7 @@ pub fn list_question(alloc: Global, query: &str) -> Result<Question, AllocError>
     };
     match Query::read(alloc, text.as_str()) {
         Ok(conditions) => Ok(Question::List(conditions)),
-        Err(QueryFault::Memory) => Err(AllocError),
+        Err(QueryFault::Memory(refused)) => Err(refused.into()),
         Err(QueryFault::BadQuery) => { Question::refused(alloc, StatusCode::BAD_REQUEST, "Query") }
     }
 }
@@ -56,7 +56,7 @@ pub fn match_question(alloc: Global, query: &str) -> Result<Question, AllocError
     };
     match Spec::read(alloc, text.as_str()) {
         Ok(spec) => Ok(Question::Match(spec)),
-        Err(SpecFault::Memory) => Err(AllocError),
+        Err(SpecFault::Memory(refused)) => Err(refused.into()),
         Err(_) => Question::refused(alloc, StatusCode::BAD_REQUEST, "Spec"),
     }
 }

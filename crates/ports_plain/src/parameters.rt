@@ -61,7 +61,7 @@ pub fn path_in(alloc: Global, query: &str) -> Result<Result<PkgPath, Reply>, All
     };
     match PkgPath::read(alloc, text.as_str()) {
         Ok(path) => Ok(Ok(path)),
-        Err(PkgPathFault::Memory) => Err(AllocError),
+        Err(PkgPathFault::Memory(refused)) => Err(refused.into()),
         Err(_) => Ok(Err(refusal(alloc, StatusCode::BAD_REQUEST, "Path")?)),
     }
 }

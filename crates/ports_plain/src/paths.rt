@@ -43,7 +43,7 @@ fn set_trees(alloc: Global, text: &str) -> Result<Prepared, AllocError>
             reply: path_set(alloc, text)?,
             change: Some(Change::SetPath(trees)),
         }),
-        Err(PathFault::Memory) => Err(AllocError),
+        Err(PathFault::Memory(refused)) => Err(refused.into()),
         Err(PathFault::BadPath) => bad_path(alloc),
     }
 }

@@ -5,6 +5,7 @@ ghost use Rattle.std.specs.FinMap.{get, contains_key};
 ghost use Rattle.std.specs.Result.{result_err};
 ghost use Rattle.mk_paths.specs.declared.asking.FilesFault.{FilesFault};
 ghost use Rattle.mk_paths.specs.declared.asking.FilesFault.TheVariants.{Memory};
+ghost use Rattle.refusals.specs.Refused.{refused};
 ghost use Rattle.ports_index.specs.Index as indexed;
 ghost use Rattle.ports_index.specs.Spending.{no_spending};
 ghost use Rattle.ports_index.specs.declared.spending.Spent.{Spent};
@@ -92,7 +93,7 @@ pub trait Ports {
 
     ghost leaves_all: { (ports : Self) → leaves None ports ports };
 
-    ghost leaves_out_of_memory: { (old new : Self) → leaves None old new → leaves (Some Memory) old new };
+    ghost leaves_out_of_memory: { (old new : Self) → leaves None old new → leaves (Some (Memory refused)) old new };
 
     ghost leaves_failing_rows: { (old new : Self) (fault : FilesFault) → EitherMayFail Self.Roots.fails_with Self.Edges.fails_with fault
         → leaves None old new → leaves (Some fault) old new };

@@ -3,9 +3,10 @@ ghost use Rattle.std.specs.Prelude.{◌≡◌, OnOk, Ok};
 ghost use Rattle.matchit.specs.Route.{parse_route};
 ghost use Rattle.matchit.specs.Router.{InsertsRead};
 ghost use Rattle.ports_plain.specs.Routes.{route_of};
-ghost use Rattle.ports_plain.specs.RouteRows.{rows};
+ghost use Rattle.ports_plain.specs.RouteRows.{rows, IsFree};
 
-use matchit::Router;
+use matchit::{InsertError, Router};
+use refusals::{Library, OutOfMemory};
 use std::alloc::{AllocError, Global};
 
 /// What a path of the service is about.
@@ -68,9 +69,32 @@ impl Routes {
     }
 }
 
-// Adds a route. No earlier one conflicts with it.
+/// The router's library. There are no values of it: it stands for the errors of its calls.
+enum Matchit {}
+
+impl Library for Matchit {
+    ghost use Rattle.std.specs.Prelude.{◌≡◌};
+    ghost use Rattle.matchit.specs.declared.error.InsertError.TheVariants.{OutOfMemory};
+
+    type Error = InsertError;
+
+    ghost for_memory = { λ error. error ≡ OutOfMemory };
+
+    fn is_for_memory(error: &InsertError) -> bool {
+        matches!(error, InsertError::OutOfMemory)
+    }
+}
+
+// Adds a route that reads well and conflicts with no earlier one.
 fn add(router: &mut Router<Route>, path: &str, route: Route) -> Result<(), AllocError>
+    requires { IsFree path.now router.old }
     ensures { OnOk result (InsertsRead (parse_route path.now) route router.old router.new (Ok tt)) }
 {
-    router.insert(path, route).map_err(|_error| AllocError)
+    match router.insert(path, route) {
+        Ok(()) => Ok(()),
+        Err(error) => match OutOfMemory::told_by::<Matchit>(&error) {
+            Some(refused) => Err(refused.into()),
+            None => unreachable!(), // nothing else refuses it
+        },
+    }
 }

@@ -19,7 +19,7 @@ use Rattle.ports_script.specs.declared.script.Script.{Script}
 use Rattle.ports_script.specs.declared.script.ScriptFault.{ScriptFault}
 use Rattle.ports_script.specs.declared.failure.Failure.{Failure}
 use Rattle.ports_script.specs.declared.failure.Failure.TheVariants as failure
-use Rattle.ports_script.specs.declared.failure.Failure.TheVariants.{BadKey, BadEvent, CannotListen, CannotWrite, StoreFailed, OutOfMemory}
+use Rattle.ports_script.specs.declared.failure.Failure.TheVariants.{BadKey, BadEvent, CannotListen, CannotWrite, Store, Memory}
 use Rattle.ports_script.specs.Scripts.{numbered, ReadsScript, FailsToRead}
 use Rattle.ports_script.specs.Printing.{transcript}
 use Rattle.ports_core.specs.Keys.{is_fit}
@@ -46,8 +46,8 @@ events_unprinted config script held holds steps service (BadEvent line) happened
 events_unprinted config script held holds steps service (failure.NotAllowed line) happened h = absurd h
 events_unprinted config script held holds steps service CannotListen happened h = absurd h
 events_unprinted config script held holds steps service CannotWrite happened h = (steps, service, happened, h)
-events_unprinted config script held holds steps service StoreFailed happened h = absurd h
-events_unprinted config script held holds steps service OutOfMemory happened h = h
+events_unprinted config script held holds steps service (Store _) happened h = absurd h
+events_unprinted config script held holds steps service (Memory _) happened h = h
 
 -- all events of a run happened, and are printed
 pub done_run : {W A E : Type 0} (config : Config) (script : Script) (held holds : Option (List ℕ)) (r : Result A E) (ran : Result (Transcript W) (ReplayFault W)) (events : List Event) → events ≡ script.events.items
@@ -69,8 +69,8 @@ prints_up_to config script held holds index done paired stops appends =
 -- the service didn't begin
 unbegun : (config : Config) (script : Script) (held holds : Option (List ℕ)) (why : NewFault) → is_fit config ≡ true → (why ≡ new.Config → is_fit config ≡ false) → Keeps held holds → EventsEnd config script held holds (new_failure why)
 unbegun config script held holds new.Config fit unfit kept = absurd (false≢true (sym (unfit refl) ∙ fit))
-unbegun config script held holds new.Store fit unfit kept = kept
-unbegun config script held holds new.Memory fit unfit kept = kept
+unbegun config script held holds (new.Store _) fit unfit kept = kept
+unbegun config script held holds (new.Memory _) fit unfit kept = kept
 
 -- a config that is fit begins, if its beginning doesn't fail
 unfit_only : (W : Type 0) (config : Config) (events : List Event) (why : NewFault) → EndsEarly {W = W} config events (run.New why) → why ≡ new.Config → is_fit config ≡ false
@@ -93,7 +93,7 @@ failed_run config script held holds (Err failure) (Err (run.NotAllowed index don
     subst (EventsEnd config script held holds) (sym is) (prints_up_to config script held holds index done paired stops appends)
 failed_run {W} config script held holds (Err failure) (Err (run.New why)) events e fit paired run plainly converses early (is, kept) =
     subst (EventsEnd config script held holds) (sym is) (unbegun config script held holds why fit (unfit_only W config events why early) kept)
-failed_run config script held holds (Err failure) (Err run.Memory) events e fit paired run plainly converses early (is, kept) =
+failed_run config script held holds (Err failure) (Err (run.Memory _)) events e fit paired run plainly converses early (is, kept) =
     subst (EventsEnd config script held holds) (sym is) kept
 
 -- a script was read and run

@@ -13,7 +13,7 @@ use Rattle.ports_program.proofs.RunFacts.{Keeps-same}
 no_wire : {W : Type 0} (ListensOn : ℕ → W → Type 0) (serving : Serving) (held : Option (List ℕ)) → is_fit serving.config ≡ true → (fault : ListenFault)
     → EndsServing ListensOn serving held held (listen_failure fault)
 no_wire ListensOn serving held fit faults.Port = (fit, Keeps-same held)
-no_wire ListensOn serving held fit faults.Memory = (fit, inl (Keeps-same held))
+no_wire ListensOn serving held fit (faults.Memory _) = (fit, inl (Keeps-same held))
 
 -- nothing listens, and that is the failure
 pub not_listening : {W : Type 0} (ListensOn : ℕ → W → Type 0) (serving : Serving) (held : Option (List ℕ)) → is_fit serving.config ≡ true → (begun : Result W ListenFault) (failure : Failure)

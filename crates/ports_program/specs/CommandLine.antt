@@ -16,11 +16,12 @@ use Rattle.ports_core.specs.Keys.{key_texts}
 use Rattle.ports_program.specs.declared.command_line.Invocation.{Invocation}
 use Rattle.ports_program.specs.declared.command_line.Invocation.TheVariants.{Replay, Serve}
 use Rattle.ports_program.specs.declared.command_line.Serving.{Serving}
-use Rattle.ports_script.specs.declared.failure.Failure.TheVariants.{CannotWrite, OutOfMemory}
+use Rattle.ports_script.specs.declared.failure.Failure.TheVariants.{CannotWrite, Memory}
 use Rattle.ports_program.specs.Running.{Streams, Finishes}
 use Rattle.ports_script.specs.Writing.{AppendsUpTo}
 use Rattle.ports_script.specs.Failures.{failure_text}
 use Rattle.ports_program.specs.Serving.{FinishesServing}
+use Rattle.refusals.specs.Refused.{refused}
 
 -- `--parses N` and `--evals N`
 abbrev pub size_argument : Text → Rule
@@ -134,7 +135,7 @@ ShowsHelp unsaid said status =
 -- asked for, it is printed. At a fault of usage nothing is printed on standard output.
 abbrev pub EndsUnasked : ErrorKind → Option (List ℕ) → Option (List ℕ) → Option (List ℕ) → Option (List ℕ) → ℕ → Type 0
 EndsUnasked errors.OutOfMemory held holds unsaid said status =
-    (status ≡ 1) × Keeps held holds × AppendsUpTo unsaid said (failure_text OutOfMemory)
+    (status ≡ 1) × Keeps held holds × AppendsUpTo unsaid said (failure_text (Memory refused))
 EndsUnasked errors.DisplayHelp held holds unsaid said status = ShowsHelp unsaid said status
 EndsUnasked errors.DisplayVersion held holds unsaid said status = ShowsHelp unsaid said status
 EndsUnasked _ held holds unsaid said status = (status ≡ 2) × Keeps held holds

@@ -6,11 +6,12 @@ use Rattle.ports_core.specs.declared.history.ReplayFault.{ReplayFault}
 use Rattle.ports_core.specs.declared.history.ReplayFault.TheVariants as run
 use Rattle.ports_script.specs.declared.script.Script.{Script}
 use Rattle.ports_script.specs.declared.failure.Failure.{Failure}
-use Rattle.ports_script.specs.declared.failure.Failure.TheVariants.{NotAllowed, OutOfMemory}
+use Rattle.ports_script.specs.declared.failure.Failure.TheVariants.{NotAllowed, Memory}
 use Rattle.ports_script.specs.Scripts.{numbered}
 use Rattle.ports_script.specs.Printing.{transcript}
 use Rattle.ports_script.specs.Failures.{new_failure}
 use Rattle.ports_program.specs.Running.{FailsToPrint}
+use Rattle.refusals.specs.Refused.{refused}
 
 -- all events happened, and their effects are printed
 abbrev pub PrintsRun : {W : Type 0} → Script → Result (Transcript W) (ReplayFault W) → Option (List ℕ) → Option (List ℕ) → Type 0
@@ -19,7 +20,7 @@ PrintsRun script (Err why) held holds = ⊥
 
 -- The failure after a run. If all events happened, it is that of the output. If one wasn't allowed, the
 -- effects of those before it are printed, and the failure names its line, or is that of the output. If the
--- service didn't begin, the failure is that of its beginning, and memory is `OutOfMemory`.
+-- service didn't begin, the failure is that of its beginning, and memory is `Memory`.
 abbrev pub FailsAfter : {W : Type 0} → Script → Result (Transcript W) (ReplayFault W) → Option (List ℕ) → Option (List ℕ) → Failure → Type 0
 FailsAfter script (Ok done) held holds failure = FailsToPrint held holds (transcript (numbered script) done.steps.items) failure
 FailsAfter script (Err (run.NotAllowed index done)) held holds failure =
@@ -27,4 +28,4 @@ FailsAfter script (Err (run.NotAllowed index done)) held holds failure =
     ⊎ ((failure ≡ NotAllowed (slice_index script.lines.items index))
     × Appends held holds (transcript (numbered script) done.steps.items))
 FailsAfter script (Err (run.New why)) held holds failure = (failure ≡ new_failure why) × Keeps held holds
-FailsAfter script (Err run.Memory) held holds failure = (failure ≡ OutOfMemory) × Keeps held holds
+FailsAfter script (Err (run.Memory _)) held holds failure = (failure ≡ Memory refused) × Keeps held holds

@@ -10,7 +10,7 @@ use Rattle.ports_script.specs.declared.script.Script.{Script}
 use Rattle.ports_script.specs.declared.script.ScriptFault.{ScriptFault}
 use Rattle.ports_script.specs.declared.failure.Failure.{Failure}
 use Rattle.ports_script.specs.declared.failure.Failure.TheVariants.{BadKey, BadEvent, NotAllowed, CannotListen}
-use Rattle.ports_script.specs.declared.failure.Failure.TheVariants.{CannotWrite, StoreFailed, OutOfMemory}
+use Rattle.ports_script.specs.declared.failure.Failure.TheVariants.{CannotWrite, Store, Memory}
 use Rattle.ports_script.specs.Scripts.{numbered, ReadsScript, FailsToRead}
 use Rattle.ports_script.specs.Printing.{transcript}
 use Rattle.ports_script.specs.Writing.{AppendsFront, AppendsUpTo}
@@ -67,8 +67,8 @@ EventsEnd config script held holds (BadEvent line) = ⊥
 EventsEnd config script held holds (NotAllowed line) = PrintsUpTo config script line held holds
 EventsEnd config script held holds CannotListen = ⊥
 EventsEnd config script held holds CannotWrite = PrintsFront config script held holds
-EventsEnd config script held holds StoreFailed = Keeps held holds
-EventsEnd config script held holds OutOfMemory = Keeps held holds
+EventsEnd config script held holds (Store _) = Keeps held holds
+EventsEnd config script held holds (Memory _) = Keeps held holds
 
 -- the keys are fit, a script is read, its events happen, and their effects are printed
 abbrev pub Completes : Config → Streams → Type 0
@@ -116,5 +116,5 @@ FailsToPrint held holds bytes (BadEvent line) = ⊥
 FailsToPrint held holds bytes (NotAllowed line) = ⊥
 FailsToPrint held holds bytes CannotListen = ⊥
 FailsToPrint held holds bytes CannotWrite = AppendsFront held holds bytes
-FailsToPrint held holds bytes StoreFailed = ⊥
-FailsToPrint held holds bytes OutOfMemory = Keeps held holds
+FailsToPrint held holds bytes (Store _) = ⊥
+FailsToPrint held holds bytes (Memory _) = Keeps held holds

@@ -11,7 +11,7 @@ use Rattle.ports_serve.specs.Rounds.{IsServed}
 use Rattle.ports_program.specs.declared.command_line.Serving.{Serving}
 use Rattle.ports_script.specs.declared.failure.Failure.{Failure}
 use Rattle.ports_script.specs.declared.failure.Failure.TheVariants.{BadKey, BadEvent, NotAllowed, CannotListen}
-use Rattle.ports_script.specs.declared.failure.Failure.TheVariants.{CannotWrite, StoreFailed, OutOfMemory}
+use Rattle.ports_script.specs.declared.failure.Failure.TheVariants.{CannotWrite, Store, Memory}
 use Rattle.ports_script.specs.Writing.{AppendsFront, AppendsUpTo}
 use Rattle.ports_script.specs.Failures.{failure_status, failure_text}
 
@@ -22,7 +22,7 @@ ready_text = codes "portsd: ready\n"
 -- the failure if nothing listens
 abbrev pub listen_failure : ListenFault → Failure
 listen_failure listening.Port = CannotListen
-listen_failure listening.Memory = OutOfMemory
+listen_failure (listening.Memory refused) = Memory refused
 
 -- A service that begins with the config serves all rounds over a wire that listens on the port, and it
 -- has said that it is ready.
@@ -49,8 +49,8 @@ EndsServing ListensOn serving held holds (NotAllowed line) = ⊥
 EndsServing ListensOn serving held holds CannotListen = (is_fit serving.config ≡ true) × Keeps held holds
 EndsServing ListensOn serving held holds CannotWrite =
     (is_fit serving.config ≡ true) × Listens ListensOn serving × AppendsFront held holds ready_text
-EndsServing ListensOn serving held holds StoreFailed = (is_fit serving.config ≡ true) × Keeps held holds
-EndsServing ListensOn serving held holds OutOfMemory =
+EndsServing ListensOn serving held holds (Store _) = (is_fit serving.config ≡ true) × Keeps held holds
+EndsServing ListensOn serving held holds (Memory _) =
     (is_fit serving.config ≡ true) × (Keeps held holds ⊎ (Listens ListensOn serving × Appends held holds ready_text))
 
 -- How it ends. It ends with status 0 after the last round, and nothing is said. Or a failure ended it: the

@@ -13,6 +13,7 @@ use clap::error::ErrorKind;
 use ports_core::Tenants;
 use ports_script::{DONE, Failure, REFUSED, report};
 use ports_serve::Listen;
+use refusals::{Library, OutOfMemory};
 use std::alloc::Global;
 use std::io::{Read, Write};
 use std::process::ExitCode;
@@ -62,13 +63,31 @@ pub fn run_program<K: Tenants, R: Read, O: Write, E: Write, L: Listen>(
     ExitCode::from(status)
 }
 
+/// The library of the command line. There are no values of it: it stands for the errors of its calls.
+enum Clap {}
+
+impl Library for Clap {
+    ghost use Rattle.std.specs.Prelude.{◌≡◌};
+    ghost use Rattle.clap.specs.declared.error.kind.ErrorKind.TheVariants.{OutOfMemory};
+
+    type Error = Error;
+
+    ghost for_memory = { λ error. kind_of error ≡ OutOfMemory };
+
+    fn is_for_memory(error: &Error) -> bool {
+        error.kind() == ErrorKind::OutOfMemory
+    }
+}
+
 /// Prints help, or says why the words ask for no run, and gives the status.
 fn answer<O: Write, E: Write>(error: &Error, out: &mut O, err: &mut E) -> u8
     ensures { EndsUnasked (kind_of error.now) (O.contents out.old) (O.contents out.new)
         (E.contents err.old) (E.contents err.new) result }
 {
+    if let Some(refused) = OutOfMemory::told_by::<Clap>(error) {
+        return report(Failure::Memory(refused), err);
+    }
     match error.kind() {
-        ErrorKind::OutOfMemory => report(Failure::OutOfMemory, err),
         ErrorKind::DisplayHelp | ErrorKind::DisplayVersion => match write!(out, "{error}") {
             Ok(()) => DONE,
             Err(_) => report(Failure::CannotWrite, err),

@@ -96,7 +96,7 @@ fn print_run<K: Tenants, O: Write>(
             Err(Failure::NotAllowed(line))
         }
         Err(ReplayFault::New(fault)) => Err(Failure::from(fault)),
-        Err(ReplayFault::Memory) => Err(Failure::OutOfMemory),
+        Err(ReplayFault::Memory(refused)) => Err(Failure::Memory(refused)),
     }
 }
 

@@ -12,7 +12,7 @@ use ports_serve::{Listen, ListenFault, Wire, serve};
 use std::alloc::Global;
 use std::io::Write;
 
-/// The wire that listens. The failure is `CannotListen` if the port isn't available, and `OutOfMemory` if
+/// The wire that listens. The failure is `CannotListen` if the port isn't available, and `Memory` if
 /// memory ran out.
 fn listening<W>(begun: Result<W, ListenFault>) -> Result<W, Failure>
     ensures listens { IfOk result (λ wire. begun ≡ Ok wire) }
@@ -22,7 +22,7 @@ fn listening<W>(begun: Result<W, ListenFault>) -> Result<W, Failure>
     match begun {
         Ok(wire) => Ok(wire),
         Err(ListenFault::Port) => Err(Failure::CannotListen),
-        Err(ListenFault::Memory) => Err(Failure::OutOfMemory),
+        Err(ListenFault::Memory(refused)) => Err(Failure::Memory(refused)),
     }
 }
 

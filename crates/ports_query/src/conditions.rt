@@ -121,7 +121,7 @@ impl Condition {
         match Version::read(alloc, value) {
             Ok(version) => Ok(Some(Condition::OnVersion(bound, version))),
             Err(VersionFault::NoVersion) => Ok(None),
-            Err(VersionFault::Memory) => Err(AllocError),
+            Err(VersionFault::Memory(refused)) => Err(refused.into()),
         }
     }
 }

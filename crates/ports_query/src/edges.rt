@@ -31,7 +31,7 @@ pub fn first_edges<C: Cursor<RootEdge>>(
     let mut found = Vec::new(alloc);
     while let Some(edge) = edges.next()? {
         if is_first(kinds, root.as_str(), path.subpackage(), &edge) {
-            found.push(edge).map_err(|_| FilesFault::Memory)?;
+            found.push(edge)?;
         }
     }
     Ok(found)
@@ -54,7 +54,7 @@ pub fn edges_to<C: Cursor<RootEdge>>(
     let mut found = Vec::new(alloc);
     while let Some(edge) = edges.next()? {
         if leads_to(alloc, kinds, root.as_str(), path.subpackage(), &edge)? {
-            found.push(edge).map_err(|_| FilesFault::Memory)?;
+            found.push(edge)?;
         }
     }
     Ok(found)

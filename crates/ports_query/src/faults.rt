@@ -1,7 +1,9 @@
 //! Why a text is no query.
 ghost use Rattle.std.specs.Prelude.{◌≡◌};
+ghost use Rattle.refusals.specs.Refused.{refused};
 ghost use Rattle.ports_query.specs.declared.faults.QueryFault.TheVariants.{Memory};
 
+use refusals::OutOfMemory;
 use std::alloc::AllocError;
 use thiserror::Error;
 
@@ -14,13 +16,13 @@ pub enum QueryFault {
     BadQuery,
     /// There is no memory for the query.
     #[error("out of memory")]
-    Memory,
+    Memory(OutOfMemory),
 }
 
 impl From<AllocError> for QueryFault {
-    ghost from_gives = { λ _ fault. fault ≡ Memory };
+    ghost from_gives = { λ _ fault. fault ≡ Memory refused };
 
-    fn from(_failed: AllocError) -> QueryFault {
-        QueryFault::Memory
+    fn from(error: AllocError) -> QueryFault {
+        QueryFault::Memory(OutOfMemory::from(error))
     }
 }

@@ -15,6 +15,7 @@ use Rattle.ports_script.specs.declared.script.ScriptFault.{ScriptFault}
 use Rattle.ports_script.specs.declared.script.ScriptFault.TheVariants.{BadEvent, Memory}
 use Rattle.ports_script.specs.Entries.{Entry, shown, event_of}
 use Rattle.ports_script.specs.Scripts.{Reading, is_passed_over, put_before, with_event, with_line, events_from, script_of, numbered, IsFaultOf, HasGiven, HasGivenSome, ReadsScript, FailsToRead}
+use Rattle.refusals.specs.Refused.{refused}
 
 pub zip-push : (lines : List ℕ) (events : List Event) (line : ℕ) (event : Event) → length lines ≡ length events → zip (lines ++ line ∷ []) (map shown (events ++ event ∷ [])) ≡ zip lines (map shown events) ++ (line, shown event) ∷ []
 zip-push [] [] line event same = refl
@@ -28,7 +29,7 @@ put_before-twice xs ys (Err line) = refl
 
 pub IsFaultOf-before : (xs : List (ℕ × Entry)) (reading : Reading) (fault : ScriptFault) → IsFaultOf reading fault → IsFaultOf (put_before xs reading) fault
 IsFaultOf-before xs reading (BadEvent line) h = rw h
-IsFaultOf-before xs reading Memory h = tt
+IsFaultOf-before xs reading (Memory _) h = tt
 
 -- a line with an event
 pub with_line-event : (line : ℕ) (text : List ℕ) (event : Entry) (later : Reading) → is_passed_over text ≡ false → event_of text ≡ Some event → with_line line text later ≡ put_before ((line, event) ∷ []) later
@@ -139,7 +140,7 @@ reads old new false text (Ok script) given read = absurd (cut_unread text (numbe
 reads old new whole text (Err fault) given read = tt
 
 -- an input gave some bytes, and there was no memory for more
-pub unread_for_memory : {A : Type 0} (old new : Option (List ℕ)) (r : Result A ScriptFault) → IfErr r (λ why. why ≡ Memory) → HasGivenSome old new → IfErr r (FailsToRead old new)
+pub unread_for_memory : {A : Type 0} (old new : Option (List ℕ)) (r : Result A ScriptFault) → IfErr r (λ why. why ≡ Memory refused) → HasGivenSome old new → IfErr r (FailsToRead old new)
 unread_for_memory old new (Ok x) why given = tt
 unread_for_memory old new (Err fault) why given = subst (λ (met : ScriptFault). FailsToRead old new met) (sym why) (false, given.0, given.1, tt)
 

@@ -42,7 +42,7 @@ told_line line (Some tell) =
 -- why a connection wasn't opened
 abbrev pub refused_word : Refused → List ℕ
 refused_word refused.Connections = codes "connections"
-refused_word refused.Memory = codes "memory"
+refused_word (refused.Memory _) = codes "memory"
 
 -- `refused WHY`: a connection that wasn't opened, if there is one
 abbrev pub refused_line : ℕ → Option Refused → List ℕ

@@ -48,7 +48,7 @@ numbered script = zip script.lines.items (map shown script.events.items)
 -- the fault that a reading gives
 abbrev pub IsFaultOf : Reading → ScriptFault → Type 0
 IsFaultOf reading (BadEvent line) = reading ≡ Err line
-IsFaultOf reading Memory = Unit {0}
+IsFaultOf reading (Memory _) = Unit {0}
 
 -- an input has given these bytes, and all that it had if they are whole
 abbrev pub HasGiven : Option (List ℕ) → Option (List ℕ) → Bool → List ℕ → Type 0

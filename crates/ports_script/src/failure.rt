@@ -1,5 +1,6 @@
 //! Why a run ends early.
 ghost use Rattle.std.specs.Prelude.{◌≡◌, ◌++◌, OnOk, OnErr, codes, decimal};
+ghost use Rattle.refusals.specs.Refused.{refused};
 ghost use Rattle.std.specs.Io.KnownBytes.{Appends};
 ghost use Rattle.ports_script.specs.declared.failure.Failure.TheVariants as failures;
 ghost use Rattle.ports_script.specs.Writing.{AppendsFront, AppendsUpTo};
@@ -9,6 +10,7 @@ use crate::script::ScriptFault;
 use crate::writing::write_whole;
 use itoa::Buffer;
 use ports_core::NewFault;
+use refusals::{OutOfMemory, StoreRefusal};
 use std::alloc::AllocError;
 use std::io::{self, Write};
 
@@ -35,9 +37,9 @@ pub enum Failure {
     /// What was to be printed can't be written.
     CannotWrite,
     /// The store of the tenants' files failed.
-    StoreFailed,
+    Store(StoreRefusal),
     /// There was no memory.
-    OutOfMemory,
+    Memory(OutOfMemory),
 }
 
 impl Failure {
@@ -46,19 +48,17 @@ impl Failure {
     {
         match self {
             Failure::BadKey | Failure::BadEvent(_) | Failure::NotAllowed(_) => REFUSED,
-            Failure::CannotListen
-            | Failure::CannotWrite
-            | Failure::StoreFailed
-            | Failure::OutOfMemory => FAILED,
+            Failure::CannotListen | Failure::CannotWrite | Failure::Store(_) | Failure::Memory(_) =>
+                FAILED,
         }
     }
 }
 
 impl From<AllocError> for Failure {
-    ghost from_gives = { λ _ failure. failure ≡ failures.OutOfMemory };
+    ghost from_gives = { λ _ failure. failure ≡ failures.Memory refused };
 
-    fn from(_error: AllocError) -> Failure {
-        Failure::OutOfMemory
+    fn from(error: AllocError) -> Failure {
+        Failure::Memory(OutOfMemory::from(error))
     }
 }
 
@@ -68,7 +68,7 @@ impl From<ScriptFault> for Failure {
     fn from(fault: ScriptFault) -> Failure {
         match fault {
             ScriptFault::BadEvent(line) => Failure::BadEvent(line),
-            ScriptFault::Memory => Failure::OutOfMemory,
+            ScriptFault::Memory(refused) => Failure::Memory(refused),
         }
     }
 }
@@ -79,8 +79,8 @@ impl From<NewFault> for Failure {
     fn from(fault: NewFault) -> Failure {
         match fault {
             NewFault::Config => Failure::BadKey,
-            NewFault::Store => Failure::StoreFailed,
-            NewFault::Memory => Failure::OutOfMemory,
+            NewFault::Store(refusal) => Failure::Store(refusal),
+            NewFault::Memory(refused) => Failure::Memory(refused),
         }
     }
 }
@@ -107,8 +107,8 @@ fn say<E: Write>(failure: Failure, err: &mut E) -> io::Result<()>
         Failure::NotAllowed(line) => say_line(line, ": event not allowed\n", err),
         Failure::CannotListen => write_whole(err, "portsd: cannot listen\n".as_bytes()),
         Failure::CannotWrite => write_whole(err, "portsd: cannot write\n".as_bytes()),
-        Failure::StoreFailed => write_whole(err, "portsd: store failed\n".as_bytes()),
-        Failure::OutOfMemory => write_whole(err, "portsd: out of memory\n".as_bytes()),
+        Failure::Store(_) => write_whole(err, "portsd: store failed\n".as_bytes()),
+        Failure::Memory(_) => write_whole(err, "portsd: out of memory\n".as_bytes()),
     }
 }
 

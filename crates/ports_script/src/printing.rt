@@ -88,7 +88,7 @@ fn refused_word(refused: Refused) -> &'static str
 {
     match refused {
         Refused::Connections => "connections",
-        Refused::Memory => "memory",
+        Refused::Memory(_) => "memory",
     }
 }
 

@@ -1,5 +1,6 @@
 //! Scripts of events.
 ghost use Rattle.std.specs.Prelude.{◌≡◌, ◌==◌, ◌<◌, [], ◌∷◌, ◌++◌, length, slice_get, option_map, MatchOption};
+ghost use Rattle.refusals.specs.Refused.{refused};
 ghost use Rattle.std.specs.Prelude.{IfSome, IfOk, IfErr, OnOk, vec_len};
 ghost use Rattle.std.specs.List.{slice_split};
 ghost use Rattle.ports_script.specs.declared.script.ScriptFault.TheVariants as faults;
@@ -9,6 +10,7 @@ ghost use Rattle.ports_script.specs.Scripts.{Reading, script_of, with_line, put_
 use crate::entries::read_event;
 use crate::input::read_input;
 use ports_core::Event;
+use refusals::OutOfMemory;
 use std::alloc::{AllocError, AllocFailed, Global};
 use std::io::Read;
 use thiserror::Error;
@@ -21,22 +23,22 @@ pub enum ScriptFault {
     BadEvent(u64),
     /// There was no memory for the script.
     #[error("out of memory")]
-    Memory,
+    Memory(OutOfMemory),
 }
 
 impl From<AllocError> for ScriptFault {
-    ghost from_gives = { λ _ fault. fault ≡ faults.Memory };
+    ghost from_gives = { λ _ fault. fault ≡ faults.Memory refused };
 
-    fn from(_error: AllocError) -> ScriptFault {
-        ScriptFault::Memory
+    fn from(error: AllocError) -> ScriptFault {
+        ScriptFault::Memory(OutOfMemory::from(error))
     }
 }
 
 impl<T: Drop> From<AllocFailed<T>> for ScriptFault {
-    ghost from_gives = { λ _ fault. fault ≡ faults.Memory };
+    ghost from_gives = { λ _ fault. fault ≡ faults.Memory refused };
 
-    fn from(_error: AllocFailed<T>) -> ScriptFault {
-        ScriptFault::Memory
+    fn from(error: AllocFailed<T>) -> ScriptFault {
+        ScriptFault::Memory(OutOfMemory::from(error))
     }
 }
 
@@ -65,7 +67,7 @@ impl Script {
         ensures added { OnOk result (numbered self.new ≡ numbered self.old
             ++ (line, shown event) ∷ []) }
         ensures paired { OnOk result (vec_len self.new.lines ≡ vec_len self.new.events) }
-        ensures err { IfErr result (λ fault. fault ≡ faults.Memory) }
+        ensures err { IfErr result (λ fault. fault ≡ faults.Memory refused) }
     {
         self.lines.push(line)?;
         self.events.push(event)?;

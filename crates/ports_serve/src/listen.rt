@@ -2,7 +2,8 @@
 ghost use Rattle.std.specs.Prelude.{ℕ, IfOk};
 
 use crate::wire::Wire;
-use std::alloc::Global;
+use refusals::OutOfMemory;
+use std::alloc::{AllocError, Global};
 use thiserror::Error;
 
 /// Why nothing listens.
@@ -13,7 +14,13 @@ pub enum ListenFault {
     Port,
     /// There was no memory for what listens.
     #[error("out of memory")]
-    Memory,
+    Memory(OutOfMemory),
+}
+
+impl From<AllocError> for ListenFault {
+    fn from(error: AllocError) -> ListenFault {
+        ListenFault::Memory(OutOfMemory::from(error))
+    }
 }
 
 /// What can begin to listen for clients.

@@ -5,6 +5,7 @@ use Rattle.mk_paths.specs.declared.asking.FilesFault.{FilesFault}
 use Rattle.mk_paths.specs.declared.asking.Names.{Ghosts}
 use Rattle.mk_paths.specs.declared.asking.FilesFault.TheVariants.{Memory}
 use Rattle.read_trace.specs.declared.recorder.Recorder.{Recorder}
+use Rattle.refusals.specs.Refused.{refused}
 
 -- the files of a view, seen by who writes down what it asks of them, after this trace and no failure
 abbrev pub recording : FilesView → List Question → FilesView
@@ -28,7 +29,7 @@ with_trace view trace = record view { log = Some trace }
 
 -- a recorder fails as the files that it asks may, or with Memory if there is none for its trace
 abbrev pub MayFail : (FilesFault → Type 0) → FilesFault → Type 0
-MayFail may fault = may fault ⊎ (fault ≡ Memory)
+MayFail may fault = may fault ⊎ (fault ≡ Memory refused)
 
 -- the files that a recorder asks, as they are seen
 abbrev pub asked_files : {F : Type 0} {names : Ghosts F} → (F → FilesView) → Recorder F names → FilesView
@@ -39,7 +40,7 @@ asked_files view recorder = view recorder.files
 abbrev pub AsksOnce : {A : Type 0} → (FilesFault → Type 0) → (A → Reply) → FilesView → FilesView → List ℕ → Result A FilesFault → Type 0
 AsksOnce may reply old new name (Ok answer) = Answers old new name (reply answer)
 AsksOnce {A = A} may reply old new name (Err fault) =
-    (Fails old new × may fault) ⊎ (((answer : A) × Answers old new name (reply answer)) × (fault ≡ Memory))
+    (Fails old new × may fault) ⊎ (((answer : A) × Answers old new name (reply answer)) × (fault ≡ Memory refused))
 
 -- What work leaves of files whose log it may take. Their map stays. If the work failed, it may be that they failed,
 -- once.

@@ -150,7 +150,7 @@ impl<F: Files + Drop> Names for Recorder<F> {
         match self.files.has(name) {
             Ok(there) => match self.note_presence(name, there) {
                 Ok(()) => Ok(there),
-                Err(_error) => Err(self.failed(FilesFault::Memory)),
+                Err(error) => Err(self.failed(FilesFault::from(error))),
             },
             Err(fault) => Err(self.failed(fault)),
         }
@@ -173,7 +173,7 @@ impl<F: Files + Drop> Files for Recorder<F> {
         match self.files.read(name) {
             Ok(content) => match self.note_content(name, content.as_ref()) {
                 Ok(()) => Ok(content),
-                Err(_error) => Err(self.failed(FilesFault::Memory)),
+                Err(error) => Err(self.failed(FilesFault::from(error))),
             },
             Err(fault) => Err(self.failed(fault)),
         }

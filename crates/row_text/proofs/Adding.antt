@@ -1,9 +1,9 @@
 -- What is read before bytes, step by step, and what written bytes are read as.
 use Rattle.std.proofs.Common.{◌≡◌, ℕ, ◌^◌, ◌<◌, false, ltb, List, [], ◌∷◌, ◌++◌, length, Option, Some, None, refl, sym, ap, ◌∙◌, append_assoc, arith, IsUtf8}
-use Rattle.std.specs.Int.{Width, w32, w64, byte_len, from_le_bytes, to_le_bytes}
+use Rattle.std.specs.Int.{Width, w64, byte_len, from_le_bytes, to_le_bytes}
 use Rattle.std.proofs.lemmas.Bool.{le-ltb}
 use Rattle.std.proofs.lemmas.List.{take_at, drop_at, length-append, append-nil}
-use Rattle.std.proofs.lemmas.Nat.{from_le_bytes-to_le_bytes_4, from_le_bytes-to_le_bytes_8}
+use Rattle.std.proofs.lemmas.Nat.{from_le_bytes-to_le_bytes_8}
 use Rattle.std.proofs.lemmas.Str.{is_utf8-from_IsUtf8}
 use Rattle.general_facts.specs.Texts.{is_utf8-not}
 use Rattle.row_text.specs.Reads.{Read, give, read_on, value_in, ◌>>=◌, byte, stretch, number, utf8_text, text}
@@ -54,13 +54,6 @@ number-front width n rest long same =
     ap (λ found. read_on found (λ digits. give (from_le_bytes width digits))) (stretch-front (to_le_bytes width n) rest (byte_len width) long)
     ∙ ap (λ (value : ℕ). Some (value, rest)) same
 
-pub Adds-count : (old new : List ℕ) (n : ℕ) → n < 2 ^ 32 → new ≡ old ++ to_le_bytes w32 n → Adds (number w32) old new n
-Adds-count old new n low more = record {
-  added = to_le_bytes w32 n;
-  are_added = more;
-  are_read = λ rest. number-front w32 n rest refl (from_le_bytes-to_le_bytes_4 n low);
-}
-
 pub Adds-number : (old new : List ℕ) (n : ℕ) → n < 2 ^ 64 → new ≡ old ++ to_le_bytes w64 n → Adds (number w64) old new n
 Adds-number old new n low more = record {
   added = to_le_bytes w64 n;
@@ -79,7 +72,7 @@ unfolding utf8_text
 utf8_text-bad found bytes bad = rw (is_utf8-not found bad) refl
 
 -- a text by its length, its bytes and the test of these
-pub text-by : (bytes rest left found : List ℕ) (count : ℕ) (read : Option (List ℕ × List ℕ)) → number w32 bytes ≡ Some (count, rest)
+pub text-by : (bytes rest left found : List ℕ) (count : ℕ) (read : Option (List ℕ × List ℕ)) → number w64 bytes ≡ Some (count, rest)
     → stretch count rest ≡ Some (found, left) → utf8_text found left ≡ read → text bytes ≡ read
 unfolding text
 text-by bytes rest left found count read counted cut tested =
@@ -87,10 +80,10 @@ text-by bytes rest left found count read counted cut tested =
     ∙ ap (λ two. read_on two (λ found. utf8_text found)) cut
     ∙ tested
 
-pub Adds-text : (old mid new written : List ℕ) → IsUtf8 written → Adds (number w32) old mid (length written) → new ≡ mid ++ written → Adds text old new written
+pub Adds-text : (old mid new written : List ℕ) → IsUtf8 written → Adds (number w64) old mid (length written) → new ≡ mid ++ written → Adds text old new written
 unfolding text
 Adds-text old mid new written good counted more =
-    Adds-then (number w32) (λ count. stretch count >>= λ found. utf8_text found) old mid new (length written) written counted
+    Adds-then (number w64) (λ count. stretch count >>= λ found. utf8_text found) old mid new (length written) written counted
     (Adds-then (stretch (length written)) (λ found. utf8_text found) mid new new written written (Adds-stretch mid new written more)
     (record { added = []; are_added = sym (append-nil new); are_read = λ rest. utf8_text-good written rest good }))
 

@@ -6,7 +6,7 @@ use Rattle.row_text.specs.declared.unread.Unread.TheVariants as unread
 use Rattle.row_text.specs.Reads.{Read, give, read_on, ◌>>=◌, number, items, list}
 use Rattle.row_text.specs.Answers.{Fails, Adds}
 use Rattle.row_text.proofs.Adding.{Adds-give, Adds-then, Adds-last}
-use Rattle.std.specs.Int.{w32}
+use Rattle.std.specs.Int.{w64}
 
 -- what was read before, with what is still read
 abbrev pub with_front : {A : Type 0} → List A → Option (List A × List ℕ) → Option (List A × List ℕ)
@@ -43,7 +43,7 @@ module _ {A : Type 0} (read : Read A) where
   pub reads-fail : (stop : Unread) (front : List A) (count i : ℕ) (bytes : List ℕ) (whole : Option (List A × List ℕ)) → i < count → Fails stop (read bytes)
       → with_front front (items read (count - i) bytes) ≡ whole → Fails stop whole
   reads-fail unread.Damaged front count i bytes whole low is so_far = sym so_far ∙ ap (with_front front) (items-stop count i bytes low is)
-  reads-fail unread.Memory front count i bytes whole low is so_far = tt
+  reads-fail (unread.Memory _) front count i bytes whole low is so_far = tt
 
   -- it ends after the last
   pub reads-end : (front : List A) (count i : ℕ) (bytes : List ℕ) (whole : Option (List A × List ℕ)) → count ≤ i
@@ -93,6 +93,6 @@ module _ {A : Type 0} (read : Read A) where
       subst (λ n. Adds (items read n) start out (map view xs)) (length-map xs view) (Written-end (map view xs) i start out (omega (arith, high, length-map xs view)) so_far)
 
   -- the count, and then the things
-  pub Adds-list : (things : List A) (count : ℕ) (old mid new : List ℕ) → Adds (number w32) old mid count → Adds (items read count) mid new things → Adds (list read) old new things
+  pub Adds-list : (things : List A) (count : ℕ) (old mid new : List ℕ) → Adds (number w64) old mid count → Adds (items read count) mid new things → Adds (list read) old new things
   unfolding list
-  Adds-list things count old mid new counted put = Adds-then (number w32) (λ n. items read n) old mid new count things counted put
+  Adds-list things count old mid new counted put = Adds-then (number w64) (λ n. items read n) old mid new count things counted put

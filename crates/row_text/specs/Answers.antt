@@ -7,7 +7,7 @@ use Rattle.row_text.specs.declared.unread.Unread.TheVariants as unread
 -- Nothing is there. If memory ran out, nothing is said.
 abbrev pub Fails : {Y : Type 0} → Unread → Option Y → Type 0
 Fails unread.Damaged found = found ≡ None
-Fails unread.Memory found = Unit {0}
+Fails (unread.Memory _) found = Unit {0}
 
 -- What a function answered, seen by `view`, is what is there.
 abbrev pub Gives : {X Y : Type 0} → (X → Y) → Result X Unread → Option Y → Type 0

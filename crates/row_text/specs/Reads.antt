@@ -1,6 +1,6 @@
 -- What bytes begin with.
 use Rattle.std.specs.Prelude.{ℕ, zero, suc, nat_lt, if◌then◌else◌, List, [], ◌∷◌, length, take, drop, Option, Some, None}
-use Rattle.std.specs.Int.{Width, w32, byte_len, from_le_bytes}
+use Rattle.std.specs.Int.{Width, w64, byte_len, from_le_bytes}
 use Rattle.std.specs.Str.{is_utf8}
 
 -- What is read from the front of bytes, with the bytes after it. It is `None` if no such thing is there.
@@ -49,7 +49,7 @@ utf8_text found bytes = if is_utf8 found then Some (found, bytes) else None
 
 -- a text: how many bytes it has, and then these, which are UTF-8
 unfoldable pub text : Read (List ℕ)
-text bytes = (number w32 >>= λ count. stretch count >>= λ found. utf8_text found) bytes
+text bytes = (number w64 >>= λ count. stretch count >>= λ found. utf8_text found) bytes
 
 -- so many things, one after another
 unfoldable pub items : {A : Type 0} → Read A → ℕ → Read (List A)
@@ -58,7 +58,7 @@ items read (suc more) bytes = (read >>= λ first. items read more >>= λ others.
 
 -- a list of things: how many there are, and then these
 unfoldable pub list : {A : Type 0} → Read A → Read (List A)
-list read bytes = (number w32 >>= λ count. items read count) bytes
+list read bytes = (number w64 >>= λ count. items read count) bytes
 
 -- a list of texts
 abbrev pub texts : Read (List (List ℕ))

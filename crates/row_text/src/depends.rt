@@ -4,7 +4,7 @@ ghost use Rattle.row_text.specs.Reads.{items, list};
 ghost use Rattle.row_text.specs.Ports.{depend_number, depend_kind_of, depend_kind, depend};
 ghost use Rattle.row_text.specs.Answers.{Gives, Adds};
 
-use crate::fields::{read_byte, read_count, read_text, write_byte, write_count, write_text};
+use crate::fields::{read_byte, read_number, read_text, write_byte, write_number, write_text};
 use crate::unread::Unread;
 use port_rules::{Depend, DependKind};
 use std::alloc::{AllocError, Global};
@@ -63,12 +63,12 @@ fn read_depend(alloc: Global, bytes: &[u8]) -> Result<(Depend, &[u8]), Unread>
 pub(crate) fn read_depends(alloc: Global, bytes: &[u8]) -> Result<(Vec<Depend>, &[u8]), Unread>
     ensures { Gives (λ x. (x.0.items, x.1.now)) result (list depend bytes.now) }
 {
-    let (count, rest) = read_count(bytes)?;
+    let (count, rest) = read_number(bytes)?;
     depends_in(alloc, count, rest)
 }
 
 /// So many dependencies.
-fn depends_in(alloc: Global, count: u32, bytes: &[u8]) -> Result<(Vec<Depend>, &[u8]), Unread>
+fn depends_in(alloc: Global, count: u64, bytes: &[u8]) -> Result<(Vec<Depend>, &[u8]), Unread>
     ensures { Gives (λ x. (x.0.items, x.1.now)) result (items depend count bytes.now) }
 {
     let mut found = Vec::with_capacity(alloc, usize::min(count as usize, bytes.len()))?;
@@ -101,7 +101,7 @@ fn write_depend(out: &mut Vec<u8>, written: &Depend) -> Result<(), AllocError>
 pub(crate) fn write_depends(out: &mut Vec<u8>, written: &[Depend]) -> Result<(), AllocError>
     ensures { OnOk result (Adds (list depend) out.old.items out.new.items written.now) }
 {
-    write_count(out, written.len())?;
+    write_number(out, written.len() as u64)?;
     put_depends(out, written)
 }
 

@@ -1,6 +1,6 @@
 //! Bytes, numbers and texts.
 ghost use Rattle.std.specs.Prelude.{◌≡◌, ◌++◌, ◌∷◌, [], string_bytes, OnOk};
-ghost use Rattle.std.specs.Int.{w32, w64};
+ghost use Rattle.std.specs.Int.{w64};
 ghost use Rattle.row_text.specs.Reads.{byte, number, stretch, text};
 ghost use Rattle.row_text.specs.Answers.{Gives, Adds};
 
@@ -29,19 +29,6 @@ fn read_stretch(bytes: &[u8], count: usize) -> Result<(&[u8], &[u8]), Unread>
     Ok(bytes.split_at(count))
 }
 
-/// A count of 32 bits.
-#[tactic(auto, unfolding(crate::specs::Reads::stretch, crate::specs::Reads::number))]
-pub(crate) fn read_count(bytes: &[u8]) -> Result<(u32, &[u8]), Unread>
-    ensures { Gives (λ x. (x.0, x.1.now)) result (number w32 bytes.now) }
-{
-    if bytes.len() < 4 {
-        return Err(Unread::Damaged);
-    }
-    let (front, rest) = bytes.split_at(4);
-    let number = u32::from_le_bytes([front[0], front[1], front[2], front[3]]);
-    Ok((number, rest))
-}
-
 /// A number of 64 bits.
 #[tactic(auto, unfolding(crate::specs::Reads::stretch, crate::specs::Reads::number))]
 pub(crate) fn read_number(bytes: &[u8]) -> Result<(u64, &[u8]), Unread>
@@ -62,7 +49,7 @@ pub(crate) fn read_number(bytes: &[u8]) -> Result<(u64, &[u8]), Unread>
 pub(crate) fn read_str(bytes: &[u8]) -> Result<(&str, &[u8]), Unread>
     ensures { Gives (λ x. (x.0.now, x.1.now)) result (text bytes.now) }
 {
-    let (count, rest) = read_count(bytes)?;
+    let (count, rest) = read_number(bytes)?;
     let (front, rest) = read_stretch(rest, count as usize)?;
     match str::from_utf8(front) {
         Ok(text) => Ok((text, rest)),
@@ -86,17 +73,6 @@ pub(crate) fn write_byte(out: &mut Vec<u8>, value: u8) -> Result<(), AllocError>
     Ok(())
 }
 
-/// Adds a count of 32 bits. A greater one counts as if memory had run out.
-pub(crate) fn write_count(out: &mut Vec<u8>, count: usize) -> Result<(), AllocError>
-    ensures { OnOk result (Adds (number w32) out.old.items out.new.items count) }
-{
-    let Ok(count) = u32::try_from(count) else {
-        return Err(AllocError);
-    };
-    out.extend_from_slice(&count.to_le_bytes())?;
-    Ok(())
-}
-
 /// Adds a number of 64 bits.
 pub(crate) fn write_number(out: &mut Vec<u8>, value: u64) -> Result<(), AllocError>
     ensures { OnOk result (Adds (number w64) out.old.items out.new.items value) }
@@ -109,7 +85,7 @@ pub(crate) fn write_number(out: &mut Vec<u8>, value: u64) -> Result<(), AllocErr
 pub(crate) fn write_text(out: &mut Vec<u8>, written: &str) -> Result<(), AllocError>
     ensures { OnOk result (Adds text out.old.items out.new.items written.now) }
 {
-    write_count(out, written.len())?;
+    write_number(out, written.len() as u64)?;
     out.extend_from_slice(written.as_bytes())?;
     Ok(())
 }

@@ -4,7 +4,7 @@ ghost use Rattle.row_text.specs.Reads.{items, list};
 ghost use Rattle.row_text.specs.Ports.{port_package};
 ghost use Rattle.row_text.specs.Answers.{Gives, Adds};
 
-use crate::fields::{read_count, read_text, write_count, write_text};
+use crate::fields::{read_number, read_text, write_number, write_text};
 use crate::names::{read_name, write_name};
 use crate::unread::Unread;
 use port_rules::Package;
@@ -26,12 +26,12 @@ fn read_package(alloc: Global, bytes: &[u8]) -> Result<(Package, &[u8]), Unread>
 pub(crate) fn read_packages(alloc: Global, bytes: &[u8]) -> Result<(Vec<Package>, &[u8]), Unread>
     ensures { Gives (λ x. (x.0.items, x.1.now)) result (list port_package bytes.now) }
 {
-    let (count, rest) = read_count(bytes)?;
+    let (count, rest) = read_number(bytes)?;
     packages_in(alloc, count, rest)
 }
 
 /// So many packages.
-fn packages_in(alloc: Global, count: u32, bytes: &[u8]) -> Result<(Vec<Package>, &[u8]), Unread>
+fn packages_in(alloc: Global, count: u64, bytes: &[u8]) -> Result<(Vec<Package>, &[u8]), Unread>
     ensures { Gives (λ x. (x.0.items, x.1.now)) result (items port_package count bytes.now) }
 {
     let mut found = Vec::with_capacity(alloc, usize::min(count as usize, bytes.len()))?;
@@ -61,7 +61,7 @@ pub(crate) fn write_packages(
 ) -> Result<(), AllocError>
     ensures { OnOk result (Adds (list port_package) out.old.items out.new.items written.now) }
 {
-    write_count(out, written.len())?;
+    write_number(out, written.len() as u64)?;
     put_packages(alloc, out, written)
 }
 

@@ -25,7 +25,7 @@ pub struct KeptRow {
 
 /// The bytes of a row. `read_row` reads them as this row.
 ///
-/// It fails only if memory runs out, or if a text or a list has more than 4,294,967,295 bytes or items.
+/// It fails only if memory runs out.
 pub fn write_row(alloc: Global, row: &KeptRow) -> Result<Vec<u8>, AllocError>
     ensures { IfOk result (λ text. row_of text.items ≡ Some (row_seen row.now)) }
 {
@@ -41,7 +41,7 @@ pub fn read_row(alloc: Global, text: &[u8]) -> Result<Option<KeptRow>, AllocErro
     match read_whole(alloc, text) {
         Ok(kept) => Ok(Some(kept)),
         Err(Unread::Damaged) => Ok(None),
-        Err(Unread::Memory) => Err(AllocError),
+        Err(Unread::Memory(refused)) => Err(refused.into()),
     }
 }
 

@@ -3,7 +3,7 @@ ghost use Rattle.std.specs.Prelude.{◌≡◌, length, map, string_bytes, OnOk};
 ghost use Rattle.row_text.specs.Reads.{text, texts, items};
 ghost use Rattle.row_text.specs.Answers.{Gives, Adds};
 
-use crate::fields::{read_count, read_text, write_count, write_text};
+use crate::fields::{read_number, read_text, write_number, write_text};
 use crate::unread::Unread;
 use std::alloc::{AllocError, Global};
 
@@ -12,12 +12,12 @@ use std::alloc::{AllocError, Global};
 pub(crate) fn read_texts(alloc: Global, bytes: &[u8]) -> Result<(Vec<String>, &[u8]), Unread>
     ensures { Gives (λ x. (map string_bytes x.0.items, x.1.now)) result (texts bytes.now) }
 {
-    let (count, rest) = read_count(bytes)?;
+    let (count, rest) = read_number(bytes)?;
     texts_in(alloc, count, rest)
 }
 
 /// So many texts.
-fn texts_in(alloc: Global, count: u32, bytes: &[u8]) -> Result<(Vec<String>, &[u8]), Unread>
+fn texts_in(alloc: Global, count: u64, bytes: &[u8]) -> Result<(Vec<String>, &[u8]), Unread>
     ensures { Gives (λ x. (map string_bytes x.0.items, x.1.now)) result
         (items text count bytes.now) }
 {
@@ -36,7 +36,7 @@ pub(crate) fn write_texts(out: &mut Vec<u8>, written: &[String]) -> Result<(), A
     ensures { OnOk result
         (Adds texts out.old.items out.new.items (map string_bytes written.now)) }
 {
-    write_count(out, written.len())?;
+    write_number(out, written.len() as u64)?;
     put_texts(out, written)
 }
 

@@ -1,7 +1,9 @@
 //! Why bytes were not read.
 ghost use Rattle.std.specs.Prelude.{◌≡◌};
+ghost use Rattle.refusals.specs.Refused.{refused};
 ghost use Rattle.row_text.specs.declared.unread.Unread.TheVariants.{Memory};
 
+use refusals::OutOfMemory;
 use std::alloc::{AllocError, AllocFailed};
 
 /// Why bytes were not read.
@@ -10,21 +12,21 @@ pub(crate) enum Unread {
     /// What was wanted isn't there.
     Damaged,
     /// Memory ran out.
-    Memory,
+    Memory(OutOfMemory),
 }
 
 impl From<AllocError> for Unread {
-    ghost from_gives = { λ _ stop. stop ≡ Memory };
+    ghost from_gives = { λ _ stop. stop ≡ Memory refused };
 
-    fn from(_error: AllocError) -> Unread {
-        Unread::Memory
+    fn from(error: AllocError) -> Unread {
+        Unread::Memory(OutOfMemory::from(error))
     }
 }
 
 impl<T: Drop> From<AllocFailed<T>> for Unread {
-    ghost from_gives = { λ _ stop. stop ≡ Memory };
+    ghost from_gives = { λ _ stop. stop ≡ Memory refused };
 
-    fn from(_error: AllocFailed<T>) -> Unread {
-        Unread::Memory
+    fn from(error: AllocFailed<T>) -> Unread {
+        Unread::Memory(OutOfMemory::from(error))
     }
 }

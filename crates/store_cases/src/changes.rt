@@ -56,8 +56,8 @@ pub fn put(store: &mut TenantStore, name: &Name, bytes: &[u8]) -> Result<&'stati
     match store.put_file(name, bytes) {
         Ok(()) => Ok("stored"),
         Err(PutFault::Full) => Ok("Full"),
-        Err(PutFault::Store) => Ok("Store"),
-        Err(PutFault::Memory) => Err(Trouble::Memory),
+        Err(PutFault::Store(_)) => Ok("Store"),
+        Err(PutFault::Memory(refused)) => Err(Trouble::Memory(refused)),
     }
 }
 
@@ -66,8 +66,8 @@ fn remove(store: &mut TenantStore, name: &Name) -> Result<&'static str, Trouble>
     match store.remove_file(name) {
         Ok(true) => Ok("removed"),
         Ok(false) => Ok("absent"),
-        Err(FilesFault::Store) => Ok("Store"),
-        Err(FilesFault::Memory) => Err(Trouble::Memory),
+        Err(FilesFault::Store(_)) => Ok("Store"),
+        Err(FilesFault::Memory(refused)) => Err(Trouble::Memory(refused)),
     }
 }
 
@@ -84,8 +84,8 @@ pub fn given_profile(number: &[u8]) -> Result<Profile, Trouble> {
 fn set_answer(told: &Result<(), FilesFault>) -> Result<&'static str, Trouble> {
     match told {
         Ok(()) => Ok("set"),
-        Err(FilesFault::Store) => Ok("Store"),
-        Err(FilesFault::Memory) => Err(Trouble::Memory),
+        Err(FilesFault::Store(_)) => Ok("Store"),
+        Err(FilesFault::Memory(refused)) => Err(Trouble::Memory(*refused)),
     }
 }
 

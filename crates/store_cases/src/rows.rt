@@ -47,8 +47,8 @@ fn change(
     };
     match told {
         Ok(()) => Ok(so),
-        Err(FilesFault::Store) => Ok("Store"),
-        Err(FilesFault::Memory) => Err(Trouble::Memory),
+        Err(FilesFault::Store(_)) => Ok("Store"),
+        Err(FilesFault::Memory(refused)) => Err(Trouble::Memory(refused)),
     }
 }
 

@@ -13,7 +13,8 @@ use Rattle.mk_paths.specs.World.{opening_world}
 use Rattle.mk_files.specs.Limits.{bytes_of}
 use Rattle.sqlite_trees.specs.View.{IsShaped}
 use Rattle.sqlite_trees.specs.declared.store.Shape.TheVariants as Shapes
-use Rattle.tenant_store.specs.Holdings.{world_in}
+use Rattle.mk_paths.specs.SearchPath.{IsSearchPath}
+use Rattle.tenant_store.specs.Holdings.{Holdings, world_in}
 use Rattle.tenant_store.specs.Tables.{IsCounted, IsBare, IsOneAccount, Holds, file_of, account_of, create_file, create_account, insert_account, file_schema, file_table, account_table, store_schema, held_in}
 use Rattle.table_facts.specs.Tables.{no_schema}
 use Rattle.table_facts.specs.States.{IsSettled}
@@ -59,6 +60,7 @@ inserts_account old new at bare count h =
           files = sym (ap finite.len no_files ∙ finite.len-empty _ _);
           bytes = sym (ap bytes_of no_files ∙ bytes_of-empty);
         });
+        path = subst (λ (held : Holdings). IsSearchPath held.account.trees) (sym held) refl;
       };
       world_is = ap world_in held ∙ (λ i. (no_files i, opening_world.1));
     }

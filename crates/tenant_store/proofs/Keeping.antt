@@ -6,7 +6,7 @@ use Rattle.std.specs.FinMap as finite
 use Rattle.std.specs.Borrow.{Bor}
 use Rattle.mk_text.specs.declared.profile.Profile.{Profile}
 use Rattle.mk_paths.specs.World.{World, FileMap, files_in, with_file, without_file, with_search_path, with_profile, search_path_of, profile_of}
-use Rattle.mk_paths.specs.SearchPath.{trees_of}
+use Rattle.mk_paths.specs.SearchPath.{trees_of, IsSearchPath}
 use Rattle.mk_files.specs.Limits.{bytes_of, files_with, bytes_with, is_over, passes}
 use Rattle.sqlite.specs.Effect.{Database}
 use Rattle.sqlite.specs.State.{State}
@@ -32,6 +32,7 @@ still_kept old new kept h = record {
   settled = record { autocommit = h.mode ∙ kept.settled.autocommit; committed = h.committed ∙ kept.settled.committed ∙ sym h.now };
   formed = subst IsFormed (sym h.now) kept.formed;
   counted = subst IsCounted (sym (still_held old new h)) kept.counted;
+  path = subst (λ (held : Holdings). IsSearchPath held.account.trees) (sym (still_held old new h)) kept.path;
 }
 
 pub stays_then : (a b c : State) → Stays a b → Stays b c → Stays a c
@@ -39,23 +40,25 @@ stays_then a b c p q = record { now = q.now ∙ p.now; committed = q.committed �
 
 -- ---- the account
 
-pub account_is : (held : Holdings) (kept : Kept) → IsCounted held → shown_account kept ≡ held.account → IsAccountOf (world_in held) kept
-account_is held kept counted is = record {
+pub account_is : (held : Holdings) (kept : Kept) → IsCounted held → IsSearchPath held.account.trees → shown_account kept ≡ held.account → IsAccountOf (world_in held) kept
+account_is held kept counted path is = record {
   files = ap (λ (a : Account). a.files) is ∙ counted.files;
   bytes = ap (λ (a : Account). a.bytes) is ∙ counted.bytes;
   path = ap (λ (a : Account). a.trees) is;
+  is_path = path;
   profile = ap (λ (a : Account). a.profile) is;
 }
 
 -- ---- what is held once a change is made
 
 module _ (old new : State) (files : List File) (kept : Kept) (m : FileMap) (made : Makes new (record { files = files; account = shown_account kept })) (own : map_of files ≡ m) (fs : kept.files ≡ finite.len m) (bs : kept.bytes ≡ bytes_of m) where
-  pub change_holds : (path : List (List ℕ)) (profile : Profile) → trees_of (string_bytes kept.path) ≡ path → kept.profile ≡ profile → Holds new (m, record { path = path; profile = profile })
-  change_holds path profile path_is profile_is = record {
+  pub change_holds : (path : List (List ℕ)) (profile : Profile) → trees_of (string_bytes kept.path) ≡ path → IsSearchPath path → kept.profile ≡ profile → Holds new (m, record { path = path; profile = profile })
+  change_holds path profile path_is is_path profile_is = record {
     kept = record {
       settled = made.settled;
       formed = made.formed;
       counted = subst IsCounted (sym made.made) (record { files = fs ∙ ap finite.len (sym own); bytes = bs ∙ ap bytes_of (sym own) });
+      path = subst (λ (held : Holdings). IsSearchPath held.account.trees) (sym made.made) (subst IsSearchPath (sym path_is) is_path);
     };
     world_is = ap world_in made.made ∙ (λ i. (own i, record { path = path_is i; profile = profile_is i }));
   }
@@ -88,7 +91,7 @@ put_holds old new n c length_was account kept is of fs bs path profile made =
     let m = files_in (world_at old) in
     let count : kept.files ≡ finite.len (finite.insert m n.now c.now) = fs ∙ ap₂ files_with of.files is ∙ sym (len-insert_with m n.now c.now) in
     let sum : kept.bytes ≡ bytes_of (finite.insert m n.now c.now) = bs ∙ ap₂ (λ b o. bytes_with b o (length c.now)) of.bytes is ∙ sym (bytes_of-insert m n.now c.now) in
-    change_holds old new (files_after (stored n c length_was) (held_in old).files) kept (finite.insert m n.now c.now) made (put_files n c (held_in old).files length_was is) count sum (search_path_of (world_at old)) (profile_of (world_at old)) (path ∙ of.path) (profile ∙ of.profile)
+    change_holds old new (files_after (stored n c length_was) (held_in old).files) kept (finite.insert m n.now c.now) made (put_files n c (held_in old).files length_was is) count sum (search_path_of (world_at old)) (profile_of (world_at old)) (path ∙ of.path) of.is_path (profile ∙ of.profile)
 
 -- how many files and bytes the map has that would be
 pub would_be : (m : FileMap) (name content : List ℕ) (files bytes : ℕ) (old : Option ℕ) → old ≡ option_map length (finite.get m name) → files ≡ finite.len m → bytes ≡ bytes_of m
@@ -115,7 +118,7 @@ take_holds old new n k account kept is of fs bs path profile made =
     let lighter = bytes_of-remove m n.now there.0 there.1 in
     let count : kept.files ≡ finite.len to = omega (arith, fs, of.files, less) in
     let sum : kept.bytes ≡ bytes_of to = omega (arith, bs, of.bytes, lighter, k_is) in
-    change_holds old new (files_after (Remove n) (held_in old).files) kept to made (remove_own n.now (held_in old).files) count sum (search_path_of (world_at old)) (profile_of (world_at old)) (path ∙ of.path) (profile ∙ of.profile)
+    change_holds old new (files_after (Remove n) (held_in old).files) kept to made (remove_own n.now (held_in old).files) count sum (search_path_of (world_at old)) (profile_of (world_at old)) (path ∙ of.path) of.is_path (profile ∙ of.profile)
 
 -- taking out a file that isn't there changes nothing
 pub takes_nothing : (old new : State) (name : List ℕ) → IsKept old → Stays old new → finite.contains_key (files_in (world_at old)) name ≡ false → Holds new (without_file (world_at old) name)
@@ -138,11 +141,11 @@ has_bytes m name k is = subst (λ o. unwrap_or o 0 ≤ bytes_of m) (sym is) (wit
 
 module _ (old new : State) (account kept : Kept) (of : IsAccountOf (world_at old) account) (fs : kept.files ≡ account.files) (bs : kept.bytes ≡ account.bytes)
     (made : Makes new (record { files = (held_in old).files; account = shown_account kept })) where
-  pub path_holds : (path : List (List ℕ)) → trees_of (string_bytes kept.path) ≡ path → kept.profile ≡ account.profile → Holds new (with_search_path (world_at old) path)
-  path_holds path is profile = change_holds old new (held_in old).files kept (files_in (world_at old)) made refl (fs ∙ of.files) (bs ∙ of.bytes) path (profile_of (world_at old)) is (profile ∙ of.profile)
+  pub path_holds : (path : List (List ℕ)) → trees_of (string_bytes kept.path) ≡ path → IsSearchPath path → kept.profile ≡ account.profile → Holds new (with_search_path (world_at old) path)
+  path_holds path is is_path profile = change_holds old new (held_in old).files kept (files_in (world_at old)) made refl (fs ∙ of.files) (bs ∙ of.bytes) path (profile_of (world_at old)) is is_path (profile ∙ of.profile)
 
   pub profile_holds : (profile : Profile) → kept.profile ≡ profile → trees_of (string_bytes kept.path) ≡ trees_of (string_bytes account.path) → Holds new (with_profile (world_at old) profile)
-  profile_holds profile is path = change_holds old new (held_in old).files kept (files_in (world_at old)) made refl (fs ∙ of.files) (bs ∙ of.bytes) (search_path_of (world_at old)) profile (path ∙ of.path) is
+  profile_holds profile is path = change_holds old new (held_in old).files kept (files_in (world_at old)) made refl (fs ∙ of.files) (bs ∙ of.bytes) (search_path_of (world_at old)) profile (path ∙ of.path) of.is_path is
 
 -- ---- however a call ends
 

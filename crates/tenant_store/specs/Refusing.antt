@@ -6,5 +6,5 @@ use Rattle.tenant_store.specs.declared.faults.PutFault.TheVariants as puts
 
 -- a fault of the database or of memory, as a fault of an upload
 abbrev pub put_fault : FilesFault → PutFault
-put_fault faults.Store = puts.Store
-put_fault faults.Memory = puts.Memory
+put_fault (faults.Store refusal) = puts.Store refusal
+put_fault (faults.Memory refused) = puts.Memory refused

@@ -8,7 +8,7 @@ use Rattle.sqlite_value.specs.declared.value.Value.TheVariants.{Int, Text, Blob}
 use Rattle.sqlite_value.specs.Order.{Row, column}
 use Rattle.sqlite_value.specs.Keys.{plain}
 use Rattle.mk_text.specs.Profiles.{profile_number, numbered_profile}
-use Rattle.mk_paths.specs.SearchPath.{trees_of}
+use Rattle.mk_paths.specs.SearchPath.{trees_of, IsSearchPath}
 use Rattle.mk_paths.specs.World.{FileMap, World}
 use Rattle.mk_files.specs.Limits.{bytes_of}
 use Rattle.text_parts.specs.Ordered.{among}
@@ -198,6 +198,7 @@ pub record IsKept (s : State) : Type 0 where
   pub settled : IsSettled s
   pub formed : IsFormed s.now
   pub counted : IsCounted (held_in s)
+  pub path : IsSearchPath (held_in s).account.trees
 
 -- between the calls, with this world
 pub record Holds (s : State) (world : World) : Type 0 where

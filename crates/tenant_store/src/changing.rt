@@ -2,7 +2,7 @@
 ghost use Rattle.std.specs.Prelude.{◌≡◌, false, IfOk, OnOk, OnErr, IsTrue, map, ◌++◌, length, option_map, string_bytes};
 ghost use Rattle.std.specs.Option.{option_map_or};
 ghost use Rattle.std.specs.FinMap.{get, contains_key};
-ghost use Rattle.mk_paths.specs.SearchPath.{trees_of, colon};
+ghost use Rattle.mk_paths.specs.SearchPath.{IsSearchPath, trees_of, colon};
 ghost use Rattle.mk_paths.specs.World.{files_in, with_file, without_file, with_search_path, with_profile};
 ghost use Rattle.mk_files.specs.Limits.{is_over};
 ghost use Rattle.text_parts.specs.Laws.{after_marks};
@@ -135,7 +135,8 @@ pub(crate) fn set_profile(conn: &mut Connection<MemStore>, profile: Profile) -> 
 
 // The trees of a search path, with colons between them.
 fn path_text(alloc: Global, path: &SearchPath) -> Result<String, AllocError>
-    ensures { IfOk result (λ text. trees_of (string_bytes text) ≡ path.now) }
+    ensures text { IfOk result (λ text. trees_of (string_bytes text) ≡ path.now) }
+    ensures is_path { IsSearchPath path.now }
 {
     let trees = path.trees();
     joined(alloc, trees[0].as_str(), &trees[1..])

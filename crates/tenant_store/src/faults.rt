@@ -1,10 +1,7 @@
 // Why a call of the store is refused.
-ghost use Rattle.std.specs.Prelude.{◌≡◌, ◌↔◌};
-ghost use Rattle.table_facts.specs.Refused.{IsForMemory};
-ghost use Rattle.tenant_store.specs.declared.faults.PutFault.TheVariants as puts;
 
 use mk_paths::FilesFault;
-use sqlite::{Error, ErrorCode};
+use refusals::{OutOfMemory, StoreRefusal};
 use thiserror::Error;
 
 /// Why a file was not stored. Nothing has changed then.
@@ -15,10 +12,10 @@ pub enum PutFault {
     Full,
     /// The database refused a statement.
     #[error("the store failed")]
-    Store,
+    Store(StoreRefusal),
     /// Memory ran out.
     #[error("out of memory")]
-    Memory,
+    Memory(OutOfMemory),
 }
 
 impl From<FilesFault> for PutFault {
@@ -29,18 +26,8 @@ impl From<FilesFault> for PutFault {
 
     fn from(fault: FilesFault) -> PutFault {
         match fault {
-            FilesFault::Store => PutFault::Store,
-            FilesFault::Memory => PutFault::Memory,
+            FilesFault::Store(refusal) => PutFault::Store(refusal),
+            FilesFault::Memory(refused) => PutFault::Memory(refused),
         }
-    }
-}
-
-/// The fault of a statement: `Memory` if memory ran out, and else `Store`.
-pub(crate) fn fault_of(error: &Error) -> FilesFault
-    ensures { (result ≡ FilesFault.Memory) ↔ IsForMemory error.now }
-{
-    match error {
-        Error::SqliteFailure(ErrorCode::OutOfMemory) => FilesFault::Memory,
-        _ => FilesFault::Store,
     }
 }

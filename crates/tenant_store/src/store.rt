@@ -1,7 +1,7 @@
 // The store as its callers see it.
 ghost use Rattle.std.specs.Prelude.{◌≡◌, false, map, string_bytes, IfOk, IsErrOf, IsTrue, None, OnOk, OnErr};
 ghost use Rattle.std.specs.FinMap.{get, keys, contains_key};
-ghost use Rattle.mk_paths.specs.SearchPath.{search_path, trees_of};
+ghost use Rattle.mk_paths.specs.SearchPath.{IsSearchPath, trees_of};
 ghost use Rattle.mk_paths.specs.World.{files_in, opening_world, with_file, without_file};
 ghost use Rattle.mk_paths.specs.World.{search_path_of, profile_of, with_search_path, with_profile};
 ghost use Rattle.mk_files.specs.Limits.{is_over};
@@ -9,15 +9,16 @@ ghost use Rattle.tenant_store.specs.Tables.{IsKept, world_of};
 ghost use Rattle.table_facts.specs.States.{Stays, state_of};
 
 use crate::changing::{put, set_path, set_profile, take};
-use crate::faults::{PutFault, fault_of};
+use crate::faults::PutFault;
 use crate::opening::open;
 use crate::reading::{account_of, content_of, names_of};
 use mk_files::Content;
 use mk_paths::{FilesFault, Name, PathFault, SearchPath, Settings};
 use mk_text::Profile;
 use sqlite::{Connection, MemStore};
-use std::alloc::Global;
+use std::alloc::{AllocError, Global};
 use std::marker::Model;
+use table_facts::Sqlite;
 
 /// The files, the search path and the profile of one tenant, in a database in memory of its own. Clauses see the world
 /// that they are: the files as a map of names to contents, and the settings.
@@ -50,7 +51,7 @@ impl TenantStore {
     {
         match open(alloc) {
             Ok(conn) => Ok(TenantStore { conn }),
-            Err(error) => Err(fault_of(&error)),
+            Err(error) => Err(FilesFault::of_statement::<Sqlite>(&error)),
         }
     }
 
@@ -74,7 +75,7 @@ impl TenantStore {
         match put(&mut self.conn, name.as_str(), content) {
             Ok(true) => Ok(()),
             Ok(false) => Err(PutFault::Full),
-            Err(error) => Err(PutFault::from(fault_of(&error))),
+            Err(error) => Err(PutFault::from(FilesFault::of_statement::<Sqlite>(&error))),
         }
     }
 
@@ -92,7 +93,7 @@ impl TenantStore {
     {
         match take(&mut self.conn, name.as_str()) {
             Ok(there) => Ok(there),
-            Err(error) => Err(fault_of(&error)),
+            Err(error) => Err(FilesFault::of_statement::<Sqlite>(&error)),
         }
     }
 
@@ -120,7 +121,7 @@ impl TenantStore {
     {
         match names_of(&mut self.conn, alloc) {
             Ok(names) => Ok(names),
-            Err(error) => Err(fault_of(&error)),
+            Err(error) => Err(FilesFault::of_statement::<Sqlite>(&error)),
         }
     }
 
@@ -136,7 +137,7 @@ impl TenantStore {
     {
         match set_path(&mut self.conn, alloc, path) {
             Ok(()) => Ok(()),
-            Err(error) => Err(fault_of(&error)),
+            Err(error) => Err(FilesFault::of_statement::<Sqlite>(&error)),
         }
     }
 
@@ -152,7 +153,7 @@ impl TenantStore {
     {
         match set_profile(&mut self.conn, profile) {
             Ok(()) => Ok(()),
-            Err(error) => Err(fault_of(&error)),
+            Err(error) => Err(FilesFault::of_statement::<Sqlite>(&error)),
         }
     }
 
@@ -181,14 +182,14 @@ impl TenantStore {
 }
 
 // The search path of a text that the store holds.
-fn path_from(alloc: Global, text: &str) -> Result<SearchPath, FilesFault>
-    ensures ok { IfOk result (λ path. path ≡ trees_of text.now) }
-    ensures store { IsErrOf result FilesFault.Store → search_path text.now ≡ None }
+fn path_from(alloc: Global, text: &str) -> Result<SearchPath, AllocError>
+    requires { IsSearchPath (trees_of text.now) }
+    ensures { IfOk result (λ path. path ≡ trees_of text.now) }
 {
     match SearchPath::read(alloc, text) {
         Ok(path) => Ok(path),
-        Err(PathFault::BadPath) => Err(FilesFault::Store),
-        Err(PathFault::Memory) => Err(FilesFault::Memory),
+        Err(PathFault::BadPath) => unreachable!(), // the text is one
+        Err(PathFault::Memory(refused)) => Err(refused.into()),
     }
 }
 
@@ -205,7 +206,7 @@ fn shared_content(
     match content_of(conn, name) {
         Ok(Some(bytes)) => Ok(Some(Content::new(alloc, bytes)?)),
         Ok(None) => Ok(None),
-        Err(error) => Err(fault_of(&error)),
+        Err(error) => Err(FilesFault::of_statement::<Sqlite>(&error)),
     }
 }
 
@@ -221,6 +222,6 @@ fn settings_of(conn: &mut Connection<MemStore>, alloc: Global) -> Result<Setting
             path: path_from(alloc, account.path.as_str())?,
             profile: account.profile,
         }),
-        Err(error) => Err(fault_of(&error)),
+        Err(error) => Err(FilesFault::of_statement::<Sqlite>(&error)),
     }
 }

@@ -1,5 +1,5 @@
 -- A turn of a request over the files of a tenant.
-use Rattle.std.specs.Prelude.{◌≡◌, IfOk, IfSome}
+use Rattle.std.specs.Prelude.{◌≡◌, IfOk, IfSome, IsSome}
 use Rattle.mk_paths.specs.World.{World, FileMap}
 use Rattle.eval_cache.specs.Using.{UsesCache}
 use Rattle.index_store.specs.PortTable.{stored_by}
@@ -21,8 +21,9 @@ pub record IsReady (files : FileMap) (asking : Asking) : Type 0 where
 
 -- A turn was taken over these files. The keeper is still right. Some of what is kept in the cache was used, or nothing.
 pub record IsAsked (files : FileMap) (old new : Asking) : Type 0 where
-  pub turn : IfOk new.turn.now.turned (IsRequestTurn (world_asked files old) (refresh_of stored_by old.keeper.now)
-      (refresh_of stored_by new.keeper.now) (request_of old.call) old.turn.now.under_way)
+  pub taken : IsSome new.turn.now.turned
+  pub turn : IfSome new.turn.now.turned (λ turned. IfOk turned (IsRequestTurn (world_asked files old)
+      (refresh_of stored_by old.keeper.now) (refresh_of stored_by new.keeper.now) (request_of old.call) old.turn.now.under_way))
   pub kept : IsKept stored_by (world_asked files old) new.keeper.now
   pub keeper : new.keeper.ghost_name ≡ old.keeper.ghost_name
   pub place : new.turn.ghost_name ≡ old.turn.ghost_name

@@ -12,7 +12,7 @@ use tenant_store::{Asker, TenantStore};
 #[derive(Drop)]
 pub(crate) struct Turn {
     pub(crate) under_way: Option<UnderWay>,
-    pub(crate) turned: Result<CallTurned, FilesFault>,
+    pub(crate) turned: Option<Result<CallTurned, FilesFault>>,
 }
 
 /// A request over a world about which the keeper is right, and its turn.
@@ -48,12 +48,13 @@ impl Asker for Asking<'_> {
     ghost answered = { λ old view new. IsAsked view.files old new };
 
     fn ask<F: Listing>(&mut self, files: &mut F) {
-        self.turn.turned = self.call.turn(
+        let turned = self.call.turn(
             self.alloc,
             &mut *self.cache,
             files,
             &mut *self.keeper,
             self.turn.under_way.take(),
         );
+        self.turn.turned = Some(turned);
     }
 }

@@ -103,7 +103,7 @@ fn turn_over<'x>(
 {
     let mut turn = Turn {
         under_way,
-        turned: Err(FilesFault::Memory),
+        turned: None,
     };
     let mut asking = Asking {
         alloc,
@@ -113,7 +113,11 @@ fn turn_over<'x>(
         turn: &mut turn,
     };
     asking.ask_tenant(store);
-    turn.turned
+    let Turn { turned, .. } = turn;
+    match turned {
+        Some(turned) => turned,
+        None => unreachable!(), // the turn was taken
+    }
 }
 
 /// The call by which the plain service is asked a request over a world with these settings.
@@ -159,8 +163,8 @@ fn settle(
     match carry_out(alloc, store, keeper, change) {
         Ok(()) => Ok(answer),
         Err(PutFault::Full) => Ok(answer_with_bytes(alloc, full(alloc)?, close)?),
-        Err(PutFault::Store) => Err(FilesFault::Store),
-        Err(PutFault::Memory) => Err(FilesFault::Memory),
+        Err(PutFault::Store(refusal)) => Err(FilesFault::Store(refusal)),
+        Err(PutFault::Memory(refused)) => Err(FilesFault::Memory(refused)),
     }
 }
 

@@ -16,7 +16,7 @@ pub fn condition(alloc: Global, given: &[Vec<u8>]) -> Result<Answer, Trouble> {
         Ok(condition) => condition_answer(alloc, text, &condition),
         Err(ConditionError::Unclosed) => Ok(Answer::of_word(alloc, "unclosed")),
         Err(ConditionError::Unreadable) => Ok(Answer::of_word(alloc, "unreadable")),
-        Err(ConditionError::Memory) => Err(Trouble::Memory),
+        Err(ConditionError::Memory(refused)) => Err(Trouble::Memory(refused)),
     }
 }
 

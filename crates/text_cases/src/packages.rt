@@ -11,7 +11,7 @@ use std::cmp::Ordering;
 pub fn canonical_path(alloc: Global, given: &[Vec<u8>]) -> Result<Answer, Trouble> {
     match PkgPath::read(alloc, one_text(given)?) {
         Ok(path) => canonical_answer(alloc, &path),
-        Err(PkgPathFault::Memory) => Err(Trouble::Memory),
+        Err(PkgPathFault::Memory(refused)) => Err(Trouble::Memory(refused)),
         Err(fault) => Ok(refused(alloc, fault.number())),
     }
 }
@@ -28,7 +28,7 @@ fn canonical_answer(alloc: Global, path: &PkgPath) -> Result<Answer, Trouble> {
 /// A path that a case gives.
 pub fn path_of(alloc: Global, text: &str) -> Result<PkgPath, Trouble> {
     PkgPath::read(alloc, text).map_err(|fault| match fault {
-        PkgPathFault::Memory => Trouble::Memory,
+        PkgPathFault::Memory(refused) => Trouble::Memory(refused),
         _ => Trouble::NoCase,
     })
 }
@@ -90,7 +90,7 @@ pub fn package_name(alloc: Global, given: &[Vec<u8>]) -> Result<Answer, Trouble>
     match PkgName::split(alloc, text) {
         Ok(name) => name_answer(alloc, &name, text),
         Err(NameFault::NoName) => Ok(Answer::of_word(alloc, "NoName")),
-        Err(NameFault::Memory) => Err(Trouble::Memory),
+        Err(NameFault::Memory(refused)) => Err(Trouble::Memory(refused)),
     }
 }
 
@@ -98,7 +98,7 @@ fn name_answer(alloc: Global, name: &PkgName, text: &str) -> Result<Answer, Trou
     let mut answer = Answer::of_text(alloc, name.stem());
     answer.text(name.version().as_str().as_bytes());
     add_texts(&mut answer, name.flavors());
-    let printed = format!(in alloc; "{name}")?;
+    let printed = name.text(alloc)?;
     if printed.as_str() != text {
         answer.word("prints");
         answer.text(printed.as_bytes());
@@ -111,7 +111,7 @@ pub fn version(alloc: Global, given: &[Vec<u8>]) -> Result<Answer, Trouble> {
     match Version::read(alloc, one_text(given)?) {
         Ok(version) => version_answer(alloc, &version),
         Err(VersionFault::NoVersion) => Ok(Answer::of_word(alloc, "NoVersion")),
-        Err(VersionFault::Memory) => Err(Trouble::Memory),
+        Err(VersionFault::Memory(refused)) => Err(Trouble::Memory(refused)),
     }
 }
 
@@ -126,7 +126,7 @@ fn version_answer(alloc: Global, version: &Version) -> Result<Answer, Trouble> {
 /// A version that a case gives.
 fn version_of(alloc: Global, text: &[u8]) -> Result<Version, Trouble> {
     Version::read(alloc, as_text(text)?).map_err(|fault| match fault {
-        VersionFault::Memory => Trouble::Memory,
+        VersionFault::Memory(refused) => Trouble::Memory(refused),
         VersionFault::NoVersion => Trouble::NoCase,
     })
 }
@@ -169,7 +169,7 @@ pub fn spec(alloc: Global, given: &[Vec<u8>]) -> Result<Answer, Trouble> {
     let text = as_text(text)?;
     match Spec::read(alloc, text) {
         Ok(spec) => spec_answer(alloc, &spec, text, names),
-        Err(SpecFault::Memory) => Err(Trouble::Memory),
+        Err(SpecFault::Memory(refused)) => Err(Trouble::Memory(refused)),
         Err(fault) => Ok(refused(alloc, fault.number())),
     }
 }

@@ -65,7 +65,7 @@ pub fn pieces_of(alloc: Global, given: &[Vec<u8>]) -> Result<Answer, Trouble> {
             answer.number(at as u64);
             Ok(answer)
         }
-        Err(PiecesFault::Memory) => Err(Trouble::Memory),
+        Err(PiecesFault::Memory(refused)) => Err(Trouble::Memory(refused)),
     }
 }
 
@@ -153,7 +153,7 @@ fn applied(alloc: Global, mods: &Mods, value: &str) -> Result<Answer, Trouble> {
         made = match apply(alloc, modifier, made.as_str()) {
             Ok(text) => text,
             Err(TextFault::Length) => return Ok(Answer::of_word(alloc, "Length")),
-            Err(TextFault::Memory) => return Err(Trouble::Memory),
+            Err(TextFault::Memory(refused)) => return Err(Trouble::Memory(refused)),
         };
     }
     Ok(Answer::of_text(alloc, made.as_str()))
@@ -164,7 +164,7 @@ fn read_modifiers(alloc: Global, text: &str, profile: Profile) -> Result<Option<
     match Mods::read(alloc, text, profile) {
         Ok(mods) => Ok(Some(mods)),
         Err(ModsFault::BadMod) => Ok(None),
-        Err(ModsFault::Memory) => Err(Trouble::Memory),
+        Err(ModsFault::Memory(refused)) => Err(Trouble::Memory(refused)),
     }
 }
 
@@ -186,7 +186,7 @@ pub fn substituted(alloc: Global, given: &[Vec<u8>]) -> Result<Answer, Trouble> 
         match substitute(alloc, substitution, old, new, value) {
             Ok(made) => answer.text(made.as_bytes()),
             Err(TextFault::Length) => answer.word("Length"),
-            Err(TextFault::Memory) => return Err(Trouble::Memory),
+            Err(TextFault::Memory(refused)) => return Err(Trouble::Memory(refused)),
         }
     }
     Ok(answer)

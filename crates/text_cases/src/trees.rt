@@ -16,7 +16,7 @@ pub fn tree_of(alloc: Global, given: &[Vec<u8>]) -> Result<Answer, Trouble> {
         Err(ParseError::Fault(ParseFault { kind, line })) => {
             format!(in alloc; "{kind:?} at {line}")?
         }
-        Err(ParseError::Memory) => return Err(Trouble::Memory),
+        Err(ParseError::Memory(refused)) => return Err(Trouble::Memory(refused)),
     };
     Ok(Answer::of_word(alloc, shown.as_str()))
 }

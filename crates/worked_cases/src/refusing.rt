@@ -1,5 +1,5 @@
 //! Tenants whose worlds can't be kept, so that no service over them begins.
-
+use case_lines::no_statement;
 use mk_paths::FilesFault;
 use ports_core::{Config, Counts, Job, Tenants, Worked};
 use ports_http::Request;
@@ -19,11 +19,11 @@ impl<K: Tenants> Tenants for NeverKept<K> {
 
     ghost sharing = { λ never. K.sharing never.kept };
 
-    fn new(_alloc: Global, config: &Config) -> Result<NeverKept<K>, FilesFault> {
-        match config.parses {
-            1 => Err(FilesFault::Memory),
-            _ => Err(FilesFault::Store),
+    fn new(alloc: Global, config: &Config) -> Result<NeverKept<K>, FilesFault> {
+        if config.parses == 1 {
+            let _room = Vec::<u8>::with_capacity(alloc, usize::MAX)?;
         }
+        Err(no_statement(alloc))
     }
 
     fn work(&mut self, alloc: Global, tenant: usize, request: &Request, close: bool) -> Worked {

@@ -2,11 +2,12 @@
 use crate::interrupted::Interrupted;
 use crate::quiet::QuietPorts;
 use crate::service::{config_of_one, status_answer};
-use case_lines::{Answer, FailingReader, FailingWriter, Ran, Trouble, as_number};
+use case_lines::{Answer, FailingReader, FailingWriter, Ran, Trouble, as_number, no_memory};
 use ports_core::{Refused, Step, Tell, Told};
 use ports_http::Reply;
 use ports_program::{Serving, run_config, run_serving};
 use ports_script::{ScriptFault, read_script, transcript_text};
+use refusals::OutOfMemory;
 use std::alloc::Global;
 use tenant_worlds::StoredTenants;
 
@@ -27,7 +28,7 @@ pub fn failing_input(alloc: Global, given: &[Vec<u8>]) -> Result<Answer, Trouble
             answer.word("BadEvent");
             answer.number(line);
         }
-        Err(ScriptFault::Memory) => return Err(Trouble::Memory),
+        Err(ScriptFault::Memory(refused)) => return Err(Trouble::Memory(refused)),
     }
     Ok(answer)
 }
@@ -117,14 +118,15 @@ pub fn printed_steps(alloc: Global, given: &[Vec<u8>]) -> Result<Answer, Trouble
     };
     let mut input = b"open 0\nwrote 0 all".as_slice();
     let script = read_script(alloc, &mut input).map_err(|_| Trouble::NoCase)?;
-    let first = step(Vec::new(alloc), Some(7));
-    let second = step(sent.clone()?, None);
+    let refused = no_memory(alloc)?;
+    let first = step(refused, Vec::new(alloc), Some(7));
+    let second = step(refused, sent.clone()?, None);
     let steps = vec![in alloc; first, second]?;
     let text = transcript_text(alloc, &script, steps.as_slice())?;
     Ok(Answer::of_text(alloc, text.as_str()))
 }
 
-fn step(sent: Vec<u8>, closed: Option<u64>) -> Step {
+fn step(refused: OutOfMemory, sent: Vec<u8>, closed: Option<u64>) -> Step {
     let reply = Tell {
         tenant: None,
         conn: 7,
@@ -132,7 +134,7 @@ fn step(sent: Vec<u8>, closed: Option<u64>) -> Step {
     };
     let told = Told {
         reply: Some(reply),
-        refused: Some(Refused::Memory),
+        refused: Some(Refused::Memory(refused)),
         closed,
         units: 0,
         checks: 0,

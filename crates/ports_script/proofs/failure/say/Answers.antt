@@ -1,3 +1,4 @@
+use Rattle.refusals.specs.Refused.{refused}
 use Rattle.ports_script.specs.declared.failure.Failure.TheVariants as failures
 use Rattle.ports_script.specs.Failures.{failure_text}
 use Rattle.ports_script.proofs.WriteFacts.{front_along}
@@ -18,8 +19,8 @@ returns-in-CannotWrite-clause-written g c = rw (c.in-CannotWrite.is, ← c.as_by
 pub returns-in-CannotWrite-clause-front : goal.returns-in-CannotWrite-clause-front
 returns-in-CannotWrite-clause-front g c = rw c.in-CannotWrite.is (front_along (g.E.Write.contents c.args.err.now) (g.E.Write.contents c.write_whole-in-CannotWrite.new.out) c.as_bytes-in-CannotWrite.result.now (failure_text failures.CannotWrite) c.write_whole-in-CannotWrite.result c.as_bytes-in-CannotWrite.ensures.value c.write_whole-in-CannotWrite.ensures.front)
 
-pub returns-in-OutOfMemory-clause-written : goal.returns-in-OutOfMemory-clause-written
-returns-in-OutOfMemory-clause-written g c = rw (c.in-OutOfMemory.is, ← c.as_bytes-in-OutOfMemory.ensures.value) c.write_whole-in-OutOfMemory.ensures.written
+pub returns-in-Memory-clause-written : goal.returns-in-Memory-clause-written
+returns-in-Memory-clause-written g c = rw (c.in-Memory.is, ← c.as_bytes-in-Memory.ensures.value) c.write_whole-in-Memory.ensures.written
 
-pub returns-in-OutOfMemory-clause-front : goal.returns-in-OutOfMemory-clause-front
-returns-in-OutOfMemory-clause-front g c = rw c.in-OutOfMemory.is (front_along (g.E.Write.contents c.args.err.now) (g.E.Write.contents c.write_whole-in-OutOfMemory.new.out) c.as_bytes-in-OutOfMemory.result.now (failure_text failures.OutOfMemory) c.write_whole-in-OutOfMemory.result c.as_bytes-in-OutOfMemory.ensures.value c.write_whole-in-OutOfMemory.ensures.front)
+pub returns-in-Memory-clause-front : goal.returns-in-Memory-clause-front
+returns-in-Memory-clause-front g c = rw c.in-Memory.is (front_along (g.E.Write.contents c.args.err.now) (g.E.Write.contents c.write_whole-in-Memory.new.out) c.as_bytes-in-Memory.result.now (failure_text (failures.Memory refused)) c.write_whole-in-Memory.result c.as_bytes-in-Memory.ensures.value c.write_whole-in-Memory.ensures.front)

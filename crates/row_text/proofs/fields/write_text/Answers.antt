@@ -4,5 +4,5 @@ use Rattle.row_text.proofs.fields.write_text.Goals as goal
 
 pub returns : goal.returns
 returns c =
-    Adds-text _ _ _ _ c.utf8.written c.in_ok-write_count.ensures
-    (c.in_ok-extend_from_slice.ensures.items ∙ ap (λ bytes. c.write_count.new.out.items ++ bytes) c.as_bytes.ensures.value)
+    Adds-text _ _ _ _ c.utf8.written c.in_ok-write_number.ensures
+    (c.in_ok-extend_from_slice.ensures.items ∙ ap (λ bytes. c.write_number.new.out.items ++ bytes) c.as_bytes.ensures.value)

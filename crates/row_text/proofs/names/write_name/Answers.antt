@@ -1,4 +1,4 @@
-use Rattle.std.proofs.Common.{sym, ◌∙◌, ap}
+use Rattle.std.proofs.Common.{◌∙◌, ap}
 use Rattle.std.proofs.lemmas.Result.{on_ok_weaker}
 use Rattle.pkg_name.specs.Name.{split_name}
 use Rattle.row_text.proofs.NameTexts.{Adds-name}
@@ -7,5 +7,5 @@ use Rattle.row_text.proofs.names.write_name.Goals as goal
 pub returns : goal.returns
 returns c =
     on_ok_weaker c.write_text.result
-    (Adds-name _ _ _ _ (ap split_name (c.as_str-2.ensures.value ∙ sym c.as_str.ensures.value) ∙ c.in_ok-is_split_into.ensures c.if-not-branch.false))
+    (Adds-name _ _ _ _ (ap split_name c.as_str.ensures.value ∙ c.in_ok-text.ensures.split))
     c.write_text.ensures

@@ -4,4 +4,4 @@ use Rattle.row_text.proofs.Walks.{Adds-list}
 use Rattle.row_text.proofs.packages.write_packages.Goals as goal
 
 pub returns : goal.returns
-returns c = on_ok_weaker c.put_packages.result (λ put. Adds-list port_package _ _ _ _ _ c.in_ok-write_count.ensures put) c.put_packages.ensures
+returns c = on_ok_weaker c.put_packages.result (λ put. Adds-list port_package _ _ _ _ _ c.in_ok-write_number.ensures put) c.put_packages.ensures

@@ -7,8 +7,8 @@ use Rattle.table_facts.proofs.Ending.{if_ok_then}
 use Rattle.tenant_store.proofs.Paths.{text_trees}
 use Rattle.tenant_store.proofs.changing.path_text.Goals as goal
 
-pub returns : goal.returns
-returns c =
+pub returns-clause-text : goal.returns-clause-text
+returns-clause-text c =
     let trees = c.trees-trees.result.now in
     let first = c.as_str.ensures.value ∙ ap string_bytes c.index-trees-0.is in
     let whole : take (length trees - 1) (drop 1 trees) ≡ drop 1 trees = grind (arith, common_steps) in

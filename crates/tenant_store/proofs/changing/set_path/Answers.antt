@@ -25,7 +25,7 @@ returns-clause-path c =
     let next : Kept = record { files = account.files; bytes = account.bytes; path = c.in_ok-path_text.field-0; profile = account.profile } in
     ok_then c.write.result (λ made.
     let over_old = subst (λ (h : Holdings). Makes new (record { files = h.files; account = shown_account next })) (still_held old mid c.account_of.ensures.stays) made in
-    path_holds old new account next c.in_ok-account.ensures.account refl refl over_old c.args.path.now c.in_ok-path_text.ensures refl) c.write.ensures.ok
+    path_holds old new account next c.in_ok-account.ensures.account refl refl over_old c.args.path.now c.in_ok-path_text.ensures.text c.path_text.ensures.is_path refl) c.write.ensures.ok
 
 pub returns-clause-err : goal.returns-clause-err
 returns-clause-err c =

@@ -15,4 +15,4 @@ returns-clause-account c =
     let rows = c.in_ok-rows.rows.items in
     let shown = c.in_ok-rows.ensures.rows in
     let has = subst (Has rows) (sym c.index.ensures) (first_has rows c.index.result.now shown.there) in
-    if_ok_then c.account_from.result (λ a is. account_is (held_in (state over_memory c.args.conn.now)) a c.requires.counted (shown.each c.index.result.now (shown_account a) has is)) c.account_from.ensures
+    if_ok_then c.account_from.result (λ a is. account_is (held_in (state over_memory c.args.conn.now)) a c.requires.counted c.requires.path (shown.each c.index.result.now (shown_account a) has is)) c.account_from.ensures

@@ -1,0 +1,28 @@
+//! Real refusals, for cases of what must pass them on.
+use crate::answer::Trouble;
+use mk_paths::FilesFault;
+use refusals::OutOfMemory;
+use sqlite::{Connection, Error};
+use std::alloc::Global;
+use table_facts::Sqlite;
+
+/// A refusal of memory, by a growth that can't be had. It is `NoCase` if it can be had.
+pub fn no_memory(alloc: Global) -> Result<OutOfMemory, Trouble> {
+    match Vec::<u8>::with_capacity(alloc, usize::MAX) {
+        Ok(_had) => Err(Trouble::NoCase),
+        Err(error) => Ok(OutOfMemory::from(error)),
+    }
+}
+
+/// The fault of files whose database refuses a statement that can't run.
+pub fn no_statement(alloc: Global) -> FilesFault {
+    match run_no_statement(alloc) {
+        Ok(()) => FilesFault::of_statement::<Sqlite>(&Error::InvalidQuery),
+        Err(error) => FilesFault::of_statement::<Sqlite>(&error),
+    }
+}
+
+fn run_no_statement(alloc: Global) -> Result<(), Error> {
+    let mut conn = Connection::open_in_memory(alloc)?;
+    conn.execute_batch("no statement")
+}
