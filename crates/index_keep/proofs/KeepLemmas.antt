@@ -1,11 +1,11 @@
 -- What a change of a file, and what is known of changes, makes of rows; and what is left of a refresh.
-use Rattle.std.proofs.Common.{◌≡◌, ◌≤◌, ◌⊎◌, inl, inr, arith, ◌∙◌, sym, ap, subst, refl, ℕ, ◌+◌, Bool, true, false, ◌||◌, if◌then◌else◌, List, [], ◌∷◌, ◌++◌, Result, Ok, Err, OnOk, OnErr, Option, Some, None, is_some, is_none, option_map, option_and_then, String, Global, string_bytes}
+use Rattle.std.proofs.Common.{◌≡◌, ◌⊎◌, inl, inr, ◌∙◌, sym, ap, subst, refl, ℕ, ◌+◌, Bool, true, false, ◌||◌, if◌then◌else◌, List, [], ◌∷◌, Result, Ok, Err, OnOk, OnErr, Option, Some, None, is_some, is_none, option_map, option_and_then, String, Global, string_bytes}
 use Rattle.std.proofs.lemmas.Bool.{false≢true, or_right}
 use Rattle.std.proofs.lemmas.Slice.Eq.{bytes_eq-Decides}
 use Rattle.std.specs.BTreeSet.{BTreeSet, contains_text, keys}
-use Rattle.std.specs.List.{list_any, sum_by, filter, flat_map}
+use Rattle.std.specs.List.{list_any, sum_by, filter}
 use Rattle.text_parts.specs.Order.{in_order}
-use Rattle.text_parts.specs.Ordered.{among-in_order, in_order-sorted}
+use Rattle.text_parts.specs.Ordered.{among-in_order}
 use Rattle.std.specs.Cmp.Lexicographic.{slice_cmp}
 use Rattle.std.specs.Ordering.{nat_cmp, is_eq}
 use Rattle.std.specs.Str.{bytes_eq}
@@ -14,26 +14,22 @@ use Rattle.mk_paths.specs.FilesView.{Question, Reply, Presence, Contents, IsRepl
 use Rattle.mk_eval.specs.Sharing.{Agrees}
 use Rattle.ports_index.specs.Efforts.{lacking}
 use Rattle.ports_index.specs.declared.spending.Spent.{Spent}
-use Rattle.ports_index.specs.Filling.{is_one_of, Fills, IsListed}
-use Rattle.ports_index.specs.Index.{listed_paths, needed_paths, roots, edges}
+use Rattle.ports_index.specs.Filling.{is_one_of, Fills}
+use Rattle.ports_index.specs.Index.{needed_paths}
 use Rattle.ports_index.specs.PathLaws.{PathIsTheSameWhereAnswered}
 use Rattle.ports_index.specs.PathOutcomes.{PathOutcome, Finding, finding_at, outcome_at}
 use Rattle.ports_index.specs.PathQuestions.{questions_at}
-use Rattle.ports_index.specs.RowLaws.{HaveRows, KnownRowsAreEnough, OneRowMoreLeavesLess}
-use Rattle.ports_index.specs.Depending.{roots_among, edges_among}
-use Rattle.ports_index.specs.Naming.{directories, named_at}
-use Rattle.ports_index.specs.Seen.{known_in}
+use Rattle.ports_index.specs.RowLaws.{OneRowMoreLeavesLess}
 use Rattle.row_text.specs.Rows.{RowValue, row_of}
-use Rattle.index_store.specs.Entries.{StoredValue, Entries, SameRows}
+use Rattle.index_store.specs.Entries.{StoredValue, Entries}
 use Rattle.index_keep.specs.declared.keeper.Progress.{Progress}
-use Rattle.index_keep.specs.declared.keeper.Progress.TheVariants.{Changed, Walking, Asking, Current}
+use Rattle.index_keep.specs.declared.keeper.Progress.TheVariants.{Changed, Walking, Asking, Current, AtHand}
 use Rattle.index_keep.specs.Shown.{ShownRow, ShownRows, shown, show_row, show_stored, asked_one, no_name, fresh, fresh_outcome, stale_if_asked, ShowsSame}
 use Rattle.index_keep.specs.Right.{names_in, row_with, IsRightRow, AreKept, AreCurrent, HaveFresh, DifferAt, RenewsOneOf, fresh_row}
 use Rattle.ports_index.specs.Spending.{no_spending}
 use Rattle.index_keep.specs.Turns.{DropsTurn, refresh_at}
 use Rattle.index_keep.specs.Keeping.{changed_in, begun_in, IsKept, IsProgress, HasForgotten, IsDropped, Halts}
 use Rattle.index_keep.specs.declared.keeper.Keeper.{Keeper}
-use Rattle.index_keep.proofs.AnswerLemmas.{few-come}
 use Rattle.index_keep.proofs.ShownLemmas.{shown-test}
 
 -- ---- another world, which differs at one name
@@ -108,17 +104,6 @@ DifferAt-itself name world = record { settings = refl; files = λ file apart. re
 pub AreKept-same : (world : World) (old new : ShownRows) → ShowsSame old new → AreKept world old → AreKept world new
 AreKept-same world old new same kept = record { right = λ path row is fresh. kept.right path row (sym (same path) ∙ is) fresh }
 
--- the same of a keeper, of whose rows the same is stored
-pub IsKept-same : {R : Type 0} (entries : R → Entries) (world : World) (rows other : R) (progress : Progress) → SameRows (entries rows) (entries other)
-    → (let before : Keeper R = record { rows = rows; progress = progress } in IsKept entries world before)
-    → (let after : Keeper R = record { rows = other; progress = progress } in IsKept entries world after)
-IsKept-same entries world rows other progress same kept =
-    let whole : entries other ≡ entries rows = λ i. λ path. same path i in
-    record {
-      rows = subst (λ (stored : Entries). AreKept world (shown (changed_in progress) stored)) (sym whole) kept.rows;
-      progress = subst (λ (stored : Entries). IsProgress world (shown (changed_in progress) stored) progress) (sym whole) kept.progress;
-    }
-
 -- ---- names that are known to have changed
 
 pub none_among : (names : BTreeSet (String Global)) → keys names ≡ [] → (name : List ℕ) → contains_text names name ≡ false
@@ -129,12 +114,14 @@ forgotten (Changed names) none name = none_among names none name
 forgotten (Walking walk) none name = absurd none
 forgotten (Asking walk ask) none name = absurd none
 forgotten (Current listed) none name = absurd none
+forgotten (AtHand index) none name = absurd none
 
 begun-forgotten : (progress : Progress) → HasForgotten progress → begun_in progress ≡ no_spending
 begun-forgotten (Changed names) none = refl
 begun-forgotten (Walking walk) none = absurd none
 begun-forgotten (Asking walk ask) none = absurd none
 begun-forgotten (Current listed) none = absurd none
+begun-forgotten (AtHand index) none = absurd none
 
 -- ---- a refresh that is stopped
 
@@ -143,25 +130,21 @@ shown-halted entries (Changed names) new is path = ap (λ (p : Progress). shown 
 shown-halted entries (Walking walk) new none path = shown-test (changed_in new) no_name entries (forgotten new none) path
 shown-halted entries (Asking walk ask) new none path = shown-test (changed_in new) no_name entries (forgotten new none) path
 shown-halted entries (Current listed) new is path = ap (λ (p : Progress). shown (changed_in p) entries path) is
-
--- little is spent on a path whose evaluation isn't at its end
-pub begun-few : (world : World) (rows : ShownRows) (progress : Progress) → IsProgress world rows progress → ((begun_in progress).units ≤ 50000) × ((begun_in progress).checks ≤ 1028)
-begun-few world rows (Changed names) is = (omega arith, omega arith)
-begun-few world rows (Walking walk) is = (omega arith, omega arith)
-begun-few world rows (Asking walk ask) is = few-come _ _ ask.ask is.2.come
-begun-few world rows (Current listed) is = (omega arith, omega arith)
+shown-halted entries (AtHand index) new is path = ap (λ (p : Progress). shown (changed_in p) entries path) is
 
 pub IsProgress-forgotten : (world : World) (rows : ShownRows) (progress : Progress) → HasForgotten progress → IsProgress world rows progress
 IsProgress-forgotten world rows (Changed names) none = tt
 IsProgress-forgotten world rows (Walking walk) none = absurd none
 IsProgress-forgotten world rows (Asking walk ask) none = absurd none
 IsProgress-forgotten world rows (Current listed) none = absurd none
+IsProgress-forgotten world rows (AtHand index) none = absurd none
 
 either-halted : (old new : Progress) → Halts old new → HasForgotten new ⊎ (new ≡ old)
 either-halted (Changed names) new is = inr is
 either-halted (Walking walk) new none = inl none
 either-halted (Asking walk ask) new none = inl none
 either-halted (Current listed) new is = inr is
+either-halted (AtHand index) new is = inr is
 
 pub IsKept-halted : {R : Type 0} (entries : R → Entries) (world : World) (rows : R) (old new : Progress) → Halts old new
     → (let before : Keeper R = record { rows = rows; progress = old } in IsKept entries world before)
@@ -179,6 +162,7 @@ IsProgress-dropped world rows (Changed names) dropped = tt
 IsProgress-dropped world rows (Walking walk) dropped = absurd dropped
 IsProgress-dropped world rows (Asking walk ask) dropped = absurd dropped
 IsProgress-dropped world rows (Current listed) dropped = absurd dropped
+IsProgress-dropped world rows (AtHand index) dropped = absurd dropped
 
 module _ (name : List ℕ) (one more : List ℕ → Bool) (is : (other : List ℕ) → more other ≡ (bytes_eq name other || one other)) where
   either : (a b c d : Bool) → ((a || b) || (c || d)) ≡ ((b || c) || (a || d))
@@ -286,18 +270,3 @@ module _ (old new : Entries) (before after nothing : Progress) (none : HasForgot
 
   pub IsProgress-taken : (world : World) (rows : ShownRows) → IsProgress world rows after
   IsProgress-taken world rows = subst (λ (p : Progress). IsProgress world rows p) (sym is) (IsProgress-forgotten world rows nothing none)
-
--- ---- rows that are right say what the index is
-
-module _ (enough : KnownRowsAreEnough) (world : World) (known : List ℕ → Option PathOutcome) (have : HaveRows world known (needed_paths world))
-    (paths : List (List ℕ)) (are : paths ≡ listed_paths world) where
-  pub roots-known : roots_among (known_in known) paths ≡ roots world
-  roots-known = ap (roots_among (known_in known)) are ∙ enough.roots world known have
-
-  pub edges-known : edges_among (known_in known) paths ≡ edges world
-  edges-known = ap (edges_among (known_in known)) are ∙ enough.edges world known have
-
--- the listed paths are listed in order
-pub IsListed-paths : (world : World) (paths : List (List ℕ)) → paths ≡ listed_paths world → IsListed paths
-IsListed-paths world paths are =
-    subst IsListed (sym are) (in_order-sorted (flat_map (named_at (outcome_at world)) (directories (files_in world)) ++ directories (files_in world)))

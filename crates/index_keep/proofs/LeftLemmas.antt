@@ -1,31 +1,42 @@
 -- What a path that is left costs, and what is left.
-use Rattle.std.proofs.Common.{◌≡◌, ◌≤◌, ◌⊎◌, ◌∙◌, inl, inr, sym, ap, subst, refl, arith, ℕ, zero, suc, ◌+◌, ◌-◌, ◌*◌, Bool, true, false, ◌||◌, if◌then◌else◌, List, [], ◌∷◌, is_none}
+use Rattle.std.proofs.Common.{◌≡◌, ◌≤◌, ◌⊎◌, ◌∙◌, inl, inr, sym, ap, subst, refl, arith, ℕ, zero, suc, ◌+◌, ◌-◌, ◌*◌, Bool, true, false, ◌||◌, if◌then◌else◌, List, [], ◌∷◌, length, Option, Some, None, is_none, option_to_list}
 use Rattle.std.proofs.lemmas.Bool.{false≢true}
 use Rattle.std.proofs.lemmas.List.Sums.{sum_by-cons}
 use Rattle.std.proofs.lemmas.Slice.Eq.{bytes_eq-Decides}
-use Rattle.std.specs.List.{filter, sum_by}
+use Rattle.std.specs.List.{filter, filter_map, sum_by}
 use Rattle.std.specs.Str.{bytes_eq}
 use Rattle.text_parts.specs.Order.{in_order}
 use Rattle.text_parts.specs.Ordered.{among-in_order}
 use Rattle.mk_paths.specs.World.{World}
-use Rattle.ports_index.specs.Efforts.{evaluations_at, is_there}
+use Rattle.ports_index.specs.Efforts.{evaluations_at, evaluations_over, is_there}
 use Rattle.ports_index.specs.Filling.{is_one_of}
 use Rattle.ports_index.specs.Index.{needed_paths}
+use Rattle.ports_index.specs.Pairs.{Pair, pair_at}
 use Rattle.ports_index.specs.PathLaws.{MakefilesAreEvaluated}
 use Rattle.ports_index.specs.PathOutcomes.{cost_at, outcome_at}
 use Rattle.ports_index.specs.RowLaws.{OneRowMoreLeavesLess}
-use Rattle.ports_index.specs.Spending.{ChecksFew}
+use Rattle.ports_index.specs.Spending.{ChecksFew, evaluations_of}
 use Rattle.ports_index.specs.declared.spending.Spent.{Spent}
-use Rattle.index_keep.specs.Asking.{IsUpBy, spent_in}
+use Rattle.eval_ask.specs.Asking.{IsUpBy, spent_in}
 use Rattle.index_keep.specs.Paths.{IsPathAsk}
 use Rattle.index_keep.specs.Shown.{ShownRows, fresh}
 use Rattle.index_keep.specs.Turns.{GoesOn, RefreshingPays, evaluations_left, paths_left, refresh_at, spent_in_all}
 use Rattle.index_keep.specs.Walking.{IsLacking}
 use Rattle.index_keep.specs.declared.evaluating.PathAsk.{PathAsk}
-use Rattle.index_keep.proofs.AnswerLemmas.{few-come}
+use Rattle.eval_ask.proofs.AnswerLemmas.{few-come}
 use Rattle.index_keep.proofs.KeepLemmas.{HaveFresh-current, lacking-none, left_less}
 use Rattle.index_keep.proofs.MadeLemmas.{none-at, one-evaluation}
-use Rattle.index_keep.proofs.SpendLemmas.{evaluations-path}
+
+evaluations_one : (pair : Option Pair) → length (filter_map (λ (p : Option Pair). p) (pair ∷ [])) ≡ length (option_to_list pair)
+evaluations_one None = refl
+evaluations_one (Some pair) = refl
+
+-- one path takes one evaluation, if it has a makefile
+evaluations-path : MakefilesAreEvaluated → (world : World) (path : List ℕ) → evaluations_at world path ≡ evaluations_of (pair_at world path)
+evaluations-path law world path =
+    let one : evaluations_over world (path ∷ []) ≡ length (filter_map (pair_at world) (path ∷ [])) = law world (path ∷ []) in
+    let sum : evaluations_over world (path ∷ []) ≡ evaluations_at world path = omega arith in
+    sym sum ∙ one ∙ evaluations_one (pair_at world path)
 
 -- what is counted for one path of a list that passes a test is no more than for all that pass it
 module _ (weight : List ℕ → ℕ) (test : List ℕ → Bool) (path : List ℕ) (passes : test path ≡ true) where

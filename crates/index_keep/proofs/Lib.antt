@@ -4,11 +4,6 @@ pub mod ListLemmas
 pub mod WalkLemmas
 pub mod RowLemmas
 pub mod KeepLemmas
-pub mod Codes
 pub mod Props
 pub mod MadeLemmas
-pub mod AskLemmas
-pub mod SpendLemmas
-pub mod AnswerLemmas
 pub mod LeftLemmas
-pub mod ProfileLemmas

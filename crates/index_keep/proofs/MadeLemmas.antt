@@ -1,5 +1,5 @@
 -- The row of a path, made of what was found and asked.
-use Rattle.std.proofs.Common.{Result, Ok, Err, codes, append-nil, ◌≡◌, ◌≤◌, ◌⊎◌, ◌∙◌, sym, ap, ap₂, subst, refl, inl, inr, arith, ℕ, zero, suc, ◌+◌, ◌-◌, Bool, true, false, if◌then◌else◌, List, [], ◌∷◌, ◌++◌, Option, Some, None, option_map, option_and_then, string_bytes}
+use Rattle.std.proofs.Common.{Result, Ok, Err, codes, append-nil, ◌≡◌, ◌≤◌, ◌∙◌, sym, ap, ap₂, subst, refl, inl, arith, ℕ, zero, suc, ◌+◌, ◌-◌, Bool, true, false, if◌then◌else◌, List, [], ◌∷◌, ◌++◌, Option, Some, None, option_map, option_and_then, string_bytes}
 use Rattle.std.proofs.lemmas.Slice.Eq.{bytes_eq-Decides}
 use Rattle.std.specs.Str.{bytes_eq}
 use Rattle.mk_paths.specs.World.{World, FileMap, files_in, search_path_of}
@@ -30,24 +30,21 @@ use Rattle.ports_index.specs.Spending.{SpendsOnOne, SpendsOn, SpendsOnPath, no_s
 use Rattle.ports_index.specs.declared.spending.Spent.{Spent}
 use Rattle.row_text.specs.Rows.{RowValue}
 use Rattle.row_text.specs.Seen.{row_seen}
-use Rattle.index_keep.specs.Asking.{HasComeTo, IsAnswerTo, IsShortTurn, IsUpBy, IsUpFrom, spent_in, spent_on, total_of}
+use Rattle.eval_ask.specs.Asking.{HasComeTo, IsAnswerTo, IsShortTurn, IsUpBy, IsUpFrom, spent_in, spent_on, total_of}
 use Rattle.index_keep.specs.Paths.{directory_of, flavors_of, absent_row, row_made, IsNamed, IsFoundAt, IsPathAsk, IsMade}
 use Rattle.index_keep.specs.Right.{names_in, row_with, IsRightRow}
-use Rattle.index_keep.specs.declared.asking.Asked.{Asked}
-use Rattle.index_keep.specs.declared.asking.AskTurned.TheVariants as asks
+use Rattle.eval_ask.specs.declared.asking.Asked.{Asked}
+use Rattle.eval_ask.specs.declared.asking.AskTurned.TheVariants as asks
 use Rattle.index_keep.specs.declared.evaluating.FoundPath.{FoundPath}
 use Rattle.index_keep.specs.declared.evaluating.MadeRow.{MadeRow}
 use Rattle.index_keep.specs.declared.evaluating.PathAsk.{PathAsk}
 use Rattle.index_keep.specs.declared.evaluating.NamedDirectory.{NamedDirectory}
 use Rattle.index_keep.specs.declared.evaluating.NamedDirectory.TheVariants.{Own, OfPath}
-use Rattle.index_keep.proofs.AnswerLemmas.{cost-within, within-answer}
+use Rattle.eval_ask.proofs.AnswerLemmas.{SpendsOnOne-answer, cost-within, within-answer}
 
 pub Agrees-joined : (files : FileMap) (first rest : List Question) → Agrees files first → Agrees files rest → Agrees files (first ++ rest)
 Agrees-joined files [] rest agrees more = more
 Agrees-joined files (question ∷ first) rest agrees more = (agrees.0, Agrees-joined files first rest agrees.1 more)
-
-pub some_same : {A : Type 0} {x y : A} → ◌≡◌ {A = Option A} (Some x) (Some y) → x ≡ y
-some_same e = cc
 
 -- ---- the place of a directory was asked for, after nothing was
 
@@ -55,22 +52,6 @@ module _ (first : FilesView) (settings : Settings) (directory : List ℕ) (befor
     (asks : AsksPlaces before found settings.path directory) where
   asked_first : found ≡ noted (with_trace first []) (places_asked first.files settings.path directory)
   asked_first = subst (λ (view : FilesView). found ≡ noted view (places_asked view.files settings.path directory)) nothing asks
-
--- what is spent on an evaluation and on what is made of it
-spent_by : (cost evaluation units checks : ℕ) → (1 ≤ units → units ≡ evaluation) → (checks ≡ 0 → units ≡ evaluation)
-    → (cost - (evaluation - units) ≡ cost) ⊎ ((1 ≤ checks) × (cost - (evaluation - units) ≡ cost - evaluation))
-spent_by cost evaluation units zero whole unchecked = inl (omega (arith, unchecked refl))
-spent_by cost evaluation zero (suc checks) whole unchecked = inr (omega arith, omega arith)
-spent_by cost evaluation (suc units) (suc checks) whole unchecked = inl (omega (arith, whole (omega arith)))
-
-pub SpendsOnOne-answer : (files : FileMap) (key : Key) (asked : Asked) (cost : ℕ) → IsAnswerTo files key asked
-    → SpendsOnOne cost (cost_of (evaluation_of files key).outcome) 1 (spent_on asked cost)
-SpendsOnOne-answer files key asked cost is = record {
-  few = omega (arith, is.few);
-  paid = subst (λ (n : ℕ). (cost - (n - asked.units) ≡ cost) ⊎ ((1 ≤ asked.checks) × (cost - (n - asked.units) ≡ cost - cost_of (evaluation_of files key).outcome)))
-      (sym (ap (λ (e : Evaluation). cost_of e.outcome) is.evaluation))
-      (spent_by cost (cost_of (evaluation_of files key).outcome) asked.units asked.checks is.whole is.unchecked);
-}
 
 -- ---- the directory that a path names
 

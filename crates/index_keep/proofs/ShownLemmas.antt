@@ -82,3 +82,12 @@ shown-same test old new same path = ap (option_and_then (show_stored test)) (sam
 -- a test that passes the same names shows the same
 pub shown-test : (one other : List ℕ → Bool) (entries : Entries) → ((name : List ℕ) → one name ≡ other name) → ShowsSame (shown other entries) (shown one entries)
 shown-test one other entries same path = ap (λ (test : List ℕ → Bool). shown test entries path) (λ i name. same name i)
+
+-- rows that are left of others are shown as before
+pub shown-left : (test : List ℕ → Bool) (needed : List (List ℕ)) (old new : Entries) → ((path : List ℕ) → new path ≡ (if is_one_of path needed then old path else None))
+    → (path : List ℕ) → shown test new path ≡ (if is_one_of path needed then shown test old path else None)
+shown-left test needed old new left path = ap (option_and_then (show_stored test)) (left path) ∙ by (is_one_of path needed)
+  where
+    by : (is : Bool) → option_and_then (show_stored test) (if is then old path else None) ≡ (if is then shown test old path else None)
+    by true = refl
+    by false = refl

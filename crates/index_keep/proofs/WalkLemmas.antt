@@ -1,17 +1,14 @@
 -- A refresh that goes through paths.
-use Rattle.std.proofs.Common.{string_bytes, ◌≡◌, ◌∙◌, sym, ap, subst, refl, ℕ, zero, suc, Bool, true, false, ◌||◌, ◌⊎◌, inl, inr, if◌then◌else◌, List, [], ◌∷◌, ◌++◌, take, Option, Some, None, is_some, option_and_then, slice_get}
+use Rattle.std.proofs.Common.{string_bytes, ◌≡◌, ◌∙◌, sym, ap, subst, refl, ℕ, zero, suc, Bool, true, false, ◌||◌, if◌then◌else◌, List, [], ◌∷◌, ◌++◌, take, Option, Some, None, is_some, option_and_then, slice_get}
 use Rattle.std.proofs.lemmas.Bool.{false≢true, or_right}
 use Rattle.std.proofs.lemmas.Slice.Eq.{bytes_eq-Decides}
 use Rattle.std.specs.List.{filter_map, flat_map}
 use Rattle.std.specs.Str.{bytes_eq}
 use Rattle.text_parts.specs.Ordered.{among-in_order}
 use Rattle.mk_paths.specs.World.{World, files_in}
-use Rattle.mk_paths.specs.FilesView.{FilesView, failed}
-use Rattle.mk_paths.specs.declared.asking.FilesFault.{FilesFault}
 use Rattle.ports_index.specs.Depending.{items_among, target_of}
 use Rattle.ports_index.specs.Filling.{is_one_of}
 use Rattle.ports_index.specs.Index.{listed_paths, needed_among, needed_paths}
-use Rattle.ports_index.specs.Keeping.{Keeps}
 use Rattle.ports_index.specs.Naming.{directories, listed_from, named_at}
 use Rattle.ports_index.specs.PathOutcomes.{outcome_at}
 use Rattle.ports_index.specs.Spending.{SpendsOnPath}
@@ -22,7 +19,7 @@ use Rattle.ports_index.specs.Seen.{entries_in, known_in}
 use Rattle.index_keep.specs.declared.walking.Stage.{Stage}
 use Rattle.index_keep.specs.declared.walking.LastStage.{LastStage}
 use Rattle.index_keep.specs.Shown.{ShownRow, ShownRows, fresh, fresh_outcome}
-use Rattle.index_keep.specs.Right.{IsRightRow, AreKept, right_row, fresh_row, LeavesFiles, RenewsRow}
+use Rattle.index_keep.specs.Right.{IsRightRow, AreKept, AreCurrent, right_row, fresh_row, RenewsRow}
 use Rattle.index_keep.specs.Keeping.{IsReadyFor}
 use Rattle.index_keep.specs.Paths.{IsMade}
 use Rattle.index_keep.specs.Walking.{IsStage, IsLacking, HasRowMore, paths_of, LacksNone, IsLackingAt, ListsPaths, NeedsPaths}
@@ -81,6 +78,16 @@ module _ (world : World) (rows : ShownRows) (kept : AreKept world rows) where
     current_at path true is = row-fresh path (needed path is)
     current_at path false is = refl
 
+    pub AreCurrent-left : AreCurrent world new
+    AreCurrent-left = record { each = λ path. left path ∙ current_at path (is_one_of path (needed_paths world)) refl }
+
+    right_left : (path : List ℕ) (row : ShownRow) (is : Bool) → (if is then rows path else None) ≡ Some row → row.stale ≡ false → IsRightRow world path row.row
+    right_left path row true there stale = kept.right path row there stale
+    right_left path row false there stale = absurd cc
+
+    pub AreKept-left : AreKept world new
+    AreKept-left = record { right = λ path row there stale. right_left path row (is_one_of path (needed_paths world)) (sym (left path) ∙ there) stale }
+
   -- a path has its row now
   module _ (path : List ℕ) (right : IsRightRow world path (right_row world path)) (new : ShownRows)
       (put : (other : List ℕ) → new other ≡ (if bytes_eq path other then Some (fresh_row world path) else rows other)) where
@@ -129,18 +136,6 @@ module _ (world : World) (rows : ShownRows) (kept : AreKept world rows) where
       knows = λ path. needs.known path ∙ knows path;
       passed = nothing_passed (needed_paths world) last.stage.place needs.place;
     }
-
--- ---- what is left of files
-
-counts_on : (fault : FilesFault) (first middle last : FilesView) → middle.failures ≡ first.failures
-    → (last.failures ≡ middle.failures) ⊎ (last.failures ≡ (failed middle).failures) → (last.failures ≡ first.failures) ⊎ (last.failures ≡ (failed first).failures)
-counts_on fault first middle last same more =
-    elim more [ inl e ↦ inl (e ∙ same) | inr e ↦ inr (e ∙ ap (λ n. (failed (record first { failures = n })).failures) same) ]
-
--- work that went well, and then more
-pub LeavesFiles-on : (fault : Option FilesFault) (first middle last : FilesView) → Keeps None first middle → LeavesFiles fault middle last → LeavesFiles fault first last
-LeavesFiles-on None first middle last one more = record { files = more.files ∙ one.files; failures = more.failures ∙ one.failures }
-LeavesFiles-on (Some fault) first middle last one more = (more.0 ∙ one.files, counts_on fault first middle last one.failures more.1)
 
 -- ---- the next path of a stage
 

@@ -3,12 +3,13 @@ use Rattle.std.specs.Prelude.{◌≡◌, ◌⊎◌, ℕ, Bool, List, [], map, st
 use Rattle.std.specs.BTreeSet.{contains_text, keys}
 use Rattle.mk_paths.specs.World.{World}
 use Rattle.ports_index.specs.Index.{listed_paths}
+use Rattle.ports_index.specs.Known.{IsIndexOf}
 use Rattle.index_store.specs.Entries.{Entries}
 use Rattle.index_keep.specs.declared.keeper.Progress.{Progress}
-use Rattle.index_keep.specs.declared.keeper.Progress.TheVariants.{Changed, Walking, Asking, Current}
+use Rattle.index_keep.specs.declared.keeper.Progress.TheVariants.{Changed, Walking, Asking, Current, AtHand}
 use Rattle.index_keep.specs.declared.keeper.Keeper.{Keeper}
-use Rattle.index_keep.specs.declared.keeper.Turned.{Turned}
-use Rattle.index_keep.specs.declared.keeper.Turned.TheVariants as turned
+use Rattle.index_keep.specs.declared.keeper.Refreshed.{Refreshed}
+use Rattle.index_keep.specs.declared.keeper.Refreshed.TheVariants.{Done}
 use Rattle.index_keep.specs.Shown.{ShownRows, shown, no_name}
 use Rattle.ports_index.specs.Spending.{no_spending}
 use Rattle.ports_index.specs.declared.spending.Spent.{Spent}
@@ -16,23 +17,24 @@ use Rattle.index_keep.specs.declared.evaluating.PathAsk.{PathAsk}
 use Rattle.index_keep.specs.declared.walking.LastStage.{LastStage}
 use Rattle.index_keep.specs.declared.walking.Walk.{Walk}
 use Rattle.index_keep.specs.declared.walking.Walk.TheVariants.{Needed}
-use Rattle.index_keep.specs.Asking.{spent_in}
+use Rattle.eval_ask.specs.Asking.{spent_in}
 use Rattle.index_keep.specs.Paths.{IsPathAsk}
 use Rattle.index_keep.specs.Right.{AreKept, AreCurrent, HaveFresh}
-use Rattle.index_keep.specs.Turns.{RefreshView, refresh_at}
+use Rattle.index_keep.specs.Turns.{RefreshView, TakesTurn, refresh_at}
 use Rattle.index_keep.specs.Walking.{IsWalk, IsLacking}
 
 -- the path that is evaluated
 abbrev pub path_in : PathAsk → List ℕ
 path_in ask = string_bytes ask.found.path
 
--- a refresh goes on where it stopped, or the rows are current and the listed paths are known
+-- a refresh goes on where it stopped; or the rows are current, and the listed paths are known, or the whole index
 abbrev pub IsProgress : World → ShownRows → Progress → Type 0
 IsProgress world rows (Changed names) = Unit {0}
 IsProgress world rows (Walking walk) = IsWalk world rows walk
 IsProgress world rows (Asking walk ask) =
     IsWalk world rows walk × IsLacking world rows (path_in ask) × IsPathAsk world (path_in ask) ask
 IsProgress world rows (Current listed) = AreCurrent world rows × (map string_bytes listed.items ≡ listed_paths world)
+IsProgress world rows (AtHand index) = AreCurrent world rows × IsIndexOf world index
 
 -- the names that have changed since a refresh began last
 abbrev pub changed_in : Progress → List ℕ → Bool
@@ -40,6 +42,7 @@ changed_in (Changed names) = contains_text names
 changed_in (Walking walk) = no_name
 changed_in (Asking walk ask) = no_name
 changed_in (Current listed) = no_name
+changed_in (AtHand index) = no_name
 
 -- the rows of a keeper, as they are shown, by what is stored
 abbrev pub rows_of : {R : Type 0} → (R → Entries) → Keeper R → ShownRows
@@ -51,6 +54,7 @@ begun_in (Changed names) = no_spending
 begun_in (Walking walk) = no_spending
 begun_in (Asking walk ask) = spent_in ask.ask
 begun_in (Current listed) = no_spending
+begun_in (AtHand index) = no_spending
 
 -- how far the refresh of a keeper is
 abbrev pub refresh_of : {R : Type 0} → (R → Entries) → Keeper R → RefreshView
@@ -78,21 +82,23 @@ pub record IsKept {R : Type 0} (entries : R → Entries) (world : World) (keeper
   pub rows : AreKept world (rows_of entries keeper)
   pub progress : IsProgress world (rows_of entries keeper) keeper.progress
 
--- the index is refreshed, and nothing has changed since
+-- the index is refreshed and at hand, and nothing has changed since
 abbrev pub IsEnded : Progress → Type 0
 IsEnded (Changed names) = ⊥
 IsEnded (Walking walk) = ⊥
 IsEnded (Asking walk ask) = ⊥
-IsEnded (Current listed) = Unit {0}
+IsEnded (Current listed) = ⊥
+IsEnded (AtHand index) = Unit {0}
 
 abbrev pub IsDone : {R : Type 0} → Keeper R → Type 0
 IsDone keeper = IsEnded keeper.progress
 
--- a turn that ended the refresh leaves it done
-abbrev pub IsDoneAfter : {R : Type 0} → Keeper R → Turned → Type 0
-IsDoneAfter keeper (turned.Evaluated spent) = Unit {0}
-IsDoneAfter keeper (turned.More spent) = Unit {0}
-IsDoneAfter keeper (turned.Done known) = IsDone keeper
+-- What a turn does that is given some units: how far the refresh was before, and the keeper after it. If the turn ends
+-- the refresh, the index is at hand.
+pub record TurnsKeeper {R : Type 0} (entries : R → Entries) (world : World) (units : ℕ)
+    (old : RefreshView) (new : Keeper R) (turned : Refreshed) : Type 0 where
+  pub turn : TakesTurn world units old (refresh_of entries new) turned
+  pub done : turned ≡ Done → IsDone new
 
 -- no refresh is under way or done
 abbrev pub IsDropped : Progress → Type 0
@@ -100,6 +106,7 @@ IsDropped (Changed names) = Unit {0}
 IsDropped (Walking walk) = ⊥
 IsDropped (Asking walk ask) = ⊥
 IsDropped (Current listed) = ⊥
+IsDropped (AtHand index) = ⊥
 
 -- no name is known to have changed since, and no refresh is under way or done
 abbrev pub HasForgotten : Progress → Type 0
@@ -107,13 +114,15 @@ HasForgotten (Changed names) = keys names ≡ []
 HasForgotten (Walking walk) = ⊥
 HasForgotten (Asking walk ask) = ⊥
 HasForgotten (Current listed) = ⊥
+HasForgotten (AtHand index) = ⊥
 
--- a refresh that is under way is dropped; names that have changed, and rows that are current, stay
+-- a refresh that is under way is dropped; names that have changed, and an index that is current, stay
 abbrev pub Halts : Progress → Progress → Type 0
 Halts (Changed names) new = new ≡ Changed names
 Halts (Walking walk) new = HasForgotten new
 Halts (Asking walk ask) new = HasForgotten new
 Halts (Current listed) new = new ≡ Current listed
+Halts (AtHand index) new = new ≡ AtHand index
 
 -- a refresh goes on as before, or not at all
 abbrev pub Stops : Progress → Progress → Type 0

@@ -1,7 +1,6 @@
 pub mod Shown
 pub mod Right
 pub mod Judging
-pub mod Asking
 pub mod Paths
 pub mod Walking
 pub mod Turns

@@ -13,9 +13,9 @@ use Rattle.ports_index.specs.Spending.{SpendsOnPath}
 use Rattle.ports_index.specs.declared.spending.Spent.{Spent}
 use Rattle.row_text.specs.Rows.{RowValue, make_row}
 use Rattle.row_text.specs.Seen.{row_seen}
-use Rattle.index_keep.specs.Asking.{HasComeTo, IsUpBy, IsUpFrom, spent_in, total_of}
+use Rattle.eval_ask.specs.Asking.{HasComeTo, IsUpBy, IsUpFrom, spent_in, total_of}
 use Rattle.index_keep.specs.Right.{IsRightRow, row_with}
-use Rattle.index_keep.specs.declared.asking.Asked.{Asked}
+use Rattle.eval_ask.specs.declared.asking.Asked.{Asked}
 use Rattle.index_keep.specs.declared.evaluating.FoundPath.{FoundPath}
 use Rattle.index_keep.specs.declared.evaluating.MadeRow.{MadeRow}
 use Rattle.index_keep.specs.declared.evaluating.NamedDirectory.{NamedDirectory}
@@ -72,13 +72,6 @@ pub record IsPathAsk (world : World) (path : List ℕ) (ask : PathAsk) : Type 0 
   pub found : IsFoundAt world ask.found
   pub come : HasComeTo (files_in world) (key_for world.1 ask.found.makefile (flavors_of ask.found.named)) ask.ask
 
--- What a turn makes of the row of a path, on which so much was spent before: the row is made; or it isn't yet, and the
--- units are spent that the turn was given.
-abbrev pub TurnsPath : World → List ℕ → ℕ → Spent → PathTurned → Type 0
-TurnsPath world path units before (Made made) = IsMade world path made × IsUpFrom before made.spent
-TurnsPath world path units before (More ask) =
-    IsPathAsk world path ask × IsUpBy units before (spent_in ask.ask)
-
 -- what was spent on the row of a path so far
 abbrev pub spent_on_row : PathTurned → Spent
 spent_on_row (Made made) = made.spent
@@ -91,3 +84,13 @@ IsUpTo before turned = IsUpFrom before (spent_on_row turned)
 -- a turn for the row of a path spends at most 50,000 more than it was given: before the last thing it had spent fewer
 abbrev pub IsShortOnRow : ℕ → Spent → PathTurned → Type 0
 IsShortOnRow units before turned = total_of (spent_on_row turned) ≤ total_of before + (units + 50000)
+
+-- the row is made; or it isn't yet, and the units are spent that the turn was given
+abbrev pub HasTurned : World → List ℕ → ℕ → Spent → PathTurned → Type 0
+HasTurned world path units before (Made made) = IsMade world path made
+HasTurned world path units before (More ask) = IsPathAsk world path ask × IsUpBy units before (spent_in ask.ask)
+
+-- What a turn makes of the row of a path, on which so much was spent before.
+pub record TurnsPath (world : World) (path : List ℕ) (units : ℕ) (before : Spent) (turned : PathTurned) : Type 0 where
+  pub come : HasTurned world path units before turned
+  pub short : IsShortOnRow units before turned

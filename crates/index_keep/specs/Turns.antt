@@ -1,21 +1,17 @@
 -- What one turn of a refresh does.
-use Rattle.std.specs.Prelude.{◌≡◌, ◌≤◌, ℕ, ◌+◌, ◌*◌, List, [], Option, Some, None}
+use Rattle.std.specs.Prelude.{◌≡◌, ◌≤◌, ℕ, ◌+◌, ◌*◌, List, []}
 use Rattle.std.specs.List.{sum_by}
 use Rattle.mk_paths.specs.World.{World}
 use Rattle.ports_index.specs.Efforts.{cost_over, evaluations_over, lacking}
 use Rattle.ports_index.specs.Index.{needed_paths}
-use Rattle.ports_index.specs.PathOutcomes.{counted}
-use Rattle.ports_index.specs.Spending.{ChecksFew, no_spending, spent_together}
+use Rattle.ports_index.specs.Spending.{ChecksFew, no_spending}
 use Rattle.ports_index.specs.declared.spending.Spent.{Spent}
-use Rattle.ports_index.specs.declared.keeping.MemoryRows.{MemoryRows}
 use Rattle.index_keep.specs.declared.keeper.Refreshed.{Refreshed}
 use Rattle.index_keep.specs.declared.keeper.Refreshed.TheVariants.{Evaluated, More, Done}
-use Rattle.index_keep.specs.declared.keeper.Turned.{Turned}
-use Rattle.index_keep.specs.declared.keeper.Turned.TheVariants as turned
-use Rattle.index_keep.specs.Asking.{total_of}
+pub use Rattle.eval_ask.specs.Asking.{spent_in_all}
+use Rattle.eval_ask.specs.Asking.{total_of}
 use Rattle.index_keep.specs.Shown.{ShownRows, ShowsSame, fresh}
 use Rattle.index_keep.specs.Right.{HaveFresh, AreCurrent, RenewsRow}
-pub use Rattle.index_keep.specs.Walking.{KnowsNeeded}
 
 -- How far a refresh is: the rows as they are shown, and what was spent so far on a path that is evaluated.
 pub record RefreshView : Type 0 where
@@ -24,10 +20,6 @@ pub record RefreshView : Type 0 where
 
 abbrev pub refresh_at : ShownRows → Spent → RefreshView
 refresh_at rows begun = record { rows = rows; begun = begun }
-
--- so much was spent before, and this in a turn
-abbrev pub spent_in_all : Spent → Spent → Spent
-spent_in_all before more = record { units = before.units + more.units; checks = before.checks + more.checks }
 
 -- A path was evaluated: one row was renewed, on which this was spent with what was spent before.
 abbrev pub RenewsOne : World → RefreshView → RefreshView → Spent → Type 0
@@ -45,10 +37,6 @@ count_left world rows = sum_by (λ path. 1) (paths_left world rows)
 -- what these cost
 abbrev pub cost_left : World → ShownRows → ℕ
 cost_left world rows = cost_over world (paths_left world rows)
-
--- the units of this, as they are counted
-abbrev pub units_left : World → ShownRows → ℕ
-units_left world rows = counted (cost_left world rows)
 
 -- how many makefiles are evaluated for these
 abbrev pub evaluations_left : World → ShownRows → ℕ
@@ -74,51 +62,21 @@ pub record EndsRefresh (world : World) (old new : RefreshView) : Type 0 where
   pub current : AreCurrent world new.rows
   pub nothing_left : new.begun ≡ no_spending
 
--- what a turn does that is given some units
-abbrev pub TakesTurn : World → ℕ → RefreshView → RefreshView → Refreshed → Type 0
-TakesTurn world units old new (Evaluated spent) = RenewsOne world old new spent
-TakesTurn world units old new (More spent) = GoesOn world units old new spent
-TakesTurn world units old new Done = EndsRefresh world old new
-
 -- A turn that is given some units spends at most 50,000 more: before the last thing that it did, it had spent fewer than
 -- it was given.
 abbrev pub IsShort : ℕ → Spent → Type 0
 IsShort units spent = total_of spent ≤ units + 50000
 
--- what a turn spends is that little
-abbrev pub StaysShort : ℕ → Refreshed → Type 0
-StaysShort units (Evaluated spent) = IsShort units spent
-StaysShort units (More spent) = IsShort units spent
-StaysShort units Done = Unit {0}
+-- what a turn does that is given some units
+abbrev pub TakesTurn : World → ℕ → RefreshView → RefreshView → Refreshed → Type 0
+TakesTurn world units old new (Evaluated spent) = RenewsOne world old new spent × IsShort units spent
+TakesTurn world units old new (More spent) = GoesOn world units old new spent × IsShort units spent
+TakesTurn world units old new Done = EndsRefresh world old new
 
 -- a turn that failed: all rows are as they were, and nothing is under way
 pub record DropsTurn (old new : RefreshView) : Type 0 where
   pub rows : ShowsSame old.rows new.rows
   pub begun : new.begun ≡ no_spending
-
--- the same of a turn that may still know what the rows say, once they are those of the index
-abbrev pub KnowsAtEnd : World → Option MemoryRows → Type 0
-KnowsAtEnd world None = Unit {0}
-KnowsAtEnd world (Some known) = KnowsNeeded world known
-
-abbrev pub EndsTurn : World → ℕ → RefreshView → RefreshView → Turned → Type 0
-EndsTurn world units old new (turned.Evaluated spent) = TakesTurn world units old new (Evaluated spent)
-EndsTurn world units old new (turned.More spent) = TakesTurn world units old new (More spent)
-EndsTurn world units old new (turned.Done known) = TakesTurn world units old new Done × KnowsAtEnd world known
-
-abbrev pub EndsShort : ℕ → Turned → Type 0
-EndsShort units (turned.Evaluated spent) = IsShort units spent
-EndsShort units (turned.More spent) = IsShort units spent
-EndsShort units (turned.Done known) = Unit {0}
-
--- What is spent to make all rows fresh. For each makefile that is left to be evaluated few answers are checked. No more
--- units are spent than the paths cost that are left. With what was spent before on a path that was evaluated, all of
--- these are spent, if no answer was checked.
-pub record SpendsOnRows (world : World) (old : RefreshView) (spent : Spent) : Type 0 where
-  pub few : ChecksFew (evaluations_over world (paths_left world old.rows)) spent.checks
-  pub within : spent.units ≤ units_left world old.rows
-  pub whole : (spent_together old.begun spent).checks ≡ 0
-      → (spent_together old.begun spent).units ≡ units_left world old.rows
 
 -- what turns leave to be done
 pub record RefreshingPays : Type 0 where

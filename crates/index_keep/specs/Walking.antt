@@ -7,9 +7,7 @@ use Rattle.ports_index.specs.Filling.{is_one_of}
 use Rattle.ports_index.specs.Index.{listed_paths, needed_among, needed_paths}
 use Rattle.ports_index.specs.Naming.{directories, listed_from}
 use Rattle.ports_index.specs.PathOutcomes.{PathOutcome}
-use Rattle.ports_index.specs.RowLaws.{HaveRows}
 use Rattle.ports_index.specs.Seen.{entries_in, known_in}
-use Rattle.ports_index.specs.declared.keeping.MemoryRows.{MemoryRows}
 use Rattle.index_keep.specs.declared.walking.Stage.{Stage}
 use Rattle.index_keep.specs.declared.walking.LastStage.{LastStage}
 use Rattle.index_keep.specs.declared.walking.Passed.{Passed}
@@ -56,10 +54,6 @@ IsNext world rows (next.All last) = IsWalk world rows (Needed last) × HaveFresh
 abbrev pub HasRowMore : List ℕ → PathOutcome → ShownRows → ShownRows → Type 0
 HasRowMore path outcome old new =
     (other : List ℕ) → fresh new other ≡ (if bytes_eq path other then Some outcome else fresh old other)
-
--- what the rows in memory say of each needed path is right
-abbrev pub KnowsNeeded : World → MemoryRows → Type 0
-KnowsNeeded world known = HaveRows world (entries_in known) (needed_paths world)
 
 -- the stage of a walk
 abbrev pub stage_of : Walk → Stage

@@ -13,7 +13,7 @@ ghost use Rattle.index_keep.specs.Judging as judging;
 
 use index_store::{PathRows, StoredRow};
 use mk_paths::FilesFault;
-use ports_index::{MemoryRows, Row, Rows};
+use ports_index::{MemoryRows, Row};
 use row_text::{KeptRow, read_row};
 use std::alloc::{AllocError, Global};
 use std::collections::BTreeSet;

@@ -23,6 +23,9 @@ pub(crate) fn take_out_others<R: PathRows>(
 {
     let paths = rows.paths(alloc)?;
     let others = others(alloc, paths, needed)?;
+    if others.is_empty() {
+        return Ok(());
+    }
     rows.take_out(&others)
 }
 

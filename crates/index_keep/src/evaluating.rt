@@ -11,13 +11,12 @@ ghost use Rattle.ports_index.specs.PathOutcomes.{cost_at};
 ghost use Rattle.ports_index.specs.Spending.{no_spending};
 ghost use Rattle.read_trace.specs.Recording.{view_of};
 ghost use Rattle.row_text.specs.Seen.{row_seen};
-ghost use Rattle.index_keep.specs.Asking.{HasBegun, IsUpFrom, spent_in, spent_on, total_of};
+ghost use Rattle.eval_ask.specs.Asking.{HasBegun, IsUpFrom, spent_in, spent_on, total_of};
 ghost use Rattle.index_keep.specs.Paths as paths;
-ghost use Rattle.index_keep.specs.Paths.{IsNamed, IsPathAsk, IsUpTo, IsShortOnRow, TurnsPath};
+ghost use Rattle.index_keep.specs.Paths.{IsNamed, IsPathAsk, IsUpTo, TurnsPath};
 ghost use Rattle.index_keep.specs.Right.{LeavesFiles, names_in};
 
-use crate::asking::{Ask, AskTurned, Asked};
-use crate::spending::left_of;
+use eval_ask::{Ask, AskTurned, Asked, left_of};
 use eval_cache::EvalCache;
 use mk_eval::evaluations_cost_few;
 use mk_files::Files;
@@ -87,7 +86,6 @@ impl PathAsk {
         ensures turns { IfOk result (TurnsPath (world_of (view_of F.view files.old) settings.now)
             (string_bytes path) units no_spending) }
         ensures up { IfOk result (IsUpTo no_spending) }
-        ensures short { IfOk result (IsShortOnRow units no_spending) }
         ensures leaves { LeavesFiles (result_err result) (view_of F.view files.old) (view_of F.view files.new) }
         ensures uses { UsesCache cache.old cache.new }
     {
@@ -126,7 +124,6 @@ impl PathAsk {
             → IfOk result (TurnsPath ((view_of F.view files.old).files, settings)
             (string_bytes self.found.path) units (spent_in self.ask)) }
         ensures up { IfOk result (IsUpTo (spent_in self.ask)) }
-        ensures short { IfOk result (IsShortOnRow units (spent_in self.ask)) }
         ensures leaves { LeavesFiles (result_err result) (view_of F.view files.old) (view_of F.view files.new) }
         ensures uses { UsesCache cache.old cache.new }
     {
@@ -151,7 +148,6 @@ impl PathAsk {
             → IfOk result (TurnsPath ((view_of F.view files.old).files, settings)
             (string_bytes self.found.path) units before) }
         ensures up { IfOk result (IsUpTo before) }
-        ensures short { IfOk result (IsShortOnRow units before) }
         ensures leaves { LeavesFiles (result_err result) (view_of F.view files.old) (view_of F.view files.new) }
         ensures uses { UsesCache cache.old cache.new }
     {

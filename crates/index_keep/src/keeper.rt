@@ -1,40 +1,27 @@
 //! The keeper of one tenant's index.
-ghost use Rattle.std.specs.Prelude.{◌≡◌, ◌||◌, ℕ, List, Ok, option_map, string_bytes};
-ghost use Rattle.std.specs.Prelude.{IfOk, OnOk, OnErr};
-ghost use Rattle.std.specs.Result.{result_err};
+ghost use Rattle.std.specs.Prelude.{◌≡◌, ◌||◌, ℕ, List, option_map, string_bytes};
+ghost use Rattle.std.specs.Prelude.{OnOk, OnErr};
 ghost use Rattle.std.specs.Str.{bytes_eq};
-ghost use Rattle.mk_paths.specs.FilesView.{world_of};
 ghost use Rattle.mk_paths.specs.World.{World};
-ghost use Rattle.eval_cache.specs.Using.{UsesCache};
-ghost use Rattle.ports_index.specs.Index as indexed;
-ghost use Rattle.read_trace.specs.Recording.{view_of};
-ghost use Rattle.mk_paths.specs.declared.search_path.Settings.{Settings};
+ghost use Rattle.ports_index.specs.Known.{IsIndexOf};
 ghost use Rattle.ports_index.specs.Spending.{no_spending};
 ghost use Rattle.index_store.specs.Entries.{SameProfiles};
-ghost use Rattle.index_keep.specs.Profiles.{WritesIn, profiles_of};
+ghost use Rattle.index_keep.specs.Profiles.{profiles_of};
 ghost use Rattle.index_keep.specs.Shown.{ShowsSame, made_stale, stale_if_asked};
-ghost use Rattle.index_keep.specs.Right.{DifferAt, LeavesFiles};
-ghost use Rattle.index_keep.specs.Turns.{TakesTurn, StaysShort, DropsTurn, SpendsOnRows};
-ghost use Rattle.index_keep.specs.Walking.{KnowsNeeded};
-ghost use Rattle.index_keep.specs.Keeping.{rows_of, refresh_of, begun_in, changed_in, IsKept, IsDone};
+ghost use Rattle.index_keep.specs.Right.{DifferAt};
+ghost use Rattle.index_keep.specs.Keeping.{rows_of, begun_in, changed_in, IsKept, IsDone};
 ghost use Rattle.index_keep.specs.Keeping.{IsDropped, HasForgotten, Halts, Stops};
 
-use crate::beginning::{begin, fresh_rows};
+use crate::beginning::begin;
 use crate::evaluating::PathAsk;
 use crate::names::insert_name;
 use crate::walking::Walk;
-use eval_cache::EvalCache;
 use index_store::PathRows;
-use mk_files::Listing;
-use mk_paths::{FilesFault, Name, Settings};
-use port_deps::{Root, RootEdge};
-use ports_index::{
-    MemoryRows, Spent, edges_among, known_rows_are_enough, makefiles_are_evaluated,
-    one_row_more_leaves_less, path_is_the_same_where_answered, roots_of_all,
-};
-use read_trace::Recorder;
+use mk_paths::{FilesFault, Name};
+use ports_index::{KnownIndex, Spent, path_is_the_same_where_answered};
 use std::alloc::{AllocError, Global};
 use std::collections::BTreeSet;
+use std::mem;
 
 /// The most names that are known to have changed. Once there are more, the rows that asked for them are
 /// marked, and the names are forgotten.
@@ -47,7 +34,7 @@ pub enum Refreshed {
     Evaluated(Spent),
     /// A path has no row yet, and the turn has spent its units. So much was spent on the path in this turn.
     More(Spent),
-    /// Each path has its row: the index is current.
+    /// Each path has its row, and the index is at hand.
     Done,
 }
 
@@ -60,19 +47,10 @@ pub(crate) enum Progress {
     Walking(Walk),
     /// A refresh is under way, and a path is evaluated.
     Asking(Walk, PathAsk),
-    /// All rows are right, and these are the listed paths.
+    /// All rows are right, and these are the listed paths. What the rows say isn't in memory.
     Current(Vec<String>),
-}
-
-/// What a turn of a refresh came to.
-#[derive(Drop)]
-pub(crate) enum Turned {
-    /// One path was evaluated, and so much was spent on it in this turn.
-    Evaluated(Spent),
-    /// A path has no row yet, and so much was spent on it in this turn.
-    More(Spent),
-    /// Each path has its row. If this turn ended the refresh, it still knows what the rows say.
-    Done(Option<MemoryRows>),
+    /// All rows are right, and this is the index that they make.
+    AtHand(KnownIndex),
 }
 
 /// The index of one tenant: a row for each path on which it depends, and what has changed since.
@@ -135,135 +113,30 @@ impl<R: PathRows + Drop> Keeper<R> {
         Ok(())
     }
 
-    /// Goes on with a refresh, or begins one, up to the next path that has no fresh row. That path is evaluated in
-    /// these files under these settings, until so many units are spent. Each answer that is checked counts as one
-    /// of them. The evaluation is one that the cache keeps, if the files agree with it. If it is at its end and fewer
-    /// units are spent in this turn, the path's row is made and written; otherwise the next turn goes on there. Once
-    /// each path has its row, the rows that nothing needs are taken out, and the refresh is done. A turn spends at
-    /// most 50,000 more than its units, since it had spent fewer before the last thing that it did.
-    ///
-    /// # Errors
-    ///
-    /// It fails if the files or the rows fail, or if memory runs out. Then no row changes, and an evaluation that
-    /// was under way is dropped.
-    pub fn refresh_turn<F: Listing + Drop>(
-        &mut self,
-        alloc: Global,
-        cache: &mut EvalCache,
-        files: &mut Recorder<F>,
-        settings: &Settings,
-        units: u64,
-    ) -> Result<Refreshed, FilesFault>
-        requires { IsKept R.entries (world_of (view_of F.view files.old) settings.now) self.old }
-        ensures turn { IfOk result (TakesTurn (world_of (view_of F.view files.old) settings.now) units
-            (refresh_of R.entries self.old) (refresh_of R.entries self.new)) }
-        ensures short { IfOk result (StaysShort units) }
-        ensures done { result ≡ Ok Refreshed.Done → IsDone self.new }
-        ensures err { OnErr result (DropsTurn (refresh_of R.entries self.old) (refresh_of R.entries self.new)) }
-        ensures kept { IsKept R.entries (world_of (view_of F.view files.old) settings.now) self.new }
-        ensures profiles { WritesIn settings.now.profile
-            (profiles_of R.profiles self.old) (profiles_of R.profiles self.new) }
-        ensures leaves { LeavesFiles (result_err result) (view_of F.view files.old) (view_of F.view files.new) }
-        ensures uses { UsesCache cache.old cache.new }
+    /// The index that a refresh has found, which is at hand once the refresh is done.
+    pub fn index(&self) -> &KnownIndex
+        requires { IsDone self.now }
+        ensures { (world : World) → IsKept R.entries world self.now → IsIndexOf world result.now }
     {
-        match self.turn(alloc, cache, files, settings, units)? {
-            Turned::Evaluated(spent) => Ok(Refreshed::Evaluated(spent)),
-            Turned::More(spent) => Ok(Refreshed::More(spent)),
-            Turned::Done(_known) => Ok(Refreshed::Done),
-        }
-    }
-
-    // Goes on with a refresh until it is done. The result is what the rows say, and what was spent.
-    fn refresh<F: Listing + Drop>(
-        &mut self,
-        alloc: Global,
-        cache: &mut EvalCache,
-        files: &mut Recorder<F>,
-        settings: &Settings,
-    ) -> Result<(MemoryRows, Spent), FilesFault>
-        requires { IsKept R.entries (world_of (view_of F.view files.old) settings.now) self.old }
-        ensures done { OnOk result (IsDone self.new) }
-        ensures known { IfOk result (λ found.
-            KnowsNeeded (world_of (view_of F.view files.old) settings.now) found.0) }
-        ensures spent { IfOk result (λ found. SpendsOnRows
-            (world_of (view_of F.view files.old) settings.now) (refresh_of R.entries self.old) found.1) }
-        ensures kept { IsKept R.entries (world_of (view_of F.view files.old) settings.now) self.new }
-        ensures profiles { WritesIn settings.now.profile
-            (profiles_of R.profiles self.old) (profiles_of R.profiles self.new) }
-        ensures leaves { LeavesFiles (result_err result) (view_of F.view files.old) (view_of F.view files.new) }
-        ensures uses { UsesCache cache.old cache.new }
-    {
-        one_row_more_leaves_less();
-        makefiles_are_evaluated();
-        let mut spent = Spent::nothing();
-        loop {
-            match self.turn(alloc, cache, files, settings, u64::MAX)? {
-                Turned::Evaluated(more) => spent = spent.and(more),
-                Turned::More(_) => unreachable!(), // no evaluation spends that much
-                Turned::Done(Some(known)) => return Ok((known, spent)),
-                Turned::Done(None) => return Ok((fresh_rows(alloc, &mut self.rows)?, spent)),
-            }
-        }
-    }
-
-    /// The roots of the index of these files under these settings, once it is refreshed, and what was spent on
-    /// the paths that had no fresh row: the units that they cost, but for evaluations that the cache keeps.
-    ///
-    /// It fails if the files or the rows fail, or if memory runs out. The rows that were made until then stay.
-    pub fn select<F: Listing + Drop>(
-        &mut self,
-        alloc: Global,
-        cache: &mut EvalCache,
-        files: &mut Recorder<F>,
-        settings: &Settings,
-    ) -> Result<(Vec<Root>, Spent), FilesFault>
-        requires { IsKept R.entries (world_of (view_of F.view files.old) settings.now) self.old }
-        ensures roots { IfOk result (λ found. found.0.items
-            ≡ indexed.roots (world_of (view_of F.view files.old) settings.now)) }
-        ensures spent { IfOk result (λ found. SpendsOnRows
-            (world_of (view_of F.view files.old) settings.now) (refresh_of R.entries self.old) found.1) }
-        ensures kept { IsKept R.entries (world_of (view_of F.view files.old) settings.now) self.new }
-        ensures profiles { WritesIn settings.now.profile
-            (profiles_of R.profiles self.old) (profiles_of R.profiles self.new) }
-        ensures leaves { LeavesFiles (result_err result) (view_of F.view files.old) (view_of F.view files.new) }
-        ensures uses { UsesCache cache.old cache.new }
-    {
-        known_rows_are_enough();
-        let (mut known, spent) = self.refresh(alloc, cache, files, settings)?;
-        let Progress::Current(listed) = &self.progress else {
+        let Progress::AtHand(index) = &self.progress else {
             unreachable!(); // the refresh is done
         };
-        Ok((roots_of_all(alloc, listed, &mut known)?, spent))
+        index
     }
 
-    /// The roots and the dependencies of the index, as `select` gives the roots alone.
-    pub fn index<F: Listing + Drop>(
-        &mut self,
-        alloc: Global,
-        cache: &mut EvalCache,
-        files: &mut Recorder<F>,
-        settings: &Settings,
-    ) -> Result<(Vec<Root>, Vec<RootEdge>, Spent), FilesFault>
-        requires { IsKept R.entries (world_of (view_of F.view files.old) settings.now) self.old }
-        ensures roots { IfOk result (λ found. found.0.items
-            ≡ indexed.roots (world_of (view_of F.view files.old) settings.now)) }
-        ensures edges { IfOk result (λ found. found.1.items
-            ≡ indexed.edges (world_of (view_of F.view files.old) settings.now)) }
-        ensures spent { IfOk result (λ found. SpendsOnRows
-            (world_of (view_of F.view files.old) settings.now) (refresh_of R.entries self.old) found.2) }
-        ensures kept { IsKept R.entries (world_of (view_of F.view files.old) settings.now) self.new }
-        ensures profiles { WritesIn settings.now.profile
-            (profiles_of R.profiles self.old) (profiles_of R.profiles self.new) }
-        ensures leaves { LeavesFiles (result_err result) (view_of F.view files.old) (view_of F.view files.new) }
-        ensures uses { UsesCache cache.old cache.new }
+    /// Drops from memory what the rows say, if a refresh is done. Nothing else changes. The next turn of a refresh
+    /// reads the rows again.
+    pub fn put_away(&mut self, alloc: Global)
+        ensures rows { ShowsSame (rows_of R.entries self.old) (rows_of R.entries self.new) }
+        ensures begun { begun_in self.new.progress ≡ begun_in self.old.progress }
+        ensures away { IsDone self.new → ⊥ }
+        ensures kept { (world : World) → IsKept R.entries world self.old → IsKept R.entries world self.new }
+        ensures profiles { SameProfiles (profiles_of R.profiles self.old) (profiles_of R.profiles self.new) }
     {
-        known_rows_are_enough();
-        let (mut known, spent) = self.refresh(alloc, cache, files, settings)?;
-        let Progress::Current(listed) = &self.progress else {
-            unreachable!(); // the refresh is done
-        };
-        let edges = edges_among(alloc, listed, &known)?;
-        Ok((roots_of_all(alloc, listed, &mut known)?, edges, spent))
+        match mem::replace(&mut self.progress, Progress::nothing(alloc)) {
+            Progress::AtHand(index) => self.progress = Progress::Current(index.into_listed()),
+            progress => self.progress = progress,
+        }
     }
 
     /// Limits the steps of each later statement of the rows; with `None` they are no longer limited. No row
@@ -292,7 +165,10 @@ impl<R: PathRows + Drop> Keeper<R> {
     fn is_full(&self) -> bool {
         match &self.progress {
             Progress::Changed(names) => names.len() >= MOST_CHANGED,
-            Progress::Walking(_) | Progress::Asking(_, _) | Progress::Current(_) => false,
+            Progress::Walking(_)
+            | Progress::Asking(_, _)
+            | Progress::Current(_)
+            | Progress::AtHand(_) => false,
         }
     }
 
@@ -324,7 +200,7 @@ impl Progress {
     {
         match self {
             Progress::Walking(_) | Progress::Asking(_, _) => *self = Progress::nothing(alloc),
-            Progress::Changed(_) | Progress::Current(_) => {}
+            Progress::Changed(_) | Progress::Current(_) | Progress::AtHand(_) => {}
         }
     }
 
@@ -338,7 +214,10 @@ impl Progress {
     {
         match self {
             Progress::Changed(names) => insert_name(names, name),
-            Progress::Walking(_) | Progress::Asking(_, _) | Progress::Current(_) => {
+            Progress::Walking(_)
+            | Progress::Asking(_, _)
+            | Progress::Current(_)
+            | Progress::AtHand(_) => {
                 let mut names = BTreeSet::new(alloc);
                 insert_name(&mut names, name)?;
                 *self = Progress::Changed(names);

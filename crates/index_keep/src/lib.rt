@@ -2,18 +2,15 @@
 //! makes the rows right again, one path at a time. What the index is is read from them.
 #![tactic(auto)]
 
-mod asking;
 mod beginning;
 mod ending;
 mod evaluating;
 mod keeper;
 mod laws;
 mod names;
-mod spending;
 mod turning;
 mod walking;
 
-pub use asking::{Ask, AskTurned, Asked, ask_at_once};
+pub use eval_ask::{Ask, AskTurned, Asked, asking_spends};
 pub use keeper::{Keeper, Refreshed};
-pub use laws::{asking_spends, refreshing_pays};
-pub use spending::spent_since;
+pub use laws::refreshing_pays;

@@ -1,5 +1,5 @@
 //! The turns of a refresh.
-ghost use Rattle.std.specs.Prelude.{◌≡◌, ℕ, List, false, Some, None, Ok, if◌then◌else◌, string_bytes};
+ghost use Rattle.std.specs.Prelude.{◌≡◌, ℕ, List, false, Some, None, if◌then◌else◌, string_bytes};
 ghost use Rattle.std.specs.Prelude.{IfOk, OnOk, OnErr};
 ghost use Rattle.std.specs.BTreeSet.{contains_text};
 ghost use Rattle.std.specs.Result.{result_err};
@@ -13,27 +13,28 @@ ghost use Rattle.eval_cache.specs.Using.{UsesCache};
 ghost use Rattle.index_store.specs.Entries.{SameRows, SameProfiles};
 ghost use Rattle.ports_index.specs.Spending.{no_spending};
 ghost use Rattle.row_text.specs.Seen.{row_seen};
-ghost use Rattle.index_keep.specs.Asking.{HasBegun, spent_in};
+ghost use Rattle.eval_ask.specs.Asking.{HasBegun, spent_in};
 ghost use Rattle.index_keep.specs.Shown.{ShownRows, shown, no_name, ShowsSame};
 ghost use Rattle.index_keep.specs.Profiles.{WritesIn, profiles_of};
 ghost use Rattle.index_keep.specs.Right.{LeavesFiles};
-ghost use Rattle.index_keep.specs.Paths.{IsUpTo, IsShortOnRow, TurnsPath};
-ghost use Rattle.index_keep.specs.Turns.{EndsTurn, EndsShort, DropsTurn, refresh_at};
+ghost use Rattle.index_keep.specs.Paths.{IsUpTo, TurnsPath};
+ghost use Rattle.index_keep.specs.Turns.{DropsTurn, EndsRefresh, refresh_at};
 ghost use Rattle.index_keep.specs.Walking.{IsWalk, IsOnTheWay, HasRowMore};
-ghost use Rattle.index_keep.specs.Keeping.{refresh_of, IsKept, IsDoneAfter};
-ghost use Rattle.index_keep.specs.Keeping.{IsAskOnTheWay, IsReadyFor, IsAtEnd};
+ghost use Rattle.index_keep.specs.Keeping.{rows_of, refresh_of, begun_in, IsKept, IsDone};
+ghost use Rattle.index_keep.specs.Keeping.{IsAskOnTheWay, IsReadyFor, IsAtEnd, TurnsKeeper};
 
+use crate::beginning::fresh_rows;
 use crate::ending::take_out_others;
 use crate::evaluating::{MadeRow, PathAsk, PathTurned};
-use crate::keeper::{Keeper, Progress, Turned};
-use crate::spending::spent_since;
+use crate::keeper::{Keeper, Progress, Refreshed};
 use crate::walking::{LastStage, Next, Stage, Walk, begin_walk};
+use eval_ask::spent_since;
 use eval_cache::EvalCache;
 use index_store::PathRows;
 use mk_files::Listing;
 use mk_paths::{FilesFault, Settings};
 use mk_text::Profile;
-use ports_index::Spent;
+use ports_index::{KnownIndex, Spent};
 use read_trace::Recorder;
 use row_text::{KeptRow, write_row};
 use std::alloc::Global;
@@ -48,20 +49,29 @@ struct WritingWalk {
 }
 
 impl<R: PathRows + Drop> Keeper<R> {
-    /// Takes a turn of a refresh.
-    pub(crate) fn turn<F: Listing + Drop>(
+    /// Goes on with a refresh, or begins one, up to the next path that has no fresh row. That path is evaluated in
+    /// these files under these settings, until so many units are spent. Each answer that is checked counts as one
+    /// of them. The evaluation is one that the cache keeps, if the files agree with it. If it is at its end and fewer
+    /// units are spent in this turn, the path's row is made and written; otherwise the next turn goes on there. Once
+    /// each path has its row, the rows that nothing needs are taken out, and the refresh is done: the index is at hand.
+    /// If it was put away, and nothing has changed, a turn reads the rows again. A turn spends at most 50,000 more than
+    /// its units, since it had spent fewer before the last thing that it did.
+    ///
+    /// # Errors
+    ///
+    /// It fails if the files or the rows fail, or if memory runs out. Then no row changes, and an evaluation that
+    /// was under way is dropped.
+    pub fn refresh_turn<F: Listing + Drop>(
         &mut self,
         alloc: Global,
         cache: &mut EvalCache,
         files: &mut Recorder<F>,
         settings: &Settings,
         units: u64,
-    ) -> Result<Turned, FilesFault>
+    ) -> Result<Refreshed, FilesFault>
         requires { IsKept R.entries (world_of (view_of F.view files.old) settings.now) self.old }
-        ensures turn { IfOk result (EndsTurn (world_of (view_of F.view files.old) settings.now) units
-            (refresh_of R.entries self.old) (refresh_of R.entries self.new)) }
-        ensures short { IfOk result (EndsShort units) }
-        ensures done { IfOk result (IsDoneAfter self.new) }
+        ensures turn { IfOk result (TurnsKeeper R.entries (world_of (view_of F.view files.old) settings.now) units
+            (refresh_of R.entries self.old) self.new) }
         ensures err { OnErr result (DropsTurn (refresh_of R.entries self.old) (refresh_of R.entries self.new)) }
         ensures kept { IsKept R.entries (world_of (view_of F.view files.old) settings.now) self.new }
         ensures profiles { WritesIn settings.now.profile
@@ -81,8 +91,12 @@ impl<R: PathRows + Drop> Keeper<R> {
                 self.ask_on(alloc, cache, files, writing, ask, units)
             }
             Progress::Current(listed) => {
-                self.progress = Progress::Current(listed);
-                Ok(Turned::Done(None))
+                self.read_index(alloc, listed)?;
+                Ok(Refreshed::Done)
+            }
+            Progress::AtHand(index) => {
+                self.progress = Progress::AtHand(index);
+                Ok(Refreshed::Done)
             }
         }
     }
@@ -96,14 +110,11 @@ impl<R: PathRows + Drop> Keeper<R> {
         settings: &Settings,
         walk: Walk,
         units: u64,
-    ) -> Result<Turned, FilesFault>
+    ) -> Result<Refreshed, FilesFault>
         requires { IsOnTheWay (world_of (view_of F.view files.old) settings.now)
             (shown no_name (R.entries self.old.rows)) walk }
-        ensures turn { IfOk result (EndsTurn (world_of (view_of F.view files.old) settings.now) units
-            (refresh_at (shown no_name (R.entries self.old.rows)) no_spending)
-            (refresh_of R.entries self.new)) }
-        ensures short { IfOk result (EndsShort units) }
-        ensures done { IfOk result (IsDoneAfter self.new) }
+        ensures turn { IfOk result (TurnsKeeper R.entries (world_of (view_of F.view files.old) settings.now) units
+            (refresh_at (shown no_name (R.entries self.old.rows)) no_spending) self.new) }
         ensures kept { OnOk result (IsKept R.entries (world_of (view_of F.view files.old) settings.now) self.new) }
         ensures err { OnErr result (SameRows (R.entries self.old.rows) (R.entries self.new.rows)
             × (self.new.progress ≡ self.old.progress)) }
@@ -119,7 +130,10 @@ impl<R: PathRows + Drop> Keeper<R> {
                 let writing = WritingWalk { walk, profile };
                 self.settle(alloc, writing, Spent::nothing(), turned)
             }
-            Next::All(last) => self.end(alloc, last),
+            Next::All(last) => {
+                self.end(alloc, last)?;
+                Ok(Refreshed::Done)
+            }
         }
     }
 
@@ -132,20 +146,17 @@ impl<R: PathRows + Drop> Keeper<R> {
         writing: WritingWalk,
         ask: PathAsk,
         units: u64,
-    ) -> Result<Turned, FilesFault>
+    ) -> Result<Refreshed, FilesFault>
         requires { HasBegun (view_of F.view files.old).files ask.ask }
         ensures turn { (settings : Settings)
             → IsAskOnTheWay ((view_of F.view files.old).files, settings)
             (shown no_name (R.entries self.old.rows)) writing.walk ask
-            → IfOk result (EndsTurn ((view_of F.view files.old).files, settings) units
-            (refresh_at (shown no_name (R.entries self.old.rows)) (spent_in ask.ask))
-            (refresh_of R.entries self.new)) }
-        ensures short { IfOk result (EndsShort units) }
+            → IfOk result (TurnsKeeper R.entries ((view_of F.view files.old).files, settings) units
+            (refresh_at (shown no_name (R.entries self.old.rows)) (spent_in ask.ask)) self.new) }
         ensures kept { (settings : Settings)
             → IsAskOnTheWay ((view_of F.view files.old).files, settings)
             (shown no_name (R.entries self.old.rows)) writing.walk ask
             → OnOk result (IsKept R.entries ((view_of F.view files.old).files, settings) self.new) }
-        ensures done { IfOk result (IsDoneAfter self.new) }
         ensures err { OnErr result (SameRows (R.entries self.old.rows) (R.entries self.new.rows)
             × (self.new.progress ≡ self.old.progress)) }
         ensures profiles { WritesIn writing.profile
@@ -166,18 +177,16 @@ impl<R: PathRows + Drop> Keeper<R> {
         writing: WritingWalk,
         before: Spent,
         turned: PathTurned,
-    ) -> Result<Turned, FilesFault>
+    ) -> Result<Refreshed, FilesFault>
         requires { IsUpTo before turned }
         ensures settles { (world : World) (path : List ℕ) (units : ℕ)
             → IsReadyFor world (shown no_name (R.entries self.old.rows)) writing.walk path
             → TurnsPath world path units before turned
-            → IfOk result (EndsTurn world units
-            (refresh_at (shown no_name (R.entries self.old.rows)) before) (refresh_of R.entries self.new)) }
-        ensures short { (units : ℕ) → IsShortOnRow units before turned → IfOk result (EndsShort units) }
+            → IfOk result (TurnsKeeper R.entries world units
+            (refresh_at (shown no_name (R.entries self.old.rows)) before) self.new) }
         ensures kept { (world : World) (path : List ℕ) (units : ℕ)
             → IsReadyFor world (shown no_name (R.entries self.old.rows)) writing.walk path
             → TurnsPath world path units before turned → OnOk result (IsKept R.entries world self.new) }
-        ensures done { IfOk result (IsDoneAfter self.new) }
         ensures err { OnErr result (SameRows (R.entries self.old.rows) (R.entries self.new.rows)
             × (self.new.progress ≡ self.old.progress)) }
         ensures profiles { WritesIn writing.profile
@@ -189,26 +198,24 @@ impl<R: PathRows + Drop> Keeper<R> {
                 let MadeRow { path, row, spent } = made;
                 let walk = put_row(alloc, &mut self.rows, walk, path, profile, row)?;
                 self.progress = Progress::Walking(walk);
-                Ok(Turned::Evaluated(spent_since(before, spent)))
+                Ok(Refreshed::Evaluated(spent_since(before, spent)))
             }
             PathTurned::More(ask) => {
                 let spent = spent_since(before, ask.spent());
                 self.progress = Progress::Asking(walk, ask);
-                Ok(Turned::More(spent))
+                Ok(Refreshed::More(spent))
             }
         }
     }
 
-    // Ends a refresh: takes out the rows that nothing needs.
-    fn end(&mut self, alloc: Global, last: LastStage) -> Result<Turned, FilesFault>
-        ensures ends { (world : World) (units : ℕ) → IsAtEnd world (shown no_name (R.entries self.old.rows)) last
-            → IfOk result (EndsTurn world units
-            (refresh_at (shown no_name (R.entries self.old.rows)) no_spending)
-            (refresh_of R.entries self.new)) }
-        ensures short { (units : ℕ) → IfOk result (EndsShort units) }
+    // Ends a refresh: takes out the rows that nothing needs, and keeps at hand what the others say.
+    fn end(&mut self, alloc: Global, last: LastStage) -> Result<(), FilesFault>
+        ensures ends { (world : World) → IsAtEnd world (shown no_name (R.entries self.old.rows)) last
+            → OnOk result (EndsRefresh world
+            (refresh_at (shown no_name (R.entries self.old.rows)) no_spending) (refresh_of R.entries self.new)) }
         ensures kept { (world : World) → IsAtEnd world (shown no_name (R.entries self.old.rows)) last
             → OnOk result (IsKept R.entries world self.new) }
-        ensures done { IfOk result (IsDoneAfter self.new) }
+        ensures done { OnOk result (IsDone self.new) }
         ensures err { OnErr result (SameRows (R.entries self.old.rows) (R.entries self.new.rows)
             × (self.new.progress ≡ self.old.progress)) }
         ensures profiles { (profile : kinds.Profile)
@@ -217,8 +224,30 @@ impl<R: PathRows + Drop> Keeper<R> {
         let LastStage { stage, listed } = last;
         let Stage { paths, known, .. } = stage;
         take_out_others(alloc, &mut self.rows, &paths)?;
-        self.progress = Progress::Current(listed);
-        Ok(Turned::Done(Some(known)))
+        self.progress = Progress::AtHand(KnownIndex::new(listed, known));
+        Ok(())
+    }
+
+    // Reads what the rows say, all of which are right; these listed paths were taken out of the keeper. If that fails,
+    // they are put back.
+    fn read_index(&mut self, alloc: Global, listed: Vec<String>) -> Result<(), FilesFault>
+        ensures rows { ShowsSame (shown no_name (R.entries self.old.rows)) (rows_of R.entries self.new) }
+        ensures begun { begun_in self.new.progress ≡ no_spending }
+        ensures done { OnOk result (IsDone self.new) }
+        ensures kept { (world : World) → IsKept R.entries world (record self.old { progress = Progress.Current listed })
+            → IsKept R.entries world self.new }
+        ensures profiles { SameProfiles (profiles_of R.profiles self.old) (profiles_of R.profiles self.new) }
+    {
+        match fresh_rows(alloc, &mut self.rows) {
+            Ok(rows) => {
+                self.progress = Progress::AtHand(KnownIndex::new(listed, rows));
+                Ok(())
+            }
+            Err(fault) => {
+                self.progress = Progress::Current(listed);
+                Err(fault)
+            }
+        }
     }
 
     // The walk with which a refresh begins after files of these names have changed. If that fails, the names

@@ -20,9 +20,7 @@ use crate::beginning::begin;
 use index_store::PathRows;
 use mk_files::Listing;
 use mk_paths::FilesFault;
-use ports_index::{
-    MemoryRows, Row, Rows, directories, known_rows_are_enough, listed, needed_among,
-};
+use ports_index::{MemoryRows, Row, directories, known_rows_are_enough, listed, needed_among};
 use read_trace::Recorder;
 use std::alloc::{AllocError, Global};
 use std::collections::BTreeSet;

@@ -14,39 +14,40 @@ use Rattle.eval_cache.specs.Keys.{Key, key_for}
 use Rattle.eval_cache.specs.Right.{evaluation_of}
 use Rattle.pkg_path.specs.Paths.{PathValue}
 use Rattle.ports_index.specs.Pairs.{Pair}
-use Rattle.ports_index.specs.Spending.{spent_together, evaluation_cost, evaluations_of, ChecksFew, SpendsOnOne}
+use Rattle.ports_index.specs.Spending.{evaluation_cost, evaluations_of, ChecksFew, SpendsOnOne}
 use Rattle.ports_index.specs.declared.spending.Spent.{Spent}
-use Rattle.ports_plain.specs.Answers.{answer_to}
+use Rattle.ports_plain.specs.Answers.{answer_to, reply_after}
 use Rattle.ports_plain.specs.Plain.{Answer, reply_alone, variable_at, port_at}
-use Rattle.ports_plain.specs.Resting.{need_of, cost_if_there, value_cost_of, record_cost_of, record_cost_by}
+use Rattle.ports_plain.specs.Resting.{path_asked, cost_after, cost_if_there, value_cost_of, record_cost_of, record_cost_by}
 use Rattle.ports_plain.specs.Spending.{SpendsFor}
-use Rattle.ports_plain.specs.declared.changing.Prepared.{Prepared}
-use Rattle.index_keep.specs.Asking.{HasComeTo, IsAnswerTo, IsUpFrom, AskingSpends, spent_in, spent_on}
+use Rattle.ports_http.specs.Messages.{ReplyMessage}
+use Rattle.eval_ask.specs.Asking.{HasComeTo, IsAnswerTo, IsUpFrom, AskingSpends, spent_in, spent_on, total_of}
 use Rattle.index_keep.specs.Turns.{RefreshView}
-use Rattle.index_keep.specs.declared.asking.AskTurned.{AskTurned}
-use Rattle.index_keep.specs.declared.asking.AskTurned.TheVariants.{More, Done}
-use Rattle.index_keep.specs.declared.asking.Asked.{Asked}
+use Rattle.eval_ask.specs.declared.asking.AskTurned.{AskTurned}
+use Rattle.eval_ask.specs.declared.asking.AskTurned.TheVariants.{More, Done}
+use Rattle.eval_ask.specs.declared.asking.Asked.{Asked}
 use Rattle.kept_ports.specs.declared.evaluating.PortAsk.{PortAsk}
-use Rattle.kept_ports.specs.declared.pending.Stage.TheVariants.{Evaluating}
-use Rattle.kept_ports.specs.declared.sought.Sought.{Sought}
-use Rattle.kept_ports.specs.declared.sought.Sought.TheVariants.{Value, Record}
-use Rattle.kept_ports.specs.Evaluating.{path_sought, question_sought, reply_sought, cost_sought, IsPortAsk}
-use Rattle.kept_ports.specs.Pending.{Answers, IsForQuestion, LeavesOpen, StaysWithin}
+use Rattle.kept_ports.specs.declared.under_way.Stage.TheVariants.{Evaluating}
+use Rattle.ports_plain.specs.declared.port_questions.PortQuestion.{PortQuestion}
+use Rattle.ports_plain.specs.declared.port_questions.PortQuestion.TheVariants.{Variable, Record}
+use Rattle.kept_ports.specs.Evaluating.{IsPortAsk}
+use Rattle.ports_plain.specs.declared.questions.Question.TheVariants.{OfPort}
+use Rattle.kept_ports.specs.Pending.{ActsForValue, Answers, LeavesOpen, StaysWithin}
 
 abbrev pub pair_with : PathValue → List ℕ → Pair
 pair_with path makefile = record { makefile = makefile; flavors = path.flavors }
 
--- the reply to what is sought, after an evaluation of the makefile that is there
-pub answered : (world : World) (sought : Sought) (makefile : List ℕ) → place world (path_sought sought).directory ≡ Some makefile
-    → ◌≡◌ {A = Answer} (reply_alone (reply_sought sought makefile (means world makefile (path_sought sought).flavors))) (answer_to world (question_sought sought))
-answered world (Value asked) makefile placed = sym (ap (λ p. reply_alone (variable_at world asked.name asked.path.flavors p)) placed)
+-- the reply to what is asked, after an evaluation of the makefile that is there
+pub answered : (world : World) (question : PortQuestion) (makefile : List ℕ) → place world (path_asked question).directory ≡ Some makefile
+    → ◌≡◌ {A = Answer} (reply_alone (reply_after question makefile (means world makefile (path_asked question).flavors))) (answer_to world (OfPort question))
+answered world (Variable asked) makefile placed = sym (ap (λ p. reply_alone (variable_at world asked.name asked.path.flavors p)) placed)
 answered world (Record path) makefile placed = sym (ap (λ p. reply_alone (port_at world path p)) placed)
 
--- what is spent on the evaluation of the makefile that is there, and on what is sought
-pub spends : (world : World) (sought : Sought) (makefile : List ℕ) (spent : Spent) → place world (path_sought sought).directory ≡ Some makefile
-    → SpendsOnOne (cost_sought sought makefile (means world makefile (path_sought sought).flavors)) (cost_of (means world makefile (path_sought sought).flavors)) 1 spent
-    → SpendsFor world (need_of (question_sought sought)) spent
-spends world (Value asked) makefile spent placed is =
+-- what is spent on the evaluation of the makefile that is there, and on what is asked
+pub spends : (world : World) (question : PortQuestion) (makefile : List ℕ) (spent : Spent) → place world (path_asked question).directory ≡ Some makefile
+    → SpendsOnOne (cost_after question makefile (means world makefile (path_asked question).flavors)) (cost_of (means world makefile (path_asked question).flavors)) 1 spent
+    → SpendsFor world (OfPort question) spent
+spends world (Variable asked) makefile spent placed is =
     subst (λ p. SpendsOnOne (cost_if_there (option_map (value_cost_of world asked) p)) (evaluation_cost world (option_map (pair_with asked.path) p))
     (evaluations_of (option_map (pair_with asked.path) p)) spent) (sym placed) is
 spends world (Record path) makefile spent placed is =
@@ -61,22 +62,22 @@ kind_covers kinds.Port units cost more small less = with_more (2 ^ 64 - 1) units
 kind_covers kinds.List units cost more small less = less
 kind_covers kinds.Other units cost more small less = less
 
--- the evaluation costs no more than what is sought costs with it
-pub covers : (sought : Sought) (makefile : List ℕ) (outcome : Result Evaluated Failed) (units : ℕ) → units ≤ 2 ^ 64 - 1 → units ≤ cost_of outcome
-    → units ≤ cost_sought sought makefile outcome
-covers (Value asked) makefile (Ok evaluated) units small less = with_more (2 ^ 64 - 1) units evaluated.cost _ small less
-covers (Value asked) makefile (Err failed) units small less = less
+-- the evaluation costs no more than what is asked costs with it
+pub covers : (question : PortQuestion) (makefile : List ℕ) (outcome : Result Evaluated Failed) (units : ℕ) → units ≤ 2 ^ 64 - 1 → units ≤ cost_of outcome
+    → units ≤ cost_after question makefile outcome
+covers (Variable asked) makefile (Ok evaluated) units small less = with_more (2 ^ 64 - 1) units evaluated.cost _ small less
+covers (Variable asked) makefile (Err failed) units small less = less
 covers (Record path) makefile (Ok evaluated) units small less = kind_covers evaluated.kind units evaluated.cost _ small less
 covers (Record path) makefile (Err failed) units small less = less
 
 one_few : (checks : ℕ) → checks ≤ 1028 → checks ≤ 1028 * 1
 one_few checks few = omega (arith, few)
 
--- so what is spent on the evaluation stays within what is sought costs
-pub stays : (world : World) (sought : Sought) (makefile : List ℕ) (spent : Spent) → place world (path_sought sought).directory ≡ Some makefile
-    → spent.units ≤ cost_sought sought makefile (means world makefile (path_sought sought).flavors) → spent.checks ≤ 1028
-    → StaysWithin world (question_sought sought) spent
-stays world (Value asked) makefile spent placed less few = record {
+-- so what is spent on the evaluation stays within what is asked costs
+pub stays : (world : World) (question : PortQuestion) (makefile : List ℕ) (spent : Spent) → place world (path_asked question).directory ≡ Some makefile
+    → spent.units ≤ cost_after question makefile (means world makefile (path_asked question).flavors) → spent.checks ≤ 1028
+    → StaysWithin world (OfPort question) spent
+stays world (Variable asked) makefile spent placed less few = record {
   units = subst (λ p. spent.units ≤ cost_if_there (option_map (value_cost_of world asked) p)) (sym placed) less;
   checks = subst (λ p. ChecksFew (length (option_to_list (option_map (pair_with asked.path) p))) spent.checks) (sym placed) (one_few spent.checks few);
 }
@@ -90,22 +91,24 @@ pub few_in : (files : FileMap) (key : Key) (came : AskTurned) → HasComeTo file
 few_in files key (More ask) is = is.1.few
 few_in files key (Done asked) is = is.few
 
--- an evaluation of the makefile that is sought is for the question
-pub for_sought : (world : World) (sought : Sought) (ask : PortAsk) → IsPortAsk world (path_sought sought) ask → IsForQuestion world (question_sought sought) ask
-for_sought world (Value asked) ask is = is
-for_sought world (Record path) ask is = is
+-- a turn that has spent its units
+pub acts : (question : PortQuestion) (before after : Spent) → total_of before + 1000 ≤ total_of after → ActsForValue (OfPort question) before after
+acts (Variable asked) before after more = more
+acts (Record path) before after more = tt
 
 -- an evaluation that isn't at its end, or waits for the next turn
-pub goes_on : (world : World) (refresh : RefreshView) (sought : Sought) (ask : PortAsk) (before evaluated spent : Spent) → IsPortAsk world (path_sought sought) ask
+pub goes_on : (world : World) (refresh : RefreshView) (question : PortQuestion) (ask : PortAsk) (before evaluated : Spent) → IsPortAsk world (path_asked question) ask
     → evaluated ≡ spent_in ask.came → evaluated.units ≤ 2 ^ 64 - 1
-    → evaluated.units ≤ cost_of (evaluation_of (files_in world) (key_for world.1 ask.makefile (path_sought sought).flavors)).outcome
-    → spent_together before spent ≡ evaluated
-    → LeavesOpen world refresh (question_sought sought) before (record { stage = Evaluating ask; spent = evaluated }) spent
-goes_on world refresh sought ask before evaluated spent is so_far small within sum = record {
-  pending = (for_sought world sought ask is, so_far);
-  sum = sym sum;
-  within = stays world sought ask.makefile evaluated is.placed (covers sought ask.makefile (means world ask.makefile (path_sought sought).flavors) evaluated.units small within)
+    → evaluated.units ≤ cost_of (evaluation_of (files_in world) (key_for world.1 ask.makefile (path_asked question).flavors)).outcome
+    → IsUpFrom before evaluated → total_of before + 1000 ≤ total_of evaluated
+    → LeavesOpen world refresh (OfPort question) before (record { stage = Evaluating question ask; spent = evaluated })
+goes_on world refresh question ask before evaluated is so_far small within up more = record {
+  same = refl;
+  pending = (is, so_far);
+  up = up;
+  within = stays world question ask.makefile evaluated is.placed (covers question ask.makefile (means world ask.makefile (path_asked question).flavors) evaluated.units small within)
       (subst (λ (s : Spent). s.checks ≤ 1028) (sym so_far) (few_in (files_in world) _ ask.came is.came));
+  acts = acts question before evaluated more;
 }
 
 saved_less : (before units evaluation cost : ℕ) → before ≤ units → (1 ≤ units → units ≡ evaluation) → units ≤ cost → before ≤ cost - (evaluation - units)
@@ -115,25 +118,24 @@ saved_less before (suc units) evaluation cost less whole fits =
     omega (arith, less, fits, all)
 
 -- the reply was made of an evaluation at its end
-module _ (world : World) (sought : Sought) (makefile : List ℕ) (asked : Asked) (placed : place world (path_sought sought).directory ≡ Some makefile)
-    (is : IsAnswerTo (files_in world) (key_for world.1 makefile (path_sought sought).flavors) asked) where
-  outcome_is : asked.evaluation.value.outcome ≡ means world makefile (path_sought sought).flavors
+module _ (world : World) (question : PortQuestion) (makefile : List ℕ) (asked : Asked) (placed : place world (path_asked question).directory ≡ Some makefile)
+    (is : IsAnswerTo (files_in world) (key_for world.1 makefile (path_asked question).flavors) asked) where
+  outcome_is : asked.evaluation.value.outcome ≡ means world makefile (path_asked question).flavors
   outcome_is = ap (λ (e : Evaluation). e.outcome) is.evaluation
 
-  module _ (cost : ℕ) (cost_is : cost ≡ cost_sought sought makefile asked.evaluation.value.outcome) where
-    cost_all : cost ≡ cost_sought sought makefile (means world makefile (path_sought sought).flavors)
-    cost_all = cost_is ∙ ap (cost_sought sought makefile) outcome_is
+  module _ (cost : ℕ) (cost_is : cost ≡ cost_after question makefile asked.evaluation.value.outcome) where
+    cost_all : cost ≡ cost_after question makefile (means world makefile (path_asked question).flavors)
+    cost_all = cost_is ∙ ap (cost_after question makefile) outcome_is
 
-    pub made-answers : (prepared : Prepared) → prepared ≡ record { reply = reply_sought sought makefile asked.evaluation.value.outcome; change = None }
-        → Answers world (question_sought sought) prepared
-    made-answers prepared made =
-        ap (λ (p : Prepared). let answer : Answer = (p.reply, p.change) in answer) made
-        ∙ ap (λ outcome. reply_alone (reply_sought sought makefile outcome)) outcome_is ∙ answered world sought makefile placed
+    pub made-answers : (reply : ReplyMessage) → reply ≡ reply_after question makefile asked.evaluation.value.outcome → Answers world (OfPort question) reply
+    made-answers reply made =
+        ap reply_alone made
+        ∙ ap (λ outcome. reply_alone (reply_after question makefile outcome)) outcome_is ∙ answered world question makefile placed
 
-    pub made-spends : AskingSpends → SpendsFor world (need_of (question_sought sought)) (spent_on asked cost)
+    pub made-spends : AskingSpends → SpendsFor world (OfPort question) (spent_on asked cost)
     made-spends law =
-        spends world sought makefile (spent_on asked cost) placed
-        (subst (λ n. SpendsOnOne n (cost_of (means world makefile (path_sought sought).flavors)) 1 (spent_on asked cost)) cost_all (law (files_in world) _ asked cost is))
+        spends world question makefile (spent_on asked cost) placed
+        (subst (λ n. SpendsOnOne n (cost_of (means world makefile (path_asked question).flavors)) 1 (spent_on asked cost)) cost_all (law (files_in world) _ asked cost is))
 
     pub made-up : (before : Spent) → asked.units ≤ 2 ^ 64 - 1 → IsUpFrom before (spent_in (Done asked)) → IsUpFrom before (spent_on asked cost)
     made-up before small up = record {
@@ -143,16 +145,16 @@ module _ (world : World) (sought : Sought) (makefile : List ℕ) (asked : Asked)
       checks = up.checks;
     }
       where
-        covers_asked : (units : ℕ) → units ≡ asked.units → asked.units ≤ cost_sought sought makefile asked.evaluation.value.outcome
+        covers_asked : (units : ℕ) → units ≡ asked.units → asked.units ≤ cost_after question makefile asked.evaluation.value.outcome
         covers_asked zero none = omega (arith, none)
         covers_asked (suc units) some =
             let all = is.whole (omega (arith, some)) in
-            covers sought makefile asked.evaluation.value.outcome asked.units small (omega (arith, all, ap cost_of outcome_is))
+            covers question makefile asked.evaluation.value.outcome asked.units small (omega (arith, all, ap cost_of outcome_is))
 
     less_cost : (evaluation units : ℕ) → cost - (evaluation - units) ≤ cost
     less_cost evaluation units = omega arith
 
-    pub made-within : StaysWithin world (question_sought sought) (spent_on asked cost)
+    pub made-within : StaysWithin world (OfPort question) (spent_on asked cost)
     made-within =
-        stays world sought makefile (spent_on asked cost) placed
+        stays world question makefile (spent_on asked cost) placed
         (subst (λ n. (spent_on asked cost).units ≤ n) cost_all (less_cost (cost_of asked.evaluation.value.outcome) asked.units)) is.few

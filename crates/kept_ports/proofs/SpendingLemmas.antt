@@ -17,14 +17,12 @@ use Rattle.ports_index.specs.PathOutcomes.{cost_at}
 use Rattle.ports_index.specs.Pairs.{pairs_at}
 use Rattle.ports_index.specs.Spending.{no_spending, spent_together, ChecksFew}
 use Rattle.ports_index.specs.declared.spending.Spent.{Spent}
-use Rattle.ports_plain.specs.Resting.{Need, NoNeed, ValueNeed, RecordNeed, RootsNeed, IndexNeed, need_of, cost_for, rests_for}
-use Rattle.ports_plain.specs.Spending.{SpendsFor, is_of_index}
-use Rattle.ports_plain.specs.declared.questions.Question.{Question}
+use Rattle.ports_plain.specs.Spending.{SpendsFor}
+use Rattle.ports_plain.specs.declared.index_questions.IndexQuestion.{IndexQuestion}
+use Rattle.ports_plain.specs.declared.questions.Question.TheVariants.{OfIndex}
 use Rattle.index_keep.specs.Shown.{ShownRows, fresh}
-use Rattle.index_keep.specs.Turns.{RefreshView, refresh_at, spent_in_all, cost_left, count_left, evaluations_left, paths_left, IsWithinLeft, GoesOn, RenewsOne, EndsRefresh, TakesTurn, RefreshingPays, SpendsOnRows}
+use Rattle.index_keep.specs.Turns.{RefreshView, refresh_at, spent_in_all, cost_left, count_left, evaluations_left, paths_left, IsWithinLeft, GoesOn, RenewsOne, EndsRefresh, TakesTurn, RefreshingPays}
 use Rattle.index_keep.specs.declared.keeper.Refreshed.{Refreshed}
-use Rattle.kept_ports.specs.Evaluating.{is_of_port}
-use Rattle.kept_ports.specs.Spending.{SpendsOnKept}
 use Rattle.kept_ports.specs.Pending.{IsSpentOnIndex, StaysWithin}
 
 abbrev by_bytes : List ℕ → List ℕ → Ordering
@@ -173,56 +171,18 @@ index_stays law world refresh spent is = (
       (law world (needed_paths world)),
 )
 
-stays_by : MakefilesAreEvaluated → (world : World) (refresh : RefreshView) (need : Need) (spent : Spent) → is_of_index need ≡ true → IsSpentOnIndex world refresh spent
-    → (spent.units ≤ cost_for world need) × ChecksFew (length (rests_for world need)) spent.checks
-stays_by law world refresh NoNeed spent index is = absurd cc
-stays_by law world refresh (ValueNeed asked) spent index is = absurd cc
-stays_by law world refresh (RecordNeed path) spent index is = absurd cc
-stays_by law world refresh RootsNeed spent index is = index_stays law world refresh spent is
-stays_by law world refresh IndexNeed spent index is = index_stays law world refresh spent is
-
-pub stays : MakefilesAreEvaluated → (world : World) (refresh : RefreshView) (question : Question) (spent : Spent) → is_of_index (need_of question) ≡ true → IsSpentOnIndex world refresh spent
-    → StaysWithin world question spent
-stays law world refresh question spent index is =
-    let both = stays_by law world refresh (need_of question) spent index is in
+pub stays : MakefilesAreEvaluated → (world : World) (refresh : RefreshView) (question : IndexQuestion) (spent : Spent) → IsSpentOnIndex world refresh spent
+    → StaysWithin world (OfIndex question) spent
+stays law world refresh question spent is =
+    let both = index_stays law world refresh spent is in
     record { units = both.0; checks = both.1 }
 
-last_units : (most before more left all : ℕ) → before + left ≤ all + 0 → more ≤ min left most → min (before + more) most ≤ all
-last_units most before more left all is few = omega (arith, is, few)
-
-last_checks : (most before more left all pairs : ℕ) → before + 1028 * left ≤ 1028 * all + 0 → more ≤ 1028 * left → all ≡ pairs → min (before + more) most ≤ 1028 * pairs
-last_checks most before more left all pairs is few same = omega (arith, is, few, same)
-
--- what is read of the index takes no more than what was left of it
-index_ends : MakefilesAreEvaluated → (world : World) (refresh : RefreshView) (before spent : Spent) → IsSpentOnIndex world refresh before → refresh.begun ≡ no_spending
-    → SpendsOnRows world refresh spent
-    → ((spent_together before spent).units ≤ cost_over world (needed_paths world))
-    × ChecksFew (length (pairs_at world (needed_paths world))) (spent_together before spent).checks
-index_ends law world refresh before spent is nothing more =
-    let so_far : IsSpentOnIndex world (refresh_at refresh.rows no_spending) before = subst (λ begun. IsSpentOnIndex world (refresh_at refresh.rows begun) before) nothing is in (
-      last_units (2 ^ 64 - 1) before.units spent.units (cost_left world refresh.rows) (cost_over world (needed_paths world)) so_far.units more.within,
-      last_checks (2 ^ 64 - 1) before.checks spent.checks (evaluations_left world refresh.rows) (evaluations_over world (needed_paths world)) (length (pairs_at world (needed_paths world)))
-          so_far.checks more.few (law world (needed_paths world)),
-    )
-
-pub charged : MakefilesAreEvaluated → (world : World) (refresh : RefreshView) (need : Need) (before spent : Spent) → is_of_index need ≡ true → IsSpentOnIndex world refresh before
-    → refresh.begun ≡ no_spending → SpendsOnKept world refresh need spent → SpendsFor world need (spent_together before spent)
-charged law world refresh NoNeed before spent index is nothing more = absurd cc
-charged law world refresh (ValueNeed asked) before spent index is nothing more = absurd cc
-charged law world refresh (RecordNeed path) before spent index is nothing more = absurd cc
-charged law world refresh RootsNeed before spent index is nothing more =
-    let end = index_ends law world refresh before spent is nothing more in record { few = end.1; within = end.0 }
-charged law world refresh IndexNeed before spent index is nothing more =
-    let end = index_ends law world refresh before spent is nothing more in record { few = end.1; within = end.0 }
-
--- nothing is needed, so nothing is spent
-pub alone-charged : (world : World) (refresh : RefreshView) (need : Need) (spent : Spent) → is_of_index need ≡ false → is_of_port need ≡ false
-    → SpendsOnKept world refresh need spent → SpendsFor world need (spent_together no_spending spent)
-alone-charged world refresh NoNeed spent other none spends = ap (spent_together no_spending) spends
-alone-charged world refresh (ValueNeed asked) spent other none spends = absurd cc
-alone-charged world refresh (RecordNeed path) spent other none spends = absurd cc
-alone-charged world refresh RootsNeed spent other none spends = absurd cc
-alone-charged world refresh IndexNeed spent other none spends = absurd cc
+-- nothing is left of the index, so all is spent
+pub charged : MakefilesAreEvaluated → (world : World) (refresh : RefreshView) (question : IndexQuestion) (spent : Spent) → IsSpentOnIndex world refresh spent
+    → SpendsFor world (OfIndex question) spent
+charged law world refresh question spent is =
+    let both = index_stays law world refresh spent is in
+    record { few = both.1; within = both.0 }
 
 -- a turn of a refresh in a world that is the first one, which came to this
 pub turn_in : (first now : World) (units : ℕ) (old new : RefreshView) (turned one : Refreshed) → now ≡ first → turned ≡ one → TakesTurn now units old new turned
@@ -236,11 +196,3 @@ one_fewer after before is = omega (arith, is)
 -- a path fewer is left
 pub fewer : RefreshingPays → (world : World) (old new : RefreshView) (spent : Spent) → RenewsOne world old new spent → count_left world new.rows < count_left world old.rows
 fewer law world old new spent renewed = one_fewer (count_left world new.rows) (count_left world old.rows) (law.fewer world old new spent renewed)
-
--- nothing is spent after
-pub nothing_more : (spent more : Spent) → more ≡ no_spending → spent.units ≤ 2 ^ 64 - 1 → spent.checks ≤ 2 ^ 64 - 1 → spent ≡ spent_together spent more
-nothing_more spent more none units checks =
-    (λ i. record { units = whole spent.units units i; checks = whole spent.checks checks i }) ∙ ap (λ (s : Spent). spent_together spent s) (sym none)
-  where
-    whole : (n : ℕ) → n ≤ 2 ^ 64 - 1 → n ≡ min (n + 0) (2 ^ 64 - 1)
-    whole n small = omega (arith, small)

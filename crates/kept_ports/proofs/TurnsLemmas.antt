@@ -1,5 +1,5 @@
 -- How many turns may follow, and what one of them spends.
-use Rattle.std.proofs.Common.{◌≡◌, ◌≤◌, ◌<◌, ◌+◌, ◌-◌, ◌*◌, ℕ, zero, suc, true, false, List, [], length, Some, Result, Ok, Err, IfOk, sym, ap, subst, refl, arith}
+use Rattle.std.proofs.Common.{◌≡◌, ◌≤◌, ◌<◌, ◌+◌, ◌-◌, ◌*◌, ◌^◌, min, ℕ, zero, suc, true, false, List, [], length, Some, Result, Ok, Err, IfOk, sym, ap, subst, refl, arith}
 use Rattle.std.specs.Prelude.{option_map, option_to_list}
 use Rattle.mk_paths.specs.Place.{place}
 use Rattle.mk_paths.specs.World.{World}
@@ -15,31 +15,30 @@ use Rattle.ports_index.specs.Efforts.{cost_over, evaluations_over}
 use Rattle.ports_index.specs.Index.{needed_paths}
 use Rattle.ports_index.specs.PathLaws.{MakefilesAreEvaluated}
 use Rattle.ports_index.specs.PathOutcomes.{with_cost}
-use Rattle.ports_index.specs.Spending.{no_spending}
+use Rattle.ports_index.specs.Spending.{no_spending, spent_together}
 use Rattle.ports_index.specs.declared.spending.Spent.{Spent}
-use Rattle.ports_plain.specs.Resting.{Need, NoNeed, ValueNeed, RecordNeed, RootsNeed, IndexNeed, need_of, cost_for, cost_if_there, rests_for, record_cost_by, record_cost_of, value_cost_of}
-use Rattle.ports_plain.specs.Spending.{is_of_index}
+use Rattle.ports_plain.specs.Resting.{path_asked, cost_after, cost_for, cost_if_there, rests_for, record_cost_by, record_cost_of, value_cost_of}
+use Rattle.ports_plain.specs.declared.index_questions.IndexQuestion.{IndexQuestion}
+use Rattle.ports_plain.specs.declared.questions.Question.TheVariants.{OfPort, OfIndex}
 use Rattle.ports_plain.specs.declared.questions.Question.{Question}
-use Rattle.index_keep.specs.Asking.{IsShortTurn, IsUpFrom, SpendsTurn, spent_in, spent_on, total_of}
-use Rattle.index_keep.specs.Turns.{GoesOn, RefreshView, RefreshingPays, RenewsOne, SpendsOnRows, cost_left, evaluations_left, paths_left}
+use Rattle.eval_ask.specs.Asking.{IsShortTurn, IsUpFrom, SpendsTurn, spent_in, spent_on, total_of}
+use Rattle.index_keep.specs.Turns.{GoesOn, RefreshView, RefreshingPays, RenewsOne, cost_left, evaluations_left}
 use Rattle.index_keep.specs.Shown.{ShownRows}
-use Rattle.index_keep.specs.declared.asking.Asked.{Asked}
-use Rattle.index_keep.specs.declared.asking.AskTurned.{AskTurned}
-use Rattle.index_keep.specs.declared.asking.AskTurned.TheVariants.{More, Done}
-use Rattle.kept_ports.specs.Evaluating.{HasLooked, cost_sought, is_of_port, path_sought, question_sought}
+use Rattle.eval_ask.specs.declared.asking.Asked.{Asked}
+use Rattle.eval_ask.specs.declared.asking.AskTurned.{AskTurned}
+use Rattle.eval_ask.specs.declared.asking.AskTurned.TheVariants.{More, Done}
+use Rattle.kept_ports.specs.Evaluating.{HasLooked}
 use Rattle.kept_ports.specs.Pending.{StaysWithin}
-use Rattle.kept_ports.specs.Spending.{SpendsOnKept, spent_between}
-use Rattle.kept_ports.specs.TurnsLeft.{IsQuestionTurn, LeavesFewer, open_turns, turns_after, turns_of_refresh}
-use Rattle.kept_ports.specs.declared.pending.CallTurned.{CallTurned}
-use Rattle.kept_ports.specs.declared.pending.CallTurned.TheVariants as turned
-use Rattle.kept_ports.specs.declared.sought.Sought.{Sought}
-use Rattle.kept_ports.specs.declared.sought.Sought.TheVariants.{Value, Record}
+use Rattle.kept_ports.specs.TurnsLeft.{open_turns, turns_after, turns_of_refresh}
+use Rattle.ports_plain.specs.declared.port_questions.PortQuestion.{PortQuestion}
+use Rattle.ports_plain.specs.declared.port_questions.PortQuestion.TheVariants.{Variable, Record}
 use Rattle.kept_ports.proofs.PortLemmas.{pair_with}
 use Rattle.kept_ports.proofs.SpendingLemmas.{left_costs_no_more, left_takes_no_more}
 
-pub if_ok : {A E : Type 0} {P Q : A → Type 0} (result : Result A E) → ((value : A) → P value → Q value) → IfOk result P → IfOk result Q
-if_ok (Ok value) f p = f value p
-if_ok (Err fault) f p = tt
+-- two facts of what went well make a third
+pub both_ok : {A E : Type 0} {P Q R : A → Type 0} (result : Result A E) → ((value : A) → P value → Q value → R value) → IfOk result P → IfOk result Q → IfOk result R
+both_ok (Ok value) f p q = f value p q
+both_ok (Err fault) f p q = tt
 
 -- ---- turns of an evaluation
 
@@ -52,24 +51,25 @@ open_less evaluations cost before after more within = omega (arith, more, within
 pub fewer-after : (world : World) (question : Question) (before after : Spent) → total_of before + 1000 ≤ total_of after → StaysWithin world question after
     → turns_after world question (total_of after) < turns_after world question (total_of before)
 fewer-after world question before after more within =
-    open_less (length (rests_for world (need_of question))) (cost_for world (need_of question)) (total_of before) (total_of after) more (omega (arith, within.units, within.checks))
+    open_less (length (rests_for world question)) (cost_for world question) (total_of before) (total_of after) more (omega (arith, within.units, within.checks))
 
--- what was spent in a turn that may not act any more
-pub all-acted : (before after spent : Spent) → IsUpFrom before after → spent ≡ spent_between before after → 1000 ≤ total_of spent → total_of before + 1000 ≤ total_of after
-all-acted before after spent up is enough =
-    omega (arith, up.units, up.checks, ap (λ (s : Spent). s.units) is, ap (λ (s : Spent). s.checks) is, enough)
+-- a turn that has no units left
+pub all-acted : (before after : Spent) (left : ℕ) → IsUpFrom before after → left ≡ 1000 - ((after.units - before.units) + (after.checks - before.checks)) → left ≡ 0
+    → total_of before + 1000 ≤ total_of after
+all-acted before after left up is none = omega (arith, up.units, up.checks, is, none)
 
--- what was spent in a turn, by what was spent after it
-pub few-between : (before after spent : Spent) (most : ℕ) → IsUpFrom before after → spent ≡ spent_between before after → total_of after ≤ total_of before + most → total_of spent ≤ most
-few-between before after spent most up is few = omega (arith, up.units, up.checks, ap (λ (s : Spent). s.units) is, ap (λ (s : Spent). s.checks) is, few)
+-- a turn that has some
+pub may-act : (before after : Spent) (left : ℕ) → IsUpFrom before after → left ≡ 1000 - ((after.units - before.units) + (after.checks - before.checks)) → 1 ≤ left
+    → total_of after < total_of before + 1000
+may-act before after left up is some = omega (arith, up.units, up.checks, is, some)
 
 one_left : (cost spent : ℕ) → 0 < open_turns 1 cost spent
 one_left cost spent = omega arith
 
--- the makefile of what is sought is there
-pub some-left : (world : World) (sought : Sought) (makefile : List ℕ) (spent : ℕ) → place world (path_sought sought).directory ≡ Some makefile
-    → 0 < turns_after world (question_sought sought) spent
-some-left world (Value asked) makefile spent placed =
+-- the makefile of what is asked is there
+pub some-left : (world : World) (question : PortQuestion) (makefile : List ℕ) (spent : ℕ) → place world (path_asked question).directory ≡ Some makefile
+    → 0 < turns_after world (OfPort question) spent
+some-left world (Variable asked) makefile spent placed =
     subst (λ p. 0 < open_turns (length (option_to_list (option_map (pair_with asked.path) p))) (cost_if_there (option_map (value_cost_of world asked) p)) spent) (sym placed)
     (one_left (value_cost_of world asked makefile) spent)
 some-left world (Record path) makefile spent placed =
@@ -78,21 +78,22 @@ some-left world (Record path) makefile spent placed =
 
 -- ---- a turn of an evaluation, after a look in the same turn
 
-module _ (before : Spent) (old new : AskTurned) (checked units : ℕ) (looked : HasLooked before old) (up : IsUpFrom before (spent_in old))
-    (checked_is : checked ≡ (spent_in old).checks - before.checks) (units_is : units ≡ 1000 - checked) where
+module _ (before : Spent) (old new : AskTurned) (units : ℕ) (looked : HasLooked before old) (up : IsUpFrom before (spent_in old))
+    (units_is : units ≡ 1000 - (((spent_in old).units - before.units) + ((spent_in old).checks - before.checks))) where
   enough_by : (new : AskTurned) → SpendsTurn units (spent_in old) new → SpendsTurn 1000 before new
   enough_by (More ask) spends = (
     record { units = omega (arith, looked.units, spends.0.units); checks = omega (arith, up.checks, spends.0.checks) },
-    omega (arith, looked.units, up.checks, checked_is, units_is, spends.1, spends.0.units, spends.0.checks),
+    omega (arith, looked.units, up.checks, units_is, spends.1, spends.0.units, spends.0.checks),
   )
   enough_by (Done asked) spends = tt
 
   pub enough-looked : SpendsTurn units (spent_in old) new → SpendsTurn 1000 before new
   enough-looked spends = enough_by new spends
 
-  short_by : (units : ℕ) (after : Spent) → units ≡ 1000 - checked → IsShortTurn units (spent_in old) after → total_of after ≤ total_of before + 51000
+  short_by : (units : ℕ) (after : Spent) → units ≡ 1000 - (((spent_in old).units - before.units) + ((spent_in old).checks - before.checks)) → IsShortTurn units (spent_in old) after
+      → total_of after ≤ total_of before + 51000
   short_by zero after is short = omega (arith, looked.units, looked.checks, short.none refl)
-  short_by (suc units) after is short = omega (arith, looked.units, up.checks, checked_is, is, short.few)
+  short_by (suc units) after is short = omega (arith, looked.units, up.checks, is, short.few)
 
   pub short-looked : IsShortTurn units (spent_in old) (spent_in new) → total_of (spent_in new) ≤ total_of before + 51000
   short-looked short = short_by units (spent_in new) units_is short
@@ -107,20 +108,18 @@ most_by kinds.Port cost more few = most_with cost more few
 most_by kinds.List cost more few = omega arith
 most_by kinds.Other cost more few = omega arith
 
--- what is sought costs at most 50,000 units more than the evaluation
-pub most-sought : CostFew → RecordsCostFew → (sought : Sought) (makefile : List ℕ) (outcome : Result Evaluated Failed)
-    → cost_sought sought makefile outcome ≤ cost_of outcome + 50000
-most-sought few records (Value asked) makefile (Ok evaluated) = most_with evaluated.cost (value_units (value_of evaluated.env makefile asked.name)) (few.values evaluated.env makefile asked.name)
-most-sought few records (Value asked) makefile (Err failed) = omega arith
-most-sought few records (Record path) makefile (Ok evaluated) = most_by evaluated.kind evaluated.cost (record_units (record_of evaluated.env makefile)) (records evaluated.env makefile)
-most-sought few records (Record path) makefile (Err failed) = omega arith
+-- what is asked costs at most 50,000 units more than the evaluation
+pub most-asked : CostFew → RecordsCostFew → (question : PortQuestion) (makefile : List ℕ) (outcome : Result Evaluated Failed)
+    → cost_after question makefile outcome ≤ cost_of outcome + 50000
+most-asked few records (Variable asked) makefile (Ok evaluated) = most_with evaluated.cost (value_units (value_of evaluated.env makefile asked.name)) (few.values evaluated.env makefile asked.name)
+most-asked few records (Variable asked) makefile (Err failed) = omega arith
+most-asked few records (Record path) makefile (Ok evaluated) = most_by evaluated.kind evaluated.cost (record_units (record_of evaluated.env makefile)) (records evaluated.env makefile)
+most-asked few records (Record path) makefile (Err failed) = omega arith
 
 -- the same in the turn that makes it, which had spent fewer than 1,000 before
-pub few-made : (before : Spent) (asked : Asked) (cost : ℕ) (middle spent : Spent) → cost ≤ cost_of asked.evaluation.value.outcome + 50000
-    → middle ≡ spent_between before (spent_in (Done asked)) → total_of middle < 1000 → IsUpFrom before (spent_in (Done asked))
-    → spent ≡ spent_between before (spent_on asked cost) → total_of spent ≤ 51000
-few-made before asked cost middle spent most is few up end =
-    omega (arith, most, ap (λ (s : Spent). s.units) is, ap (λ (s : Spent). s.checks) is, few, up.units, up.checks, ap (λ (s : Spent). s.units) end, ap (λ (s : Spent). s.checks) end)
+pub few-made : (before : Spent) (asked : Asked) (cost : ℕ) → cost ≤ cost_of asked.evaluation.value.outcome + 50000
+    → total_of (spent_in (Done asked)) < total_of before + 1000 → total_of (spent_on asked cost) ≤ total_of before + 51000
+few-made before asked cost most few = omega (arith, most, few)
 
 -- ---- turns of a refresh
 
@@ -171,64 +170,21 @@ goes-less world old new spent goes =
 open_most : (count all cost whole pairs : ℕ) → count ≤ all → cost ≤ whole → all ≡ pairs → open_turns count cost 0 ≤ open_turns pairs whole 0
 open_most count all cost whole pairs few less same = omega (arith, few, less, same)
 
-begins_by : MakefilesAreEvaluated → (world : World) (rows : ShownRows) (need : Need) → is_of_index need ≡ true
-    → open_turns (evaluations_left world rows) (cost_left world rows) 0 ≤ open_turns (length (rests_for world need)) (cost_for world need) 0
-begins_by law world rows NoNeed index = absurd cc
-begins_by law world rows (ValueNeed asked) index = absurd cc
-begins_by law world rows (RecordNeed path) index = absurd cc
-begins_by law world rows RootsNeed index =
-    open_most (evaluations_left world rows) (evaluations_over world (needed_paths world)) (cost_left world rows) (cost_over world (needed_paths world)) _
-    (left_takes_no_more world rows) (left_costs_no_more world rows) (law world (needed_paths world))
-begins_by law world rows IndexNeed index =
-    open_most (evaluations_left world rows) (evaluations_over world (needed_paths world)) (cost_left world rows) (cost_over world (needed_paths world)) _
-    (left_takes_no_more world rows) (left_costs_no_more world rows) (law world (needed_paths world))
-
 -- what is left of a refresh takes no more turns than the whole index
-pub begins-few : MakefilesAreEvaluated → (world : World) (refresh : RefreshView) (question : Question) → is_of_index (need_of question) ≡ true → refresh.begun ≡ no_spending
-    → turns_of_refresh world refresh ≤ turns_after world question 0
-begins-few law world refresh question index nothing =
-    subst (λ (begun : Spent). open_turns (evaluations_left world refresh.rows) (cost_left world refresh.rows) (total_of begun) ≤ turns_after world question 0) (sym nothing)
-    (begins_by law world refresh.rows (need_of question) index)
+pub begins-few : MakefilesAreEvaluated → (world : World) (refresh : RefreshView) (question : IndexQuestion) → refresh.begun ≡ no_spending
+    → turns_of_refresh world refresh ≤ turns_after world (OfIndex question) 0
+begins-few law world refresh question nothing =
+    subst (λ (begun : Spent). open_turns (evaluations_left world refresh.rows) (cost_left world refresh.rows) (total_of begun) ≤ turns_after world (OfIndex question) 0) (sym nothing)
+    (open_most (evaluations_left world refresh.rows) (evaluations_over world (needed_paths world)) (cost_left world refresh.rows) (cost_over world (needed_paths world)) _
+    (left_takes_no_more world refresh.rows) (left_costs_no_more world refresh.rows) (law world (needed_paths world)))
 
-fewer_still : (world : World) (refresh : RefreshView) (question : Question) (turns more : ℕ) (came : CallTurned) → turns ≤ more
-    → LeavesFewer world refresh question turns came → LeavesFewer world refresh question more came
-fewer_still world refresh question turns more (turned.More under_way spent) up fewer = omega (arith, up, fewer)
-fewer_still world refresh question turns more (turned.Done prepared spent) up fewer = tt
+-- so much more is spent in a turn
+pub short-together : (before spent : Spent) → total_of spent ≤ 51000 → total_of (spent_together before spent) ≤ total_of before + 51000
+short-together before spent few = omega (arith, few)
 
--- the same turn, before which more could come
-pub sooner : (world : World) (refresh : RefreshView) (question : Question) (before : Spent) (turns more : ℕ) (came : CallTurned) → turns ≤ more
-    → IsQuestionTurn world refresh question before turns came → IsQuestionTurn world refresh question before more came
-sooner world refresh question before turns more came up turn = record {
-  turned = turn.turned;
-  fewer = fewer_still world refresh question turns more came up turn.fewer;
-  short = turn.short;
-}
-
--- ---- what the answer spends
-
-rows_few : (world : World) (refresh : RefreshView) (spent : Spent) → paths_left world refresh.rows ≡ [] → SpendsOnRows world refresh spent → total_of spent ≤ 51000
-rows_few world refresh spent none spends =
-    let free : cost_left world refresh.rows ≡ 0 = ap (cost_over world) none in
-    let nothing : evaluations_left world refresh.rows ≡ 0 = ap (evaluations_over world) none in
-    omega (arith, free, nothing, spends.within, spends.few)
-
--- nothing was left to be refreshed
-pub index-few : (world : World) (refresh : RefreshView) (need : Need) (spent : Spent) → is_of_index need ≡ true → paths_left world refresh.rows ≡ []
-    → SpendsOnKept world refresh need spent → total_of spent ≤ 51000
-index-few world refresh NoNeed spent index none spends = absurd cc
-index-few world refresh (ValueNeed asked) spent index none spends = absurd cc
-index-few world refresh (RecordNeed path) spent index none spends = absurd cc
-index-few world refresh RootsNeed spent index none spends = rows_few world refresh spent none spends
-index-few world refresh IndexNeed spent index none spends = rows_few world refresh spent none spends
-
-pub nothing-few : (spent : Spent) → spent ≡ no_spending → total_of spent ≤ 51000
-nothing-few spent is = omega (arith, ap (λ (s : Spent). s.units) is, ap (λ (s : Spent). s.checks) is)
-
--- nothing is needed
-pub alone-few : (world : World) (refresh : RefreshView) (need : Need) (spent : Spent) → is_of_index need ≡ false → is_of_port need ≡ false
-    → SpendsOnKept world refresh need spent → total_of spent ≤ 51000
-alone-few world refresh NoNeed spent other none spends = nothing-few spent spends
-alone-few world refresh (ValueNeed asked) spent other none spends = absurd cc
-alone-few world refresh (RecordNeed path) spent other none spends = absurd cc
-alone-few world refresh RootsNeed spent other none spends = absurd cc
-alone-few world refresh IndexNeed spent other none spends = absurd cc
+-- and nothing is taken back
+pub up-together : (before spent : Spent) → before.units ≤ 2 ^ 64 - 1 → before.checks ≤ 2 ^ 64 - 1 → IsUpFrom before (spent_together before spent)
+up-together before spent units checks = record { units = up before.units spent.units units; checks = up before.checks spent.checks checks }
+  where
+    up : (n more : ℕ) → n ≤ 2 ^ 64 - 1 → n ≤ min (n + more) (2 ^ 64 - 1)
+    up n more small = omega (arith, small)

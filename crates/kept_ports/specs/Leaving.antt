@@ -1,5 +1,5 @@
 -- What work leaves of ports whose index is kept.
-use Rattle.std.specs.Prelude.{◌≡◌, refl}
+use Rattle.std.specs.Prelude.{◌≡◌}
 use Rattle.std.specs.Borrow.{MutBor}
 use Rattle.mk_paths.specs.World.{World}
 use Rattle.mk_paths.specs.FilesView.{FilesView, world_of}
@@ -8,7 +8,6 @@ use Rattle.index_store.specs.declared.path_rows.PathRows as rows
 use Rattle.read_trace.specs.Recording.{view_of}
 use Rattle.eval_cache.specs.Cache.{CacheValue}
 use Rattle.eval_cache.specs.Using.{UsesCache}
-use Rattle.eval_cache.proofs.UseLemmas.{UsesCache-none}
 use Rattle.index_keep.specs.declared.keeper.Keeper.{Keeper}
 use Rattle.kept_ports.specs.declared.keeping.KeptPorts.{KeptPorts}
 
@@ -23,9 +22,6 @@ module _ {F R : Type 0} {files : names.Ghosts F} {entries : rows.Ghosts R} (view
     pub keeper : new.keeper.ghost_name ≡ old.keeper.ghost_name
     pub cache : new.cache.ghost_name ≡ old.cache.ghost_name
     pub uses : UsesCache old.cache.now new.cache.now
-
-  pub LeavesPorts-all : (ports : KeptPorts F R files entries) → LeavesPorts ports ports
-  LeavesPorts-all ports = record { world = refl; keeper = refl; cache = refl; uses = UsesCache-none ports.cache.now }
 
 -- the ports have these references to a keeper and to a cache, and both are as they were lent
 pub record IsOver {F R : Type 0} {files : names.Ghosts F} {entries : rows.Ghosts R}

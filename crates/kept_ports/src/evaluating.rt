@@ -11,11 +11,11 @@ ghost use Rattle.eval_cache.specs.Keys.{Key};
 ghost use Rattle.eval_cache.specs.Using.{UsesCache};
 ghost use Rattle.eval_cache.specs.Right.{evaluation_of};
 ghost use Rattle.ports_index.specs.Spending.{no_spending};
-ghost use Rattle.index_keep.specs.Asking.{spent_in, CanGoOn, HasComeTo, IsUpFrom, IsShortTurn, SpendsTurn};
+ghost use Rattle.eval_ask.specs.Asking.{spent_in, AsksOn, CanGoOn, HasComeTo};
 ghost use Rattle.kept_ports.specs.Evaluating.{IsPortAsk, BeginsPortAsk, HasLooked};
 
+use eval_ask::{Ask, AskTurned};
 use eval_cache::EvalCache;
-use index_keep::{Ask, AskTurned};
 use mk_files::Files;
 use mk_paths::{FilesFault, Name, Settings, find};
 use pkg_path::PkgPath;
@@ -25,7 +25,7 @@ use std::alloc::Global;
 
 /// The makefile of a port, whose evaluation is under way or at its end.
 #[derive(Drop)]
-pub struct PortAsk {
+pub(crate) struct PortAsk {
     pub(crate) makefile: Name,
     pub(crate) came: AskTurned,
 }
@@ -67,9 +67,7 @@ impl PortAsk {
         ensures goes_on { (settings : Settings) (path : PathValue)
             → IsPortAsk ((view_of F.view files.old).files, settings) path self
             → IfOk result (IsPortAsk ((view_of F.view files.old).files, settings) path) }
-        ensures up { IfOk result (λ ask. IsUpFrom (spent_in self.came) (spent_in ask.came)) }
-        ensures enough { IfOk result (λ ask. SpendsTurn units (spent_in self.came) ask.came) }
-        ensures short { IfOk result (λ ask. IsShortTurn units (spent_in self.came) (spent_in ask.came)) }
+        ensures turns { IfOk result (λ ask. AsksOn (view_of F.view files.old).files units self.came ask.came) }
         ensures uses { UsesCache cache.old cache.new }
         ensures leaves { LeavesMap (result_err result) (view_of F.view files.old) (view_of F.view files.new) }
     {

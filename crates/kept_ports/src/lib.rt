@@ -1,15 +1,10 @@
-//! What the answers to questions need of a tenant's world: the index from rows that are kept, and evaluations
-//! from a cache that tenants may share, or else from its files.
+//! A question over a world whose index is kept, turn by turn. Evaluations come from a cache where its traces agree with
+//! the files.
 #![tactic(auto)]
 
-mod calling;
 mod evaluating;
-mod finding;
 mod keeping;
-mod pending;
-mod sought;
 mod turning;
+mod under_way;
 
-pub use calling::PlainCall;
-pub use evaluating::PortAsk;
-pub use pending::{CallTurned, Stage, UnderWay};
+pub use under_way::{Turned, UnderWay};

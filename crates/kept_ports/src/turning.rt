@@ -1,150 +1,66 @@
-//! The turns of a request over ports whose index is kept.
-ghost use Rattle.std.specs.Prelude.{◌≡◌, ◌≤◌, ◌<◌, ◌+◌, ◌↔◌, IfOk, IfSome, IsTrue, None, true, false};
-ghost use Rattle.index_keep.specs.Keeping.{refresh_of};
+//! The turns for a question over ports whose index is kept.
+ghost use Rattle.std.specs.Prelude.{◌≡◌, ◌≤◌, ◌+◌, IfOk, IfSome, Ok, None, true, false};
+ghost use Rattle.index_keep.specs.Keeping.{refresh_of, IsDone, TurnsKeeper};
 ghost use Rattle.mk_paths.specs.World.{World};
 ghost use Rattle.ports_index.specs.Spending.{no_spending};
-ghost use Rattle.ports_plain.specs.Resting.{need_of};
-ghost use Rattle.ports_plain.specs.Spending.{is_of_index};
-ghost use Rattle.index_keep.specs.Turns.{RefreshView, TakesTurn, StaysShort};
-ghost use Rattle.index_keep.specs.Asking.{spent_in, total_of, IsUpFrom, SpendsTurn};
-ghost use Rattle.kept_ports.specs.Evaluating.{IsPortAsk, HasLooked, is_of_port, path_sought, question_sought};
+ghost use Rattle.ports_plain.specs.Resting.{path_asked};
+ghost use Rattle.index_keep.specs.Turns.{RefreshView};
+ghost use Rattle.eval_ask.specs.Asking.{spent_in, total_of, IsUpFrom, SpendsTurn};
+ghost use Rattle.kept_ports.specs.Evaluating.{IsPortAsk, HasBegun, HasLooked};
 ghost use Rattle.kept_ports.specs.Leaving.{world_at, LeavesPorts};
-ghost use Rattle.kept_ports.specs.Pending.{IsPending, IsStage, IsForQuestion, IsSpentOnIndex};
-ghost use Rattle.kept_ports.specs.Pending.{RefreshesOn, spent_before};
-ghost use Rattle.kept_ports.specs.TurnsLeft.{IsQuestionTurn, RefreshesFewer};
-ghost use Rattle.kept_ports.specs.TurnsLeft.{turns_after, turns_at, turns_before, turns_of_refresh};
+ghost use Rattle.kept_ports.specs.Pending.{IsPending, IsSpentOnIndex, RefreshesOn, is_of_record};
+ghost use Rattle.kept_ports.specs.TurnsLeft.{IsQuestionTurn, TurnsOn, RefreshesFewer, TellsNoRecord, TellsNoRecordAtOnce};
+ghost use Rattle.kept_ports.specs.TurnsLeft.{turns_after, turns_of_refresh};
+ghost use Rattle.ports_plain.specs.declared.questions.Question.TheVariants.{OfPort, OfIndex};
 
 use crate::evaluating::PortAsk;
 use crate::keeping::KeptPorts;
-use crate::pending::{CallTurned, Stage, UnderWay, spent_in_turn};
-use crate::sought::Sought;
-use index_keep::{AskTurned, Refreshed, asking_spends, refreshing_pays};
+use crate::under_way::{Stage, Turned, UnderWay};
+use eval_ask::{AskTurned, asking_spends, left_of};
+use index_keep::{Refreshed, refreshing_pays};
 use index_store::PathRows;
 use mk_eval::evaluations_cost_few;
 use mk_files::Listing;
 use mk_paths::FilesFault;
 use port_rules::records_cost_few;
-use ports_http::Reply;
 use ports_index::{Spent, makefiles_are_evaluated};
-use ports_plain::{Prepared, Question, answer_question};
+use ports_plain::{IndexQuestion, PortQuestion, no_port};
 use std::alloc::{AllocError, Global};
 
 /// A turn acts while it has spent fewer than so many units, checked answers among them.
 const TURN_UNITS: u64 = 1_000;
 
 impl<F: Listing + Drop, R: PathRows + Drop> KeptPorts<'_, F, R> {
-    /// A turn for a question, for which this is under way.
-    pub(crate) fn turn(
-        &mut self,
-        alloc: Global,
-        question: Question,
-        under_way: Option<UnderWay>,
-    ) -> Result<CallTurned, FilesFault>
-        requires { IfSome under_way (IsPending (world_at F.view self.old)
-            (refresh_of R.entries self.old.keeper.now) question) }
-        ensures turn { IfOk result (IsQuestionTurn (world_at F.view self.old)
-            (refresh_of R.entries self.new.keeper.now) question (spent_before under_way)
-            (turns_before (world_at F.view self.old) (refresh_of R.entries self.old.keeper.now)
-            question under_way)) }
+    /// A turn for the question for which this is under way.
+    pub(crate) fn turn(&mut self, alloc: Global, under_way: UnderWay) -> Result<Turned, FilesFault>
+        requires { IsPending (world_at F.view self.old) (refresh_of R.entries self.old.keeper.now)
+            under_way }
+        ensures turn { IfOk result (TurnsOn (world_at F.view self.old)
+            (refresh_of R.entries self.old.keeper.now) (refresh_of R.entries self.new.keeper.now)
+            under_way) }
         ensures leaves { LeavesPorts F.view self.old self.new }
     {
-        match under_way {
-            Some(UnderWay { stage, spent }) => self.later(alloc, question, stage, spent),
-            None => self.begin(alloc, question),
-        }
-    }
-
-    // A later turn for a question that is as far as this, and on which so much was spent.
-    fn later(
-        &mut self,
-        alloc: Global,
-        question: Question,
-        stage: Stage,
-        before: Spent,
-    ) -> Result<CallTurned, FilesFault>
-        requires { IsStage (world_at F.view self.old) (refresh_of R.entries self.old.keeper.now)
-            question before stage }
-        ensures turn { IfOk result (IsQuestionTurn (world_at F.view self.old)
-            (refresh_of R.entries self.new.keeper.now) question before
-            (turns_at (world_at F.view self.old) (refresh_of R.entries self.old.keeper.now)
-            question before stage)) }
-        ensures leaves { LeavesPorts F.view self.old self.new }
-    {
+        let UnderWay { stage, spent } = under_way;
         match stage {
-            Stage::Evaluating(ask) => self.go_on(alloc, question, ask),
-            Stage::Refreshing => self.refresh_on(alloc, question, before),
-            Stage::Ready(prepared) => Ok(CallTurned::Done(prepared, Spent::nothing())),
+            Stage::Begun(question) => self.begin(alloc, question),
+            Stage::Evaluating(question, ask) => self.evaluate_on(alloc, question, ask, spent),
+            Stage::Ready(_question, reply) => Ok(Turned::Done(reply, spent)),
+            Stage::Refreshing(question) => self.refresh_on(alloc, question, spent),
         }
     }
 
-    // The first turn for a question.
-    fn begin(&mut self, alloc: Global, question: Question) -> Result<CallTurned, FilesFault>
-        ensures turn { IfOk result (IsQuestionTurn (world_at F.view self.old)
-            (refresh_of R.entries self.new.keeper.now) question no_spending
-            (turns_after (world_at F.view self.old) question 0)) }
-        ensures leaves { LeavesPorts F.view self.old self.new }
-    {
-        match question {
-            Question::Variable(asked) => self.begin_port(alloc, &Sought::Value(asked)),
-            Question::Port(path) => self.begin_port(alloc, &Sought::Record(path)),
-            other => self.begin_other(alloc, other),
-        }
-    }
-
-    // The first turn for a question that no evaluation of a single makefile answers.
-    fn begin_other(&mut self, alloc: Global, question: Question) -> Result<CallTurned, FilesFault>
-        requires { is_of_port (need_of question) ≡ false }
-        ensures turn { IfOk result (IsQuestionTurn (world_at F.view self.old)
-            (refresh_of R.entries self.new.keeper.now) question no_spending
-            (turns_after (world_at F.view self.old) question 0)) }
-        ensures leaves { LeavesPorts F.view self.old self.new }
-    {
-        makefiles_are_evaluated();
-        if needs_index(&question) {
-            self.keeper.stop(alloc); // what was left of a request that failed
-            return self.refresh_on(alloc, question, Spent::nothing());
-        }
-        let (prepared, spent) = answer_question(alloc, self, question)?;
-        Ok(CallTurned::Done(prepared, spent))
-    }
-
-    // The first turn for what is taken from the evaluation of a port's makefile.
-    fn begin_port(&mut self, alloc: Global, sought: &Sought) -> Result<CallTurned, FilesFault>
+    // The first turn for a question about a port.
+    fn begin(&mut self, alloc: Global, question: PortQuestion) -> Result<Turned, FilesFault>
         ensures turn { (refresh : RefreshView) → IfOk result (IsQuestionTurn
-            (world_at F.view self.old) refresh (question_sought sought.now) no_spending
-            (turns_after (world_at F.view self.old) (question_sought sought.now) 0)) }
+            (world_at F.view self.old) refresh (OfPort question) no_spending
+            (turns_after (world_at F.view self.old) (OfPort question) 0)) }
+        ensures later { IfOk result (TellsNoRecordAtOnce (world_at F.view self.old) question) }
         ensures leaves { LeavesPorts F.view self.old self.new }
     {
-        let path = sought.path();
+        let path = question.path();
         match PortAsk::begin(alloc, self.cache, self.files, self.settings, path)? {
-            Some(ask) => self.evaluate_on(alloc, sought, ask, Spent::nothing()),
-            None => Ok(CallTurned::Done(answer_alone(sought.no_port(alloc)?), Spent::nothing())),
-        }
-    }
-
-    // A later turn for a question that an evaluation of a port's makefile answers.
-    fn go_on(
-        &mut self,
-        alloc: Global,
-        question: Question,
-        ask: PortAsk,
-    ) -> Result<CallTurned, FilesFault>
-        requires { IsForQuestion (world_at F.view self.old) question ask }
-        ensures turn { (refresh : RefreshView) → IfOk result (IsQuestionTurn
-            (world_at F.view self.old) refresh question (spent_in ask.came)
-            (turns_after (world_at F.view self.old) question (total_of (spent_in ask.came)))) }
-        ensures leaves { LeavesPorts F.view self.old self.new }
-    {
-        let before = ask.spent();
-        match question {
-            Question::Variable(asked) => self.evaluate_on(
-                alloc,
-                &Sought::Value(asked),
-                ask,
-                before,
-            ),
-            Question::Port(path) => self.evaluate_on(alloc, &Sought::Record(path), ask, before),
-            _ => unreachable!(), // no other question has an evaluation under way
+            Some(ask) => self.evaluate_on(alloc, question, ask, Spent::nothing()),
+            None => Ok(Turned::Done(no_port(alloc)?, Spent::nothing())),
         }
     }
 
@@ -152,22 +68,22 @@ impl<F: Listing + Drop, R: PathRows + Drop> KeptPorts<'_, F, R> {
     fn evaluate_on(
         &mut self,
         alloc: Global,
-        sought: &Sought,
+        question: PortQuestion,
         ask: PortAsk,
         before: Spent,
-    ) -> Result<CallTurned, FilesFault>
-        requires ask { IsPortAsk (world_at F.view self.old) (path_sought sought.now) ask }
+    ) -> Result<Turned, FilesFault>
+        requires ask { IsPortAsk (world_at F.view self.old) (path_asked question) ask }
         requires up { IsUpFrom before (spent_in ask.came) }
         requires looked { HasLooked before ask.came }
         ensures turn { (refresh : RefreshView) → IfOk result (IsQuestionTurn
-            (world_at F.view self.old) refresh (question_sought sought.now) before
-            (turns_after (world_at F.view self.old) (question_sought sought.now) (total_of before))) }
+            (world_at F.view self.old) refresh (OfPort question) before
+            (turns_after (world_at F.view self.old) (OfPort question) (total_of before))) }
+        ensures later { IfOk result (TellsNoRecord question) }
         ensures leaves { LeavesPorts F.view self.old self.new }
     {
-        let checked = spent_in_turn(before, ask.spent()).checks;
-        let units = TURN_UNITS.saturating_sub(checked);
+        let units = left_of(TURN_UNITS, before, ask.spent());
         let ask = ask.turn(alloc, self.cache, self.files, units)?;
-        Ok(ask.end_turn(alloc, sought, before)?)
+        Ok(ask.end_turn(alloc, question, before)?)
     }
 
     // Goes on with the refresh of the index. Once it is done, the question is answered. So much was spent before this
@@ -175,29 +91,25 @@ impl<F: Listing + Drop, R: PathRows + Drop> KeptPorts<'_, F, R> {
     fn refresh_on(
         &mut self,
         alloc: Global,
-        question: Question,
+        question: IndexQuestion,
         before: Spent,
-    ) -> Result<CallTurned, FilesFault>
-        requires index { is_of_index (need_of question) ≡ true }
-        requires spent { IsSpentOnIndex (world_at F.view self.old)
+    ) -> Result<Turned, FilesFault>
+        requires { IsSpentOnIndex (world_at F.view self.old)
             (refresh_of R.entries self.old.keeper.now) before }
         ensures turn { IfOk result (IsQuestionTurn (world_at F.view self.old)
-            (refresh_of R.entries self.new.keeper.now) question before
+            (refresh_of R.entries self.new.keeper.now) (OfIndex question) before
             (turns_of_refresh (world_at F.view self.old) (refresh_of R.entries self.old.keeper.now))) }
         ensures leaves { LeavesPorts F.view self.old self.new }
     {
         makefiles_are_evaluated();
         match self.refresh(alloc)? {
-            Some(spent) => {
-                let under_way = UnderWay {
-                    stage: Stage::Refreshing,
-                    spent: before.and(spent),
-                };
-                Ok(CallTurned::More(under_way, spent))
-            }
+            Some(spent) => Ok(Turned::More(UnderWay {
+                stage: Stage::Refreshing(question),
+                spent: before.and(spent),
+            })),
             None => {
-                let (prepared, spent) = answer_question(alloc, self, question)?;
-                Ok(CallTurned::Done(prepared, spent))
+                let reply = question.reply(alloc, self.keeper.index())?;
+                Ok(Turned::Done(reply, before))
             }
         }
     }
@@ -213,6 +125,7 @@ impl<F: Listing + Drop, R: PathRows + Drop> KeptPorts<'_, F, R> {
             (refresh_of R.entries self.old.keeper.now)
             (refresh_of R.entries self.new.keeper.now)) }
         ensures short { IfOk result (λ spent. IfSome spent (λ some. total_of some ≤ 51000)) }
+        ensures done { result ≡ Ok None → IsDone self.new.keeper.now }
         ensures leaves { LeavesPorts F.view self.old self.new }
     {
         refreshing_pays();
@@ -231,10 +144,8 @@ impl<F: Listing + Drop, R: PathRows + Drop> KeptPorts<'_, F, R> {
 
     // Takes a turn of the refresh of the index.
     fn refresh_once(&mut self, alloc: Global) -> Result<Refreshed, FilesFault>
-        ensures turn { IfOk result (TakesTurn (world_at F.view self.old) 1000
-            (refresh_of R.entries self.old.keeper.now)
-            (refresh_of R.entries self.new.keeper.now)) }
-        ensures short { IfOk result (StaysShort 1000) }
+        ensures turn { IfOk result (TurnsKeeper R.entries (world_at F.view self.old) 1000
+            (refresh_of R.entries self.old.keeper.now) self.new.keeper.now) }
         ensures leaves { LeavesPorts F.view self.old self.new }
     {
         self.keeper
@@ -248,68 +159,50 @@ impl PortAsk {
     fn end_turn(
         self,
         alloc: Global,
-        sought: &Sought,
+        question: PortQuestion,
         before: Spent,
-    ) -> Result<CallTurned, AllocError>
+    ) -> Result<Turned, AllocError>
+        requires begun { HasBegun (path_asked question) self }
         requires up { IsUpFrom before (spent_in self.came) }
         requires enough { SpendsTurn 1000 before self.came }
         requires few { total_of (spent_in self.came) ≤ total_of before + 51000 }
-        ensures { (world : World) (refresh : RefreshView)
-            → IsPortAsk world (path_sought sought.now) self
-            → IfOk result (IsQuestionTurn world refresh (question_sought sought.now) before
-            (turns_after world (question_sought sought.now) (total_of before))) }
+        ensures turn { (world : World) (refresh : RefreshView)
+            → IsPortAsk world (path_asked question) self
+            → IfOk result (IsQuestionTurn world refresh (OfPort question) before
+            (turns_after world (OfPort question) (total_of before))) }
+        ensures later { IfOk result (TellsNoRecord question) }
     {
         asking_spends();
         evaluations_cost_few();
         records_cost_few();
         let evaluated = self.spent();
-        let spent = spent_in_turn(before, evaluated);
-        if !may_act(spent) {
-            let under_way = UnderWay {
-                stage: Stage::Evaluating(self),
+        if left_of(TURN_UNITS, before, evaluated) == 0 {
+            return Ok(Turned::More(UnderWay {
+                stage: Stage::Evaluating(question, self),
                 spent: evaluated,
-            };
-            return Ok(CallTurned::More(under_way, spent));
+            }));
         }
         let PortAsk { makefile, came } = self;
         let AskTurned::Done(asked) = came else {
             unreachable!() // its turn has spent its units
         };
-        let (reply, cost) = sought.reply(alloc, &asked.evaluation.outcome, &makefile)?;
-        let in_all = asked.spent_on(cost);
-        let spent = spent_in_turn(before, in_all);
-        let answer = answer_alone(reply);
-        if may_act(spent) && !sought.is_record() {
-            return Ok(CallTurned::Done(answer, spent));
+        let (reply, cost) = question.reply(alloc, &asked.evaluation.outcome, &makefile)?;
+        let spent = asked.spent_on(cost);
+        if !takes_record(&question) && left_of(TURN_UNITS, before, spent) > 0 {
+            return Ok(Turned::Done(reply, spent));
         }
-        let under_way = UnderWay {
-            stage: Stage::Ready(answer),
-            spent: in_all,
-        };
-        Ok(CallTurned::More(under_way, spent))
+        Ok(Turned::More(UnderWay {
+            stage: Stage::Ready(question, reply),
+            spent,
+        }))
     }
 }
 
-// Whether a turn that has spent so much still acts.
-fn may_act(spent: Spent) -> bool
-    ensures { IsTrue result ↔ (total_of spent < 1000) }
+// Whether a question takes a record from an evaluation. A turn ends once a record is made.
+fn takes_record(question: &PortQuestion) -> bool
+    ensures { result ≡ is_of_record question.now }
 {
-    spent.units.saturating_add(spent.checks) < TURN_UNITS
-}
-
-// Whether a question is answered by the index.
-fn needs_index(question: &Question) -> bool
-    ensures { result ≡ is_of_index (need_of question.now) }
-{
-    match question {
-        Question::List(_) | Question::Match(_) | Question::Faults | Question::Dependencies(_, _) =>
-            true,
-        Question::Settled(_)
-        | Question::ShowFile(_)
-        | Question::RemoveFile(_)
-        | Question::Variable(_)
-        | Question::Port(_) => false,
-    }
+    matches!(question, PortQuestion::Record(_))
 }
 
 // Whether nothing was spent.
@@ -318,14 +211,4 @@ fn is_nothing(spent: Spent) -> bool
     ensures some { result ≡ false → 1 ≤ total_of spent }
 {
     spent.units == 0 && spent.checks == 0
-}
-
-// The answer that is a reply alone.
-fn answer_alone(reply: Reply) -> Prepared
-    ensures { result ≡ record { reply = reply; change = None } }
-{
-    Prepared {
-        reply,
-        change: None,
-    }
 }

@@ -1,10 +1,10 @@
 //! Evaluations that are asked for, with a cache of evaluations.
 ghost use Rattle.read_trace.specs.Recording.{view_of};
-ghost use Rattle.port_cases.specs.Asking.{IsAskedAmong};
+ghost use Rattle.eval_ask.specs.Asking.{CanGoOn};
 
 use case_lines::{Answer, Trouble, as_number, as_text};
+use eval_ask::{Ask, AskTurned, Asked};
 use eval_cache::EvalCache;
-use index_keep::{Ask, AskTurned, Asked, ask_at_once};
 use make_cases::{World, given_name};
 use mk_base::UNITS;
 use mk_files::{Content, Files};
@@ -52,7 +52,7 @@ pub fn asked_by_turns(
     .after(alloc, world, steps)
 }
 
-/// A cache, by turns of how many units it is asked if not at once, and what was told.
+/// A cache, the units that each turn of an evaluation is given if it isn't done in one, and what was told.
 #[derive(Drop)]
 struct Asking {
     cache: EvalCache,
@@ -120,29 +120,28 @@ impl Asking {
         } = world;
         let mut recorder = Recorder::new(alloc, files, Trace::new(alloc));
         let cache = &mut self.cache;
-        let Some(units) = self.units else {
-            let asked = ask_at_once(alloc, cache, &mut recorder, settings, &name, flavors)?;
-            tell(&asked, &mut self.answer);
-            return Ok(());
-        };
+        let units = self.units.unwrap_or(u64::MAX);
         let turned = Ask::begin(alloc, cache, &mut recorder, settings, &name, flavors)?;
         let (asked, turns) = by_turns(alloc, cache, &mut recorder, turned, units)?;
         tell(&asked, &mut self.answer);
-        self.answer.number(turns);
+        if self.units.is_some() {
+            self.answer.number(turns);
+        }
         Ok(())
     }
 }
 
 /// The end of an evaluation that is asked for, by turns of so many units, and how many there are. Each turn
-/// spends a unit, and the last one ends it.
-fn by_turns<F: Files + Drop>(
+/// spends a unit, and the last one ends it. It fails if the files fail, or if memory runs out, and it is `NoCase` if
+/// the turns have no end.
+pub fn by_turns<F: Files + Drop>(
     alloc: Global,
     cache: &mut EvalCache,
     files: &mut Recorder<F>,
     turned: AskTurned,
     units: u64,
 ) -> Result<(Asked, u64), Trouble>
-    requires { IsAskedAmong (view_of F.view files.old).files turned }
+    requires { CanGoOn (view_of F.view files.old).files turned }
 {
     let mut turned = turned;
     for turns in 0..UNITS + 2 {

@@ -4,9 +4,9 @@ use make_cases::{World, evaluated, makefile};
 use mk_base::FaultKind;
 use pkg_path::PkgPath;
 use pkg_spec::{Spec, SpecFault};
+use plain_reference::index_files;
 use port_deps::{Found, Item, Root, RootEdge, items, resolve};
 use port_rules::{PortRecord, record};
-use ports_index::index_files;
 use ports_query::{
     Kinds, Listed, Query, QueryFault, RowsInMemory, admitted, answer, edges_to, first_edges,
     reached, reaching,
@@ -20,15 +20,15 @@ const ROOT: &str = "a/b";
 /// `index`: the roots of the world, each with its path and whether a fault is met there, and then each
 /// item of a root with its status.
 pub fn index(alloc: Global, world: &mut World) -> Result<Answer, Trouble> {
-    let index = index_files(alloc, &mut world.files, &world.settings)?;
+    let index = index_files(alloc, &mut world.files, &world.settings)?.known;
     let mut answer = Answer::new(alloc);
-    for root in &index.roots {
+    for root in &index.roots(alloc)? {
         answer.text(root.path().as_bytes());
         if root.state().is_err() {
             answer.word("fault");
         }
     }
-    for edge in &index.edges {
+    for edge in &index.edges(alloc)? {
         answer.word(edge.root());
         answer.text(edge.edge().item().as_bytes());
         answer.word(edge.edge().status().as_str());

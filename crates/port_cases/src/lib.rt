@@ -30,6 +30,7 @@ pub fn answer(
         "asked" => asking::asked_answer(alloc, world, given),
         "asked by" => asking::asked_by_turns(alloc, world, given),
         "refreshed by" => refreshing::refreshed_answer(alloc, world, given),
+        "put away by" => refreshing::put_away_answer(alloc, world, given),
         "refreshed failing by" => refreshing::refreshed_failing(alloc, world, given),
         "refreshed stopped by" => refreshing::refreshed_stopped(alloc, world, given),
         "look failing" => looking::look_failing(alloc, world, given),

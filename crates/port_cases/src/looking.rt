@@ -1,7 +1,8 @@
 //! What is kept of an index, looked for in files that fail.
+use crate::asking::by_turns;
 use case_lines::{Answer, Trouble, one_text};
+use eval_ask::Ask;
 use eval_cache::{EvalCache, EvalKey, Look};
-use index_keep::ask_at_once;
 use make_cases::{Asking, FailingFiles, World, failing_answer, given_name};
 use mk_paths::FilesFault;
 use read_trace::{Recorder, Trace};
@@ -22,7 +23,8 @@ pub fn look_failing(
     } = world;
     let mut cache = EvalCache::new(alloc, 1, 1)?;
     let mut recorder = Recorder::new(alloc, &mut *files, Trace::new(alloc));
-    let _asked = ask_at_once(alloc, &mut cache, &mut recorder, settings, &name, None)?;
+    let turned = Ask::begin(alloc, &mut cache, &mut recorder, settings, &name, None)?;
+    let _asked = by_turns(alloc, &mut cache, &mut recorder, turned, u64::MAX)?;
     drop(recorder);
     let key = EvalKey::new(alloc, settings, &name, None)?;
     failing_answer(alloc, files, &mut Looking { cache, key })

@@ -3,7 +3,8 @@ use case_lines::{Answer, Trouble, as_text, one_text};
 use make_cases::{Asking, FailingFiles, World, add_cost, failing_answer, given_name};
 use mk_files::Content;
 use mk_paths::{FilesFault, Settings};
-use ports_index::{Finding, Row, evaluate_path};
+use plain_reference::evaluate_path;
+use ports_index::{Finding, Row};
 use read_trace::{Recorder, Reply, Trace, agrees};
 use std::alloc::Global;
 

@@ -15,6 +15,7 @@ use index_store::IndexStore;
 use make_cases::{Asking, FailingFiles, World, failing_answer};
 use mk_files::{Listing, MemoryFiles};
 use mk_paths::{FilesFault, Settings};
+use port_deps::Root;
 use ports_index::Spent;
 use read_trace::{Recorder, Trace};
 use std::alloc::Global;
@@ -87,7 +88,75 @@ fn refresh(
     )?;
     let roots = roots_of(alloc, cache, &mut keeper, &mut recorder, settings)?;
     tell_turns(answer, &turns.ok_or(Trouble::NoCase)?);
-    answer.number(roots);
+    answer.number(roots.len() as u64);
+    Ok(())
+}
+
+/// `put away by UNITS`: what each turn of a refresh tells that is given so many units, and the paths of the roots that the
+/// index has then. Then the same of this index after it was put away.
+pub fn put_away_answer(
+    alloc: Global,
+    world: &mut World,
+    given: &[Vec<u8>],
+) -> Result<Answer, Trouble> {
+    let [units] = given else {
+        return Err(Trouble::NoCase);
+    };
+    let units = as_number(units)?;
+    let World {
+        files,
+        settings,
+        ..
+    } = world;
+    let mut keeper = new_keeper(alloc)?;
+    let mut recorder = Recorder::new(alloc, files, Trace::new(alloc));
+    let mut answer = Answer::new(alloc);
+    add_refresh(
+        alloc,
+        &mut keeper,
+        &mut recorder,
+        settings,
+        units,
+        &mut answer,
+    )?;
+    keeper.put_away(alloc);
+    add_refresh(
+        alloc,
+        &mut keeper,
+        &mut recorder,
+        settings,
+        units,
+        &mut answer,
+    )?;
+    Ok(answer)
+}
+
+/// Adds what each turn of a refresh tells, and then the paths of the roots.
+fn add_refresh<F: Listing + Drop>(
+    alloc: Global,
+    keeper: &mut Keeper<IndexStore>,
+    files: &mut Recorder<F>,
+    settings: &Settings,
+    units: u64,
+    answer: &mut Answer,
+) -> Result<(), Trouble>
+    requires { IsKept stored_by (world_of (view_of F.view files.old) settings.now) keeper.old }
+    ensures { OnOk result (IsKept stored_by (world_of (view_of F.view files.new) settings.now) keeper.new) }
+{
+    let mut cache = EvalCache::new(alloc, 16, 16)?;
+    let turns = turns_of(
+        alloc,
+        &mut cache,
+        keeper,
+        files,
+        settings,
+        units,
+        Limit::Never,
+    )?;
+    tell_turns(answer, &turns.ok_or(Trouble::NoCase)?);
+    for root in &roots_of(alloc, &mut cache, keeper, files, settings)? {
+        answer.text(root.path().as_bytes());
+    }
     Ok(())
 }
 
@@ -99,18 +168,22 @@ fn new_keeper(alloc: Global) -> Result<Keeper<IndexStore>, FilesFault>
     Ok(keeper)
 }
 
-/// How many roots an index has.
+/// The roots of an index that is refreshed, after one more turn. It is `NoCase` if that turn isn't the last of a refresh,
+/// and fails if the files or the rows fail, or if memory runs out.
 fn roots_of<F: Listing + Drop>(
     alloc: Global,
     cache: &mut EvalCache,
     keeper: &mut Keeper<IndexStore>,
     files: &mut Recorder<F>,
     settings: &Settings,
-) -> Result<u64, FilesFault>
+) -> Result<Vec<Root>, Trouble>
     requires { IsKept stored_by (world_of (view_of F.view files.old) settings.now) keeper.old }
+    ensures { OnOk result (IsKept stored_by (world_of (view_of F.view files.new) settings.now) keeper.new) }
 {
-    let (roots, _spent) = keeper.select(alloc, cache, files, settings)?;
-    Ok(roots.len() as u64)
+    match keeper.refresh_turn(alloc, cache, files, settings, u64::MAX)? {
+        Refreshed::Done => Ok(keeper.index().roots(alloc)?),
+        Refreshed::Evaluated(_) | Refreshed::More(_) => Err(Trouble::NoCase),
+    }
 }
 
 /// `refreshed failing by UNITS`: what each turn of a refresh tells that is given so many units, in files that fail at each

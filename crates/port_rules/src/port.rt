@@ -1,5 +1,5 @@
 //! The record of a port.
-ghost use Rattle.std.specs.Prelude.{◌≡◌, map, string_bytes};
+ghost use Rattle.std.specs.Prelude.{◌≡◌, map, string_bytes, IfOk};
 ghost use Rattle.mk_base.specs.Stopping.{GivesPurely};
 ghost use Rattle.port_rules.specs.Ports as ports;
 
@@ -9,12 +9,20 @@ use crate::packages::{Package, read_packages, read_subpackages};
 use crate::values::{asked_text, asked_words};
 use mk_base::{Budget, FaultKind, PureStop};
 use mk_env::Env;
-use std::alloc::Global;
+use std::alloc::{AllocError, Global};
 use std::marker::Model;
+use std::rc::Rc;
 
-/// What a port is, as its variables say (bsd.port.mk(5)).
+/// What a port is, as its variables say (bsd.port.mk(5)). It never changes, and is shared by all who hold it. Clauses
+/// see what it says.
 #[derive(Debug, Drop)]
 pub struct PortRecord {
+    port: Rc<Port>,
+}
+
+/// What a port is.
+#[derive(Debug, Drop)]
+struct Port {
     flavors: PortFlavors,
     maintainer: String,
     categories: Vec<String>,
@@ -29,69 +37,82 @@ impl Model for PortRecord {
     ghost Value = { PortValue };
 
     ghost view = { λ p. record {
-      flavors = p.flavors;
-      maintainer = string_bytes p.maintainer;
-      categories = map string_bytes p.categories.items;
-      packages = p.packages.items;
-      depends = p.depends.items;
+      flavors = p.port.value.flavors;
+      maintainer = string_bytes p.port.value.maintainer;
+      categories = map string_bytes p.port.value.categories.items;
+      packages = p.port.value.packages.items;
+      depends = p.port.value.depends.items;
     } };
 }
 
 impl PortRecord {
     /// The port of these flavors, with who maintains it, its categories, its packages, and what it
-    /// depends on.
+    /// depends on. It fails only if memory runs out.
     pub fn new(
+        alloc: Global,
         flavors: PortFlavors,
         maintainer: String,
         categories: Vec<String>,
         packages: Vec<Package>,
         depends: Vec<Depend>,
-    ) -> PortRecord
-        ensures { result ≡ ports.make_port flavors (string_bytes maintainer)
-            (map string_bytes categories.items) packages.items depends.items }
+    ) -> Result<PortRecord, AllocError>
+        ensures { IfOk result (λ made. made ≡ ports.make_port flavors (string_bytes maintainer)
+            (map string_bytes categories.items) packages.items depends.items) }
     {
-        PortRecord {
+        let port = Port {
             flavors,
             maintainer,
             categories,
             packages,
             depends,
-        }
+        };
+        Ok(PortRecord {
+            port: Rc::new(alloc, port)?,
+        })
+    }
+
+    /// The same port once more, without a copy of what it says. It fails only if no more can share it.
+    pub fn share(&self) -> Result<PortRecord, AllocError>
+        ensures { IfOk result (λ port. port ≡ self.now) }
+    {
+        Ok(PortRecord {
+            port: self.port.clone()?,
+        })
     }
 
     /// Its flavors.
     pub fn flavors(&self) -> &PortFlavors
         ensures { result.now ≡ self.now.flavors }
     {
-        &self.flavors
+        &self.port.flavors
     }
 
     /// Who maintains it (MAINTAINER); empty if that isn't given.
     pub fn maintainer(&self) -> &str
         ensures { result.now ≡ self.now.maintainer }
     {
-        self.maintainer.as_str()
+        self.port.maintainer.as_str()
     }
 
     /// Its categories (CATEGORIES), in order.
     pub fn categories(&self) -> &[String]
         ensures { map string_bytes result.now ≡ self.now.categories }
     {
-        self.categories.as_slice()
+        self.port.categories.as_slice()
     }
 
     /// Its packages, in the order of MULTI_PACKAGES; at least one.
     pub fn packages(&self) -> &[Package]
         ensures { result.now ≡ self.now.packages }
     {
-        self.packages.as_slice()
+        self.port.packages.as_slice()
     }
 
     /// Whether it has a package of this name, which has its dash, such as `-main`.
     pub fn has_package(&self, subpackage: &str) -> bool
         ensures { result ≡ ports.has_package self.now subpackage.now }
     {
-        let packages = self.packages.as_slice();
+        let packages = self.port.packages.as_slice();
         packages
             .iter()
             .any(|package| package.subpackage() == subpackage)
@@ -102,7 +123,7 @@ impl PortRecord {
     pub fn depends(&self) -> &[Depend]
         ensures { result.now ≡ self.now.depends }
     {
-        self.depends.as_slice()
+        self.port.depends.as_slice()
     }
 }
 
@@ -121,5 +142,5 @@ pub(crate) fn read_port(
     let categories = asked_words(alloc, variables, "CATEGORIES", budget)?;
     let packages = read_packages(alloc, variables, &flavors, &subpackages, budget)?;
     let depends = read_depends(alloc, variables, &subpackages, budget)?;
-    Ok(PortRecord::new(flavors, maintainer, categories, packages, depends))
+    Ok(PortRecord::new(alloc, flavors, maintainer, categories, packages, depends)?)
 }

@@ -1,11 +1,12 @@
--- The jobs, each for the first request of its tenant's queue.
+-- The jobs, each for the question of the first request of its tenant's queue.
 use Rattle.std.proofs.Common.{◌≡◌, ℕ, zero, suc, List, [], ◌∷◌, ◌++◌, drop, Option, Some, None, refl, sym, ap, subst, ◌∙◌, ⊎_elim}
 use Rattle.std.specs.Prelude.{IfSome, IfNone, slice_get, option_map, option_and_then, replicate}
 use Rattle.std.proofs.Math.ListN.{set}
 use Rattle.std.proofs.lemmas.Bool.{cases_eq}
 use Rattle.ports_index.specs.declared.spending.Spent.{Spent}
 use Rattle.ports_http.specs.Messages.{RequestMessage}
-use Rattle.ports_plain.specs.Plain.{PlainRequest}
+use Rattle.ports_plain.specs.declared.questions.Question.{Question}
+use Rattle.ports_plain.specs.Questions.{question_of}
 use Rattle.ports_core.specs.declared.event.Tell.{Tell}
 use Rattle.ports_core.specs.declared.event.Told.{Told}
 use Rattle.ports_core.specs.declared.queue.QueuedRequest.{QueuedRequest}
@@ -40,20 +41,20 @@ pub none_under_way : (queue : Queue) (job : Option TenantJob) → queue ≡ [] �
 none_under_way queue None empty for_first = refl
 none_under_way queue (Some job) empty for_first = absurd (none_some (sym (ap asked_first empty) ∙ for_first job refl))
 
--- a job for the first request is for this one
+-- a job for the question of the first request is for this one's
 pub for_request : (queue : Queue) (first : QueuedRequest) (job : Option TenantJob) → Some first ≡ first_of queue → IsForFirst queue job → IsForRequest first.request job
 for_request queue first job is for_first = λ one here.
-    sym (some_same (ap (option_map (λ (w : QueuedRequest). plain_request_of w.request)) is ∙ for_first one here))
+    sym (some_same (ap (option_map (λ (w : QueuedRequest). question_of (plain_request_of w.request))) is ∙ for_first one here))
 
 -- the first request stays the first, whatever comes after it
-first-joined : (queue more : Queue) (asked : PlainRequest) → asked_first queue ≡ Some asked → asked_first (queue ++ more) ≡ Some asked
+first-joined : (queue more : Queue) (asked : Question) → asked_first queue ≡ Some asked → asked_first (queue ++ more) ≡ Some asked
 first-joined [] more asked is = absurd (none_some is)
 first-joined (one ∷ rest) more asked is = is
 
 pub joined_first : (keys : List (List ℕ)) (c : ℕ) (taken : Taken) (queues queues_after : List Queue) (jobs : List (Option TenantJob)) → Joins keys c taken queues queues_after → AreForFirst queues jobs → AreForFirst queues_after jobs
 joined_first keys c taken queues queues_after jobs joins are = λ t queue was job is.
     let from = option_from (λ (q : Queue). q ++ entering keys c taken t) (slice_get queues t) queue (sym (joins t) ∙ was) in
-    subst (λ (q : Queue). asked_first q ≡ Some job.request) from.2 (first-joined from.0 (entering keys c taken t) job.request (are t from.0 from.1 job is))
+    subst (λ (q : Queue). asked_first q ≡ Some job.question) from.2 (first-joined from.0 (entering keys c taken t) job.question (are t from.0 from.1 job is))
 
 -- what work leaves of the job, without a reply and with one
 pub pending_job : {A : Type 0} (t : ℕ) (request : RequestMessage) (reply : Option A) (spent : Spent) (job : Option TenantJob) (jobs jobs_after : List (Option TenantJob)) → reply ≡ None
@@ -74,8 +75,8 @@ pending_first t queues queues_after queue first spent before jobs jobs_after was
     ⊎_elim
     (λ here.
     let mine : queue ≡ q = some_same (sym was ∙ ap (slice_get queues) (sym here) ∙ sym (same u) ∙ there) in
-    let this : job.request ≡ plain_request_of first.request = ap (λ (j : TenantJob). j.request) (some_same (sym is ∙ ap (λ n. job_in n jobs_after) here ∙ becomes.job_is)) in
-    ap asked_first (sym mine) ∙ sym (ap (option_map (λ (w : QueuedRequest). plain_request_of w.request)) first_is) ∙ ap Some (sym this))
+    let this : job.question ≡ question_of (plain_request_of first.request) = ap (λ (j : TenantJob). j.question) (some_same (sym is ∙ ap (λ n. job_in n jobs_after) here ∙ becomes.job_is)) in
+    ap asked_first (sym mine) ∙ sym (ap (option_map (λ (w : QueuedRequest). question_of (plain_request_of w.request))) first_is) ∙ ap Some (sym this))
     (λ ne. are u q (sym (same u) ∙ there) job (sym (becomes.others u ne) ∙ is))
     (cases_eq u t)
 

@@ -2,7 +2,6 @@
 use Rattle.std.proofs.Common.{◌≡◌, ◌<◌, ◌≤◌, ◌+◌, ◌^◌, ◌==◌, ℕ, Bool, true, false, List, [], ◌∷◌, ◌++◌, length, Option, Some, None, ap, ◌∙◌, inl, inr, arith}
 use Rattle.std.specs.Prelude.{if◌then◌else◌, option_and_then}
 use Rattle.std.proofs.lemmas.List.{length-append}
-use Rattle.ports_index.specs.PathOutcomes.{counted}
 use Rattle.ports_index.specs.declared.spending.Spent.{Spent}
 use Rattle.ports_http.specs.Messages.{RequestMessage}
 use Rattle.ports_core.specs.declared.event.Event.{Event}
@@ -15,9 +14,8 @@ use Rattle.ports_core.specs.Jobs.{TenantJob, had_by, first_of, job_after}
 use Rattle.ports_core.specs.JobChanges.{job_after_turn}
 use Rattle.ports_core.specs.Telling.{spent_in}
 use Rattle.ports_core.specs.State.{State, new_state, queue_at, job_at}
-use Rattle.ports_core.specs.Sharing.{Sizes}
 use Rattle.ports_core.specs.Runs.{Run}
-use Rattle.ports_core.specs.InTime.{turn_in, own_turns, turns_had, IsToldInTime, EachRunIsToldInTime}
+use Rattle.ports_core.specs.InTime.{turn_in, own_turns, turns_had, EachRunIsToldInTime}
 use Rattle.ports_core.proofs.InTimeLemmas.{Sees, event_seen, none_yet, told_in_time, begun_left}
 
 -- a turn adds one at most to what the first request has had

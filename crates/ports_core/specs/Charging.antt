@@ -5,7 +5,7 @@ use Rattle.ports_index.specs.declared.spending.Spent.{Spent}
 use Rattle.ports_index.specs.Spending.{no_spending, spent_together, ChecksFew}
 use Rattle.ports_http.specs.Messages.{RequestMessage, ReplyMessage}
 use Rattle.ports_plain.specs.Questions.{question_of}
-use Rattle.ports_plain.specs.Resting.{need_of, evaluations, cost, most_turns}
+use Rattle.ports_plain.specs.Resting.{evaluations, cost, most_turns}
 use Rattle.ports_plain.specs.Spending.{SpendsFor}
 use Rattle.ports_core.specs.declared.event.Event.{Event}
 use Rattle.ports_core.specs.declared.event.Event.TheVariants.{Open, Piece, End, Fault, Wrote, Turn}
@@ -20,7 +20,7 @@ use Rattle.ports_core.specs.Telling.{is_failure, spent_in, CountsNone}
 
 -- what is spent on a request over a world, however much is kept
 abbrev pub Spends : World → RequestMessage → Spent → Type 0
-Spends world request spent = SpendsFor world (need_of (question_of (plain_request_of request))) spent
+Spends world request spent = SpendsFor world (question_of (plain_request_of request)) spent
 
 -- What a request over a world may have had, in all turns together, while it isn't answered. Its turns are fewer than
 -- the most that its answer may take. Its units are no more than it costs, and its checks are few for each makefile on

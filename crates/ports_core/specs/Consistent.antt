@@ -9,7 +9,7 @@ use Rattle.ports_core.specs.Jobs.{TenantJob, AreForFirst}
 
 -- Each tenant has a world and a queue, and may have a job. At most 16 connections are open, each with a number
 -- below the next one. What waits are requests of open connections, at most one of each. So the
--- places that are kept suffice. A tenant's job is for the first request of its queue.
+-- places that are kept suffice. A tenant's job is for the question of the first request of its queue.
 pub record IsConsistent (tenants : ℕ) (kept : List World) (waiting : List Queue) (connections : List (ℕ × Connection))
     (next : ℕ) (under_way : List (Option TenantJob)) : Type 0 where
   pub worlds : length kept ≡ tenants

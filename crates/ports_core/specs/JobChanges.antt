@@ -23,7 +23,7 @@ TurnsJob t told old new =
     BecomesJob t (job_after_turn (option_and_then first_of (queue_at t old)) told (job_at t old)) (jobs_of old) (jobs_of new)
 
 -- What an event does to the jobs: only a turn changes one, which is its tenant's. After a turn that tells a reply the
--- tenant has none. After one that tells none, it is for the request that waits first.
+-- tenant has none. After one that tells none, it is for the question of the request that waits first.
 abbrev pub ChangesJobs : Event → Told → State → State → Type 0
 ChangesJobs (Turn t) told old new = TurnsJob t told old new
 ChangesJobs (Open c) told old new = KeepsJobs old new

@@ -1,19 +1,21 @@
--- What is under way for a tenant: a request on which a turn or more was spent, and that isn't answered yet.
+-- What is under way for a tenant: the question of a request on which a turn or more was spent, and that isn't answered
+-- yet.
 use Rattle.std.specs.Prelude.{◌≡◌, ◌≢◌, ℕ, ◌+◌, List, slice_get, Option, Some, None, option_map, unwrap_or}
 use Rattle.std.specs.Option.{ForSome}
 use Rattle.ports_index.specs.declared.spending.Spent.{Spent}
 use Rattle.ports_index.specs.PathOutcomes.{counted}
 use Rattle.ports_http.specs.Messages.{RequestMessage}
-use Rattle.ports_plain.specs.Plain.{PlainRequest}
+use Rattle.ports_plain.specs.declared.questions.Question.{Question}
+use Rattle.ports_plain.specs.Questions.{question_of}
 use Rattle.ports_core.specs.declared.job.Job.{Job}
 use Rattle.ports_core.specs.declared.queue.QueuedRequest.{QueuedRequest}
 use Rattle.ports_core.specs.Answering.{plain_request_of}
 use Rattle.ports_core.specs.Slices.{Queue}
 
--- A tenant's job: the request that it is for, and what this has had so far. A Job is three counts: of turns, and of
--- the units and the checks that these told.
+-- A tenant's job: the question that its first request asks, and what this request has had so far. A Job is three
+-- counts: of turns, and of the units and the checks that these told.
 pub record TenantJob : Type 0 where
-  pub request : PlainRequest
+  pub question : Question
   pub had : Job
 
 -- a request that has had no turn yet
@@ -41,30 +43,31 @@ one_turn_more had spent = record {
 abbrev pub job_in : ℕ → List (Option TenantJob) → Option TenantJob
 job_in t jobs = unwrap_or (slice_get jobs t) None
 
--- a job, if there is one, is for this request
+-- a job, if there is one, is for the question of this request
 abbrev pub IsForRequest : RequestMessage → Option TenantJob → Type 0
-IsForRequest request job = ForSome job (λ (under_way : TenantJob). under_way.request ≡ plain_request_of request)
+IsForRequest request job = ForSome job (λ (under_way : TenantJob). under_way.question ≡ question_of (plain_request_of request))
 
 -- the request that waited longest, if one waits
 abbrev pub first_of : Queue → Option QueuedRequest
 first_of queue = slice_get queue 0
 
--- what the request that waited longest asks of the plain service
-abbrev pub asked_first : Queue → Option PlainRequest
-asked_first queue = option_map (λ (first : QueuedRequest). plain_request_of first.request) (first_of queue)
+-- the question of the request that waited longest
+abbrev pub asked_first : Queue → Option Question
+asked_first queue = option_map (λ (first : QueuedRequest). question_of (plain_request_of first.request)) (first_of queue)
 
--- a job, if there is one, is for the first request of this queue; so with an empty queue there is none
+-- a job, if there is one, is for the question of the first request of this queue; so with an empty queue there is none
 abbrev pub IsForFirst : Queue → Option TenantJob → Type 0
-IsForFirst queue job = ForSome job (λ (under_way : TenantJob). asked_first queue ≡ Some under_way.request)
+IsForFirst queue job = ForSome job (λ (under_way : TenantJob). asked_first queue ≡ Some under_way.question)
 
--- each tenant's job is for the first request of its queue
+-- each tenant's job is for the question of the first request of its queue
 abbrev pub AreForFirst : List Queue → List (Option TenantJob) → Type 0
 AreForFirst queues jobs = (t : ℕ) (queue : Queue) → slice_get queues t ≡ Some queue → IsForFirst queue (job_in t jobs)
 
 -- The job for a request after a turn in which so much was spent. With a reply there is none. Without one it is for
--- this request, and had this turn too.
+-- the question of this request, and had this turn too.
 abbrev pub job_after : {A : Type 0} → RequestMessage → Option A → Spent → Option TenantJob → Option TenantJob
-job_after request None spent job = Some (record { request = plain_request_of request; had = one_turn_more (had_by job) spent })
+job_after request None spent job =
+    Some (record { question = question_of (plain_request_of request); had = one_turn_more (had_by job) spent })
 job_after request (Some reply) spent job = None
 
 -- the job of a tenant becomes this one, or none, and no other job changes

@@ -37,8 +37,9 @@ pub struct Worked {
 
 /// The world of each tenant, by the tenants' numbers, wherever these worlds are kept, and the plain service
 /// over one of them. `worlds` is the list of the worlds. `jobs` has for each tenant what is under way, if
-/// anything is: for which request, and what this has had so far, in turns, units and checks. `sharing` is how much
-/// may be kept for all tenants to be used again, and how often something that was kept was used.
+/// anything is: for which question, and what the request that asks it has had so far, in turns, units and checks.
+/// `sharing` is how much may be kept for all tenants to be used again, and how often something that was kept was
+/// used.
 pub trait Tenants: Sized + Drop {
     ghost worlds: { Self → List World };
 
@@ -59,10 +60,10 @@ pub trait Tenants: Sized + Drop {
         ensures sharing { IfOk result (λ kept. sharing kept ≡ unused (sizes_of config.now)) };
 
     /// A turn of work for a request over a tenant's world. What is under way for the tenant, if anything is,
-    /// must be for this request.
+    /// must be for the question that this request asks.
     ///
     /// Without an answer the request's work goes on in later turns. No world changes, and the tenant's job is for
-    /// this request. What was spent on it so far is no more units than the request costs, and at most 1,028 checks
+    /// this question. What was spent on it so far is no more units than the request costs, and at most 1,028 checks
     /// for each makefile on which the reply rests. The turns that it has had stay below 1, and one for each of these
     /// makefiles, and one for each 1,000 of the units that it costs and of the checks that may come. So many turns
     /// are the most for a request, up to its answer.

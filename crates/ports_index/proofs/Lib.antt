@@ -1,10 +1,8 @@
-pub mod Kept
 pub mod Known
 pub mod Filled
 pub mod Totals
 pub mod EffortLemmas
 pub mod PairLemmas
-pub mod Taking
 pub mod More
 pub mod Lookups
 pub mod Names

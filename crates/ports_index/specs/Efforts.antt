@@ -1,11 +1,10 @@
 -- How much work it takes to learn what paths lead to: how many makefiles are evaluated, and how many units
 -- that costs.
-use Rattle.std.specs.Prelude.{ℕ, ◌+◌, if◌then◌else◌, Bool, true, false, List, filter, Option, is_none, sum_by}
+use Rattle.std.specs.Prelude.{ℕ, if◌then◌else◌, Bool, true, false, List, filter, Option, is_none, sum_by}
 use Rattle.text_parts.specs.Order.{in_order}
 use Rattle.mk_paths.specs.World.{World}
-use Rattle.ports_index.specs.declared.effort.Effort.{Effort}
 use Rattle.ports_index.specs.PathOutcomes.{PathOutcome, Absent, Faulty, Port, BadPort, Lists, BadList, FlavoredList, Other}
-use Rattle.ports_index.specs.PathOutcomes.{Finding, counted, outcome_at, cost_at}
+use Rattle.ports_index.specs.PathOutcomes.{outcome_at, cost_at}
 
 -- there is a makefile, which is evaluated
 abbrev pub is_there : PathOutcome → Bool
@@ -22,17 +21,6 @@ is_there Other = true
 abbrev pub evaluations_for : PathOutcome → ℕ
 evaluations_for outcome = if is_there outcome then 1 else 0
 
-abbrev pub no_effort : Effort
-no_effort = record { evaluations = 0; units = 0 }
-
--- the work for one path
-abbrev pub effort_of : Finding → Effort
-effort_of found = record { evaluations = evaluations_for found.outcome; units = counted found.cost }
-
--- some work, and more
-abbrev pub both : Effort → Effort → Effort
-both one more = record { evaluations = counted (one.evaluations + more.evaluations); units = counted (one.units + more.units) }
-
 -- how many makefiles are evaluated for a path
 abbrev pub evaluations_at : World → List ℕ → ℕ
 evaluations_at world path = evaluations_for (outcome_at world path)
@@ -44,10 +32,6 @@ evaluations_over world paths = sum_by (evaluations_at world) paths
 -- how many units these paths cost
 abbrev pub cost_over : World → List (List ℕ) → ℕ
 cost_over world paths = sum_by (cost_at world) paths
-
--- the work for these paths
-abbrev pub effort_over : World → List (List ℕ) → Effort
-effort_over world paths = record { evaluations = counted (evaluations_over world paths); units = counted (cost_over world paths) }
 
 -- the paths that have no row yet, each once
 abbrev pub lacking : (List ℕ → Option PathOutcome) → List (List ℕ) → List (List ℕ)

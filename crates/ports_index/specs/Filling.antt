@@ -1,20 +1,9 @@
--- Rows that are right, and how they are filled in.
+-- Rows that are filled in.
 use Rattle.std.specs.Prelude.{◌≡◌, ℕ, if◌then◌else◌, Bool, List, Option, Some}
 use Rattle.std.specs.List.{list_any}
-use Rattle.std.specs.List.Sorted.{IsStrictlySortedBy}
-use Rattle.std.specs.Cmp.Lexicographic.{slice_cmp}
-use Rattle.std.specs.Ordering.{nat_cmp}
 use Rattle.std.specs.Str.{bytes_eq}
 use Rattle.mk_paths.specs.World.{World}
 use Rattle.ports_index.specs.PathOutcomes.{PathOutcome, outcome_at}
-
--- each row says what its path leads to
-abbrev pub AreRight : World → (List ℕ → Option PathOutcome) → Type 0
-AreRight world entries = (path : List ℕ) (row : PathOutcome) → entries path ≡ Some row → row ≡ outcome_at world path
-
--- each row that was there is still there
-pub record Stay (old new : List ℕ → Option PathOutcome) : Type 0 where
-  pub stay : (path : List ℕ) (row : PathOutcome) → old path ≡ Some row → new path ≡ Some row
 
 -- a path is one of these
 abbrev pub is_one_of : List ℕ → List (List ℕ) → Bool
@@ -23,7 +12,3 @@ is_one_of path paths = list_any (λ one. bytes_eq one path) paths
 -- each of these paths has its row now, and each other path has the row that it had, or none as before
 pub record Fills (world : World) (paths : List (List ℕ)) (old new : List ℕ → Option PathOutcome) : Type 0 where
   pub filled : (path : List ℕ) → new path ≡ (if is_one_of path paths then Some (outcome_at world path) else old path)
-
--- paths in the order of their bytes, each once
-abbrev pub IsListed : List (List ℕ) → Type 0
-IsListed paths = IsStrictlySortedBy (slice_cmp nat_cmp) paths

@@ -12,3 +12,4 @@ pub mod Seen
 pub mod RowLaws
 pub mod Spending
 pub mod NamedPaths
+pub mod Known

@@ -10,10 +10,6 @@ use Rattle.ports_index.specs.Pairs.{Pair, pair_at}
 abbrev pub no_spending : Spent
 no_spending = record { units = 0; checks = 0 }
 
--- units alone: no answer is checked
-abbrev pub units_alone : ℕ → Spent
-units_alone units = record { units = units; checks = 0 }
-
 abbrev pub spent_together : Spent → Spent → Spent
 spent_together one more = record { units = counted (one.units + more.units); checks = counted (one.checks + more.checks) }
 

@@ -4,12 +4,11 @@ ghost use Rattle.std.specs.List.{filter_map, flat_map};
 ghost use Rattle.std.specs.Option.{option_copied};
 ghost use Rattle.port_deps.specs.Seen.{found_seen};
 ghost use Rattle.ports_index.specs.Depending as depending;
-ghost use Rattle.ports_index.specs.Filling.{IsListed};
 ghost use Rattle.ports_index.specs.Index.{needed_among};
-ghost use Rattle.ports_index.specs.Seen.{row_seen, known_row, known_in, item_seen};
+ghost use Rattle.ports_index.specs.Seen.{row_seen, known_row, known_in, entries_in, item_seen};
 
-use crate::evaluating::Row;
-use crate::keeping::Rows;
+use crate::evaluating::{Row, copy_of};
+use crate::keeping::MemoryRows;
 use crate::naming::{add_found, append};
 use mk_base::Fault;
 use port_deps::{Found, Item, Root, RootEdge, Wanted, items, read_wanted, resolve};
@@ -17,21 +16,21 @@ use port_rules::{Depend, PortRecord};
 use std::alloc::{AllocError, Global};
 use text_parts::{clones_of, put_in_order};
 
-/// An item of the port at a path.
+// An item of the port at a path.
 #[derive(Debug, Drop)]
-pub(crate) struct RootItem {
+struct RootItem {
     root: String,
     item: Item,
 }
 
-/// The items of the ports at these paths, in the order of the paths. It fails only if memory runs out.
-pub(crate) fn items_of_all<R: Rows>(
+// The items of the ports at these paths, in the order of the paths.
+fn items_of_all(
     alloc: Global,
     paths: &[String],
-    rows: &R,
+    rows: &MemoryRows,
 ) -> Result<Vec<RootItem>, AllocError>
     ensures { IfOk result (λ found. map item_seen found.items
-        ≡ depending.items_among (known_in (R.entries rows.now)) (map string_bytes paths.now)) }
+        ≡ depending.items_among (known_in (entries_in rows.now)) (map string_bytes paths.now)) }
 {
     let mut found = Vec::new(alloc);
     for path in paths {
@@ -76,19 +75,6 @@ fn put_items(
     Ok(())
 }
 
-/// The paths that items name, without subpackages, in the order of the items. An item that can't be read names
-/// none. It fails only if memory runs out.
-pub(crate) fn targets_of(alloc: Global, items: &[RootItem]) -> Result<Vec<String>, AllocError>
-    ensures { IfOk result (λ found. map string_bytes found.items
-        ≡ filter_map depending.target_of (map item_seen items.now)) }
-{
-    let mut found = Vec::new(alloc);
-    for rooted in items {
-        add_found(&mut found, target_of(alloc, rooted.item.wanted())?)?;
-    }
-    Ok(found)
-}
-
 // The path that is asked for, without a subpackage, if something is.
 fn target_of(alloc: Global, wanted: Option<&Wanted>) -> Result<Option<String>, AllocError>
     ensures { IfOk result (λ path. option_map string_bytes path
@@ -100,15 +86,15 @@ fn target_of(alloc: Global, wanted: Option<&Wanted>) -> Result<Option<String>, A
     }
 }
 
-/// The paths that the items of the ports at these paths name, without subpackages, in the order of the items.
-/// An item that can't be read names none. It fails only if memory runs out.
-fn targets_among<R: Rows>(
+// The paths that the items of the ports at these paths name, without subpackages, in the order of the items.
+// An item that can't be read names none.
+fn targets_among(
     alloc: Global,
     paths: &[String],
-    rows: &R,
+    rows: &MemoryRows,
 ) -> Result<Vec<String>, AllocError>
     ensures { IfOk result (λ found. map string_bytes found.items
-        ≡ flat_map (λ path. depending.targets_in (known_in (R.entries rows.now) path))
+        ≡ flat_map (λ path. depending.targets_in (known_in (entries_in rows.now) path))
         (map string_bytes paths.now)) }
 {
     let mut found = Vec::new(alloc);
@@ -149,15 +135,15 @@ fn target_by(alloc: Global, depend: &Depend) -> Result<Option<String>, AllocErro
     target_of(alloc, wanted.as_ref())
 }
 
-/// The dependencies that items are, in their order. The status of each depends on the row of the path that
-/// the item names. It fails only if memory runs out.
-pub(crate) fn edges_of_all<R: Rows>(
+// The dependencies that items are, in their order. The status of each depends on the row of the path that
+// the item names.
+fn edges_of_all(
     alloc: Global,
     items: Vec<RootItem>,
-    rows: &R,
+    rows: &MemoryRows,
 ) -> Result<Vec<RootEdge>, AllocError>
     ensures { IfOk result (λ found. found.items
-        ≡ map (depending.edge_at (known_in (R.entries rows.now))) (map item_seen items.items)) }
+        ≡ map (depending.edge_at (known_in (entries_in rows.now))) (map item_seen items.items)) }
 {
     let mut found = Vec::with_capacity(alloc, items.len())?;
     for rooted in items {
@@ -167,9 +153,9 @@ pub(crate) fn edges_of_all<R: Rows>(
 }
 
 // The dependency that an item is.
-fn edge_of<R: Rows>(alloc: Global, rooted: RootItem, rows: &R) -> Result<RootEdge, AllocError>
+fn edge_of(alloc: Global, rooted: RootItem, rows: &MemoryRows) -> Result<RootEdge, AllocError>
     ensures { IfOk result (λ edge. edge
-        ≡ depending.edge_at (known_in (R.entries rows.now)) (item_seen rooted)) }
+        ≡ depending.edge_at (known_in (entries_in rows.now)) (item_seen rooted)) }
 {
     let RootItem { root, item } = rooted;
     let found = match target_of(alloc, item.wanted())? {
@@ -195,13 +181,13 @@ fn found_as(row: Option<&Row>) -> Found<'_>
 /// The dependencies of the ports at these paths, by their rows: those of each port in the order of its
 /// items. The status of each depends on the row of the path that its item names. It fails only if memory
 /// runs out.
-pub fn edges_among<R: Rows>(
+pub(crate) fn edges_among(
     alloc: Global,
     paths: &[String],
-    rows: &R,
+    rows: &MemoryRows,
 ) -> Result<Vec<RootEdge>, AllocError>
     ensures { IfOk result (λ found. found.items
-        ≡ depending.edges_among (known_in (R.entries rows.now)) (map string_bytes paths.now)) }
+        ≡ depending.edges_among (known_in (entries_in rows.now)) (map string_bytes paths.now)) }
 {
     let items = items_of_all(alloc, paths, rows)?;
     edges_of_all(alloc, items, rows)
@@ -210,13 +196,13 @@ pub fn edges_among<R: Rows>(
 /// The paths on which the index depends, by the rows of the listed ones: these, and those that the items of
 /// ports among them name. They are in the order of their bytes, each once. It fails only if memory runs
 /// out.
-pub fn needed_among<R: Rows>(
+pub fn needed_among(
     alloc: Global,
     listed: &[String],
-    rows: &R,
+    rows: &MemoryRows,
 ) -> Result<Vec<String>, AllocError>
     ensures { IfOk result (λ found. map string_bytes found.items
-        ≡ needed_among (known_in (R.entries rows.now)) (map string_bytes listed.now)) }
+        ≡ needed_among (known_in (entries_in rows.now)) (map string_bytes listed.now)) }
 {
     let mut paths = clones_of(alloc, listed)?;
     append(&mut paths, targets_among(alloc, listed, rows)?)?;
@@ -224,20 +210,19 @@ pub fn needed_among<R: Rows>(
     Ok(paths)
 }
 
-/// The roots at these paths, in their order: the ports, and the faults there. The rows of the paths are
-/// taken out. It fails only if memory runs out.
-pub fn roots_of_all<R: Rows>(
+/// The roots at these paths, in their order: the ports, and the faults there. The ports are shared with the rows.
+/// It fails only if memory runs out.
+pub(crate) fn roots_among(
     alloc: Global,
     paths: &[String],
-    rows: &mut R,
+    rows: &MemoryRows,
 ) -> Result<Vec<Root>, AllocError>
-    requires { IsListed (map string_bytes paths.now) }
     ensures { IfOk result (λ found. found.items
-        ≡ depending.roots_among (known_in (R.entries rows.old)) (map string_bytes paths.now)) }
+        ≡ depending.roots_among (known_in (entries_in rows.now)) (map string_bytes paths.now)) }
 {
-    let mut found = Vec::new(alloc);
+    let mut found = Vec::with_capacity(alloc, paths.len())?;
     for path in paths {
-        add_root(alloc, &mut found, path, rows.take(path))?;
+        add_root(alloc, &mut found, path, rows.get(path))?;
     }
     Ok(found)
 }
@@ -247,25 +232,31 @@ fn add_root(
     alloc: Global,
     found: &mut Vec<Root>,
     path: &str,
-    row: Option<Row>,
+    row: Option<&Row>,
 ) -> Result<(), AllocError>
     ensures { OnOk result (found.new.items ≡ found.old.items
         ++ option_to_list (depending.root_with path.now
-        (depending.state_of (known_row (option_map row_seen row))))) }
+        (depending.state_of (known_row (option_map (λ row. row_seen row.now) row.entry))))) }
 {
-    if let Some(state) = state_of(row) {
+    if let Some(state) = state_of(alloc, row)? {
         found.push(Root::new(String::from_str(alloc, path)?, state))?;
     }
     Ok(())
 }
 
 // The state of the root that a row is, if it is one: a port, or a fault.
-fn state_of(row: Option<Row>) -> Option<Result<PortRecord, Fault>>
-    ensures { result ≡ depending.state_of (known_row (option_map row_seen row)) }
+fn state_of(
+    alloc: Global,
+    row: Option<&Row>,
+) -> Result<Option<Result<PortRecord, Fault>>, AllocError>
+    ensures { IfOk result (λ state. state
+        ≡ depending.state_of (known_row (option_map (λ row. row_seen row.now) row.entry))) }
 {
     match row {
-        Some(Row::Port(port)) => Some(Ok(port)),
-        Some(Row::Faulty(fault) | Row::BadPort(fault) | Row::BadList(fault)) => Some(Err(fault)),
-        Some(Row::Absent | Row::Lists(_) | Row::FlavoredList | Row::Other) | None => None,
+        Some(Row::Port(port)) => Ok(Some(Ok(port.share()?))),
+        Some(Row::Faulty(fault) | Row::BadPort(fault) | Row::BadList(fault)) => {
+            Ok(Some(Err(copy_of(alloc, fault)?)))
+        }
+        Some(Row::Absent | Row::Lists(_) | Row::FlavoredList | Row::Other) | None => Ok(None),
     }
 }

@@ -5,10 +5,10 @@ ghost use Rattle.std.specs.Option.{option_copied};
 ghost use Rattle.std.specs.Result.{result_err};
 ghost use Rattle.ports_index.specs.Keeping.{Keeps};
 ghost use Rattle.ports_index.specs.Naming as naming;
-ghost use Rattle.ports_index.specs.Seen.{row_seen, known_row, known_in};
+ghost use Rattle.ports_index.specs.Seen.{row_seen, known_row, known_in, entries_in};
 
 use crate::evaluating::Row;
-use crate::keeping::Rows;
+use crate::keeping::MemoryRows;
 use mk_files::Listing;
 use mk_paths::FilesFault;
 use pkg_path::PkgPath;
@@ -104,13 +104,13 @@ fn names_directory(path: &PkgPath) -> bool
 
 /// These directories, and the paths that the lists among them name, by their rows: in the order of their
 /// bytes, each once. It fails only if memory runs out.
-pub fn listed<R: Rows>(
+pub fn listed(
     alloc: Global,
     directories: Vec<String>,
-    rows: &R,
+    rows: &MemoryRows,
 ) -> Result<Vec<String>, AllocError>
     ensures { IfOk result (λ found. map string_bytes found.items
-        ≡ naming.listed_from (known_in (R.entries rows.now)) (map string_bytes directories.items)) }
+        ≡ naming.listed_from (known_in (entries_in rows.now)) (map string_bytes directories.items)) }
 {
     let mut paths = named_by_all(alloc, &directories, rows)?;
     append(&mut paths, directories)?;
@@ -129,13 +129,13 @@ pub(crate) fn append(texts: &mut Vec<String>, more: Vec<String>) -> Result<(), A
 }
 
 // The paths that these directories name.
-fn named_by_all<R: Rows>(
+fn named_by_all(
     alloc: Global,
     directories: &[String],
-    rows: &R,
+    rows: &MemoryRows,
 ) -> Result<Vec<String>, AllocError>
     ensures { IfOk result (λ found. map string_bytes found.items
-        ≡ flat_map (naming.named_at (known_in (R.entries rows.now)))
+        ≡ flat_map (naming.named_at (known_in (entries_in rows.now)))
         (map string_bytes directories.now)) }
 {
     let mut found = Vec::new(alloc);

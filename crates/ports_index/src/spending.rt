@@ -1,6 +1,6 @@
 //! What is spent to learn something of a world.
 ghost use Rattle.std.specs.Prelude.{◌≡◌};
-ghost use Rattle.ports_index.specs.Spending.{no_spending, units_alone, spent_together};
+ghost use Rattle.ports_index.specs.Spending.{no_spending, spent_together};
 
 /// What was spent to learn something. Both counts stop at 2^64 - 1.
 #[derive(Clone, Copy, Debug, PartialEq, Eq)]
@@ -20,13 +20,6 @@ impl Spent {
             units: 0,
             checks: 0,
         }
-    }
-
-    /// So many units were spent, and no answer was checked.
-    pub fn in_units(units: u64) -> Spent
-        ensures { result ≡ units_alone units }
-    {
-        Spent { units, checks: 0 }
     }
 
     /// This was spent, and more.

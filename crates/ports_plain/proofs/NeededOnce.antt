@@ -39,7 +39,9 @@ use Rattle.ports_index.specs.Pairs.{Pair, pair_in, pair_named, pair_at, pairs_at
 use Rattle.ports_index.specs.PathOutcomes.{PathOutcome, Absent, Faulty, Port, BadPort, Lists, BadList, FlavoredList, Other, outcome_at, own_directory}
 use Rattle.ports_index.proofs.TargetLemmas.{targets-among}
 use Rattle.ports_plain.specs.Questions.{question_of}
-use Rattle.ports_plain.specs.Resting.{Need, NoNeed, ValueNeed, RecordNeed, RootsNeed, IndexNeed, need_of, rests_for, RestsOnEachOnce}
+use Rattle.ports_plain.specs.Resting.{rests_for, RestsOnEachOnce}
+use Rattle.ports_plain.specs.declared.questions.Question.{Question}
+use Rattle.ports_plain.specs.declared.questions.Question.TheVariants.{Settled, OfFile, OfPort, OfIndex}
 use Rattle.ports_plain.proofs.MakefileNames.{IsNamedBy, one_stem, named_in, named_own, in_tree}
 
 -- what is of each element, through the lists that are made
@@ -346,12 +348,11 @@ module _ (world : World) (trees : IsSearchPath (search_path_of world)) where
   needed_apart = found_apart (pair_at world) MayBeNeeded one_path (needed_paths world)
       (in_order-sorted (listed_paths world ++ filter_map target_of (items_among (outcome_at world) (listed_paths world)))) (all_needed world)
 
-  rests_apart : (need : Need) → AllPairs (λ one other. one ≢ other) (rests_for world need)
-  rests_apart NoNeed = one_apart None
-  rests_apart (ValueNeed asked) = one_apart _
-  rests_apart (RecordNeed path) = one_apart _
-  rests_apart RootsNeed = needed_apart
-  rests_apart IndexNeed = needed_apart
+  rests_apart : (question : Question) → AllPairs (λ one other. one ≢ other) (rests_for world question)
+  rests_apart (Settled prepared) = one_apart None
+  rests_apart (OfFile asked) = one_apart None
+  rests_apart (OfPort asked) = one_apart _
+  rests_apart (OfIndex asked) = needed_apart
 
 pub rests_on_each_once : RestsOnEachOnce
-rests_on_each_once world request trees = rests_apart world trees (need_of (question_of request))
+rests_on_each_once world request trees = rests_apart world trees (question_of request)

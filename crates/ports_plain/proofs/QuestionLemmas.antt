@@ -13,7 +13,9 @@ use Rattle.ports_http.specs.declared.method.Method.TheVariants.{Get, Put, Delete
 use Rattle.ports_query.specs.Conditions.{ConditionValue, query_of}
 use Rattle.ports_plain.specs.declared.dependencies.Direction.TheVariants.{Dependencies, Dependents}
 use Rattle.ports_plain.specs.declared.questions.Question.{Question}
-use Rattle.ports_plain.specs.declared.questions.Question.TheVariants as questions
+use Rattle.ports_plain.specs.declared.questions.Question.TheVariants.{Settled, OfPort, OfIndex}
+use Rattle.ports_plain.specs.declared.port_questions.PortQuestion.TheVariants.{Variable, Record}
+use Rattle.ports_plain.specs.declared.index_questions.IndexQuestion.TheVariants as index
 use Rattle.ports_plain.specs.declared.routing.Route.{Route}
 use Rattle.ports_plain.specs.declared.routing.Route.TheVariants.{Deps, Faults, File, List as AllPackages, Match, Path, Port, Profile as Language, Rdeps, Var}
 use Rattle.ports_plain.specs.IndexRoutes.{question_in, list_by, match_by, match_reply, bad_spec, dependency_reply}
@@ -56,13 +58,13 @@ module _ (world : World) where
 
   spec-answer : (text : List ℕ) → answer_to world (spec_question text) ≡ reply_alone (match_by world text)
   spec-answer text =
-      elim (is_ok (spec_of text)) as (λ b. answer_to world (if b then questions.Match text else questions.Settled (record { reply = bad_spec; change = None })) ≡ reply_alone (if b then match_reply world text else bad_spec)) [
+      elim (is_ok (spec_of text)) as (λ b. answer_to world (if b then OfIndex (index.Match text) else Settled (record { reply = bad_spec; change = None })) ≡ reply_alone (if b then match_reply world text else bad_spec)) [
         | true ↦ refl
         | false ↦ refl
       ]
 
   get-answer : (query : List ℕ) (route : Route) → answer_to world (get_question query route) ≡ reply_alone (get_reply world query route)
-  get-answer query Deps = read-answer (questions.Dependencies Dependencies) (dependency_reply world Dependencies) (λ asked. refl) (question_in query)
+  get-answer query Deps = read-answer (λ asked. OfIndex (index.Dependencies Dependencies asked)) (dependency_reply world Dependencies) (λ asked. refl) (question_in query)
   get-answer query Faults = refl
   get-answer query File = refl
   get-answer query AllPackages =
@@ -70,12 +72,12 @@ module _ (world : World) where
   get-answer query Match = parameter-answer spec_question (match_by world) spec-answer (parameter (codes "spec") query)
   get-answer query Path = refl
   get-answer query Language = refl
-  get-answer query Port = read-answer questions.Port (port_of world) (λ path. refl) (path_in query)
-  get-answer query Rdeps = read-answer (questions.Dependencies Dependents) (dependency_reply world Dependents) (λ asked. refl) (question_in query)
+  get-answer query Port = read-answer (λ path. OfPort (Record path)) (port_of world) (λ path. refl) (path_in query)
+  get-answer query Rdeps = read-answer (λ asked. OfIndex (index.Dependencies Dependents asked)) (dependency_reply world Dependents) (λ asked. refl) (question_in query)
   get-answer query Var =
-      parameter-answer (λ name. question_or_refusal (λ path. questions.Variable (record { path = path; name = name })) (path_in query))
+      parameter-answer (λ name. question_or_refusal (λ path. OfPort (Variable (record { path = path; name = name }))) (path_in query))
       (λ name. reply_or_refusal (variable_of world name) (path_in query))
-      (λ name. read-answer (λ path. questions.Variable (record { path = path; name = name })) (variable_of world name) (λ path. refl) (path_in query))
+      (λ name. read-answer (λ path. OfPort (Variable (record { path = path; name = name }))) (variable_of world name) (λ path. refl) (path_in query))
       (parameter (codes "name") query)
 
   query-answer : (query : List ℕ) (route : Route) (method : Method) → answer_to world (query_question query route method) ≡ on_query world query route method

@@ -1,7 +1,7 @@
 -- What may be spent is bounded.
 use Rattle.std.proofs.Common.{◌≡◌, ℕ, ◌≤◌, ◌-◌, ◌⊎◌, inl, inr, ap, arith}
 use Rattle.ports_index.specs.declared.spending.Spent.{Spent}
-use Rattle.ports_plain.specs.Resting.{NoNeed, ValueNeed, RecordNeed, RootsNeed, IndexNeed}
+use Rattle.ports_plain.specs.declared.questions.Question.TheVariants.{Settled, OfFile, OfPort, OfIndex}
 use Rattle.ports_plain.specs.Spending.{SpendsNoMore, ChecksNoMore, SpendsAllUnchecked}
 
 -- all units are spent, or those of the evaluation less
@@ -18,25 +18,22 @@ abbrev units_of : Spent → ℕ
 units_of spent = spent.units
 
 pub spends_no_more : SpendsNoMore
-spends_no_more world NoNeed spent is = let none : spent.units ≡ 0 = ap units_of is in omega (arith, none)
-spends_no_more world (ValueNeed asked) spent spends = within_paid _ _ spent.units spent.checks spends.paid
-spends_no_more world (RecordNeed path) spent spends = within_paid _ _ spent.units spent.checks spends.paid
-spends_no_more world RootsNeed spent spends = spends.within
-spends_no_more world IndexNeed spent spends = spends.within
+spends_no_more world (Settled prepared) spent is = let none : spent.units ≡ 0 = ap units_of is in omega (arith, none)
+spends_no_more world (OfFile asked) spent is = let none : spent.units ≡ 0 = ap units_of is in omega (arith, none)
+spends_no_more world (OfPort asked) spent spends = within_paid _ _ spent.units spent.checks spends.paid
+spends_no_more world (OfIndex asked) spent spends = spends.within
 
 abbrev checks_of : Spent → ℕ
 checks_of spent = spent.checks
 
 pub checks_no_more : ChecksNoMore
-checks_no_more world NoNeed spent is = let none : spent.checks ≡ 0 = ap checks_of is in omega (arith, none)
-checks_no_more world (ValueNeed asked) spent spends = spends.few
-checks_no_more world (RecordNeed path) spent spends = spends.few
-checks_no_more world RootsNeed spent spends = spends.few
-checks_no_more world IndexNeed spent spends = spends.few
+checks_no_more world (Settled prepared) spent is = let none : spent.checks ≡ 0 = ap checks_of is in omega (arith, none)
+checks_no_more world (OfFile asked) spent is = let none : spent.checks ≡ 0 = ap checks_of is in omega (arith, none)
+checks_no_more world (OfPort asked) spent spends = spends.few
+checks_no_more world (OfIndex asked) spent spends = spends.few
 
 pub spends_all_unchecked : SpendsAllUnchecked
-spends_all_unchecked world NoNeed spent one none is = ap units_of is
-spends_all_unchecked world (ValueNeed asked) spent one none spends = whole_paid _ _ spent.units spent.checks none spends.paid
-spends_all_unchecked world (RecordNeed path) spent one none spends = whole_paid _ _ spent.units spent.checks none spends.paid
-spends_all_unchecked world RootsNeed spent one none spends = absurd cc
-spends_all_unchecked world IndexNeed spent one none spends = absurd cc
+spends_all_unchecked world (Settled prepared) spent one none is = ap units_of is
+spends_all_unchecked world (OfFile asked) spent one none is = ap units_of is
+spends_all_unchecked world (OfPort asked) spent one none spends = whole_paid _ _ spent.units spent.checks none spends.paid
+spends_all_unchecked world (OfIndex asked) spent one none spends = absurd cc

@@ -1,50 +1,59 @@
 -- The answer to a question over a world.
-use Rattle.std.specs.Prelude.{◌≡◌, ℕ, if◌then◌else◌, List, Option, Some, Result, option_map}
-use Rattle.std.specs.FinMap.{get, contains_key}
-use Rattle.mk_paths.specs.Place.{place}
-use Rattle.mk_paths.specs.World.{FileMap, World, files_in}
-use Rattle.mk_eval.specs.Meaning.{means}
-use Rattle.mk_eval.specs.Expanded.{Expanded}
+use Rattle.std.specs.Prelude.{◌≡◌, ℕ, if◌then◌else◌, List, Option, Some, Result, is_some}
+use Rattle.std.specs.FinMap.{get}
+use Rattle.mk_paths.specs.World.{World, files_in}
+use Rattle.mk_eval.specs.declared.outcome.Evaluated.{Evaluated}
 use Rattle.mk_eval.specs.declared.outcome.Failed.{Failed}
-use Rattle.pkg_path.specs.Paths.{PathValue}
-use Rattle.port_rules.specs.declared.recording.Recorded.{Recorded}
+use Rattle.ports_http.specs.Messages.{ReplyMessage}
 use Rattle.ports_plain.specs.declared.changing.Change.TheVariants.{RemoveFile}
 use Rattle.ports_plain.specs.declared.questions.Question.{Question}
-use Rattle.ports_plain.specs.declared.questions.Question.TheVariants as questions
+use Rattle.ports_plain.specs.declared.questions.Question.TheVariants.{Settled, OfFile, OfPort, OfIndex}
+use Rattle.ports_plain.specs.declared.files.FileQuestion.{FileQuestion}
+use Rattle.ports_plain.specs.declared.files.FileQuestion.TheVariants.{Show, Remove}
+use Rattle.ports_plain.specs.declared.port_questions.PortQuestion.{PortQuestion}
+use Rattle.ports_plain.specs.declared.port_questions.PortQuestion.TheVariants.{Variable, Record}
+use Rattle.ports_plain.specs.declared.index_questions.IndexQuestion.{IndexQuestion}
+use Rattle.ports_plain.specs.declared.index_questions.IndexQuestion.TheVariants as index
 use Rattle.ports_plain.specs.IndexRoutes.{list_reply, match_reply, get_faults, dependency_reply}
 use Rattle.ports_plain.specs.Plain.{PlainRequest, Answer, reply_alone, content_shown, answer}
-use Rattle.ports_plain.specs.Plain.{value_after, variable_of, record_after, port_of}
+use Rattle.ports_plain.specs.Plain.{value_after, value_reply, variable_of, record_after, port_reply, port_of}
 use Rattle.ports_plain.specs.Replies.{no_file, removed}
-use Rattle.ports_plain.specs.Variables.{VariableValue}
 use Rattle.ports_plain.specs.Questions.{question_of}
 
--- a file is removed, if it is there
-abbrev pub remove_answer : FileMap → List ℕ → Answer
-remove_answer files name = if contains_key files name then (removed, Some (RemoveFile name)) else reply_alone no_file
+-- the file that a question is about
+abbrev pub file_asked : FileQuestion → List ℕ
+file_asked (Show name) = name
+file_asked (Remove name) = name
+
+-- the answer to a question about a file with this content, if it is there
+abbrev pub file_answer : FileQuestion → Option (List ℕ) → Answer
+file_answer (Show name) content = reply_alone (content_shown content)
+file_answer (Remove name) content = if is_some content then (removed, Some (RemoveFile name)) else reply_alone no_file
+
+-- the reply to a question about a port
+abbrev pub port_reply_to : World → PortQuestion → ReplyMessage
+port_reply_to world (Variable asked) = variable_of world asked.name asked.path
+port_reply_to world (Record path) = port_of world path
+
+-- the same, after an evaluation of the port's makefile
+abbrev pub reply_after : PortQuestion → List ℕ → Result Evaluated Failed → ReplyMessage
+reply_after (Variable asked) makefile outcome = value_reply (value_after makefile asked.name outcome)
+reply_after (Record path) makefile outcome = port_reply path (record_after makefile outcome)
+
+-- the reply to a question about the index
+abbrev pub index_reply : World → IndexQuestion → ReplyMessage
+index_reply world (index.List conditions) = list_reply world conditions
+index_reply world (index.Match spec) = match_reply world spec
+index_reply world index.Faults = get_faults world
+index_reply world (index.Dependencies direction asked) = dependency_reply world direction asked
 
 -- the answer to a question over a world
 abbrev pub answer_to : World → Question → Answer
-answer_to world (questions.Settled prepared) = (prepared.reply, prepared.change)
-answer_to world (questions.ShowFile name) = reply_alone (content_shown (get (files_in world) name))
-answer_to world (questions.RemoveFile name) = remove_answer (files_in world) name
-answer_to world (questions.Variable asked) = reply_alone (variable_of world asked.name asked.path)
-answer_to world (questions.Port path) = reply_alone (port_of world path)
-answer_to world (questions.List conditions) = reply_alone (list_reply world conditions)
-answer_to world (questions.Match spec) = reply_alone (match_reply world spec)
-answer_to world questions.Faults = reply_alone (get_faults world)
-answer_to world (questions.Dependencies direction asked) = reply_alone (dependency_reply world direction asked)
+answer_to world (Settled prepared) = (prepared.reply, prepared.change)
+answer_to world (OfFile asked) = file_answer asked (get (files_in world) (file_asked asked))
+answer_to world (OfPort asked) = reply_alone (port_reply_to world asked)
+answer_to world (OfIndex asked) = reply_alone (index_reply world asked)
 
 -- in every world the answer to a request is the answer to the question that it asks
 abbrev pub QuestionsHaveTheAnswers : Type 0
 QuestionsHaveTheAnswers = (world : World) (request : PlainRequest) → answer_to world (question_of request) ≡ answer world request
-
--- what is found of a variable of a port: its value, if it is defined, or the fault that is met; None if the
--- port's makefile isn't there
-abbrev pub value_found : World → VariableValue → Option (Result (Option Expanded) Failed)
-value_found world asked =
-    option_map (λ makefile. value_after makefile asked.name (means world makefile asked.path.flavors)) (place world asked.path.directory)
-
--- what is found of a port: its record, if the makefile describes a port, or the fault that is met; None if the
--- makefile isn't there
-abbrev pub record_found : World → PathValue → Option (Result (Option Recorded) Failed)
-record_found world path = option_map (λ makefile. record_after makefile (means world makefile path.flavors)) (place world path.directory)

@@ -18,6 +18,7 @@ use Rattle.mk_eval.specs.declared.outcome.Failed.{Failed}
 use Rattle.mk_eval.specs.declared.outcome.Kind.{Kind}
 use Rattle.mk_eval.specs.declared.outcome.Kind.TheVariants as kinds
 use Rattle.pkg_path.specs.Paths.{PathValue}
+use Rattle.port_rules.specs.Ports.{PortValue}
 use Rattle.port_rules.specs.Records.{record_of}
 use Rattle.port_rules.specs.declared.recording.Recorded.{Recorded}
 use Rattle.ports_http.specs.declared.method.Method.{Method}
@@ -143,9 +144,13 @@ abbrev pub record_after : List ℕ → Result Evaluated Failed → Result (Optio
 record_after makefile (Ok evaluated) = record_by evaluated.kind (record_of evaluated.env makefile)
 record_after makefile (Err failed) = Err failed
 
+-- the reply with a port, which must have the subpackage that its path names, if it names one
+abbrev pub port_told : PathValue → PortValue → ReplyMessage
+port_told path port = if has_named path.subpackage port then port_shown path port else no_subpackage
+
 -- the reply to a record, or to a fault met on the way to it
 abbrev pub port_reply : PathValue → Result (Option Recorded) Failed → ReplyMessage
-port_reply path (Ok (Some recorded)) = if has_named path.subpackage recorded.port then port_shown path recorded.port else no_subpackage
+port_reply path (Ok (Some recorded)) = port_told path recorded.port
 port_reply path (Ok None) = no_port
 port_reply path (Err failed) = faulty failed.fault
 

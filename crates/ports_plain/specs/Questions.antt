@@ -14,7 +14,10 @@ use Rattle.ports_plain.specs.declared.changing.Change.TheVariants.{PutFile}
 use Rattle.ports_plain.specs.declared.dependencies.Direction.{Direction}
 use Rattle.ports_plain.specs.declared.dependencies.Direction.TheVariants.{Dependencies, Dependents}
 use Rattle.ports_plain.specs.declared.questions.Question.{Question}
-use Rattle.ports_plain.specs.declared.questions.Question.TheVariants as questions
+use Rattle.ports_plain.specs.declared.questions.Question.TheVariants.{Settled, OfFile, OfPort, OfIndex}
+use Rattle.ports_plain.specs.declared.files.FileQuestion.TheVariants.{Show, Remove}
+use Rattle.ports_plain.specs.declared.port_questions.PortQuestion.TheVariants.{Variable, Record}
+use Rattle.ports_plain.specs.declared.index_questions.IndexQuestion.TheVariants as index
 use Rattle.ports_plain.specs.declared.routing.Route.{Route}
 use Rattle.ports_plain.specs.declared.routing.Route.TheVariants.{Deps, Faults, File, List as AllPackages, Match}
 use Rattle.ports_plain.specs.declared.routing.Route.TheVariants.{Path, Port, Profile as Language, Rdeps, Var}
@@ -28,7 +31,7 @@ use Rattle.ports_plain.specs.Target.{path_of as target_path, query_of as query_o
 
 -- the answer is this one over every world
 abbrev pub settled : Answer → Question
-settled answer = questions.Settled (record { reply = answer.0; change = answer.1 })
+settled answer = Settled (record { reply = answer.0; change = answer.1 })
 
 -- it is this reply alone
 abbrev pub refused : ReplyMessage → Question
@@ -45,9 +48,9 @@ with_parameter question text = option_map_or question text (refused bad_paramete
 
 -- GET, PUT and DELETE of the file of a name: whether it is stored doesn't depend on the world
 abbrev pub named_file_question : Method → List ℕ → List ℕ → Question
-named_file_question Get body name = questions.ShowFile name
+named_file_question Get body name = OfFile (Show name)
 named_file_question Put body name = settled (stored, Some (PutFile name body))
-named_file_question Delete body name = questions.RemoveFile name
+named_file_question Delete body name = OfFile (Remove name)
 
 abbrev pub resolved_question : Method → List ℕ → Result (List ℕ) NameFault → Question
 resolved_question method body (Ok name) = named_file_question method body name
@@ -60,35 +63,35 @@ file_question method body name = with_parameter (λ text. resolved_question meth
 -- GET /v1/var?path=&name=
 abbrev pub variable_question : List ℕ → Question
 variable_question query =
-    with_parameter (λ name. question_or_refusal (λ path. questions.Variable (record { path = path; name = name })) (path_in query))
+    with_parameter (λ name. question_or_refusal (λ path. OfPort (Variable (record { path = path; name = name }))) (path_in query))
     (parameter (codes "name") query)
 
 -- GET /v1/port?path=
 abbrev pub port_question : List ℕ → Question
-port_question query = question_or_refusal questions.Port (path_in query)
+port_question query = question_or_refusal (λ path. OfPort (Record path)) (path_in query)
 
 -- GET /v1/list?where=
 abbrev pub conditions_question : Option (List ConditionValue) → Question
-conditions_question conditions = option_map_or questions.List conditions (refused bad_query)
+conditions_question conditions = option_map_or (λ known. OfIndex (index.List known)) conditions (refused bad_query)
 
 abbrev pub list_question : List ℕ → Question
 list_question query = with_parameter (λ text. conditions_question (query_of text)) (optional (codes "where") query)
 
 -- GET /v1/match?spec=
 abbrev pub spec_question : List ℕ → Question
-spec_question text = if is_ok (spec_of text) then questions.Match text else refused bad_spec
+spec_question text = if is_ok (spec_of text) then OfIndex (index.Match text) else refused bad_spec
 
 abbrev pub match_question : List ℕ → Question
 match_question query = with_parameter spec_question (parameter (codes "spec") query)
 
 -- GET /v1/deps and GET /v1/rdeps
 abbrev pub dependency_question : Direction → List ℕ → Question
-dependency_question direction query = question_or_refusal (questions.Dependencies direction) (question_in query)
+dependency_question direction query = question_or_refusal (λ asked. OfIndex (index.Dependencies direction asked)) (question_in query)
 
 -- the question of a GET on a route, by the query; a file, the search path and the profile aren't asked for in this way
 abbrev pub get_question : List ℕ → Route → Question
 get_question query Deps = dependency_question Dependencies query
-get_question query Faults = questions.Faults
+get_question query Faults = OfIndex index.Faults
 get_question query File = refused (not_allowed File)
 get_question query AllPackages = list_question query
 get_question query Match = match_question query

@@ -18,43 +18,29 @@ use Rattle.ports_index.specs.Efforts.{cost_over}
 use Rattle.ports_index.specs.Index.{needed_paths}
 use Rattle.ports_index.specs.Pairs.{Pair, pair_in, pairs_at}
 use Rattle.ports_plain.specs.declared.questions.Question.{Question}
-use Rattle.ports_plain.specs.declared.questions.Question.TheVariants as questions
+use Rattle.ports_plain.specs.declared.questions.Question.TheVariants.{Settled, OfFile, OfPort, OfIndex}
+use Rattle.ports_plain.specs.declared.port_questions.PortQuestion.{PortQuestion}
+use Rattle.ports_plain.specs.declared.port_questions.PortQuestion.TheVariants.{Variable, Record}
 use Rattle.ports_plain.specs.Plain.{PlainRequest}
 use Rattle.ports_plain.specs.Questions.{question_of}
 use Rattle.ports_plain.specs.Variables.{VariableValue}
-
--- What a question needs of a world beside its files: nothing; the value of a variable of a port; the record of
--- a port; the roots of the index; or the roots and the dependencies.
-pub data Need : Type 0 where
-  NoNeed : Need
-  ValueNeed : VariableValue → Need
-  RecordNeed : PathValue → Need
-  RootsNeed : Need
-  IndexNeed : Need
-
-abbrev pub need_of : Question → Need
-need_of (questions.Settled prepared) = NoNeed
-need_of (questions.ShowFile name) = NoNeed
-need_of (questions.RemoveFile name) = NoNeed
-need_of (questions.Variable asked) = ValueNeed asked
-need_of (questions.Port path) = RecordNeed path
-need_of (questions.List conditions) = RootsNeed
-need_of (questions.Match spec) = RootsNeed
-need_of questions.Faults = RootsNeed
-need_of (questions.Dependencies direction asked) = IndexNeed
 
 -- the makefile of a package path with the path's flavors, if it is there
 abbrev pub pair_of : World → PathValue → Option Pair
 pair_of world path = pair_in world path.directory path.flavors
 
--- The makefiles, with flavors, on which it depends what is needed, each once. Of roots these are those of the
--- whole index, and those that items name.
-abbrev pub rests_for : World → Need → List Pair
-rests_for world NoNeed = []
-rests_for world (ValueNeed asked) = option_to_list (pair_of world asked.path)
-rests_for world (RecordNeed path) = option_to_list (pair_of world path)
-rests_for world RootsNeed = pairs_at world (needed_paths world)
-rests_for world IndexNeed = pairs_at world (needed_paths world)
+-- the path of the port that a question is about
+abbrev pub path_asked : PortQuestion → PathValue
+path_asked (Variable asked) = asked.path
+path_asked (Record path) = path
+
+-- The makefiles, with flavors, on which the answer to a question rests, each once. Of the index these are those of its
+-- roots, and those that items name.
+abbrev pub rests_for : World → Question → List Pair
+rests_for world (Settled prepared) = []
+rests_for world (OfFile asked) = []
+rests_for world (OfPort asked) = option_to_list (pair_of world (path_asked asked))
+rests_for world (OfIndex asked) = pairs_at world (needed_paths world)
 
 -- the units of an evaluation, and then those of a variable's value
 abbrev pub value_cost_after : List ℕ → List ℕ → Result Evaluated Failed → ℕ
@@ -92,34 +78,43 @@ record_cost_of world path makefile = record_cost_after makefile (means world mak
 abbrev pub record_cost_at : World → PathValue → ℕ
 record_cost_at world path = cost_if_there (option_map (record_cost_of world path) (place world path.directory))
 
--- The units of all evaluations on which it depends what is needed, with those of the records, of the SUBDIRs
+-- the units of what a question asks of a port, after the evaluation of the port's makefile, with those of this
+abbrev pub cost_after : PortQuestion → List ℕ → Result Evaluated Failed → ℕ
+cost_after (Variable asked) makefile outcome = value_cost_after makefile asked.name outcome
+cost_after (Record path) makefile outcome = record_cost_after makefile outcome
+
+-- the same over a world
+abbrev pub port_cost_at : World → PortQuestion → ℕ
+port_cost_at world (Variable asked) = value_cost_at world asked
+port_cost_at world (Record path) = record_cost_at world path
+
+-- The units of all evaluations on which the answer to a question rests, with those of the records, of the SUBDIRs
 -- and of the value.
-abbrev pub cost_for : World → Need → ℕ
-cost_for world NoNeed = 0
-cost_for world (ValueNeed asked) = value_cost_at world asked
-cost_for world (RecordNeed path) = record_cost_at world path
-cost_for world RootsNeed = cost_over world (needed_paths world)
-cost_for world IndexNeed = cost_over world (needed_paths world)
+abbrev pub cost_for : World → Question → ℕ
+cost_for world (Settled prepared) = 0
+cost_for world (OfFile asked) = 0
+cost_for world (OfPort asked) = port_cost_at world asked
+cost_for world (OfIndex asked) = cost_over world (needed_paths world)
 
 -- the makefiles, with flavors, on which the answer to a request rests, each once; their number; and the cost
 abbrev pub rests : World → PlainRequest → List Pair
-rests world request = rests_for world (need_of (question_of request))
+rests world request = rests_for world (question_of request)
 
 abbrev pub evaluations : World → PlainRequest → ℕ
 evaluations world request = length (rests world request)
 
 abbrev pub cost : World → PlainRequest → ℕ
-cost world request = cost_for world (need_of (question_of request))
+cost world request = cost_for world (question_of request)
 
--- Within so many of its tenant's own turns a request that needs this is told its reply. It is one for that, one for each
+-- Within so many of its tenant's own turns a request that asks this is told its reply. It is one for that, one for each
 -- makefile that is evaluated, and one for each 1,000 of the units that it costs and the answers that may be checked.
-abbrev pub turns_for : World → Need → ℕ
-turns_for world need =
-    1 + length (rests_for world need) + (cost_for world need + 1028 * length (rests_for world need)) / 1000
+abbrev pub turns_for : World → Question → ℕ
+turns_for world question =
+    1 + length (rests_for world question) + (cost_for world question + 1028 * length (rests_for world question)) / 1000
 
--- the same of what a request needs
+-- the same of a request
 abbrev pub most_turns : World → PlainRequest → ℕ
-most_turns world request = turns_for world (need_of (question_of request))
+most_turns world request = turns_for world (question_of request)
 
 -- along the trees of a search path, no makefile is twice, with the same flavors, among those on which an answer rests
 abbrev pub RestsOnEachOnce : Type 0

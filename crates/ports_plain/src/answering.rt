@@ -1,29 +1,21 @@
-// Requests and their answers.
-ghost use Rattle.std.specs.Prelude.{◌≡◌, IfOk, None};
-ghost use Rattle.std.specs.Result.{result_err};
-ghost use Rattle.ports_plain.specs.Answers.{answer_to};
-ghost use Rattle.ports_plain.specs.Plain.{answer, plain_request};
+// Requests, and what they ask.
+ghost use Rattle.std.specs.Prelude.{◌≡◌, IfOk};
+ghost use Rattle.ports_plain.specs.Plain.{plain_request};
 ghost use Rattle.ports_plain.specs.Questions as questions;
 ghost use Rattle.ports_plain.specs.Questions.{question_of};
-ghost use Rattle.ports_plain.specs.Resting.{need_of};
 
-use crate::changing::Prepared;
-use crate::dependencies::{Direction, dependency_question, dependency_reply};
-use crate::files::{file_question, remove_file, show_file};
-use crate::laws::questions_have_the_answers;
-use crate::lists::{faults_reply, list_question, list_reply, match_question, match_reply};
+use crate::dependencies::{Direction, dependency_question};
+use crate::files::file_question;
+use crate::index_questions::IndexQuestion;
+use crate::lists::{list_question, match_question};
 use crate::paths::path_question;
-use crate::port::{port_question, port_reply};
-use crate::ports::Ports;
+use crate::port_questions::{port_question, variable_question};
 use crate::profiles::profile_question;
 use crate::questions::Question;
 use crate::replies::not_allowed;
 use crate::routing::{Route, Routes};
 use crate::target::path_and_query;
-use crate::variables::{variable_question, variable_reply};
-use mk_paths::FilesFault;
-use ports_http::{Method, Reply, StatusCode};
-use ports_index::Spent;
+use ports_http::{Method, StatusCode};
 use std::alloc::{AllocError, Global};
 
 /// The plain service: its routes, made once. It holds nothing of a tenant.
@@ -40,8 +32,7 @@ impl Plain {
         })
     }
 
-    /// The answer to one request over the ports of one tenant's world: its reply, and what is to be changed,
-    /// with what was spent. Nothing of the world is changed yet.
+    /// What a request asks, with every refusal of its form. It fails only if memory runs out.
     ///
     /// `/v1/file?name=N` is about the file that N names. `GET` gives its bytes. `PUT` stores the body, in
     /// bytes, as that file: 200 `{"stored":true}`. `DELETE` removes it: 200 `{"removed":true}`. If the
@@ -74,30 +65,8 @@ impl Plain {
     /// Three refusals come before these, in this order. Any other path gives 404 `{"error":"Route"}`. Any
     /// other method gives 405 `{"error":"Method"}` with the route's methods. A parameter of the route
     /// that is missing, empty or there twice gives 400 `{"error":"Parameter"}`; but `where`, `kind` and
-    /// `depth` may be missing or empty.
-    ///
-    /// Parameters are read as forms are (URL Standard), and statuses are those of RFC 9110. All these are
-    /// answers. If finding out what is needed fails, so does this. If memory runs out, the error is `Memory`.
-    pub fn prepare<P: Ports>(
-        &self,
-        alloc: Global,
-        ports: &mut P,
-        method: Method,
-        target: &str,
-        body: &[u8],
-    ) -> Result<(Prepared, Spent), FilesFault>
-        ensures answer { IfOk result (λ found. (found.0.reply, found.0.change)
-            ≡ answer (P.world ports.old) (plain_request method target.now body.now)) }
-        ensures spent { IfOk result (λ found. P.charges ports.old
-            (need_of (question_of (plain_request method target.now body.now))) found.1) }
-        ensures leaves { P.leaves (result_err result) ports.old ports.new }
-    {
-        questions_have_the_answers();
-        let question = self.question(alloc, method, target, body)?;
-        answer_question(alloc, ports, question)
-    }
-
-    /// What a request asks, with every refusal of its form. It fails only if memory runs out.
+    /// `depth` may be missing or empty. Parameters are read as forms are (URL Standard), and statuses are those of RFC
+    /// 9110.
     #[tactic(auto, unfolding(crate::specs::Questions::question_of))]
     pub fn question(
         &self,
@@ -150,7 +119,7 @@ fn get_question(alloc: Global, route: Route, query: &str) -> Result<Question, Al
 {
     match route {
         Route::Deps => dependency_question(alloc, Direction::Dependencies, query),
-        Route::Faults => Ok(Question::Faults),
+        Route::Faults => Ok(Question::OfIndex(IndexQuestion::Faults)),
         Route::List => list_question(alloc, query),
         Route::Match => match_question(alloc, query),
         Route::Port => port_question(alloc, query),
@@ -160,39 +129,4 @@ fn get_question(alloc: Global, route: Route, query: &str) -> Result<Question, Al
             alloc, route,
         )?)),
     }
-}
-
-/// The answer to a question over the ports of a tenant's world: its reply, and what is to be changed, with
-/// what was spent. It fails if finding out what is needed fails, or if memory runs out.
-pub fn answer_question<P: Ports>(
-    alloc: Global,
-    ports: &mut P,
-    question: Question,
-) -> Result<(Prepared, Spent), FilesFault>
-    ensures answer { IfOk result (λ found. (found.0.reply, found.0.change)
-        ≡ answer_to (P.world ports.old) question) }
-    ensures spent { IfOk result (λ found. P.charges ports.old (need_of question) found.1) }
-    ensures leaves { P.leaves (result_err result) ports.old ports.new }
-{
-    match question {
-        Question::Settled(prepared) => Ok((prepared, Spent::nothing())),
-        Question::ShowFile(name) => Ok((show_file(alloc, ports, &name)?, Spent::nothing())),
-        Question::RemoveFile(name) => Ok((remove_file(alloc, ports, name)?, Spent::nothing())),
-        Question::Variable(asked) => Ok(reply_alone(variable_reply(alloc, ports, &asked)?)),
-        Question::Port(path) => Ok(reply_alone(port_reply(alloc, ports, &path)?)),
-        Question::List(conditions) => Ok(reply_alone(list_reply(alloc, ports, &conditions)?)),
-        Question::Match(spec) => Ok(reply_alone(match_reply(alloc, ports, &spec)?)),
-        Question::Faults => Ok(reply_alone(faults_reply(alloc, ports)?)),
-        Question::Dependencies(direction, asked) => {
-            Ok(reply_alone(dependency_reply(alloc, ports, direction, &asked)?))
-        }
-    }
-}
-
-// The answer that is a reply alone, with what was spent.
-fn reply_alone(told: (Reply, Spent)) -> (Prepared, Spent)
-    ensures { result ≡ record { 0 = record { reply = told.0; change = None }; 1 = told.1 } }
-{
-    let (reply, spent) = told;
-    (Prepared::reply_alone(reply), spent)
 }

@@ -1,26 +1,25 @@
 // The routes of dependencies, both ways.
-ghost use Rattle.std.specs.Prelude.{◌≡◌, IfOk, IfErr, Ok};
-ghost use Rattle.std.specs.Result.{result_err};
+ghost use Rattle.std.specs.Prelude.{◌≡◌, IfOk, Ok};
+ghost use Rattle.mk_paths.specs.World.{World};
 ghost use Rattle.serde_json.specs.View.{view};
-ghost use Rattle.ports_query.specs.Failing.{MayFail, EitherMayFail};
+ghost use Rattle.ports_index.specs.Known.{IsIndexOf};
 ghost use Rattle.ports_query.specs.Kinds.{kinds_of};
 ghost use Rattle.ports_plain.specs.IndexRoutes as routes;
 ghost use Rattle.ports_plain.specs.Questions as questions;
-ghost use Rattle.ports_plain.specs.Resting.{IndexNeed};
 
 use crate::depth::Depth;
+use crate::index_questions::IndexQuestion;
 use crate::list_bodies;
 use crate::parameters::{optional, path_in};
-use crate::port::has_named;
-use crate::ports::Ports;
+use crate::port_questions::has_named;
 use crate::questions::Question;
 use crate::replies::{faulty, json_reply, refusal};
 use mk_paths::FilesFault;
 use pkg_path::PkgPath;
 use port_deps::{Root, RootEdge};
 use ports_http::{Reply, StatusCode};
-use ports_index::Spent;
-use ports_query::{Cursor, Kinds, edges_to, first_edges, reached, reaching, root_at};
+use ports_index::KnownIndex;
+use ports_query::{Cursor, Kinds, RowsInMemory, edges_to, first_edges, reached, reaching, root_at};
 use serde_json::Value;
 use std::alloc::{AllocError, Global};
 
@@ -54,7 +53,7 @@ pub fn dependency_question(
         ≡ questions.dependency_question direction query.now) }
 {
     match question_in(alloc, query)? {
-        Ok(question) => Ok(Question::Dependencies(direction, question)),
+        Ok(asked) => { Ok(Question::OfIndex(IndexQuestion::Dependencies(direction, asked))) }
         Err(refused) => Ok(Question::settled(refused)),
     }
 }
@@ -90,39 +89,24 @@ fn question_on(
     }
 }
 
-// What a port depends on, or what depends on it, and what was spent.
-pub fn dependency_reply<P: Ports>(
+// What a port depends on, or what depends on it.
+pub fn dependency_reply(
     alloc: Global,
-    ports: &mut P,
-    direction: Direction,
-    question: &DependencyQuestion,
-) -> Result<(Reply, Spent), FilesFault>
-    ensures reply { IfOk result (λ told. told.0
-        ≡ routes.dependency_reply (P.world ports.old) direction question.now) }
-    ensures spent { IfOk result (λ told. P.charges ports.old IndexNeed told.1) }
-    ensures leaves { P.leaves (result_err result) ports.old ports.new }
-{
-    let (mut roots, mut edges, spent) = ports.index(alloc)?;
-    let reply = reply_to(alloc, &mut roots, &mut edges, direction, question)?;
-    Ok((reply, spent))
-}
-
-// What a port depends on, or what depends on it, by these roots and dependencies.
-fn reply_to<R: Cursor<Root>, E: Cursor<RootEdge>>(
-    alloc: Global,
-    roots: &mut R,
-    edges: &mut E,
+    index: &KnownIndex,
     direction: Direction,
     question: &DependencyQuestion,
 ) -> Result<Reply, FilesFault>
-    ensures reply { IfOk result (λ reply. reply
-        ≡ routes.reply_to (R.left roots.old) (E.left edges.old) direction question.now) }
-    ensures kind { IfErr result (EitherMayFail R.fails_with E.fails_with) }
+    ensures { (world : World) → IsIndexOf world index.now
+        → IfOk result (λ reply. reply ≡ routes.dependency_reply world direction question.now) }
 {
+    let mut edges = RowsInMemory::new(index.edges(alloc)?);
     match direction {
-        Direction::Dependencies => dependencies_in(alloc, roots, edges, question),
+        Direction::Dependencies => {
+            let mut roots = RowsInMemory::new(index.roots(alloc)?);
+            dependencies_in(alloc, &mut roots, &mut edges, question)
+        }
         Direction::Dependents => {
-            let body = dependents_body(alloc, edges, question)?;
+            let body = dependents_body(alloc, &mut edges, question)?;
             Ok(json_reply(alloc, StatusCode::OK, &body)?)
         }
     }
@@ -135,9 +119,8 @@ fn dependencies_in<R: Cursor<Root>, E: Cursor<RootEdge>>(
     edges: &mut E,
     question: &DependencyQuestion,
 ) -> Result<Reply, FilesFault>
-    ensures reply { IfOk result (λ reply. reply
+    ensures { IfOk result (λ reply. reply
         ≡ routes.dependencies_in (R.left roots.old) (E.left edges.old) question.now) }
-    ensures kind { IfErr result (EitherMayFail R.fails_with E.fails_with) }
 {
     let path = question.path.port_path(alloc)?;
     let Some(root) = root_at(path.as_str(), roots)? else {
@@ -160,9 +143,8 @@ fn dependencies_body<E: Cursor<RootEdge>>(
     edges: &mut E,
     question: &DependencyQuestion,
 ) -> Result<Value, FilesFault>
-    ensures body { IfOk result (λ value. view value
+    ensures { IfOk result (λ value. view value
         ≡ routes.dependencies_body_of (E.left edges.old) question.now) }
-    ensures kind { IfErr result (MayFail E.fails_with) }
 {
     match question.depth {
         Depth::Direct => {
@@ -181,9 +163,8 @@ fn dependents_body<E: Cursor<RootEdge>>(
     edges: &mut E,
     question: &DependencyQuestion,
 ) -> Result<Value, FilesFault>
-    ensures body { IfOk result (λ value. view value
+    ensures { IfOk result (λ value. view value
         ≡ routes.dependents_body_of (E.left edges.old) question.now) }
-    ensures kind { IfErr result (MayFail E.fails_with) }
 {
     match question.depth {
         Depth::Direct => {

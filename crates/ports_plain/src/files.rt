@@ -1,23 +1,28 @@
 // The route of files.
-ghost use Rattle.std.specs.Prelude.{◌≡◌, IfOk, Some, codes};
-ghost use Rattle.std.specs.FinMap.{get};
-ghost use Rattle.std.specs.Result.{result_err};
-ghost use Rattle.mk_paths.specs.World.{files_in};
-ghost use Rattle.ports_plain.specs.Answers.{remove_answer};
+ghost use Rattle.std.specs.Prelude.{◌≡◌, IfOk, codes};
+ghost use Rattle.ports_plain.specs.Answers.{file_answer, file_asked};
 ghost use Rattle.ports_plain.specs.Parameters.{parameter as parameter_of};
-ghost use Rattle.ports_plain.specs.Plain.{reply_alone, content_shown};
+ghost use Rattle.ports_plain.specs.Plain.{reply_alone};
 ghost use Rattle.ports_plain.specs.Questions as questions;
 ghost use Rattle.ports_plain.specs.Replies.{no_file as no_file_reply};
 
 use crate::changing::{Change, Prepared};
 use crate::parameters::parameter;
-use crate::ports::Ports;
 use crate::questions::Question;
 use crate::replies::{file_shown, refusal, removed, stored};
 use mk_files::Content;
-use mk_paths::{FilesFault, Name, NameFault};
+use mk_paths::{Name, NameFault};
 use ports_http::{Method, StatusCode};
 use std::alloc::{AllocError, Global};
+
+/// What is asked of one file.
+#[derive(Drop)]
+pub enum FileQuestion {
+    /// The content of the file of this name.
+    Show(Name),
+    /// That the file of this name is removed.
+    Remove(Name),
+}
 
 // The question about the file that the query names: that it is shown, stored with this body, or removed.
 pub fn file_question(
@@ -51,9 +56,9 @@ fn named_file_question(
         ≡ questions.named_file_question method body.now name) }
 {
     match method {
-        Method::Get => Ok(Question::ShowFile(name)),
+        Method::Get => Ok(Question::OfFile(FileQuestion::Show(name))),
         Method::Put => store_file(alloc, name, body),
-        Method::Delete => Ok(Question::RemoveFile(name)),
+        Method::Delete => Ok(Question::OfFile(FileQuestion::Remove(name))),
     }
 }
 
@@ -68,38 +73,35 @@ fn store_file(alloc: Global, name: Name, body: &[u8]) -> Result<Question, AllocE
     Ok(Question::Settled(Prepared { reply, change }))
 }
 
-// The file's bytes, if it is there.
-pub fn show_file<P: Ports>(
-    alloc: Global,
-    ports: &mut P,
-    name: &Name,
-) -> Result<Prepared, FilesFault>
-    ensures answer { IfOk result (λ prepared. (prepared.reply, prepared.change)
-        ≡ reply_alone (content_shown (get (files_in (P.world ports.old)) name.now))) }
-    ensures leaves { P.leaves (result_err result) ports.old ports.new }
-{
-    match ports.content(name)? {
-        Some(content) => Ok(Prepared::reply_alone(file_shown(alloc, content.as_slice())?)),
-        None => Ok(no_file(alloc)?),
+impl FileQuestion {
+    /// The name of the file.
+    pub fn name(&self) -> &Name
+        ensures { result.now ≡ file_asked self.now }
+    {
+        match self {
+            FileQuestion::Show(name) | FileQuestion::Remove(name) => name,
+        }
     }
-}
 
-// The change that removes a file, with its reply, if the file is there.
-pub fn remove_file<P: Ports>(
-    alloc: Global,
-    ports: &mut P,
-    name: Name,
-) -> Result<Prepared, FilesFault>
-    ensures answer { IfOk result (λ prepared. (prepared.reply, prepared.change)
-        ≡ remove_answer (files_in (P.world ports.old)) name) }
-    ensures leaves { P.leaves (result_err result) ports.old ports.new }
-{
-    if !ports.has_file(&name)? {
-        return Ok(no_file(alloc)?);
+    /// The answer, if the file has this content, or isn't there: its bytes, or the change that removes it. It fails only
+    /// if memory runs out.
+    pub fn answer(self, alloc: Global, content: Option<Content>) -> Result<Prepared, AllocError>
+        ensures { IfOk result (λ prepared. (prepared.reply, prepared.change) ≡ file_answer self content) }
+    {
+        let Some(content) = content else {
+            return no_file(alloc);
+        };
+        match self {
+            FileQuestion::Show(_) => {
+                Ok(Prepared::reply_alone(file_shown(alloc, content.as_slice())?))
+            }
+            FileQuestion::Remove(name) => {
+                let reply = removed(alloc)?;
+                let change = Some(Change::RemoveFile(name));
+                Ok(Prepared { reply, change })
+            }
+        }
     }
-    let reply = removed(alloc)?;
-    let change = Some(Change::RemoveFile(name));
-    Ok(Prepared { reply, change })
 }
 
 fn no_file(alloc: Global) -> Result<Prepared, AllocError>

@@ -1,6 +1,5 @@
-//! The plain service: it answers one request over one tenant's world. First the question is read that the
-//! request asks. Then it is answered over that world's ports, however they are found (`Ports`). It knows
-//! nothing of connections, queues, sharing or suspension.
+//! The plain service: what one request asks of one tenant's world, and the answer, given what this takes of the world: a
+//! file, the evaluation of a makefile, or the index. It knows nothing of connections, queues, sharing or suspension.
 #![tactic(auto)]
 
 mod answering;
@@ -9,32 +8,31 @@ mod changing;
 mod dependencies;
 mod depth;
 mod files;
+mod index_questions;
 mod laws;
 mod list_bodies;
 mod lists;
 mod parameters;
 mod paths;
-mod port;
 mod port_bodies;
-mod ports;
+mod port_questions;
 mod profiles;
 mod questions;
 mod replies;
 mod routing;
 mod target;
 mod trimming;
-mod variables;
 
-pub use answering::{Plain, answer_question};
+pub use answering::Plain;
 pub use changing::{Change, Prepared};
 pub use dependencies::{DependencyQuestion, Direction};
 pub use depth::Depth;
+pub use files::FileQuestion;
+pub use index_questions::IndexQuestion;
 pub use laws::{
     never_answers_503, others_keep_the_profile, questions_have_the_answers, rests_on_each_once,
     spending_is_bounded,
 };
-pub use port::record_reply;
-pub use ports::{Ports, RecordFound, ValueFound};
-pub use questions::{Question, VariableQuestion};
+pub use port_questions::{PortQuestion, VariableQuestion, no_port};
+pub use questions::Question;
 pub use replies::full;
-pub use variables::value_reply;

@@ -7,7 +7,3 @@ use Rattle.refusals.specs.Refused.{refused}
 -- the work fails as the rows may, or with Memory if there is none for it
 abbrev pub MayFail : (FilesFault → Type 0) → FilesFault → Type 0
 MayFail may fault = may fault ⊎ (fault ≡ Memory refused)
-
--- the same of work on two kinds of rows
-abbrev pub EitherMayFail : (FilesFault → Type 0) → (FilesFault → Type 0) → FilesFault → Type 0
-EitherMayFail may other fault = MayFail may fault ⊎ MayFail other fault

@@ -32,7 +32,7 @@ pub(crate) fn read_port(alloc: Global, bytes: &[u8]) -> Result<(PortRecord, &[u8
     let (categories, rest) = read_texts(alloc, rest)?;
     let (packages, rest) = read_packages(alloc, rest)?;
     let (depends, rest) = read_depends(alloc, rest)?;
-    let record = PortRecord::new(flavors, maintainer, categories, packages, depends);
+    let record = PortRecord::new(alloc, flavors, maintainer, categories, packages, depends)?;
     Ok((record, rest))
 }
 

@@ -13,6 +13,7 @@ use Rattle.std.proofs.lemmas.Map.Text.{is_eq-slice_cmp}
 use Rattle.std.proofs.lemmas.Option.{slice_get-get_or}
 use Rattle.general_facts.specs.Texts.{bytes_eq-sym}
 use Rattle.mk_paths.specs.World.{World, files_in, with_file, without_file}
+use Rattle.mk_paths.specs.declared.search_path.Settings.{Settings}
 use Rattle.index_keep.specs.Right.{DifferAt}
 use Rattle.index_keep.specs.Keeping.{IsKept, rows_of, begun_in, refresh_of}
 use Rattle.index_keep.specs.Shown.{ShowsSame}
@@ -21,6 +22,7 @@ use Rattle.index_store.specs.PortTable.{stored_by}
 use Rattle.index_store.specs.PortTable.{Entry}
 use Rattle.index_keep.specs.declared.keeper.Keeper.{Keeper}
 use Rattle.tenant_worlds.specs.declared.tenant.Tenant.{Tenant}
+use Rattle.tenant_worlds.specs.declared.tenant.TenantJob.{TenantJob}
 use Rattle.tenant_worlds.specs.Kept.{IsJobOver, IsRight, AreRight, world_of}
 
 pub get-set_same : {A : Type 0} (items : List A) (t : ℕ) (item : A) → t < length items → slice_get (slice_set items t item) t ≡ Some item
@@ -76,6 +78,7 @@ pub limited
 limited tenant world keeper same_world rows begun kept is =
     let same : refresh_of stored_by keeper ≡ refresh_of stored_by tenant.keeper = λ i. refresh_at (λ path. rows path i) (begun i) in
     record {
+      settings = is.settings ∙ ap (λ (w : World). w.1) (sym same_world);
       keeper = subst (λ (w : World). IsKept stored_by w keeper) (sym same_world) (kept is.keeper);
       pending = subst (λ (w : World). IfSome tenant.job (IsJobOver w (refresh_of stored_by keeper))) (sym same_world)
           (subst (λ (refresh : RefreshView). IfSome tenant.job (IsJobOver (world_of tenant) refresh)) (sym same) is.pending);
@@ -111,3 +114,17 @@ pub kept_by_put
     → IsKept stored_by old keeper → IsKept stored_by new keeper
 kept_by_put (Ok done) old new name content keeper is same told kept = told new (put_differs old new name content is)
 kept_by_put (Err fault) old new name content keeper is same told kept = subst (λ (w : World). IsKept stored_by w keeper) (sym same) kept
+
+-- a tenant without a job is right if its settings are its world's, and its keeper is right about this world
+pub idle_right : (world : World) (settings : Settings) (keeper : Keeper (List Entry)) (job : Option TenantJob) → job ≡ None → settings ≡ world.1 → IsKept stored_by world keeper
+    → IsRight (record { store = world; settings = settings; keeper = keeper; job = job })
+idle_right world settings keeper job none same kept = record {
+  settings = same;
+  keeper = kept;
+  pending = subst (λ (j : Option TenantJob). IfSome j (IsJobOver world (refresh_of stored_by keeper))) (sym none) tt;
+}
+
+-- an upload leaves the settings
+pub settings_of_put : {A E : Type 0} (result : Result A E) (old new : World) (name content : List ℕ) → OnOk result (new ≡ with_file old name content) → OnErr result (new ≡ old) → old.1 ≡ new.1
+settings_of_put (Ok done) old new name content is same = sym (ap (λ (w : World). w.1) is)
+settings_of_put (Err fault) old new name content is same = sym (ap (λ (w : World). w.1) same)

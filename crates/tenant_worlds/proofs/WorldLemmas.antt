@@ -40,24 +40,6 @@ within_is u count is = grind (arith, nat_tests)
 pub past_is : (u count : ℕ) → nat_lt u count ≡ false → count ≤ u
 past_is u count is = grind (arith, nat_tests)
 
--- ---- one world
-
--- settings whose parts are the tenant's
-pub settings_are : (world : World) (settings found : Settings) → settings ≡ found → found.path ≡ world.1.path → found.profile ≡ world.1.profile → settings ≡ world.1
-settings_are world settings found is path profile = is ∙ (let parts : found ≡ world.1 = λ i. record { path = path i; profile = profile i } in parts)
-
--- the world of a tenant's files and settings is the tenant's
-pub asked_world : (world asked_in : World) (settings : Settings) → asked_in ≡ world → settings ≡ world.1 → ◌≡◌ {A = World} (asked_in.0, settings) world
-asked_world world asked_in settings e is i = ((e i).0, is i)
-
--- what becomes of what was prepared over it is the plain answer over the tenant's world
-pub served : (world asked_in mid : World) (settings : Settings) (request : RequestMessage) (reply : ReplyMessage) (change : Option Change) (end : Served)
-    → asked_in ≡ world → mid ≡ asked_in → settings ≡ world.1 → (reply, change) ≡ answer (asked_in.0, settings) (plain_request_of request)
-    → settle_change mid reply change ≡ end → plain_answer world request ≡ end
-served world asked_in mid settings request reply change end e0 e1 same was is =
-    let prepared = was ∙ ap (λ (w : World). answer w (plain_request_of request)) (asked_world world asked_in settings e0 same) in
-    ap (λ (a : ReplyMessage × Option Change). settle_change world a.0 a.1) (sym prepared) ∙ ap (λ (w : World). settle_change w reply change) (sym (e1 ∙ e0)) ∙ is
-
 -- ---- the worlds of all tenants
 
 abbrev world_in_place : Option Tenant → World

@@ -2,5 +2,5 @@ pub mod Kept
 pub mod Shared
 pub mod Prepared
 pub mod Turning
-pub mod Codes
+pub mod Stored
 pub mod Marking

@@ -1,25 +1,25 @@
-//! A turn of a request over a tenant's files.
+//! A turn for a question over a tenant's files.
 use eval_cache::EvalCache;
 use index_keep::Keeper;
 use index_store::IndexStore;
-use kept_ports::{CallTurned, PlainCall, UnderWay};
+use kept_ports::{Turned, UnderWay};
 use mk_files::Listing;
-use mk_paths::FilesFault;
+use mk_paths::{FilesFault, Settings};
 use std::alloc::Global;
 use tenant_store::{Asker, TenantStore};
 
-/// A turn of a request: what is under way for it, and what the turn came to.
+/// A turn for a question: what is under way for it, until the turn is taken, and then what the turn came to.
 #[derive(Drop)]
 pub(crate) struct Turn {
     pub(crate) under_way: Option<UnderWay>,
-    pub(crate) turned: Option<Result<CallTurned, FilesFault>>,
+    pub(crate) turned: Option<Result<Turned, FilesFault>>,
 }
 
-/// A request over a world about which the keeper is right, and its turn.
+/// A question over a world about which the keeper is right, and its turn.
 #[derive(Drop)]
 pub(crate) struct Asking<'a> {
     pub(crate) alloc: Global,
-    pub(crate) call: PlainCall<'a>,
+    pub(crate) settings: &'a Settings,
     pub(crate) cache: &'a mut EvalCache,
     pub(crate) keeper: &'a mut Keeper<IndexStore>,
     pub(crate) turn: &'a mut Turn,
@@ -48,13 +48,15 @@ impl Asker for Asking<'_> {
     ghost answered = { λ old view new. IsAsked view.files old new };
 
     fn ask<F: Listing>(&mut self, files: &mut F) {
-        let turned = self.call.turn(
-            self.alloc,
-            &mut *self.cache,
-            files,
-            &mut *self.keeper,
-            self.turn.under_way.take(),
-        );
-        self.turn.turned = Some(turned);
+        if let Some(under_way) = self.turn.under_way.take() {
+            let turned = under_way.turn(
+                self.alloc,
+                &mut *self.cache,
+                files,
+                self.settings,
+                &mut *self.keeper,
+            );
+            self.turn.turned = Some(turned);
+        }
     }
 }

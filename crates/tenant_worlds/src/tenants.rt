@@ -1,13 +1,14 @@
 //! The tenants, by their numbers.
 ghost use Rattle.std.specs.Prelude.{◌≡◌, ◌≢◌, ◌<◌, ℕ, [], ◌∷◌, ◌++◌, None, length, slice_get};
-ghost use Rattle.std.specs.Prelude.{IfOk, IfNone, OnOk, OnErr};
+ghost use Rattle.std.specs.Prelude.{IfOk, OnOk, OnErr};
 ghost use Rattle.eval_cache.specs.Using.{UsesCache};
+ghost use Rattle.mk_paths.specs.World.{opening_world};
 ghost use Rattle.ports_core.specs.Jobs.{IsForRequest};
-ghost use Rattle.tenant_worlds.specs.Kept.{AreRight, HaveNoJob, HaveOpeningWorlds, KeepJobs, KeepWorlds, job_at, world_at};
+ghost use Rattle.tenant_worlds.specs.Kept.{AreRight, IsIdle, IsRight, HaveNoJob, HaveOpeningWorlds, KeepJobs, KeepWorlds, job_at, world_at};
 ghost use Rattle.tenant_worlds.specs.Turning.{WorksOn};
 
 use crate::tenant::Tenant;
-use crate::world::{Incoming, take_turn};
+use crate::world::Incoming;
 use eval_cache::EvalCache;
 use index_keep::Keeper;
 use index_store::IndexStore;
@@ -28,18 +29,25 @@ pub(crate) fn open_tenants(alloc: Global, count: usize) -> Result<Vec<Tenant>, F
 {
     let mut tenants = Vec::with_capacity(alloc, count)?;
     for _ in 0..count {
-        let store = TenantStore::open_in_memory(alloc)?;
-        let keeper = Keeper::new(alloc, IndexStore::open_in_memory(alloc)?);
-        add_tenant(
-            &mut tenants,
-            Tenant {
-                store,
-                keeper,
-                job: None,
-            },
-        )?;
+        add_tenant(&mut tenants, open_tenant(alloc)?)?;
     }
     Ok(tenants)
+}
+
+/// One such tenant.
+fn open_tenant(alloc: Global) -> Result<Tenant, FilesFault>
+    ensures right { IfOk result IsRight }
+    ensures opens { IfOk result (IsIdle opening_world) }
+{
+    let mut store = TenantStore::open_in_memory(alloc)?;
+    let settings = store.settings(alloc)?;
+    let keeper = Keeper::new(alloc, IndexStore::open_in_memory(alloc)?);
+    Ok(Tenant {
+        store,
+        settings,
+        keeper,
+        job: None,
+    })
 }
 
 /// Adds a tenant after the others. It fails only if memory runs out.
@@ -78,8 +86,6 @@ pub(crate) fn turn_at(
     ensures works { IfOk result (WorksOn (world_at number tenants.old)
         (world_at number tenants.new)
         incoming.now (job_at number tenants.old) (job_at number tenants.new)) }
-    ensures silent { IfOk result (λ worked. IfNone worked.reply
-        (world_at number tenants.new ≡ world_at number tenants.old)) }
     ensures err { OnErr result (world_at number tenants.new ≡ world_at number tenants.old) }
     ensures dropped { OnErr result (job_at number tenants.new ≡ None) }
     ensures count { length tenants.new ≡ length tenants.old }
@@ -88,5 +94,5 @@ pub(crate) fn turn_at(
         → slice_get tenants.new other ≡ slice_get tenants.old other }
     ensures uses { UsesCache cache.old cache.new }
 {
-    take_turn(alloc, &mut tenants[number], cache, incoming)
+    tenants[number].take_turn(alloc, cache, incoming)
 }

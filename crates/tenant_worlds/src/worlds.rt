@@ -23,13 +23,17 @@ pub struct StoredTenants {
 }
 
 impl Model for StoredTenants {
-    ghost use Rattle.tenant_worlds.specs.Kept.{AreRight, jobs_of, worlds_of};
-    ghost use Rattle.tenant_worlds.specs.Codes.{Stored, stored_code};
-    ghost use Rattle.tenant_worlds.specs.Shared.{sharing_in};
+    ghost use Rattle.tenant_worlds.specs.Stored.{Stored};
 
     ghost Value = { Stored };
 
-    ghost coded = { stored_code };
+    ghost use Rattle.std.specs.Coded.{codes};
+    ghost use Rattle.mk_paths.specs.World.{world_code};
+
+    ghost coded = { Prim.hlevel (codes, world_code) };
+
+    ghost use Rattle.tenant_worlds.specs.Kept.{AreRight, jobs_of, worlds_of};
+    ghost use Rattle.tenant_worlds.specs.Shared.{sharing_in};
 
     ghost view = { λ w. (worlds_of w.tenants.items, jobs_of w.tenants.items, sharing_in w.cache) };
 

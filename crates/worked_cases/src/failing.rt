@@ -1,16 +1,22 @@
 //! Requests over files that fail.
+ghost use Rattle.std.specs.Prelude.{◌≡◌};
+ghost use Rattle.mk_paths.specs.FilesView.{world_of};
+ghost use Rattle.ports_index.specs.Spending.{no_spending};
+ghost use Rattle.index_keep.specs.Turns.{RefreshView};
+ghost use Rattle.kept_ports.specs.Pending.{IsPending};
+
 use crate::service::reply_answer;
 use case_lines::{Answer, Trouble, one_text};
-use computed_ports::ComputedPorts;
 use eval_cache::EvalCache;
 use index_keep::Keeper;
 use index_store::IndexStore;
-use kept_ports::{CallTurned, PlainCall};
+use kept_ports::{Turned, UnderWay};
 use make_cases::{Asking, FailingFiles, World, failing_answer};
 use mk_files::Listing;
 use mk_paths::{FilesFault, Settings};
+use plain_reference::answer;
 use ports_http::Method;
-use ports_plain::Plain;
+use ports_plain::{Plain, Question};
 use std::alloc::Global;
 
 /// `GET failing TARGET`: the status and the body of the plain reply over the world, in files that fail at each of their
@@ -49,9 +55,8 @@ fn answer_to<F: Listing>(
     settings: &Settings,
     target: &str,
 ) -> Result<Answer, FilesFault> {
-    let mut ports = ComputedPorts { files, settings };
-    let plain = Plain::new(alloc)?;
-    let (prepared, _spent) = plain.prepare(alloc, &mut ports, Method::Get, target, &[])?;
+    let question = Plain::new(alloc)?.question(alloc, Method::Get, target, &[])?;
+    let prepared = answer(alloc, files, settings, question)?;
     Ok(reply_answer(alloc, &prepared.reply))
 }
 
@@ -91,18 +96,31 @@ fn turn_to<F: Listing>(
     settings: &Settings,
     target: &str,
 ) -> Result<Answer, FilesFault> {
-    let plain = Plain::new(alloc)?;
+    match Plain::new(alloc)?.question(alloc, Method::Get, target, &[])? {
+        Question::OfPort(asked) => first_turn(alloc, files, settings, UnderWay::of_port(asked)),
+        Question::OfIndex(asked) => first_turn(alloc, files, settings, UnderWay::of_index(asked)),
+        question => {
+            let prepared = answer(alloc, files, settings, question)?;
+            Ok(reply_answer(alloc, &prepared.reply))
+        }
+    }
+}
+
+/// The status and the body of the reply if this question is answered in its first turn, and else `more`.
+fn first_turn<F: Listing>(
+    alloc: Global,
+    files: &mut F,
+    settings: &Settings,
+    under_way: UnderWay,
+) -> Result<Answer, FilesFault>
+    requires { (refresh : RefreshView) → refresh.begun ≡ no_spending
+        → IsPending (world_of (F.view files.old) settings.now) refresh under_way }
+{
     let mut cache = EvalCache::new(alloc, 16, 16)?;
     let mut keeper = Keeper::new(alloc, IndexStore::open_in_memory(alloc)?);
-    let call = PlainCall {
-        plain: &plain,
-        settings,
-        method: Method::Get,
-        target,
-        body: &[],
-    };
-    match call.turn(alloc, &mut cache, files, &mut keeper, None)? {
-        CallTurned::Done(prepared, _spent) => Ok(reply_answer(alloc, &prepared.reply)),
-        CallTurned::More(_, _) => Ok(Answer::of_word(alloc, "more")),
+    keeper.stop(alloc); // no path is under evaluation
+    match under_way.turn(alloc, &mut cache, files, settings, &mut keeper)? {
+        Turned::Done(reply, _spent) => Ok(reply_answer(alloc, &reply)),
+        Turned::More(_) => Ok(Answer::of_word(alloc, "more")),
     }
 }

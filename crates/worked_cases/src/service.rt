@@ -2,11 +2,11 @@
 use crate::quiet::QuietPorts;
 use crate::refusing::NeverKept;
 use case_lines::{Answer, Ran, Trouble, as_number, as_text, one_text};
-use computed_ports::{ComputedPorts, effort_for};
 use http::StatusCode;
 use make_cases::World;
 use mk_files::MemoryFiles;
 use mk_paths::Settings;
+use plain_reference::{answer as plain_answer, effort_for};
 use ports_core::{Config, Service, Tenants, Transcript, replay};
 use ports_http::{
     Content, HeadFault, Method, Reply, Request, StreamEnd, decode, write_fixed, write_reply,
@@ -157,10 +157,8 @@ fn prepare(
     target: &str,
     body: &[u8],
 ) -> Result<Prepared, Trouble> {
-    let mut ports = ComputedPorts { files, settings };
-    let plain = Plain::new(alloc)?;
-    let (prepared, _spent) = plain.prepare(alloc, &mut ports, method, target, body)?;
-    Ok(prepared)
+    let question = Plain::new(alloc)?.question(alloc, method, target, body)?;
+    Ok(plain_answer(alloc, files, settings, question)?)
 }
 
 /// `rests TARGET`: how many makefiles a GET rests on over the world, each once for each choice of flavors,

@@ -1,6 +1,4 @@
-use Rattle.std.proofs.Common.{None}
 use Rattle.mk_paths.specs.FilesView.{world_of}
-use Rattle.ports_index.specs.Keeping.{Keeps}
 use Rattle.index_store.specs.PortTable.{stored_by}
 use Rattle.read_trace.specs.Recording.{view_of}
 use Rattle.index_keep.specs.Keeping.{IsKept}

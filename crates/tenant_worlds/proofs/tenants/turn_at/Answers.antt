@@ -1,13 +1,13 @@
 -- The tenant with this number is the one that changes.
-use Rattle.std.proofs.Common.{◌≡◌, ◌∙◌, subst, sym, get_or, Option}
-use Rattle.std.specs.Prelude.{slice_set}
+use Rattle.std.proofs.Common.{◌≡◌, ◌∙◌, ap, subst, sym, get_or, Option}
+use Rattle.std.specs.Prelude.{option_map, slice_set}
 use Rattle.mk_paths.specs.World.{World}
 use Rattle.ports_core.specs.Jobs.{TenantJob, IsForRequest}
-use Rattle.tenant_worlds.specs.Kept.{job_of, job_at, world_of, world_at}
+use Rattle.tenant_worlds.specs.Kept.{IsIdle, job_of, job_at, seen_job, world_of, world_at}
 use Rattle.tenant_worlds.specs.Turning.{WorksOn}
 use Rattle.tenant_worlds.proofs.KeptLemmas.{get-set_other, right_at, set_right}
 use Rattle.tenant_worlds.proofs.JobLemmas.{job_set, job_there}
-use Rattle.tenant_worlds.proofs.WorldLemmas.{if_ok, if_err, if_none, world_set, world_there}
+use Rattle.tenant_worlds.proofs.WorldLemmas.{if_ok, if_err, world_set, world_there}
 use Rattle.tenant_worlds.proofs.tenants.turn_at.Goals as goal
 
 pub take_turn-requires-clause-right : goal.take_turn-requires-clause-right
@@ -23,7 +23,7 @@ returns-clause-works c =
     let number = c.args.number in
     let any = c.index-tenants-number.result in
     let old = get_or tenants number any in
-    let new = c.take_turn.new.tenant in
+    let new = c.take_turn.new.self in
     let incoming = c.args.incoming.now in
     if_ok c.take_turn.result
     (λ worked works.
@@ -33,23 +33,19 @@ returns-clause-works c =
     (subst (λ (job : Option TenantJob). WorksOn (world_of old) (world_of new) incoming (job_of old) job worked) (sym (job_set tenants number new c.requires.there)) works))))
     c.take_turn.ensures.works
 
-pub returns-clause-silent : goal.returns-clause-silent
-returns-clause-silent c =
-    let same = λ (is : world_of c.take_turn.new.tenant ≡ world_of (get_or c.args.tenants.now c.args.number c.index-tenants-number.result)).
-    world_set c.args.tenants.now c.args.number c.take_turn.new.tenant c.requires.there ∙ is ∙ sym (world_there c.args.tenants.now c.args.number c.index-tenants-number.result c.requires.there) in
-    if_ok c.take_turn.result (λ worked silent. if_none worked.reply same silent) c.take_turn.ensures.silent
-
 pub returns-clause-err : goal.returns-clause-err
 returns-clause-err c =
     if_err c.take_turn.result
-    (λ is. world_set c.args.tenants.now c.args.number c.take_turn.new.tenant c.requires.there ∙ is ∙ sym (world_there c.args.tenants.now c.args.number c.index-tenants-number.result c.requires.there)) c.take_turn.ensures.err
+    (λ (is : IsIdle (world_of (get_or c.args.tenants.now c.args.number c.index-tenants-number.result)) c.take_turn.new.self). world_set c.args.tenants.now c.args.number c.take_turn.new.self c.requires.there ∙ is.same ∙ sym (world_there c.args.tenants.now c.args.number c.index-tenants-number.result c.requires.there)) c.take_turn.ensures.err
 
 pub returns-clause-dropped : goal.returns-clause-dropped
 returns-clause-dropped c =
-    if_err c.take_turn.result (λ none. job_set c.args.tenants.now c.args.number c.take_turn.new.tenant c.requires.there ∙ none) c.take_turn.ensures.dropped
+    if_err c.take_turn.result
+    (λ (is : IsIdle (world_of (get_or c.args.tenants.now c.args.number c.index-tenants-number.result)) c.take_turn.new.self).
+    job_set c.args.tenants.now c.args.number c.take_turn.new.self c.requires.there ∙ ap (option_map seen_job) is.none) c.take_turn.ensures.err
 
 pub returns-clause-right : goal.returns-clause-right
-returns-clause-right c = set_right c.args.tenants.now c.args.number c.take_turn.new.tenant c.requires.there c.requires.right c.take_turn.ensures.right
+returns-clause-right c = set_right c.args.tenants.now c.args.number c.take_turn.new.self c.requires.there c.requires.right c.take_turn.ensures.right
 
 pub returns-clause-same : goal.returns-clause-same
-returns-clause-same c = λ other apart. get-set_other c.args.tenants.now c.args.number other c.take_turn.new.tenant apart
+returns-clause-same c = λ other apart. get-set_other c.args.tenants.now c.args.number other c.take_turn.new.self apart

@@ -8,8 +8,8 @@ use Rattle.ports_index.specs.declared.spending.Spent.{Spent}
 use Rattle.ports_index.specs.PathOutcomes.{Finding, finding_of_evaluation}
 use Rattle.ports_index.specs.Seen.{finding_seen}
 use Rattle.row_text.specs.Rows.{RowValue}
-use Rattle.index_keep.specs.Asking.{spent_on, total_of}
-use Rattle.index_keep.specs.declared.asking.Asked.{Asked}
+use Rattle.eval_ask.specs.Asking.{spent_on, total_of}
+use Rattle.eval_ask.specs.declared.asking.Asked.{Asked}
 use Rattle.index_keep.specs.Paths.{flavors_of}
 use Rattle.index_keep.specs.Right.{names_in}
 use Rattle.index_keep.proofs.MadeLemmas.{most-found}

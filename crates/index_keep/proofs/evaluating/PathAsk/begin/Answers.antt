@@ -6,9 +6,9 @@ use Rattle.eval_cache.specs.Keys.{key_for}
 use Rattle.ports_index.specs.declared.spending.Spent.{Spent}
 use Rattle.read_trace.specs.Recording.{view_of}
 use Rattle.ports_index.specs.Spending.{no_spending}
-use Rattle.index_keep.specs.Asking.{HasComeTo, HasOnlyLooked, IsUpFrom, spent_in, total_of}
-use Rattle.index_keep.specs.declared.asking.AskTurned.{AskTurned}
-use Rattle.index_keep.specs.Paths.{IsNamed, IsFoundAt, IsPathAsk, IsShortOnRow, TurnsPath, absent_row}
+use Rattle.eval_ask.specs.Asking.{HasComeTo, HasOnlyLooked, IsUpFrom, spent_in, total_of}
+use Rattle.eval_ask.specs.declared.asking.AskTurned.{AskTurned}
+use Rattle.index_keep.specs.Paths.{IsNamed, IsFoundAt, IsPathAsk, TurnsPath, absent_row}
 use Rattle.index_keep.specs.Right.{names_in}
 use Rattle.index_keep.specs.declared.evaluating.FoundPath.{FoundPath}
 use Rattle.index_keep.specs.declared.evaluating.PathAsk.{PathAsk}
@@ -24,11 +24,12 @@ short_absent units spent none = omega (arith, ap (λ (s : Spent). s.units) none,
 pub returns-in_default-clause-turns : goal.returns-in_default-clause-turns
 returns-in_default-clause-turns g c =
     let world : World = ((view_of g.F.Names.view c.args.files.now).files, c.args.settings.now) in
-    let named = subst (IsNamed (string_bytes c.args.path)) c.in_default.is (subst (λ text. IsNamed text c.in_ok-named.field-0) c.as_str.ensures.value c.in_ok-named.ensures) in (
-      IsMade-none world (string_bytes c.args.path) c.absent-made.result named c.absent-made.ensures.path
-          (c.absent-made.ensures.row ∙ ap (λ (items : List (String Global)). absent_row (map string_bytes items)) c.new.ensures.items) c.absent-made.ensures.spent,
-      record { units = omega arith; checks = omega arith },
-    )
+    let named = subst (IsNamed (string_bytes c.args.path)) c.in_default.is (subst (λ text. IsNamed text c.in_ok-named.field-0) c.as_str.ensures.value c.in_ok-named.ensures) in
+    record {
+      come = IsMade-none world (string_bytes c.args.path) c.absent-made.result named c.absent-made.ensures.path
+          (c.absent-made.ensures.row ∙ ap (λ (items : List (String Global)). absent_row (map string_bytes items)) c.new.ensures.items) c.absent-made.ensures.spent;
+      short = short_absent c.args.units c.absent-made.result.spent c.absent-made.ensures.spent;
+    }
 
 pub returns-in_default-makefile-clause-turns : goal.returns-in_default-makefile-clause-turns
 returns-in_default-makefile-clause-turns g c =
@@ -37,19 +38,20 @@ returns-in_default-makefile-clause-turns g c =
     let is = subst (IsNamed (string_bytes c.args.path)) c.in-Some.is (subst (λ text. IsNamed text c.in_ok-named.field-0) c.as_str.ensures.value c.in_ok-named.ensures) in
     let none = sym (c.in_ok-makefile.ensures.place ∙ ap (place world) c.directory.ensures) ∙ c.in_default-makefile.is in
     let asked = c.in_ok-makefile.ensures.asked ∙ ap (places_asked files c.args.settings.now.path) c.directory.ensures in
-    let absent = c.absent-made-in_default-makefile.ensures in (
-      IsMade-absent world (string_bytes c.args.path) c.in-Some.named is c.in_ok-makefile.placed asked c.in_ok-makefile.ensures.answered c.absent-made-in_default-makefile.result none absent.path
-          (absent.row ∙ ap absent_row (c.in_ok-names.ensures ∙ ap names_in c.questions.ensures)) absent.spent,
-      record { units = omega arith; checks = omega arith },
-    )
+    let absent = c.absent-made-in_default-makefile.ensures in
+    record {
+      come = IsMade-absent world (string_bytes c.args.path) c.in-Some.named is c.in_ok-makefile.placed asked c.in_ok-makefile.ensures.answered c.absent-made-in_default-makefile.result none absent.path
+          (absent.row ∙ ap absent_row (c.in_ok-names.ensures ∙ ap names_in c.questions.ensures)) absent.spent;
+      short = short_absent c.args.units c.absent-made-in_default-makefile.result.spent absent.spent;
+    }
 
 pub go_on-requires : goal.go_on-requires
 go_on-requires g c =
     let key = key_for c.args.settings.now c.in-Some-makefile.makefile (option_map (λ (names : Bor (List (String Global))). map string_bytes names.now) c.flavors.result) in
     record {
-      begun = record { key = key; come = subst (λ (f : FileMap). HasComeTo f key c.in_ok-ask.ask) (sym c.in_ok-ask.ensures.leaves.0) c.in_ok-ask.ensures.comes };
+      begun = record { key = key; come = subst (λ (f : FileMap). HasComeTo f key c.in_ok-ask.ask) (sym c.in_ok-ask.ensures.leaves.0) c.in_ok-ask.ensures.asks.comes };
       up = subst (λ (before : Spent). IsUpFrom before (spent_in c.in_ok-ask.ask)) (sym c.nothing.ensures) (record { units = omega arith; checks = omega arith });
-      few = few_looked c.in_ok-ask.ask c.nothing.result c.nothing.ensures c.in_ok-ask.ensures.looked;
+      few = few_looked c.in_ok-ask.ask c.nothing.result c.nothing.ensures c.in_ok-ask.ensures.asks.looked;
     }
 
 pub returns-clause-turns : goal.returns-clause-turns
@@ -68,7 +70,7 @@ returns-clause-turns g c =
     let found : FoundPath = record { path = c.args.path; named = named; makefile = makefile; placed = c.in_ok-makefile.placed } in
     let at : IsFoundAt world found = IsFoundAt-placed world path named is c.in_ok-makefile.placed placed c.in_ok-makefile.ensures.answered found refl refl refl there in
     let key = key_for settings makefile (option_map (λ (names : Bor (List (String Global))). map string_bytes names.now) c.flavors.result) in
-    let come = subst (λ (f : FileMap). HasComeTo f key ask) c.in_ok-makefile.ensures.leaves.files c.in_ok-ask.ensures.comes in
+    let come = subst (λ (f : FileMap). HasComeTo f key ask) c.in_ok-makefile.ensures.leaves.files c.in_ok-ask.ensures.asks.comes in
     let self : PathAsk = record { found = found; ask = ask } in
     let under : IsPathAsk world path self = record {
       at = refl;
@@ -78,12 +80,3 @@ returns-clause-turns g c =
     let same : (seen c.begin.new.files).files ≡ files = c.in_ok-ask.ensures.leaves.0 ∙ c.in_ok-makefile.ensures.leaves.files in
     let turns = subst (λ (f : FileMap). IsPathAsk (f, settings) path self → IfOk c.go_on.result (TurnsPath (f, settings) path c.args.units c.nothing.result)) same (c.go_on.ensures.turns settings) under in
     subst (λ (before : Spent). IfOk c.go_on.result (TurnsPath world path c.args.units before)) c.nothing.ensures turns
-
-pub returns-in_default-clause-short : goal.returns-in_default-clause-short
-returns-in_default-clause-short g c = short_absent c.args.units c.absent-made.result.spent c.absent-made.ensures.spent
-
-pub returns-in_default-makefile-clause-short : goal.returns-in_default-makefile-clause-short
-returns-in_default-makefile-clause-short g c = short_absent c.args.units c.absent-made-in_default-makefile.result.spent c.absent-made-in_default-makefile.ensures.spent
-
-pub returns-clause-short : goal.returns-clause-short
-returns-clause-short g c = subst (λ (before : Spent). IfOk c.go_on.result (IsShortOnRow c.args.units before)) c.nothing.ensures c.go_on.ensures.short

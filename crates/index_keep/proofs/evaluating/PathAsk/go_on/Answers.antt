@@ -3,28 +3,33 @@ use Rattle.std.proofs.Common.{◌≡◌, ◌≤◌, ◌+◌, ◌-◌, ◌∙◌,
 use Rattle.eval_cache.specs.Keys.{key_for}
 use Rattle.read_trace.specs.Recording.{view_of}
 use Rattle.ports_index.specs.declared.spending.Spent.{Spent}
-use Rattle.index_keep.specs.Asking.{HasComeTo, IsUpFrom, spent_in, total_of}
+use Rattle.eval_ask.specs.Asking.{HasComeTo, IsUpFrom, spent_in, total_of}
 use Rattle.index_keep.specs.Paths.{flavors_of}
-use Rattle.index_keep.specs.declared.asking.AskTurned.{AskTurned}
-use Rattle.index_keep.specs.declared.asking.AskTurned.TheVariants.{Done}
-use Rattle.index_keep.proofs.AnswerLemmas.{can-go-on}
+use Rattle.eval_ask.specs.declared.asking.AskTurned.{AskTurned}
+use Rattle.eval_ask.specs.declared.asking.AskTurned.TheVariants.{Done}
+use Rattle.eval_ask.proofs.AnswerLemmas.{can-go-on}
 use Rattle.index_keep.proofs.MadeLemmas.{IsUpFrom-on, all-spent, made-row, made-up, short-made, short-on}
 use Rattle.index_keep.proofs.evaluating.PathAsk.go_on.Goals as goal
 
 pub left_of-requires : goal.left_of-requires
 left_of-requires g c =
     subst (IsUpFrom c.args.before) (sym c.spent-2.ensures.is)
-    (IsUpFrom-on c.args.before (spent_in c.args.self.ask) (spent_in c.in_ok-ask.ask) c.requires.up c.in_ok-ask.ensures.up)
+    (IsUpFrom-on c.args.before (spent_in c.args.self.ask) (spent_in c.in_ok-ask.ask) c.requires.up c.in_ok-ask.ensures.turns.up)
 
 pub turn-requires : goal.turn-requires
 turn-requires g c = can-go-on (view_of g.F.Names.view c.args.files.now).files c.requires.begun.key c.args.self.ask c.requires.begun.come
 
 pub returns-then-left_of-eq0-clause-turns : goal.returns-then-left_of-eq0-clause-turns
-returns-then-left_of-eq0-clause-turns g c = λ settings is. (
-  record { at = is.at; found = is.found; come = c.in_ok-ask.ensures.comes (key_for settings c.args.self.found.makefile (flavors_of c.args.self.found.named)) is.come },
-  all-spent c.args.units c.args.before (spent_in c.in_ok-ask.ask) c.spent-2.result c.spent-2.ensures.is
-      (IsUpFrom-on c.args.before (spent_in c.args.self.ask) (spent_in c.in_ok-ask.ask) c.requires.up c.in_ok-ask.ensures.up) (sym c.left_of.ensures ∙ c.if-left_of-eq0.true),
-)
+returns-then-left_of-eq0-clause-turns g c = λ settings is. record {
+  come = (
+    record { at = is.at; found = is.found; come = c.in_ok-ask.ensures.turns.comes (key_for settings c.args.self.found.makefile (flavors_of c.args.self.found.named)) is.come },
+    all-spent c.args.units c.args.before (spent_in c.in_ok-ask.ask) c.spent-2.result c.spent-2.ensures.is
+        (IsUpFrom-on c.args.before (spent_in c.args.self.ask) (spent_in c.in_ok-ask.ask) c.requires.up c.in_ok-ask.ensures.turns.up) (sym c.left_of.ensures ∙ c.if-left_of-eq0.true),
+  );
+  short = short-on c.args.units c.left_of-given.result c.args.before (spent_in c.args.self.ask) (spent_in c.in_ok-ask.ask) c.requires.up
+      (subst (λ (now : Spent). c.left_of-given.result ≡ c.args.units - ((now.units - c.args.before.units) + (now.checks - c.args.before.checks))) c.spent.ensures.is c.left_of-given.ensures)
+      c.requires.few c.in_ok-ask.ensures.turns.short;
+}
 
 pub returns-clause-turns : goal.returns-clause-turns
 returns-clause-turns g c = λ settings is.
@@ -32,14 +37,17 @@ returns-clause-turns g c = λ settings is.
     let found = c.args.self.found in
     let key = key_for settings found.makefile (flavors_of found.named) in
     let asked = c.in-Done.asked in
-    let come = subst (HasComeTo files key) c.in-Done.is (c.in_ok-ask.ensures.comes key is.come) in
-    let up = subst (λ (turned : AskTurned). IsUpFrom c.args.before (spent_in turned)) c.in-Done.is
-    (IsUpFrom-on c.args.before (spent_in c.args.self.ask) (spent_in c.in_ok-ask.ask) c.requires.up c.in_ok-ask.ensures.up) in
+    let done : c.in_ok-ask.ask ≡ Done asked = c.in-Done.is in
+    let come = subst (HasComeTo files key) done (c.in_ok-ask.ensures.turns.comes key is.come) in
     let made = c.in_ok-made-in-Done.ensures in
-    let row = c.in_ok-made-in-Done.field-0 in (
-      made-row files found asked row made.path made.row made.spent settings (string_bytes found.path) refl is.found come,
-      IsUpFrom-on c.args.before (spent_in (Done asked)) row.spent up (made-up files found asked row made.path made.row made.spent key come),
-    )
+    let row = c.in_ok-made-in-Done.field-0 in
+    let few = subst (λ (turned : AskTurned). total_of row.spent ≤ total_of (spent_in turned) + 50000) (sym done) made.few in
+    record {
+      come = made-row files found asked row made.path made.row made.spent settings (string_bytes found.path) refl is.found come;
+      short = short-made c.args.units c.left_of.result c.args.before (spent_in c.in_ok-ask.ask) row.spent
+          (IsUpFrom-on c.args.before (spent_in c.args.self.ask) (spent_in c.in_ok-ask.ask) c.requires.up c.in_ok-ask.ensures.turns.up) c.if-left_of-eq0.false
+          (subst (λ (now : Spent). c.left_of.result ≡ c.args.units - ((now.units - c.args.before.units) + (now.checks - c.args.before.checks))) c.spent-2.ensures.is c.left_of.ensures) few;
+    }
 
 pub returns-clause-up : goal.returns-clause-up
 returns-clause-up g c =
@@ -47,24 +55,9 @@ returns-clause-up g c =
     let found = c.args.self.found in
     let key = c.requires.begun.key in
     let asked = c.in-Done.asked in
-    let come = subst (HasComeTo files key) c.in-Done.is (c.in_ok-ask.ensures.comes key c.requires.begun.come) in
+    let come = subst (HasComeTo files key) c.in-Done.is (c.in_ok-ask.ensures.turns.comes key c.requires.begun.come) in
     let up = subst (λ (turned : AskTurned). IsUpFrom c.args.before (spent_in turned)) c.in-Done.is
-    (IsUpFrom-on c.args.before (spent_in c.args.self.ask) (spent_in c.in_ok-ask.ask) c.requires.up c.in_ok-ask.ensures.up) in
+    (IsUpFrom-on c.args.before (spent_in c.args.self.ask) (spent_in c.in_ok-ask.ask) c.requires.up c.in_ok-ask.ensures.turns.up) in
     let made = c.in_ok-made-in-Done.ensures in
     let row = c.in_ok-made-in-Done.field-0 in
     IsUpFrom-on c.args.before (spent_in (Done asked)) row.spent up (made-up files found asked row made.path made.row made.spent key come)
-
-pub returns-then-left_of-eq0-clause-short : goal.returns-then-left_of-eq0-clause-short
-returns-then-left_of-eq0-clause-short g c =
-    short-on c.args.units c.left_of-given.result c.args.before (spent_in c.args.self.ask) (spent_in c.in_ok-ask.ask) c.requires.up
-    (subst (λ (now : Spent). c.left_of-given.result ≡ c.args.units - ((now.units - c.args.before.units) + (now.checks - c.args.before.checks))) c.spent.ensures.is c.left_of-given.ensures)
-    c.requires.few c.in_ok-ask.ensures.short
-
-pub returns-clause-short : goal.returns-clause-short
-returns-clause-short g c =
-    let row = c.in_ok-made-in-Done.field-0 in
-    let done : c.in_ok-ask.ask ≡ Done c.in-Done.asked = c.in-Done.is in
-    let few = subst (λ (turned : AskTurned). total_of row.spent ≤ total_of (spent_in turned) + 50000) (sym done) c.in_ok-made-in-Done.ensures.few in
-    short-made c.args.units c.left_of.result c.args.before (spent_in c.in_ok-ask.ask) row.spent
-    (IsUpFrom-on c.args.before (spent_in c.args.self.ask) (spent_in c.in_ok-ask.ask) c.requires.up c.in_ok-ask.ensures.up) c.if-left_of-eq0.false
-    (subst (λ (now : Spent). c.left_of.result ≡ c.args.units - ((now.units - c.args.before.units) + (now.checks - c.args.before.checks))) c.spent-2.ensures.is c.left_of.ensures) few

@@ -3,10 +3,10 @@ use Rattle.std.proofs.Common.{subst, sym, IfOk}
 use Rattle.mk_paths.specs.World.{World}
 use Rattle.ports_index.specs.declared.spending.Spent.{Spent}
 use Rattle.read_trace.specs.Recording.{view_of}
-use Rattle.index_keep.specs.Keeping.{path_in, refresh_of}
-use Rattle.index_keep.specs.Paths.{IsShortOnRow, IsUpTo, TurnsPath}
+use Rattle.index_keep.specs.Keeping.{TurnsKeeper, path_in}
+use Rattle.index_keep.specs.Paths.{IsUpTo, TurnsPath}
 use Rattle.index_keep.specs.Shown.{shown, no_name}
-use Rattle.index_keep.specs.Turns.{EndsTurn, refresh_at}
+use Rattle.index_keep.specs.Turns.{refresh_at}
 use Rattle.index_keep.proofs.keeper.Keeper.ask_on.Goals as goal
 
 pub settle-requires : goal.settle-requires
@@ -18,7 +18,7 @@ returns-clause-turn g c = λ settings way.
     let path = path_in c.args.ask in
     let old = shown no_name (g.R.PathRows.entries c.args.self.now.rows) in
     let turns = subst (λ (before : Spent). TurnsPath world path c.args.units before c.in_ok-turned.turned) (sym c.spent-before.ensures.is) (c.in_ok-turned.ensures.turns settings way.under) in
-    subst (λ (before : Spent). IfOk c.settle.result (EndsTurn world c.args.units (refresh_at old before) (refresh_of g.R.PathRows.entries c.settle.new.self))) c.spent-before.ensures.is
+    subst (λ (before : Spent). IfOk c.settle.result (TurnsKeeper g.R.PathRows.entries world c.args.units (refresh_at old before) c.settle.new.self)) c.spent-before.ensures.is
     (c.settle.ensures.settles world path c.args.units way.ready turns)
 
 pub returns-clause-kept : goal.returns-clause-kept
@@ -27,8 +27,3 @@ returns-clause-kept g c = λ settings way.
     let path = path_in c.args.ask in
     let turns = subst (λ (before : Spent). TurnsPath world path c.args.units before c.in_ok-turned.turned) (sym c.spent-before.ensures.is) (c.in_ok-turned.ensures.turns settings way.under) in
     c.settle.ensures.kept world path c.args.units way.ready turns
-
-pub returns-clause-short : goal.returns-clause-short
-returns-clause-short g c =
-    c.settle.ensures.short c.args.units
-    (subst (λ (before : Spent). IsShortOnRow c.args.units before c.in_ok-turned.turned) (sym c.spent-before.ensures.is) c.in_ok-turned.ensures.short)

@@ -4,10 +4,10 @@ use Rattle.mk_paths.specs.FilesView.{world_of}
 use Rattle.mk_paths.specs.World.{World}
 use Rattle.ports_index.specs.declared.spending.Spent.{Spent}
 use Rattle.read_trace.specs.Recording.{view_of}
-use Rattle.index_keep.specs.Keeping.{IsReadyFor, refresh_of}
-use Rattle.index_keep.specs.Paths.{IsShortOnRow, TurnsPath}
+use Rattle.index_keep.specs.Keeping.{IsReadyFor, TurnsKeeper}
+use Rattle.index_keep.specs.Paths.{TurnsPath}
 use Rattle.index_keep.specs.Shown.{shown, no_name}
-use Rattle.index_keep.specs.Turns.{EndsTurn, refresh_at}
+use Rattle.index_keep.specs.Turns.{refresh_at}
 use Rattle.index_keep.specs.Walking.{IsNext}
 use Rattle.index_keep.proofs.keeper.Keeper.walk_on.Goals as goal
 
@@ -19,7 +19,7 @@ returns-in_ok-turned-in-Lacks-clause-turn g c =
     let next = subst (IsNext world old) c.in-Lacks.is (c.in_ok-walk.ensures world old c.requires) in
     let ready : IsReadyFor world old c.in-Lacks.walk path = record { kept = c.requires.kept; far = next.0; lacking = next.1 } in
     let turns = subst (λ (before : Spent). TurnsPath world path c.args.units before c.in_ok-turned-in-Lacks.turned) (sym c.nothing.ensures) c.in_ok-turned-in-Lacks.ensures.turns in
-    subst (λ (before : Spent). IfOk c.settle.result (EndsTurn world c.args.units (refresh_at old before) (refresh_of g.R.PathRows.entries c.settle.new.self))) c.nothing.ensures
+    subst (λ (before : Spent). IfOk c.settle.result (TurnsKeeper g.R.PathRows.entries world c.args.units (refresh_at old before) c.settle.new.self)) c.nothing.ensures
     (c.settle.ensures.settles world path c.args.units ready turns)
 
 pub returns-in_ok-turned-in-Lacks-clause-kept : goal.returns-in_ok-turned-in-Lacks-clause-kept
@@ -32,20 +32,18 @@ returns-in_ok-turned-in-Lacks-clause-kept g c =
     let turns = subst (λ (before : Spent). TurnsPath world path c.args.units before c.in_ok-turned-in-Lacks.turned) (sym c.nothing.ensures) c.in_ok-turned-in-Lacks.ensures.turns in
     c.settle.ensures.kept world path c.args.units ready turns
 
-pub returns-in-All-clause-turn : goal.returns-in-All-clause-turn
-returns-in-All-clause-turn g c =
+pub returns-in_ok-end-in-All-clause-turn : goal.returns-in_ok-end-in-All-clause-turn
+returns-in_ok-end-in-All-clause-turn g c =
     let world : World = world_of (view_of g.F.Names.view c.args.files.now) c.args.settings.now in
     let old = shown no_name (g.R.PathRows.entries c.args.self.now.rows) in
     let next = subst (IsNext world old) c.in-All.is (c.in_ok-walk.ensures world old c.requires) in
-    c.end.ensures.ends world c.args.units (record { kept = c.requires.kept; far = next.0; fresh = next.1 })
+    record {
+      turn = c.in_ok-end-in-All.ensures.ends world (record { kept = c.requires.kept; far = next.0; fresh = next.1 });
+      done = λ done. c.in_ok-end-in-All.ensures.done;
+    }
 
-pub returns-in_ok-turned-in-Lacks-clause-short : goal.returns-in_ok-turned-in-Lacks-clause-short
-returns-in_ok-turned-in-Lacks-clause-short g c =
-    c.settle.ensures.short c.args.units
-    (subst (λ (before : Spent). IsShortOnRow c.args.units before c.in_ok-turned-in-Lacks.turned) (sym c.nothing.ensures) c.in_ok-turned-in-Lacks.ensures.short)
+pub returns-in_ok-end-in-All-clause-profiles : goal.returns-in_ok-end-in-All-clause-profiles
+returns-in_ok-end-in-All-clause-profiles g c = c.in_ok-end-in-All.ensures.profiles c.args.settings.now.profile
 
-pub returns-in-All-clause-short : goal.returns-in-All-clause-short
-returns-in-All-clause-short g c = c.end.ensures.short c.args.units
-
-pub returns-in-All-clause-profiles : goal.returns-in-All-clause-profiles
-returns-in-All-clause-profiles g c = c.end.ensures.profiles c.args.settings.now.profile
+pub returns-in_err-end-in-All-clause-profiles : goal.returns-in_err-end-in-All-clause-profiles
+returns-in_err-end-in-All-clause-profiles g c = c.in_err-end-in-All.ensures.profiles c.args.settings.now.profile

@@ -5,5 +5,5 @@ use Rattle.kept_ports.proofs.evaluating.PortAsk.turn.Goals as goal
 pub returns-clause-goes_on : goal.returns-clause-goes_on
 returns-clause-goes_on g c = λ settings path is. record {
   placed = is.placed;
-  came = c.in_ok-came.ensures.comes (key_for settings c.args.self.makefile path.flavors) is.came;
+  came = c.in_ok-came.ensures.turns.comes (key_for settings c.args.self.makefile path.flavors) is.came;
 }

@@ -1,40 +1,42 @@
--- What is begun is for the question.
-use Rattle.std.proofs.Common.{◌≡◌, false, refl, subst, sym, IfOk}
+-- Nothing was spent before, and the files are the same.
+use Rattle.std.proofs.Common.{ℕ, subst, sym, Option, IfOk}
+use Rattle.std.specs.Prelude.{IfSome}
+use Rattle.mk_paths.specs.World.{World, FileMap}
 use Rattle.ports_index.specs.Spending.{no_spending}
-use Rattle.pkg_path.specs.declared.path.PkgPath.{PkgPath}
-use Rattle.ports_plain.specs.Resting.{need_of}
-use Rattle.ports_plain.specs.declared.questions.Question.{Question}
-use Rattle.ports_plain.specs.declared.questions.Question.TheVariants as questions
-use Rattle.ports_plain.specs.declared.questions.VariableQuestion.{VariableQuestion}
-use Rattle.kept_ports.specs.Evaluating.{is_of_port}
-use Rattle.index_keep.specs.Keeping.{refresh_of}
+use Rattle.ports_index.specs.declared.spending.Spent.{Spent}
+use Rattle.ports_plain.specs.declared.questions.Question.TheVariants.{OfPort}
+use Rattle.eval_ask.specs.Asking.{total_of}
 use Rattle.kept_ports.specs.Leaving.{world_at}
-use Rattle.kept_ports.specs.TurnsLeft.{IsQuestionTurn, turns_after}
+use Rattle.kept_ports.specs.Evaluating.{HasLooked}
+use Rattle.kept_ports.specs.TurnsLeft.{IsQuestionTurn, TellsNoRecord, TellsNoRecordAtOnce, turns_after}
+use Rattle.kept_ports.specs.declared.evaluating.PortAsk.{PortAsk}
+use Rattle.std.proofs.lemmas.Result.{IfOk-weaker}
+use Rattle.ports_plain.specs.declared.port_questions.PortQuestion.{PortQuestion}
+use Rattle.ports_plain.specs.declared.port_questions.PortQuestion.TheVariants.{Variable, Record}
+use Rattle.kept_ports.specs.declared.under_way.Turned.{Turned}
+use Rattle.kept_ports.specs.declared.under_way.Turned.TheVariants.{More, Done}
 use Rattle.kept_ports.proofs.keeping.KeptPorts.begin.Goals as goal
 
-pub returns-in-Variable-clause-turn : goal.returns-in-Variable-clause-turn
-returns-in-Variable-clause-turn g c =
+-- what isn't told at all isn't told at once
+no_record : (world : World) (question : PortQuestion) (came : Turned) → TellsNoRecord question came → TellsNoRecordAtOnce world question came
+no_record world (Variable asked) came is = tt
+no_record world (Record path) (More under_way) is = tt
+no_record world (Record path) (Done reply spent) is = absurd is
+
+pub returns-in-Some-clause-later : goal.returns-in-Some-clause-later
+returns-in-Some-clause-later g c =
+    IfOk-weaker c.evaluate_on.result _ _ (no_record (world_at g.F.Names.view c.args.self.now) c.args.question) c.evaluate_on.ensures.later
+
+pub returns-in-Some-clause-turn : goal.returns-in-Some-clause-turn
+returns-in-Some-clause-turn g c = λ refresh.
+    let question = OfPort c.args.question in
+    let turns : World → Spent → ℕ = λ world before. turns_after world question (total_of before) in
     let world = world_at g.F.Names.view c.args.self.now in
-    let refresh = refresh_of g.R.PathRows.entries c.begin_port.new.self.keeper.now in
-    subst (λ (q : Question). IfOk c.begin_port.result (IsQuestionTurn world refresh q no_spending (turns_after world q 0))) (sym c.in-Variable.is) (c.begin_port.ensures.turn refresh)
+    subst (λ (s : Spent). IfOk c.evaluate_on.result (IsQuestionTurn world refresh question s (turns world s))) c.nothing.ensures
+    (subst (λ (files : FileMap). let w : World = (files, c.args.self.now.settings.now) in IfOk c.evaluate_on.result (IsQuestionTurn w refresh question c.nothing.result (turns w c.nothing.result)))
+    c.in_ok-ask.ensures.leaves.0 (c.evaluate_on.ensures.turn refresh))
 
-pub returns-in-Port-clause-turn : goal.returns-in-Port-clause-turn
-returns-in-Port-clause-turn g c =
-    let world = world_at g.F.Names.view c.args.self.now in
-    let refresh = refresh_of g.R.PathRows.entries c.begin_port-in-Port.new.self.keeper.now in
-    subst (λ (q : Question). IfOk c.begin_port-in-Port.result (IsQuestionTurn world refresh q no_spending (turns_after world q 0))) (sym c.in-Port.is) (c.begin_port-in-Port.ensures.turn refresh)
-
-no_port : (question : Question) → ((asked : VariableQuestion) → question ≡ questions.Variable asked → ⊥)
-    → ((path : PkgPath) → question ≡ questions.Port path → ⊥) → is_of_port (need_of question) ≡ false
-no_port (questions.Settled prepared) variable port = refl
-no_port (questions.ShowFile name) variable port = refl
-no_port (questions.RemoveFile name) variable port = refl
-no_port (questions.Variable asked) variable port = absurd (variable asked refl)
-no_port (questions.Port path) variable port = absurd (port path refl)
-no_port (questions.List conditions) variable port = refl
-no_port (questions.Match spec) variable port = refl
-no_port questions.Faults variable port = refl
-no_port (questions.Dependencies direction asked) variable port = refl
-
-pub begin_other-requires : goal.begin_other-requires
-begin_other-requires g c = no_port c.args.question c.in_default.not-Variable c.in_default.not-Port
+pub evaluate_on-requires-clause-looked : goal.evaluate_on-requires-clause-looked
+evaluate_on-requires-clause-looked g c =
+    subst (λ (before : Spent). HasLooked before c.in-Some.ask.came) (sym c.nothing.ensures)
+    (subst (λ (ask : Option PortAsk). IfSome ask (λ begun. HasLooked no_spending begun.came)) c.in-Some.is c.in_ok-ask.ensures.looked)

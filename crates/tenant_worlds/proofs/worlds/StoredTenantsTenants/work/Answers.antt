@@ -5,7 +5,7 @@ use Rattle.ports_http.specs.Messages.{ReplyMessage}
 use Rattle.ports_core.specs.Charging.{Charges, FitsTurn}
 use Rattle.ports_core.specs.Jobs.{IsForRequest, job_in, job_after, spent_on}
 use Rattle.tenant_worlds.specs.declared.tenant.Tenant.{Tenant}
-use Rattle.tenant_worlds.specs.Codes.{Stored}
+use Rattle.tenant_worlds.specs.Stored.{Stored}
 use Rattle.tenant_worlds.specs.Kept.{AreRight, job_at, world_at}
 use Rattle.tenant_worlds.specs.Turning.{AnswersOver, ChargesOver}
 use Rattle.tenant_worlds.proofs.KeptLemmas.{refill_same}
@@ -80,7 +80,7 @@ returns-clause-goes_on c =
     (elim c.match-turn_at.branch [
       | in-Ok w ↦ rw w.result-is
           (work_goes_on items _ c.args.tenant within count others c.args.request.now w.in-Ok.worked.reply (job_at c.args.tenant items) w.in-Ok.worked.spent
-          (if_none w.in-Ok.worked.reply (λ same. ap (world_at c.args.tenant) refill ∙ same ∙ ap (world_at c.args.tenant) slice) w.in-Ok.ensures.silent)
+          (if_none w.in-Ok.worked.reply (λ same. ap (world_at c.args.tenant) refill ∙ same ∙ ap (world_at c.args.tenant) slice) w.in-Ok.ensures.works.silent)
           (subst (λ (ts : List Tenant). ChargesOver (world_at c.args.tenant ts) c.args.request.now (job_at c.args.tenant ts) w.in-Ok.worked.reply w.in-Ok.worked.spent) slice w.in-Ok.ensures.works.charges))
       | in-Err w ↦ rw w.result-is tt
     ])

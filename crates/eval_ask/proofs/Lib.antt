@@ -1,0 +1,4 @@
+pub mod AskLemmas
+pub mod AnswerLemmas
+pub mod Codes
+pub mod Props

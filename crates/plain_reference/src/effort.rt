@@ -1,0 +1,56 @@
+//! How much work it takes to learn what paths lead to.
+ghost use Rattle.std.specs.Prelude.{◌≡◌};
+ghost use Rattle.plain_reference.specs.Work as work;
+ghost use Rattle.ports_index.specs.Efforts.{is_there};
+ghost use Rattle.ports_index.specs.Seen.{finding_seen, row_seen};
+
+use ports_index::{Finding, Row};
+
+/// How much work it took to learn what paths lead to. Both counts stop at 2^64 - 1.
+#[derive(Clone, Copy, Debug, PartialEq, Eq)]
+pub struct Effort {
+    /// How many makefiles were evaluated, each once for each choice of flavors.
+    pub evaluations: u64,
+    /// The units spent: those of the evaluations, of the records and of the SUBDIRs.
+    pub units: u64,
+}
+
+impl Effort {
+    /// No work.
+    pub(crate) fn nothing() -> Effort
+        ensures { result ≡ work.no_effort }
+    {
+        Effort {
+            evaluations: 0,
+            units: 0,
+        }
+    }
+
+    /// The work for one path.
+    pub(crate) fn of(found: &Finding) -> Effort
+        ensures { result ≡ work.effort_of (finding_seen found.now) }
+    {
+        let units = found.cost;
+        Effort {
+            evaluations: if is_there(&found.row) { 1 } else { 0 },
+            units,
+        }
+    }
+
+    /// This work, and more.
+    pub(crate) fn and(self, more: Effort) -> Effort
+        ensures { result ≡ work.both self more }
+    {
+        Effort {
+            evaluations: self.evaluations.saturating_add(more.evaluations),
+            units: self.units.saturating_add(more.units),
+        }
+    }
+}
+
+// Whether there was a makefile to evaluate.
+fn is_there(row: &Row) -> bool
+    ensures { result ≡ is_there (row_seen row.now) }
+{
+    !matches!(row, Row::Absent)
+}

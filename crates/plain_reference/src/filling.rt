@@ -1,0 +1,74 @@
+//! Finding what paths lead to, if they have no row yet.
+ghost use Rattle.mk_paths.specs.FilesView.{world_of};
+ghost use Rattle.std.specs.Prelude.{◌≡◌, ◌∷◌, [], map, string_bytes, IfOk, OnOk};
+ghost use Rattle.std.specs.Result.{result_err};
+ghost use Rattle.plain_reference.specs.Work.{effort_over};
+ghost use Rattle.plain_reference.specs.Right.{AreRight, Stay};
+ghost use Rattle.ports_index.specs.Efforts.{lacking};
+ghost use Rattle.ports_index.specs.Filling.{Fills};
+ghost use Rattle.ports_index.specs.Keeping.{Keeps};
+ghost use Rattle.ports_index.specs.Seen.{entries_in};
+
+use crate::effort::Effort;
+use crate::evaluating::evaluate_path;
+use mk_files::Files;
+use mk_paths::{FilesFault, Settings};
+use ports_index::MemoryRows;
+use std::alloc::Global;
+
+/// Gives a row to each of these paths that has none yet: what the path leads to. If all rows were right
+/// before, they are right after it. The rows that were there stay, and no other path gets one. The result
+/// is the work that this took: each of these paths is evaluated once, if it has no row yet.
+///
+/// It fails if the files fail, or if memory runs out. The rows that were made until then stay.
+pub(crate) fn fill<F: Files>(
+    alloc: Global,
+    files: &mut F,
+    settings: &Settings,
+    paths: &[String],
+    rows: &mut MemoryRows,
+) -> Result<Effort, FilesFault>
+    requires { AreRight (world_of (F.view files.old) settings.now) (entries_in rows.old) }
+    ensures right { AreRight (world_of (F.view files.old) settings.now) (entries_in rows.new) }
+    ensures stay { Stay (entries_in rows.old) (entries_in rows.new) }
+    ensures fills { OnOk result (Fills (world_of (F.view files.old) settings.now)
+        (map string_bytes paths.now) (entries_in rows.old) (entries_in rows.new)) }
+    ensures effort { IfOk result (λ effort. effort
+        ≡ effort_over (world_of (F.view files.old) settings.now)
+        (lacking (entries_in rows.old) (map string_bytes paths.now))) }
+    ensures keeps { Keeps (result_err result) (F.view files.old) (F.view files.new) }
+{
+    let mut effort = Effort::nothing();
+    for path in paths {
+        effort = effort.and(fill_one(alloc, files, settings, path, rows)?);
+    }
+    Ok(effort)
+}
+
+// Gives this path its row, if it has none yet.
+fn fill_one<F: Files>(
+    alloc: Global,
+    files: &mut F,
+    settings: &Settings,
+    path: &str,
+    rows: &mut MemoryRows,
+) -> Result<Effort, FilesFault>
+    requires { AreRight (world_of (F.view files.old) settings.now) (entries_in rows.old) }
+    ensures right { AreRight (world_of (F.view files.old) settings.now) (entries_in rows.new) }
+    ensures stay { Stay (entries_in rows.old) (entries_in rows.new) }
+    ensures fills { OnOk result (Fills (world_of (F.view files.old) settings.now) (path.now ∷ [])
+        (entries_in rows.old) (entries_in rows.new)) }
+    ensures effort { IfOk result (λ effort. effort
+        ≡ effort_over (world_of (F.view files.old) settings.now)
+        (lacking (entries_in rows.old) (path.now ∷ []))) }
+    ensures keeps { Keeps (result_err result) (F.view files.old) (F.view files.new) }
+{
+    if rows.get(path).is_some() {
+        return Ok(Effort::nothing());
+    }
+    let found = evaluate_path(alloc, files, settings, path)?;
+    let effort = Effort::of(&found);
+    let key = String::from_str(alloc, path)?;
+    rows.put(key, found.row)?;
+    Ok(effort)
+}

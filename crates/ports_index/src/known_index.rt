@@ -1,0 +1,58 @@
+//! An index whose rows are known.
+ghost use Rattle.std.specs.Prelude.{◌≡◌, map, string_bytes, IfOk};
+ghost use Rattle.mk_paths.specs.World.{World};
+ghost use Rattle.ports_index.specs.Index as indexed;
+ghost use Rattle.ports_index.specs.Known.{IsIndexOf};
+ghost use Rattle.ports_index.specs.RowLaws.{HaveRows};
+ghost use Rattle.ports_index.specs.Seen.{entries_in};
+
+use crate::depending::{edges_among, roots_among};
+use crate::keeping::MemoryRows;
+use crate::laws::known_rows_are_enough;
+use port_deps::{Root, RootEdge};
+use std::alloc::{AllocError, Global};
+
+/// The index of a ports tree, with what each path leads to on which it depends.
+#[derive(Debug, Drop)]
+pub struct KnownIndex {
+    listed: Vec<String>,
+    rows: MemoryRows,
+}
+
+impl KnownIndex {
+    /// The index in which these paths are listed, by these rows.
+    pub fn new(listed: Vec<String>, rows: MemoryRows) -> KnownIndex
+        ensures { (world : World) → map string_bytes listed.items ≡ indexed.listed_paths world
+            → HaveRows world (entries_in rows) (indexed.needed_paths world) → IsIndexOf world result }
+    {
+        KnownIndex { listed, rows }
+    }
+
+    /// The listed paths alone, without what they lead to.
+    pub fn into_listed(self) -> Vec<String>
+        ensures { (world : World) → IsIndexOf world self
+            → map string_bytes result.items ≡ indexed.listed_paths world }
+    {
+        self.listed
+    }
+
+    /// The ports, and the faults met where ports should be, in the order of their canonical paths, each once.
+    /// The ports are shared with the index. It fails only if memory runs out.
+    pub fn roots(&self, alloc: Global) -> Result<Vec<Root>, AllocError>
+        ensures { (world : World) → IsIndexOf world self.now
+            → IfOk result (λ roots. roots.items ≡ indexed.roots world) }
+    {
+        known_rows_are_enough();
+        roots_among(alloc, &self.listed, &self.rows)
+    }
+
+    /// The dependencies of all ports, in the order of the ports, and those of each port in the order of its items. It
+    /// fails only if memory runs out.
+    pub fn edges(&self, alloc: Global) -> Result<Vec<RootEdge>, AllocError>
+        ensures { (world : World) → IsIndexOf world self.now
+            → IfOk result (λ edges. edges.items ≡ indexed.edges world) }
+    {
+        known_rows_are_enough();
+        edges_among(alloc, &self.listed, &self.rows)
+    }
+}

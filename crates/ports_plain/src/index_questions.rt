@@ -1,0 +1,44 @@
+//! What is asked of all ports, by the index.
+ghost use Rattle.std.specs.Prelude.{◌≡◌, IfOk};
+ghost use Rattle.mk_paths.specs.World.{World};
+ghost use Rattle.ports_index.specs.Known.{IsIndexOf};
+ghost use Rattle.ports_plain.specs.Answers.{index_reply};
+
+use crate::dependencies::{DependencyQuestion, Direction, dependency_reply};
+use crate::lists::{faults_reply, list_reply, match_reply};
+use mk_paths::FilesFault;
+use pkg_spec::Spec;
+use ports_http::Reply;
+use ports_index::KnownIndex;
+use ports_query::Query;
+use std::alloc::Global;
+
+/// What is asked of all ports.
+#[derive(Drop)]
+pub enum IndexQuestion {
+    /// The packages that meet all these conditions.
+    List(Query),
+    /// The packages that this spec admits.
+    Match(Spec),
+    /// The faults of ports and lists.
+    Faults,
+    /// What a port depends on, or what depends on it.
+    Dependencies(Direction, DependencyQuestion),
+}
+
+impl IndexQuestion {
+    /// The reply, by the index of a world. It fails only if memory runs out.
+    pub fn reply(&self, alloc: Global, index: &KnownIndex) -> Result<Reply, FilesFault>
+        ensures { (world : World) → IsIndexOf world index.now
+            → IfOk result (λ reply. reply ≡ index_reply world self.now) }
+    {
+        match self {
+            IndexQuestion::List(conditions) => list_reply(alloc, index, conditions),
+            IndexQuestion::Match(spec) => match_reply(alloc, index, spec),
+            IndexQuestion::Faults => faults_reply(alloc, index),
+            IndexQuestion::Dependencies(direction, asked) => {
+                dependency_reply(alloc, index, *direction, asked)
+            }
+        }
+    }
+}
