@@ -135,6 +135,12 @@ stored-both earlier current path = ap (option_map value_of) (find-both (is_at pa
     go None = refl
     go (Some e) = refl
 
+swapped : (a b : Bool) → (a || b) ≡ (b || a)
+swapped true true = refl
+swapped true false = refl
+swapped false true = refl
+swapped false false = refl
+
 module _ (rows : Rows) (settled : AreSettled rows) where
   -- a path that has a row in the table of today has none in the other
   second : (path : List ℕ) (value : StoredValue) → stored_by (rows Current) path ≡ Some value → stored_by (all_of rows) path ≡ Some value
@@ -154,17 +160,25 @@ module _ (rows : Rows) (settled : AreSettled rows) where
       go None = refl
       go (Some v) = refl
 
-  pub rows_together : (earlier current : List SeenRow) → AreRowsOf (stored_by (rows Earlier)) earlier → AreRowsOf (stored_by (rows Current)) current → AreRowsOf (stored_by (all_of rows)) (earlier ++ current)
+  pub rows_together : (earlier current : List SeenRow) → AreRowsOf (stored_by (rows Earlier)) earlier → AreRowsOf (stored_by (rows Current)) current → AreRowsOf (stored_by (all_of rows)) (current ++ earlier)
   rows_together earlier current a b = record {
-    each = All-append (λ row. stored_by (all_of rows) row.path ≡ Some (value_in row)) earlier current
-        (λ k d lt. first (get_or earlier k d).path (value_in (get_or earlier k d)) (a.each k d lt)) (λ k d lt. second (get_or current k d).path (value_in (get_or current k d)) (b.each k d lt));
+    each = All-append (λ row. stored_by (all_of rows) row.path ≡ Some (value_in row)) current earlier
+        (λ k d lt. second (get_or current k d).path (value_in (get_or current k d)) (b.each k d lt)) (λ k d lt. first (get_or earlier k d).path (value_in (get_or earlier k d)) (a.each k d lt));
     all = λ path.
-        some-both path ∙ ap₂ (λ x y. x || y) (a.all path) (b.all path)
-        ∙ sym (ap (is_one_of path) (map-append path_of earlier current) ∙ list_any-append (λ one. bytes_eq one path) (map path_of earlier) (map path_of current));
+        some-both path ∙ ap₂ (λ x y. x || y) (a.all path) (b.all path) ∙ swapped (is_one_of path (map path_of earlier)) (is_one_of path (map path_of current))
+        ∙ sym (ap (is_one_of path) (map-append path_of current earlier) ∙ list_any-append (λ one. bytes_eq one path) (map path_of current) (map path_of earlier));
   }
 
-  pub paths_together : (earlier current : List (List ℕ)) → ArePathsOf (stored_by (rows Earlier)) earlier → ArePathsOf (stored_by (rows Current)) current → ArePathsOf (stored_by (all_of rows)) (earlier ++ current)
-  paths_together earlier current a b path = list_any-append (λ one. bytes_eq one path) earlier current ∙ ap₂ (λ x y. x || y) (a path) (b path) ∙ sym (some-both path)
+  pub paths_together : (earlier current : List (List ℕ)) → ArePathsOf (stored_by (rows Earlier)) earlier → ArePathsOf (stored_by (rows Current)) current → ArePathsOf (stored_by (all_of rows)) (current ++ earlier)
+  paths_together earlier current a b path =
+      list_any-append (λ one. bytes_eq one path) current earlier ∙ swapped (is_one_of path current) (is_one_of path earlier) ∙ ap₂ (λ x y. x || y) (a path) (b path) ∙ sym (some-both path)
+
+-- where the release before has no row, the table of today has them all
+pub rows_alone : (rows : Rows) (current : List SeenRow) → rows Earlier ≡ [] → AreRowsOf (stored_by (rows Current)) current → AreRowsOf (stored_by (all_of rows)) current
+rows_alone rows current empty h = subst (λ es. AreRowsOf (stored_by (es ++ rows Current)) current) (sym empty) h
+
+pub paths_alone : (rows : Rows) (current : List (List ℕ)) → rows Earlier ≡ [] → ArePathsOf (stored_by (rows Current)) current → ArePathsOf (stored_by (all_of rows)) current
+paths_alone rows current empty h = subst (λ es. ArePathsOf (stored_by (es ++ rows Current)) current) (sym empty) h
 
 -- ---- however a query ends, what it shows is right, and it leaves all as it was
 

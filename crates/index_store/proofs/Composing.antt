@@ -1,5 +1,5 @@
 -- One statement after another, in a transaction.
-use Rattle.std.proofs.Common.{◌≡◌, ◌∙◌, ap, sym, ℕ, true, false, List, [], ◌∷◌, ◌++◌, find, Option, is_some}
+use Rattle.std.proofs.Common.{◌≡◌, ◌∙◌, ap, sym, refl, ℕ, true, false, List, [], ◌∷◌, ◌++◌, find, Option, is_some}
 use Rattle.std.specs.Prelude.{if◌then◌else◌}
 use Rattle.sqlite.specs.State.{State}
 use Rattle.index_store.specs.declared.port_table.Part.{Part}
@@ -13,8 +13,12 @@ pub holds_as : (s : State) (these those : Rows) → ((part : Part) → these par
 holds_as s these those same h = record { inside = h.inside; formed = h.formed; are = λ part. h.are part ∙ same part }
 
 -- a change of the one table, and then of the other
-pub both_changed : (f : List Entry → List Entry) (was mid : Rows) (s : State) → ((part : Part) → mid part ≡ with_rows Earlier (f (was Earlier)) was part) → HoldsInside s (with_rows Current (f (mid Current)) mid) → HoldsInside s (λ part. f (was part))
-both_changed f was mid s are h = holds_as s (with_rows Current (f (mid Current)) mid) (λ part. f (was part)) (each_part (λ part. with_rows Current (f (mid Current)) mid part ≡ f (was part)) (are Earlier) (ap f (are Current))) h
+pub both_changed : (f : List Entry → List Entry) (was mid : Rows) (s : State) → ((part : Part) → mid part ≡ with_rows Current (f (was Current)) was part) → HoldsInside s (with_rows Earlier (f (mid Earlier)) mid) → HoldsInside s (λ part. f (was part))
+both_changed f was mid s are h = holds_as s (with_rows Earlier (f (mid Earlier)) mid) (λ part. f (was part)) (each_part (λ part. with_rows Earlier (f (mid Earlier)) mid part ≡ f (was part)) (ap f (are Earlier)) (are Current)) h
+
+-- where the release before has no row, a change of the table of today is one of both
+pub one_changed : (f : List Entry → List Entry) (was : Rows) (s : State) → f [] ≡ [] → was Earlier ≡ [] → HoldsInside s (with_rows Current (f (was Current)) was) → HoldsInside s (λ part. f (was part))
+one_changed f was s none empty h = holds_as s (with_rows Current (f (was Current)) was) (λ part. f (was part)) (each_part (λ part. with_rows Current (f (was Current)) was part ≡ f (was part)) (empty ∙ sym (ap f empty ∙ none)) refl) h
 
 -- a row is put in place of the one there, or as the last
 module _ (path : List ℕ) (profile : Option ℕ) (text : List ℕ) (was : Rows) (s : State) where

@@ -1,5 +1,5 @@
 -- What holds of the database between the calls goes on to hold.
-use Rattle.std.proofs.Common.{◌≡◌, ◌≢◌, inl, inr, ℕ, pos, true, false, not, eqb, List, [], ◌∷◌, ◌++◌, map, find, None, is_some, Result, Ok, Err, OnOk, OnErr, refl, sym, ap, ap₂, subst, ◌∙◌, arith}
+use Rattle.std.proofs.Common.{◌≡◌, ◌≢◌, inl, inr, ℕ, Bool, pos, true, false, true≢false, not, eqb, List, [], ◌∷◌, ◌++◌, map, find, None, is_some, Result, Ok, Err, OnOk, OnErr, refl, sym, ap, ap₂, subst, ◌∙◌, arith}
 use Rattle.std.specs.List.{list_all}
 use Rattle.std.proofs.lemmas.Bool.{cases_Bool}
 use Rattle.std.proofs.lemmas.Bool.Decides.{nat_tests}
@@ -20,7 +20,7 @@ use Rattle.table_facts.proofs.Statements.{CountsPassed, passes}
 use Rattle.index_store.specs.declared.port_table.Part.{Part}
 use Rattle.index_store.specs.declared.port_table.Part.TheVariants.{Earlier, Current}
 use Rattle.index_store.specs.Entries.{SameRows, SameProfiles}
-use Rattle.index_store.specs.PortTable.{Entry, Rows, AreSettled, IsKept, IsFormed, IsRowOf, Holds, HoldsInside, rows_at, no_rows, all_of, entry_in, tree_of, port_key, earlier_schema, earlier_table, current_table, is_at, is_staying, stored_by, profiles_by, create_earlier, create_current}
+use Rattle.index_store.specs.PortTable.{Entry, Rows, AreSettled, IsKept, IsKeptWith, IsFormed, IsRowOf, Holds, HoldsInside, rows_at, no_rows, all_of, entry_in, tree_of, port_key, earlier_schema, earlier_table, current_table, is_at, is_staying, stored_by, profiles_by, create_earlier, create_current}
 use Rattle.index_store.proofs.Fixed.{of_path, passes_path, create_earlier_text, create_current_text}
 use Rattle.index_store.proofs.Changing.{each_part}
 
@@ -62,6 +62,9 @@ still_kept old new kept h = record {
   rows = settled_as (rows_at new.now.trees) (rows_at old.now.trees) (still_are old new h) kept.rows;
 }
 
+pub still_with : (has_earlier : Bool) (old new : State) → IsKeptWith has_earlier old → Stays old new → IsKeptWith has_earlier new
+still_with has_earlier old new kept h = record { kept = still_kept old new kept.kept h; earlier = λ off. still_are old new h Earlier ∙ kept.earlier off }
+
 same_all : (new old : Rows) → ((part : Part) → new part ≡ old part) → all_of new ≡ all_of old
 same_all new old same = ap₂ (λ xs ys. xs ++ ys) (same Earlier) (same Current)
 
@@ -102,6 +105,15 @@ is_free part path rows free r k = not_found (is_at path) (map (entry_in part) ro
 pub end_kept : {A : Type 0} (r : Result A Error) (old new : State) (rows : Rows) → IsKept old → OnOk r (Holds new rows) → OnErr r (Stays old new) → IsKept new
 end_kept (Ok a) old new rows kept ok err = ok.kept
 end_kept (Err e) old new rows kept ok err = still_kept old new kept err
+
+-- a change leaves the table of the release before without a row where it had none
+pub end_with : {A : Type 0} (has_earlier : Bool) (r : Result A Error) (old new : State) (rows : Rows) → IsKeptWith has_earlier old → (rows_at old.now.trees Earlier ≡ [] → rows Earlier ≡ []) → OnOk r (Holds new rows) → OnErr r (Stays old new) → IsKeptWith has_earlier new
+end_with has_earlier (Ok a) old new rows kept none ok err = record { kept = ok.kept; earlier = λ off. ok.are Earlier ∙ none (kept.earlier off) }
+end_with has_earlier (Err e) old new rows kept none ok err = still_with has_earlier old new kept err
+
+-- where the release before may have a row, nothing more is asked
+pub with_earlier : (s : State) → IsKept s → IsKeptWith true s
+with_earlier s kept = record { kept = kept; earlier = λ off. absurd (true≢false off) }
 
 -- what is so of the rows is so of what the database has
 pub held_then : (new : State) (rows : Rows) (P : List Entry → Type 0) → Holds new rows → P (all_of rows) → P (all_of (rows_at new.now.trees))

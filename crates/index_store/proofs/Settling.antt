@@ -1,15 +1,17 @@
 -- What holds of the rows between the calls holds after a change, and what is stored then.
-use Rattle.std.proofs.Common.{◌≡◌, inl, inr, ℕ, Bool, true, false, cond, List, [], ◌∷◌, ◌++◌, map, find, Option, None, Some, is_some, string_bytes, refl, sym, ap, subst, ◌∙◌, true≢false}
-use Rattle.std.specs.Prelude.{option_map}
+use Rattle.std.proofs.Common.{◌≡◌, inl, inr, ℕ, Bool, true, false, cond, List, [], ◌∷◌, ◌++◌, map, find, Option, None, Some, is_some, String, string_bytes, length, refl, sym, ap, subst, ◌∙◌, true≢false, arith}
+use Rattle.std.specs.Prelude.{option_map, ◌==◌}
+use Rattle.std.specs.declared.alloc.Global.{Global}
 use Rattle.std.specs.Str.{bytes_eq}
 use Rattle.std.specs.List.{list_all}
+use Rattle.std.proofs.lemmas.List.{nil_from_length}
 use Rattle.std.proofs.lemmas.Bool.{cases_Bool}
 use Rattle.mk_text.specs.declared.profile.Profile.{Profile}
 use Rattle.mk_text.specs.Profiles.{profile_number, numbered_profile, profile-numbered}
 use Rattle.index_store.specs.declared.port_table.Part.TheVariants.{Earlier, Current}
 use Rattle.index_store.specs.declared.writing.Change.{Change}
 use Rattle.index_store.specs.declared.writing.Change.TheVariants.{Put, PutEarlier, Mark, MarkAll, TakeOut}
-use Rattle.index_store.specs.Entries.{is_one_of, fresh, marked, PutsRow, Marks, MarksAll, TakesOut, PutsProfile, SameProfiles, TakesProfilesOut}
+use Rattle.index_store.specs.Entries.{Entries, Profiles, is_one_of, fresh, marked, PutsRow, Marks, MarksAll, TakesOut, PutsProfile, SameProfiles, TakesProfilesOut}
 use Rattle.index_store.specs.PortTable.{Entry, Rows, AreSettled, is_at, is_staying, value_of, stored_by, profile_of, profiles_by, all_of, with_mark, fresh_entry, marked_at, marked_among, staying_of, stale_mark, leaving_mark, without, with_row}
 use Rattle.index_store.specs.Marking.{rows_after}
 use Rattle.index_store.proofs.Changing.{each_part}
@@ -125,6 +127,17 @@ module _ (old new : List Entry) where
 
     pub profiles_out : TakesProfilesOut paths (profiles_by old) (profiles_by new)
     profiles_out path = ap profile_of (h path) ∙ elim (is_one_of path paths) as (λ b. profile_of (cond b None (find (is_at path) old)) ≡ cond b None (profiles_by old path)) [ true ↦ refl | false ↦ refl ]
+
+-- no path is taken out
+module _ (paths : List (String Global)) (none : (length paths == 0) ≡ true) where
+  no_path : paths ≡ []
+  no_path = let no_length : length paths ≡ 0 = grind (arith, none) in nil_from_length paths no_length
+
+  pub none_out : (rows : Entries) → TakesOut (map string_bytes paths) rows rows
+  none_out rows = subst (λ these. TakesOut (map string_bytes these) rows rows) (sym no_path) (λ path. refl)
+
+  pub no_profiles_out : (profiles : Profiles) → TakesProfilesOut (map string_bytes paths) profiles profiles
+  no_profiles_out profiles = subst (λ these. TakesProfilesOut (map string_bytes these) profiles profiles) (sym no_path) (λ path. refl)
 
 -- ---- the changes
 

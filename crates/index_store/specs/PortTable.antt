@@ -239,6 +239,15 @@ pub record IsKept (s : State) : Type 0 where
   pub formed : IsFormed s.now
   pub rows : AreSettled (rows_at s.now.trees)
 
+-- where the release before may have no row, it has none
+abbrev pub AllowsFor : Bool → Rows → Type 0
+AllowsFor has_earlier rows = has_earlier ≡ false → rows Earlier ≡ []
+
+-- what holds between the calls, where the release before may have a row or may not
+pub record IsKeptWith (has_earlier : Bool) (s : State) : Type 0 where
+  pub kept : IsKept s
+  pub earlier : AllowsFor has_earlier (rows_at s.now.trees)
+
 -- between the calls, with these rows
 pub record Holds (s : State) (rows : Rows) : Type 0 where
   pub kept : IsKept s

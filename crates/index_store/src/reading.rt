@@ -2,7 +2,7 @@
 ghost use Rattle.std.specs.Prelude.{◌≡◌, ◌++◌, map, string_bytes, IfOk, OnOk};
 ghost use Rattle.table_facts.specs.States.{Stays, state_of};
 ghost use Rattle.index_store.specs.Entries.{AreRowsOf, ArePathsOf, stored_seen};
-ghost use Rattle.index_store.specs.PortTable.{IsKept, stored_in, row_shown, path_shown};
+ghost use Rattle.index_store.specs.PortTable.{IsKeptWith, stored_in, row_shown, path_shown};
 
 use crate::path_rows::StoredRow;
 use crate::port_table::{Part, all_paths, all_rows};
@@ -43,38 +43,46 @@ fn add_paths(paths: &mut Vec<String>, rows: Vec<Row>) -> Result<(), Error>
     Ok(())
 }
 
-/// All rows of both tables.
+/// All rows of both tables. Without `has_earlier` that of the release before has none.
 pub(crate) fn read_rows(
     conn: &mut Connection<MemStore>,
+    has_earlier: bool,
     alloc: Global,
 ) -> Result<Vec<StoredRow>, Error>
-    requires { IsKept (state_of conn.old) }
+    requires { IsKeptWith has_earlier (state_of conn.old) }
     ensures rows { IfOk result (λ rows. AreRowsOf (stored_in conn.old)
         (map stored_seen rows.items)) }
     ensures stays { Stays (state_of conn.old) (state_of conn.new) }
 {
     let mut stored = Vec::new(alloc);
-    let earlier = all_rows(conn, Part::Earlier)?;
-    add_rows(&mut stored, earlier)?;
     let current = all_rows(conn, Part::Current)?;
     add_rows(&mut stored, current)?;
+    if !has_earlier {
+        return Ok(stored);
+    }
+    let earlier = all_rows(conn, Part::Earlier)?;
+    add_rows(&mut stored, earlier)?;
     Ok(stored)
 }
 
-/// The paths of all rows of both tables.
+/// The paths of all rows of both tables. Without `has_earlier` that of the release before has none.
 pub(crate) fn read_paths(
     conn: &mut Connection<MemStore>,
+    has_earlier: bool,
     alloc: Global,
 ) -> Result<Vec<String>, Error>
-    requires { IsKept (state_of conn.old) }
+    requires { IsKeptWith has_earlier (state_of conn.old) }
     ensures paths { IfOk result (λ paths. ArePathsOf (stored_in conn.old)
         (map string_bytes paths.items)) }
     ensures stays { Stays (state_of conn.old) (state_of conn.new) }
 {
     let mut paths = Vec::new(alloc);
-    let earlier = all_paths(conn, Part::Earlier)?;
-    add_paths(&mut paths, earlier)?;
     let current = all_paths(conn, Part::Current)?;
     add_paths(&mut paths, current)?;
+    if !has_earlier {
+        return Ok(paths);
+    }
+    let earlier = all_paths(conn, Part::Earlier)?;
+    add_paths(&mut paths, earlier)?;
     Ok(paths)
 }

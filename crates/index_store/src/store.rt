@@ -18,13 +18,15 @@ use table_facts::Sqlite;
 #[derive(Drop)]
 pub struct IndexStore {
     conn: Connection<MemStore>,
+    // Whether the table of the release before may have a row.
+    has_earlier: bool,
 }
 
 impl Model for IndexStore {
     ghost use Rattle.std.specs.Prelude.{List};
     ghost use Rattle.sqlite.specs.Held.{state};
     ghost use Rattle.sqlite.specs.Steps.{over_memory};
-    ghost use Rattle.index_store.specs.PortTable.{Entry, entries_code, entries_of, IsKept};
+    ghost use Rattle.index_store.specs.PortTable.{Entry, entries_code, entries_of, IsKeptWith};
 
     ghost Value = { List Entry };
 
@@ -32,7 +34,7 @@ impl Model for IndexStore {
 
     ghost view = { λ store. entries_of store.conn };
 
-    ghost invariant = { λ store. IsKept (state over_memory store.conn) };
+    ghost invariant = { λ store. IsKeptWith store.has_earlier (state over_memory store.conn) };
 }
 
 impl IndexStore {
@@ -43,7 +45,10 @@ impl IndexStore {
         ensures { IfOk result (λ store. HasNoRow (stored_by store)) }
     {
         match open(alloc) {
-            Ok(conn) => Ok(IndexStore { conn }),
+            Ok(conn) => Ok(IndexStore {
+                conn,
+                has_earlier: false,
+            }),
             Err(error) => Err(FilesFault::of_statement::<Sqlite>(&error)),
         }
     }
@@ -63,6 +68,7 @@ impl IndexStore {
         ensures err_profiles { OnErr result
             (SameProfiles (profiles_by self.old) (profiles_by self.new)) }
     {
+        self.has_earlier = true;
         match put_earlier_row(&mut self.conn, path, text) {
             Ok(()) => Ok(()),
             Err(error) => Err(FilesFault::of_statement::<Sqlite>(&error)),
@@ -76,42 +82,42 @@ impl PathRows for IndexStore {
     ghost profiles = { profiles_by };
 
     fn rows(&mut self, alloc: Global) -> Result<Vec<StoredRow>, FilesFault> {
-        match read_rows(&mut self.conn, alloc) {
+        match read_rows(&mut self.conn, self.has_earlier, alloc) {
             Ok(rows) => Ok(rows),
             Err(error) => Err(FilesFault::of_statement::<Sqlite>(&error)),
         }
     }
 
     fn paths(&mut self, alloc: Global) -> Result<Vec<String>, FilesFault> {
-        match read_paths(&mut self.conn, alloc) {
+        match read_paths(&mut self.conn, self.has_earlier, alloc) {
             Ok(paths) => Ok(paths),
             Err(error) => Err(FilesFault::of_statement::<Sqlite>(&error)),
         }
     }
 
     fn put(&mut self, path: &str, profile: Profile, text: &[u8]) -> Result<(), FilesFault> {
-        match put_row(&mut self.conn, path, profile, text) {
+        match put_row(&mut self.conn, self.has_earlier, path, profile, text) {
             Ok(()) => Ok(()),
             Err(error) => Err(FilesFault::of_statement::<Sqlite>(&error)),
         }
     }
 
     fn mark(&mut self, paths: &[String]) -> Result<(), FilesFault> {
-        match mark_paths(&mut self.conn, paths) {
+        match mark_paths(&mut self.conn, self.has_earlier, paths) {
             Ok(()) => Ok(()),
             Err(error) => Err(FilesFault::of_statement::<Sqlite>(&error)),
         }
     }
 
     fn mark_all(&mut self) -> Result<(), FilesFault> {
-        match mark_rows(&mut self.conn) {
+        match mark_rows(&mut self.conn, self.has_earlier) {
             Ok(()) => Ok(()),
             Err(error) => Err(FilesFault::of_statement::<Sqlite>(&error)),
         }
     }
 
     fn take_out(&mut self, paths: &[String]) -> Result<(), FilesFault> {
-        match take_paths(&mut self.conn, paths) {
+        match take_paths(&mut self.conn, self.has_earlier, paths) {
             Ok(()) => Ok(()),
             Err(error) => Err(FilesFault::of_statement::<Sqlite>(&error)),
         }

@@ -1,10 +1,12 @@
-// The calls that write, each in one transaction.
-ghost use Rattle.std.specs.Prelude.{map, string_bytes, OnOk, OnErr, IfOk, None, Some};
+// The calls that write, each in one transaction. With `has_earlier` the table of the release before may have a
+// row; without it that table has none, and no statement runs on it.
+ghost use Rattle.std.specs.Prelude.{map, string_bytes, OnOk, OnErr, IfOk, None, Some, true};
 ghost use Rattle.mk_text.specs.Profiles.{profile_number};
 ghost use Rattle.table_facts.specs.States.{IsOpen, KeepsCommit, Stays, state_of};
 ghost use Rattle.index_store.specs.Entries.{PutsRow, SameRows, Marks, MarksAll, TakesOut};
 ghost use Rattle.index_store.specs.Entries.{PutsProfile, SameProfiles, TakesProfilesOut};
-ghost use Rattle.index_store.specs.PortTable.{IsKept, IsFormed, Holds, HoldsInside, rows_of, stored_in, profiles_in, no_rows};
+ghost use Rattle.index_store.specs.PortTable.{IsKept, IsKeptWith, AllowsFor, IsFormed, Holds, HoldsInside};
+ghost use Rattle.index_store.specs.PortTable.{rows_of, stored_in, profiles_in, no_rows};
 ghost use Rattle.index_store.specs.PortTable.{marked_at, marked_among, staying_of, without, with_row, with_rows};
 ghost use Rattle.index_store.specs.Marking.{mark_number, rows_after};
 
@@ -42,25 +44,38 @@ pub(crate) fn open(alloc: Global) -> Result<Connection<MemStore>, Error>
 }
 
 // Gives the row of a path this mark, in whichever table it is.
-fn mark_path(tx: &mut Transaction<'_, MemStore>, path: &str, mark: Mark) -> Result<(), Error>
-    requires { IsOpen IsFormed (state_of tx.old.conn.now) }
+fn mark_path(
+    tx: &mut Transaction<'_, MemStore>,
+    has_earlier: bool,
+    path: &str,
+    mark: Mark,
+) -> Result<(), Error>
+    requires open { IsOpen IsFormed (state_of tx.old.conn.now) }
+    requires earlier { AllowsFor has_earlier (rows_of tx.old.conn.now) }
     ensures kept { KeepsCommit tx.old.conn tx.new.conn }
     ensures made { OnOk result (HoldsInside (state_of tx.new.conn.now)
         (λ part. marked_at (mark_number mark) path.now (rows_of tx.old.conn.now part))) }
 {
-    set_mark(tx, Part::Earlier, path, mark)?;
-    set_mark(tx, Part::Current, path, mark)
+    set_mark(tx, Part::Current, path, mark)?;
+    if !has_earlier {
+        return Ok(());
+    }
+    set_mark(tx, Part::Earlier, path, mark)
 }
 
 // Takes out the rows that are marked so, of both tables.
-fn take_leaving(tx: &mut Transaction<'_, MemStore>) -> Result<(), Error>
-    requires { IsOpen IsFormed (state_of tx.old.conn.now) }
+fn take_leaving(tx: &mut Transaction<'_, MemStore>, has_earlier: bool) -> Result<(), Error>
+    requires open { IsOpen IsFormed (state_of tx.old.conn.now) }
+    requires earlier { AllowsFor has_earlier (rows_of tx.old.conn.now) }
     ensures kept { KeepsCommit tx.old.conn tx.new.conn }
     ensures made { OnOk result (HoldsInside (state_of tx.new.conn.now)
         (λ part. staying_of (rows_of tx.old.conn.now part))) }
 {
-    delete_leaving(tx, Part::Earlier)?;
-    delete_leaving(tx, Part::Current)
+    delete_leaving(tx, Part::Current)?;
+    if !has_earlier {
+        return Ok(());
+    }
+    delete_leaving(tx, Part::Earlier)
 }
 
 // Takes the row of a path out of the table of the release before, if there is one.
@@ -99,114 +114,146 @@ fn put_current<'x>(
 // Gives a path this row in the table of today, and takes out the one that the release before wrote.
 fn put<'x>(
     tx: &mut Transaction<'_, MemStore>,
+    has_earlier: bool,
     path: &'x str,
     profile: Profile,
     text: &'x [u8],
 ) -> Result<(), Error>
-    requires { IsOpen IsFormed (state_of tx.old.conn.now) }
+    requires open { IsOpen IsFormed (state_of tx.old.conn.now) }
+    requires earlier { AllowsFor has_earlier (rows_of tx.old.conn.now) }
     ensures kept { KeepsCommit tx.old.conn tx.new.conn }
     ensures made { OnOk result (HoldsInside (state_of tx.new.conn.now)
         (rows_after (Change.Put path.entry profile text.entry) (rows_of tx.old.conn.now))) }
 {
-    take_earlier(tx, path)?;
-    put_current(tx, path, profile, text)
+    put_current(tx, path, profile, text)?;
+    if !has_earlier {
+        return Ok(());
+    }
+    take_earlier(tx, path)
 }
 
 // Gives a path this row as the release before wrote it, and takes out the one there.
 fn put_earlier<'x>(
     tx: &mut Transaction<'_, MemStore>,
+    has_earlier: bool,
     path: &'x str,
     text: &'x [u8],
 ) -> Result<(), Error>
-    requires { IsOpen IsFormed (state_of tx.old.conn.now) }
+    requires open { IsOpen IsFormed (state_of tx.old.conn.now) }
+    requires earlier { AllowsFor has_earlier (rows_of tx.old.conn.now) }
     ensures kept { KeepsCommit tx.old.conn tx.new.conn }
     ensures made { OnOk result (HoldsInside (state_of tx.new.conn.now)
         (rows_after (Change.PutEarlier path.entry text.entry) (rows_of tx.old.conn.now))) }
 {
-    mark_path(tx, path, Mark::Leaving)?;
-    take_leaving(tx)?;
+    mark_path(tx, has_earlier, path, Mark::Leaving)?;
+    take_leaving(tx, has_earlier)?;
     insert_earlier(tx, path, text)
 }
 
 // Gives the rows of these paths this mark, in whichever table they are.
-fn set_marks(tx: &mut Transaction<'_, MemStore>, paths: &[String], mark: Mark) -> Result<(), Error>
-    requires { IsOpen IsFormed (state_of tx.old.conn.now) }
+fn set_marks(
+    tx: &mut Transaction<'_, MemStore>,
+    has_earlier: bool,
+    paths: &[String],
+    mark: Mark,
+) -> Result<(), Error>
+    requires open { IsOpen IsFormed (state_of tx.old.conn.now) }
+    requires earlier { AllowsFor has_earlier (rows_of tx.old.conn.now) }
     ensures kept { KeepsCommit tx.old.conn tx.new.conn }
     ensures made { OnOk result (HoldsInside (state_of tx.new.conn.now)
         (λ part. marked_among (mark_number mark) (map string_bytes paths.now)
         (rows_of tx.old.conn.now part))) }
 {
     for path in paths {
-        mark_path(tx, path.as_str(), mark)?;
+        mark_path(tx, has_earlier, path.as_str(), mark)?;
     }
     Ok(())
 }
 
 // Marks all rows of both tables stale.
-fn mark_tables(tx: &mut Transaction<'_, MemStore>) -> Result<(), Error>
-    requires { IsOpen IsFormed (state_of tx.old.conn.now) }
+fn mark_tables(tx: &mut Transaction<'_, MemStore>, has_earlier: bool) -> Result<(), Error>
+    requires open { IsOpen IsFormed (state_of tx.old.conn.now) }
+    requires earlier { AllowsFor has_earlier (rows_of tx.old.conn.now) }
     ensures kept { KeepsCommit tx.old.conn tx.new.conn }
     ensures made { OnOk result (HoldsInside (state_of tx.new.conn.now)
         (rows_after Change.MarkAll (rows_of tx.old.conn.now))) }
 {
-    mark_table(tx, Part::Earlier)?;
-    mark_table(tx, Part::Current)
+    mark_table(tx, Part::Current)?;
+    if !has_earlier {
+        return Ok(());
+    }
+    mark_table(tx, Part::Earlier)
 }
 
 // Takes out the rows of these paths, of both tables.
-fn take_out(tx: &mut Transaction<'_, MemStore>, paths: &[String]) -> Result<(), Error>
-    requires { IsOpen IsFormed (state_of tx.old.conn.now) }
+fn take_out(
+    tx: &mut Transaction<'_, MemStore>,
+    has_earlier: bool,
+    paths: &[String],
+) -> Result<(), Error>
+    requires open { IsOpen IsFormed (state_of tx.old.conn.now) }
+    requires earlier { AllowsFor has_earlier (rows_of tx.old.conn.now) }
     ensures kept { KeepsCommit tx.old.conn tx.new.conn }
     ensures made { OnOk result (HoldsInside (state_of tx.new.conn.now)
         (rows_after (Change.TakeOut paths.entry) (rows_of tx.old.conn.now))) }
 {
-    set_marks(tx, paths, Mark::Leaving)?;
-    take_leaving(tx)
+    set_marks(tx, has_earlier, paths, Mark::Leaving)?;
+    take_leaving(tx, has_earlier)
 }
 
 // The statements of a change.
-fn make(tx: &mut Transaction<'_, MemStore>, change: Change<'_>) -> Result<(), Error>
-    requires { IsOpen IsFormed (state_of tx.old.conn.now) }
+fn make(
+    tx: &mut Transaction<'_, MemStore>,
+    has_earlier: bool,
+    change: Change<'_>,
+) -> Result<(), Error>
+    requires open { IsOpen IsFormed (state_of tx.old.conn.now) }
+    requires earlier { AllowsFor has_earlier (rows_of tx.old.conn.now) }
     ensures kept { KeepsCommit tx.old.conn tx.new.conn }
     ensures made { OnOk result (HoldsInside (state_of tx.new.conn.now)
         (rows_after change.entry (rows_of tx.old.conn.now))) }
 {
     match change {
-        Change::Put(path, profile, text) => put(tx, path, profile, text),
-        Change::PutEarlier(path, text) => put_earlier(tx, path, text),
-        Change::Mark(paths) => set_marks(tx, paths, Mark::Stale),
-        Change::MarkAll => mark_tables(tx),
-        Change::TakeOut(paths) => take_out(tx, paths),
+        Change::Put(path, profile, text) => put(tx, has_earlier, path, profile, text),
+        Change::PutEarlier(path, text) => put_earlier(tx, has_earlier, path, text),
+        Change::Mark(paths) => set_marks(tx, has_earlier, paths, Mark::Stale),
+        Change::MarkAll => mark_tables(tx, has_earlier),
+        Change::TakeOut(paths) => take_out(tx, has_earlier, paths),
     }
 }
 
 // Makes the change. If it fails, nothing changes.
-fn write(conn: &mut Connection<MemStore>, change: Change<'_>) -> Result<(), Error>
-    requires { IsKept (state_of conn.old) }
+fn write(
+    conn: &mut Connection<MemStore>,
+    has_earlier: bool,
+    change: Change<'_>,
+) -> Result<(), Error>
+    requires { IsKeptWith has_earlier (state_of conn.old) }
     ensures ok { OnOk result (Holds (state_of conn.new) (rows_after change.entry (rows_of conn.old))) }
     ensures err { OnErr result (Stays (state_of conn.old) (state_of conn.new)) }
 {
     let mut tx = conn.transaction();
-    make(&mut tx, change)?;
+    make(&mut tx, has_earlier, change)?;
     tx.commit()
 }
 
 /// Gives a path this row, which isn't stale, whether or not it had one.
 pub(crate) fn put_row<'x>(
     conn: &mut Connection<MemStore>,
+    has_earlier: bool,
     path: &'x str,
     profile: Profile,
     text: &'x [u8],
 ) -> Result<(), Error>
-    requires { IsKept (state_of conn.old) }
-    ensures kept { IsKept (state_of conn.new) }
+    requires { IsKeptWith has_earlier (state_of conn.old) }
+    ensures kept { IsKeptWith has_earlier (state_of conn.new) }
     ensures ok { OnOk result (PutsRow path.now text.now (stored_in conn.old) (stored_in conn.new)) }
     ensures profile { OnOk result (PutsProfile path.now (Some profile)
         (profiles_in conn.old) (profiles_in conn.new)) }
     ensures err { OnErr result (SameRows (stored_in conn.old) (stored_in conn.new)) }
     ensures err_profiles { OnErr result (SameProfiles (profiles_in conn.old) (profiles_in conn.new)) }
 {
-    write(conn, Change::Put(path, profile, text))
+    write(conn, has_earlier, Change::Put(path, profile, text))
 }
 
 /// Gives a path this row, which isn't stale, as the release before wrote it.
@@ -216,43 +263,51 @@ pub(crate) fn put_earlier_row<'x>(
     text: &'x [u8],
 ) -> Result<(), Error>
     requires { IsKept (state_of conn.old) }
-    ensures kept { IsKept (state_of conn.new) }
+    ensures kept { IsKeptWith true (state_of conn.new) }
     ensures ok { OnOk result (PutsRow path.now text.now (stored_in conn.old) (stored_in conn.new)) }
     ensures profile { OnOk result (PutsProfile path.now None
         (profiles_in conn.old) (profiles_in conn.new)) }
     ensures err { OnErr result (SameRows (stored_in conn.old) (stored_in conn.new)) }
     ensures err_profiles { OnErr result (SameProfiles (profiles_in conn.old) (profiles_in conn.new)) }
 {
-    write(conn, Change::PutEarlier(path, text))
+    write(conn, true, Change::PutEarlier(path, text))
 }
 
 /// Marks the rows of these paths stale.
-pub(crate) fn mark_paths(conn: &mut Connection<MemStore>, paths: &[String]) -> Result<(), Error>
-    requires { IsKept (state_of conn.old) }
-    ensures kept { IsKept (state_of conn.new) }
+pub(crate) fn mark_paths(
+    conn: &mut Connection<MemStore>,
+    has_earlier: bool,
+    paths: &[String],
+) -> Result<(), Error>
+    requires { IsKeptWith has_earlier (state_of conn.old) }
+    ensures kept { IsKeptWith has_earlier (state_of conn.new) }
     ensures ok { OnOk result (Marks (map string_bytes paths.now)
         (stored_in conn.old) (stored_in conn.new)) }
     ensures err { OnErr result (SameRows (stored_in conn.old) (stored_in conn.new)) }
     ensures profiles { SameProfiles (profiles_in conn.old) (profiles_in conn.new) }
 {
-    write(conn, Change::Mark(paths))
+    write(conn, has_earlier, Change::Mark(paths))
 }
 
 /// Marks all rows stale.
-pub(crate) fn mark_rows(conn: &mut Connection<MemStore>) -> Result<(), Error>
-    requires { IsKept (state_of conn.old) }
-    ensures kept { IsKept (state_of conn.new) }
+pub(crate) fn mark_rows(conn: &mut Connection<MemStore>, has_earlier: bool) -> Result<(), Error>
+    requires { IsKeptWith has_earlier (state_of conn.old) }
+    ensures kept { IsKeptWith has_earlier (state_of conn.new) }
     ensures ok { OnOk result (MarksAll (stored_in conn.old) (stored_in conn.new)) }
     ensures err { OnErr result (SameRows (stored_in conn.old) (stored_in conn.new)) }
     ensures profiles { SameProfiles (profiles_in conn.old) (profiles_in conn.new) }
 {
-    write(conn, Change::MarkAll)
+    write(conn, has_earlier, Change::MarkAll)
 }
 
 /// Takes out the rows of these paths.
-pub(crate) fn take_paths(conn: &mut Connection<MemStore>, paths: &[String]) -> Result<(), Error>
-    requires { IsKept (state_of conn.old) }
-    ensures kept { IsKept (state_of conn.new) }
+pub(crate) fn take_paths(
+    conn: &mut Connection<MemStore>,
+    has_earlier: bool,
+    paths: &[String],
+) -> Result<(), Error>
+    requires { IsKeptWith has_earlier (state_of conn.old) }
+    ensures kept { IsKeptWith has_earlier (state_of conn.new) }
     ensures ok { OnOk result (TakesOut (map string_bytes paths.now)
         (stored_in conn.old) (stored_in conn.new)) }
     ensures profiles { OnOk result (TakesProfilesOut (map string_bytes paths.now)
@@ -260,5 +315,8 @@ pub(crate) fn take_paths(conn: &mut Connection<MemStore>, paths: &[String]) -> R
     ensures err { OnErr result (SameRows (stored_in conn.old) (stored_in conn.new)) }
     ensures err_profiles { OnErr result (SameProfiles (profiles_in conn.old) (profiles_in conn.new)) }
 {
-    write(conn, Change::TakeOut(paths))
+    if paths.is_empty() {
+        return Ok(());
+    }
+    write(conn, has_earlier, Change::TakeOut(paths))
 }

@@ -1,11 +1,17 @@
 -- The one table, and then the other.
+use Rattle.std.proofs.Common.{refl}
 use Rattle.table_facts.specs.States.{state_of}
 use Rattle.table_facts.proofs.Ending.{ok_then}
 use Rattle.index_store.specs.Marking.{mark_number}
 use Rattle.index_store.specs.PortTable.{marked_at}
 use Rattle.index_store.specs.PortTable.{rows_of}
-use Rattle.index_store.proofs.Composing.{both_changed}
+use Rattle.index_store.proofs.Composing.{both_changed, one_changed}
 use Rattle.index_store.proofs.writing.mark_path.Goals as goal
+
+pub returns-then-not-has_earlier-clause-made : goal.returns-then-not-has_earlier-clause-made
+returns-then-not-has_earlier-clause-made c =
+    let was = rows_of c.args.tx.now.conn.now in
+    one_changed (marked_at (mark_number c.args.mark) c.args.path.now) was (state_of c.set_mark.new.tx.conn.now) refl (c.requires.earlier c.if-not-has_earlier.true) c.in_ok-set_mark.ensures.made
 
 pub returns-clause-made : goal.returns-clause-made
 returns-clause-made c =

@@ -1,21 +1,22 @@
 -- One change.
+use Rattle.std.proofs.Common.{ap, map}
 use Rattle.table_facts.specs.States.{state_of}
 use Rattle.table_facts.proofs.Ending.{ok_then, err_then}
 use Rattle.index_store.specs.Entries.{MarksAll, SameProfiles}
-use Rattle.index_store.specs.PortTable.{rows_of, entries_of, stored_by, profiles_by}
-use Rattle.index_store.proofs.Keeping.{still_stored, still_profiles, held_then, end_kept, at_end}
+use Rattle.index_store.specs.PortTable.{rows_of, entries_of, stored_by, profiles_by, with_mark, stale_mark}
+use Rattle.index_store.proofs.Keeping.{still_stored, still_profiles, held_then, end_with, at_end}
 use Rattle.index_store.proofs.Settling.{mark_all_stores, mark_all_profiles}
 use Rattle.index_store.proofs.writing.mark_rows.Goals as goal
 
 pub returns-clause-kept : goal.returns-clause-kept
-returns-clause-kept c = end_kept c.write.result (state_of c.args.conn.now) (state_of c.write.new.conn) _ c.requires c.write.ensures.ok c.write.ensures.err
+returns-clause-kept c = end_with c.args.has_earlier c.write.result (state_of c.args.conn.now) (state_of c.write.new.conn) _ c.requires (λ empty. ap (map (with_mark stale_mark)) empty) c.write.ensures.ok c.write.ensures.err
 
 pub returns-clause-ok : goal.returns-clause-ok
-returns-clause-ok c = ok_then c.write.result (λ h. held_then (state_of c.write.new.conn) _ (λ es. MarksAll (stored_by (entries_of c.args.conn.now)) (stored_by es)) h (mark_all_stores (rows_of c.args.conn.now) c.requires.rows)) c.write.ensures.ok
+returns-clause-ok c = ok_then c.write.result (λ h. held_then (state_of c.write.new.conn) _ (λ es. MarksAll (stored_by (entries_of c.args.conn.now)) (stored_by es)) h (mark_all_stores (rows_of c.args.conn.now) c.requires.kept.rows)) c.write.ensures.ok
 
 pub returns-clause-profiles : goal.returns-clause-profiles
 returns-clause-profiles c =
-    at_end _ c.write.result (ok_then c.write.result (λ h. held_then (state_of c.write.new.conn) _ (λ es. SameProfiles (profiles_by (entries_of c.args.conn.now)) (profiles_by es)) h (mark_all_profiles (rows_of c.args.conn.now) c.requires.rows)) c.write.ensures.ok)
+    at_end _ c.write.result (ok_then c.write.result (λ h. held_then (state_of c.write.new.conn) _ (λ es. SameProfiles (profiles_by (entries_of c.args.conn.now)) (profiles_by es)) h (mark_all_profiles (rows_of c.args.conn.now) c.requires.kept.rows)) c.write.ensures.ok)
     (err_then c.write.result (still_profiles (state_of c.args.conn.now) (state_of c.write.new.conn)) c.write.ensures.err)
 
 pub returns-clause-err : goal.returns-clause-err

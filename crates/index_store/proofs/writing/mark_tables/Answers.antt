@@ -1,11 +1,16 @@
 -- The one table, and then the other.
 use Rattle.table_facts.specs.States.{state_of}
 use Rattle.table_facts.proofs.Ending.{ok_then}
-use Rattle.std.proofs.Common.{map}
+use Rattle.std.proofs.Common.{map, refl}
 use Rattle.index_store.specs.PortTable.{with_mark, stale_mark}
 use Rattle.index_store.specs.PortTable.{rows_of}
-use Rattle.index_store.proofs.Composing.{both_changed}
+use Rattle.index_store.proofs.Composing.{both_changed, one_changed}
 use Rattle.index_store.proofs.writing.mark_tables.Goals as goal
+
+pub returns-then-not-has_earlier-clause-made : goal.returns-then-not-has_earlier-clause-made
+returns-then-not-has_earlier-clause-made c =
+    let was = rows_of c.args.tx.now.conn.now in
+    one_changed (map (with_mark stale_mark)) was (state_of c.mark_table.new.tx.conn.now) refl (c.requires.earlier c.if-not-has_earlier.true) c.in_ok-mark_table.ensures.made
 
 pub returns-clause-made : goal.returns-clause-made
 returns-clause-made c =

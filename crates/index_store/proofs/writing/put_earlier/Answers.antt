@@ -6,11 +6,14 @@ use Rattle.index_store.specs.declared.port_table.Part.{Part}
 use Rattle.index_store.specs.declared.port_table.Part.TheVariants.{Earlier, Current}
 use Rattle.index_store.specs.declared.writing.Change.TheVariants.{PutEarlier}
 use Rattle.index_store.specs.Marking.{rows_after}
-use Rattle.index_store.specs.PortTable.{rows_of, with_rows, fresh_entry, staying_of, is_at}
+use Rattle.index_store.specs.PortTable.{rows_of, with_rows, fresh_entry, leaving_mark, marked_at, staying_of, is_at}
 use Rattle.index_store.proofs.Changing.{each_part}
 use Rattle.index_store.proofs.Composing.{holds_as}
 use Rattle.index_store.proofs.Finding.{gone}
 use Rattle.index_store.proofs.writing.put_earlier.Goals as goal
+
+pub take_leaving-requires-clause-earlier : goal.take_leaving-requires-clause-earlier
+take_leaving-requires-clause-earlier c off = c.in_ok-mark_path.ensures.made.are Earlier ∙ ap (marked_at leaving_mark c.args.path.now) (c.requires.earlier off)
 
 pub insert_earlier-requires-clause-free : goal.insert_earlier-requires-clause-free
 insert_earlier-requires-clause-free c =

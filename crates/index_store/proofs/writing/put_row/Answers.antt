@@ -1,21 +1,21 @@
 -- One change.
 use Rattle.table_facts.specs.States.{state_of}
 use Rattle.table_facts.proofs.Ending.{ok_then, err_then}
-use Rattle.std.proofs.Common.{Some}
+use Rattle.std.proofs.Common.{ap, Some}
 use Rattle.index_store.specs.Entries.{PutsRow, PutsProfile}
-use Rattle.index_store.specs.PortTable.{rows_of, entries_of, stored_by, profiles_by}
-use Rattle.index_store.proofs.Keeping.{still_stored, still_profiles, held_then, end_kept}
+use Rattle.index_store.specs.PortTable.{rows_of, entries_of, stored_by, profiles_by, without}
+use Rattle.index_store.proofs.Keeping.{still_stored, still_profiles, held_then, end_with}
 use Rattle.index_store.proofs.Settling.{put_stores, put_keeps_profile}
 use Rattle.index_store.proofs.writing.put_row.Goals as goal
 
 pub returns-clause-kept : goal.returns-clause-kept
-returns-clause-kept c = end_kept c.write.result (state_of c.args.conn.now) (state_of c.write.new.conn) _ c.requires c.write.ensures.ok c.write.ensures.err
+returns-clause-kept c = end_with c.args.has_earlier c.write.result (state_of c.args.conn.now) (state_of c.write.new.conn) _ c.requires (λ empty. ap (without c.args.path.now) empty) c.write.ensures.ok c.write.ensures.err
 
 pub returns-clause-ok : goal.returns-clause-ok
-returns-clause-ok c = ok_then c.write.result (λ h. held_then (state_of c.write.new.conn) _ (λ es. PutsRow c.args.path.now c.args.text.now (stored_by (entries_of c.args.conn.now)) (stored_by es)) h (put_stores (rows_of c.args.conn.now) c.requires.rows c.args.path.now c.args.text.now c.args.profile)) c.write.ensures.ok
+returns-clause-ok c = ok_then c.write.result (λ h. held_then (state_of c.write.new.conn) _ (λ es. PutsRow c.args.path.now c.args.text.now (stored_by (entries_of c.args.conn.now)) (stored_by es)) h (put_stores (rows_of c.args.conn.now) c.requires.kept.rows c.args.path.now c.args.text.now c.args.profile)) c.write.ensures.ok
 
 pub returns-clause-profile : goal.returns-clause-profile
-returns-clause-profile c = ok_then c.write.result (λ h. held_then (state_of c.write.new.conn) _ (λ es. PutsProfile c.args.path.now (Some c.args.profile) (profiles_by (entries_of c.args.conn.now)) (profiles_by es)) h (put_keeps_profile (rows_of c.args.conn.now) c.requires.rows c.args.path.now c.args.text.now c.args.profile)) c.write.ensures.ok
+returns-clause-profile c = ok_then c.write.result (λ h. held_then (state_of c.write.new.conn) _ (λ es. PutsProfile c.args.path.now (Some c.args.profile) (profiles_by (entries_of c.args.conn.now)) (profiles_by es)) h (put_keeps_profile (rows_of c.args.conn.now) c.requires.kept.rows c.args.path.now c.args.text.now c.args.profile)) c.write.ensures.ok
 
 pub returns-clause-err : goal.returns-clause-err
 returns-clause-err c = err_then c.write.result (still_stored (state_of c.args.conn.now) (state_of c.write.new.conn)) c.write.ensures.err

@@ -1,15 +1,19 @@
 -- One path more has the mark.
-use Rattle.std.proofs.Common.{◌∙◌, ap, sym, refl, string_bytes}
+use Rattle.std.proofs.Common.{◌∙◌, ap, sym, refl, map, take, string_bytes}
+use Rattle.index_store.specs.declared.port_table.Part.TheVariants.{Earlier}
 use Rattle.index_store.specs.Marking.{mark_number}
-use Rattle.index_store.specs.PortTable.{rows_of, marked_at}
+use Rattle.index_store.specs.PortTable.{rows_of, marked_at, marked_among}
 use Rattle.index_store.proofs.Finding.{marked_none, marked_next}
 use Rattle.index_store.proofs.writing.set_marks.Goals as goal
 
 pub loop-path-init : goal.loop-path-init
 loop-path-init c = record {
   kept = record { same_reference = refl; committed = refl };
-  made = record { inside = c.requires.inside; formed = c.requires.formed; are = λ part. sym (marked_none (mark_number c.args.mark) (rows_of c.args.tx.now.conn.now part)) };
+  made = record { inside = c.requires.open.inside; formed = c.requires.open.formed; are = λ part. sym (marked_none (mark_number c.args.mark) (rows_of c.args.tx.now.conn.now part)) };
 }
+
+pub mark_path-requires-clause-earlier : goal.mark_path-requires-clause-earlier
+mark_path-requires-clause-earlier c off = c.loop-path.invariant.made.are Earlier ∙ ap (marked_among (mark_number c.args.mark) (map string_bytes (take c.loop-path.path-index c.args.paths.now))) (c.requires.earlier off)
 
 pub loop-path-preserved : goal.loop-path-preserved
 loop-path-preserved c =

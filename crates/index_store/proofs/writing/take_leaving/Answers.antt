@@ -1,10 +1,16 @@
 -- The one table, and then the other.
+use Rattle.std.proofs.Common.{refl}
 use Rattle.table_facts.specs.States.{state_of}
 use Rattle.table_facts.proofs.Ending.{ok_then}
 use Rattle.index_store.specs.PortTable.{staying_of}
 use Rattle.index_store.specs.PortTable.{rows_of}
-use Rattle.index_store.proofs.Composing.{both_changed}
+use Rattle.index_store.proofs.Composing.{both_changed, one_changed}
 use Rattle.index_store.proofs.writing.take_leaving.Goals as goal
+
+pub returns-then-not-has_earlier-clause-made : goal.returns-then-not-has_earlier-clause-made
+returns-then-not-has_earlier-clause-made c =
+    let was = rows_of c.args.tx.now.conn.now in
+    one_changed staying_of was (state_of c.delete_leaving.new.tx.conn.now) refl (c.requires.earlier c.if-not-has_earlier.true) c.in_ok-delete_leaving.ensures.made
 
 pub returns-clause-made : goal.returns-clause-made
 returns-clause-made c =

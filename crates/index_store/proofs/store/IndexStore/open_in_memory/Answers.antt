@@ -6,3 +6,6 @@ use Rattle.index_store.proofs.store.IndexStore.open_in_memory.Goals as goal
 
 pub returns-in-Ok : goal.returns-in-Ok
 returns-in-Ok c path = ap (λ es. stored_by es path) (ap₂ (λ xs ys. xs ++ ys) (c.in-Ok.ensures.are Earlier) (c.in-Ok.ensures.are Current))
+
+pub invariant_of-result : goal.invariant_of-result
+invariant_of-result c = record { kept = c.in-Ok.ensures.kept; earlier = λ _. c.in-Ok.ensures.are Earlier }

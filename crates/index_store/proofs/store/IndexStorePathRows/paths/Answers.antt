@@ -2,11 +2,11 @@
 use Rattle.std.proofs.Common.{◌∙◌, ap}
 use Rattle.table_facts.specs.States.{state_of}
 use Rattle.index_store.specs.PortTable.{stored_by, profiles_by}
-use Rattle.index_store.proofs.Keeping.{still_kept, still_stored, still_profiles}
+use Rattle.index_store.proofs.Keeping.{still_with, still_stored, still_profiles}
 use Rattle.index_store.proofs.store.IndexStorePathRows.paths.Goals as goal
 
 pub invariant_of-self : goal.invariant_of-self
-invariant_of-self c = still_kept (state_of c.self.inside.conn) (state_of c.read_paths.new.conn) c.self.invariant c.read_paths.ensures.stays
+invariant_of-self c = still_with c.self.inside.has_earlier (state_of c.self.inside.conn) (state_of c.read_paths.new.conn) c.self.invariant c.read_paths.ensures.stays
 
 pub returns-clause-same : goal.returns-clause-same
 returns-clause-same c path =
