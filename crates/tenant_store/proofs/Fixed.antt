@@ -2,14 +2,15 @@
 use Rattle.std.proofs.Common.{◌≡◌, ℕ, pos, false, List, [], ◌∷◌, codes, Ok, refl, ap, ◌∙◌}
 use Rattle.sqlite_value.specs.declared.value.Value.TheVariants.{Null, Int, Text}
 use Rattle.sqlite_value.specs.Order.{Row}
-use Rattle.sqlite_sql.specs.Term.{Term, lit, col}
+use Rattle.sqlite_sql.specs.declared.ops.UnaryOp.TheVariants.{Length}
+use Rattle.sqlite_sql.specs.Term.{Term, lit, col, op1}
 use Rattle.sqlite_schema.specs.declared.command.Command.TheVariants.{Select, Insert, Update, Delete, CreateTable}
 use Rattle.sqlite_schema.specs.declared.command.Source.TheVariants.{Values}
 use Rattle.sqlite_tied.specs.Compute.{everything}
 use Rattle.sqlite.specs.Compile.{table_defined_by}
 use Rattle.sqlite.specs.Listing.{understood, reads_listing}
 use Rattle.sqlite.proofs.Callers.{IsPlain, command_of, statement_of}
-use Rattle.tenant_store.specs.Tables.{store_schema, file_schema, file_table, account_table, create_file, create_account, insert_file, update_file, delete_file, select_content, select_names, insert_account, update_account, select_account, file_of, IsFileRow, is_named}
+use Rattle.tenant_store.specs.Tables.{store_schema, file_schema, file_table, account_table, create_file, create_account, insert_file, update_file, delete_file, select_content, select_length, select_presence, select_names, insert_account, update_account, select_account, file_of, IsFileRow, is_named}
 use Rattle.table_facts.specs.Tables.{no_schema}
 use Rattle.table_facts.proofs.Statements.{over_table, program, passes}
 use Rattle.table_facts.proofs.Tests.{equals, same_text, alone}
@@ -30,6 +31,14 @@ first_account = lit Null ∷ lit (Int (pos 0)) ∷ lit (Int (pos 0)) ∷ lit (Te
 pub content_text : (command_of (understood store_schema select_content) ≡ Select (program (over_table 0 of_file (col 1 2 ∷ []) [])) (codes "content" ∷ [])) × IsPlain (understood store_schema select_content) × (reads_listing store_schema select_content ≡ false)
 unfolding understood everything
 content_text = (refl, (refl, refl), refl)
+
+pub length_text : (command_of (understood store_schema select_length) ≡ Select (program (over_table 0 of_file (op1 Length (col 1 2) ∷ []) [])) (codes "length(content)" ∷ [])) × IsPlain (understood store_schema select_length) × (reads_listing store_schema select_length ≡ false)
+unfolding understood everything
+length_text = (refl, (refl, refl), refl)
+
+pub presence_text : (command_of (understood store_schema select_presence) ≡ Select (program (over_table 0 of_file (lit (Int (pos 1)) ∷ []) [])) (codes "1" ∷ [])) × IsPlain (understood store_schema select_presence) × (reads_listing store_schema select_presence ≡ false)
+unfolding understood everything
+presence_text = (refl, (refl, refl), refl)
 
 pub account_text : (command_of (understood store_schema select_account) ≡ Select (program (over_table 2 [] account_columns [])) (codes "files" ∷ codes "bytes" ∷ codes "path" ∷ codes "profile" ∷ [])) × IsPlain (understood store_schema select_account) × (reads_listing store_schema select_account ≡ false)
 unfolding understood everything

@@ -1,5 +1,5 @@
 -- The tables of the store, and what their rows mean.
-use Rattle.std.specs.Prelude.{◌≡◌, ℕ, ℤ, pos, ◌≤◌, not, if◌then◌else◌, Bool, codes, List, [], ◌∷◌}
+use Rattle.std.specs.Prelude.{◌≡◌, ℕ, ℤ, pos, ◌≤◌, ◌==◌, not, if◌then◌else◌, Bool, codes, List, [], ◌∷◌}
 use Rattle.std.specs.Prelude.{◌++◌, length, map, filter, Option, None, Some, get_or}
 use Rattle.std.specs.Ordering.{is_eq, nat_cmp}
 use Rattle.std.specs.Cmp.Lexicographic.{slice_cmp}
@@ -71,6 +71,12 @@ delete_file = codes "DELETE FROM file WHERE name = ?1"
 abbrev pub select_content : List ℕ
 select_content = codes "SELECT content FROM file WHERE name = ?1"
 
+abbrev pub select_length : List ℕ
+select_length = codes "SELECT length(content) FROM file WHERE name = ?1"
+
+abbrev pub select_presence : List ℕ
+select_presence = codes "SELECT 1 FROM file WHERE name = ?1"
+
 abbrev pub select_names : List ℕ
 select_names = codes "SELECT name FROM file"
 
@@ -135,6 +141,14 @@ pub record Shows {X : Type 0} (IsShown : Row → X → Type 0) (rows : List Row)
 -- the row of one content
 abbrev pub IsContent : Row → List ℕ → Type 0
 IsContent row content = column row 0 ≡ Blob content
+
+-- the row of the length of one content
+abbrev pub IsLength : Row → ℕ → Type 0
+IsLength row bytes = column row 0 ≡ Int (pos bytes)
+
+-- rows that say whether what was looked for is there: there is one where it is
+abbrev pub ShowWhether : List Row → Bool → Type 0
+ShowWhether rows there = there ≡ not (length rows == 0)
 
 -- the name that a row shows
 abbrev pub name_in : Row → List ℕ

@@ -10,7 +10,7 @@ ghost use Rattle.tenant_store.specs.Accounts.{IsAccountOf};
 ghost use Rattle.tenant_store.specs.Tables.{Holds, IsKept, world_of};
 ghost use Rattle.table_facts.specs.States.{Stays, state_of};
 
-use crate::reading::{Account, account_of, content_of};
+use crate::reading::{Account, account_of, length_of};
 use crate::writing::{Change, write};
 use mk_files::Usage;
 use mk_paths::SearchPath;
@@ -26,12 +26,9 @@ fn look_up(conn: &mut Connection<MemStore>, name: &str) -> Result<(Option<usize>
     ensures account { IfOk result (λ seen. IsAccountOf (world_of conn.old) seen.1) }
     ensures stays { Stays (state_of conn.old) (state_of conn.new) }
 {
-    let old = content_of(conn, name)?;
+    let length = length_of(conn, name)?;
     let account = account_of(conn)?;
-    match old {
-        Some(bytes) => Ok((Some(bytes.len()), account)),
-        None => Ok((None, account)),
-    }
+    Ok((length, account))
 }
 
 /// Stores a file, new or in place of the one of its name, and gives whether it fits.

@@ -1,9 +1,10 @@
 // The statements that read.
-ghost use Rattle.std.specs.Prelude.{◌≡◌, ◌+◌, ◌≤◌, IfOk, map, option_map, string_bytes};
-ghost use Rattle.std.specs.FinMap.{get, keys};
+ghost use Rattle.std.specs.Prelude.{◌≡◌, ◌+◌, ◌≤◌, IfOk, length, map, option_map, string_bytes};
+ghost use Rattle.std.specs.FinMap.{get, contains_key, keys};
 ghost use Rattle.mk_paths.specs.World.{files_in};
 ghost use Rattle.table_facts.specs.States.{IsSettled, Stays, state_of};
 ghost use Rattle.tenant_store.specs.Tables.{IsFormed, IsKept, Shows, ShowAccount, IsContent, IsAccount, AreNames, name_in};
+ghost use Rattle.tenant_store.specs.Tables.{IsLength, ShowWhether};
 ghost use Rattle.tenant_store.specs.Tables.{holdings_of, world_of};
 ghost use Rattle.tenant_store.specs.Accounts.{IsAccountOf, shown_account};
 
@@ -94,6 +95,59 @@ pub(crate) fn content_of(
         None => Ok(None),
         Some(row) => Ok(Some(row.get(0)?)),
     }
+}
+
+fn length_rows(conn: &mut Connection<MemStore>, name: &str) -> Result<Vec<Row>, Error>
+    requires settled { IsSettled (state_of conn.old) }
+    requires formed { IsFormed (state_of conn.old).now }
+    ensures rows { IfOk result (λ rows. Shows IsLength rows.items
+        (option_map length (get (files_in (world_of conn.old)) name.now))) }
+    ensures stays { Stays (state_of conn.old) (state_of conn.new) }
+{
+    conn.query_all(
+        "SELECT length(content) FROM file WHERE name = ?1",
+        params![name],
+    )
+}
+
+/// The length of the file of this name, if it is there. The content isn't handed out for it.
+pub(crate) fn length_of(conn: &mut Connection<MemStore>, name: &str) -> Result<Option<usize>, Error>
+    requires settled { IsSettled (state_of conn.old) }
+    requires formed { IsFormed (state_of conn.old).now }
+    ensures length { IfOk result (λ found. found
+        ≡ option_map length (get (files_in (world_of conn.old)) name.now)) }
+    ensures stays { Stays (state_of conn.old) (state_of conn.new) }
+{
+    let rows = length_rows(conn, name)?;
+    match rows.first() {
+        None => Ok(None),
+        Some(row) => {
+            let length: u32 = row.get(0)?;
+            Ok(Some(length as usize))
+        }
+    }
+}
+
+fn presence_rows(conn: &mut Connection<MemStore>, name: &str) -> Result<Vec<Row>, Error>
+    requires settled { IsSettled (state_of conn.old) }
+    requires formed { IsFormed (state_of conn.old).now }
+    ensures rows { IfOk result (λ rows. ShowWhether rows.items
+        (contains_key (files_in (world_of conn.old)) name.now)) }
+    ensures stays { Stays (state_of conn.old) (state_of conn.new) }
+{
+    conn.query_all("SELECT 1 FROM file WHERE name = ?1", params![name])
+}
+
+/// Whether a file of this name is there. No content is read for it.
+pub(crate) fn is_there(conn: &mut Connection<MemStore>, name: &str) -> Result<bool, Error>
+    requires settled { IsSettled (state_of conn.old) }
+    requires formed { IsFormed (state_of conn.old).now }
+    ensures there { IfOk result (λ there. there
+        ≡ contains_key (files_in (world_of conn.old)) name.now) }
+    ensures stays { Stays (state_of conn.old) (state_of conn.new) }
+{
+    let rows = presence_rows(conn, name)?;
+    Ok(!rows.is_empty())
 }
 
 fn account_rows(conn: &mut Connection<MemStore>) -> Result<Vec<Row>, Error>

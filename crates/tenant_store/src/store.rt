@@ -11,7 +11,7 @@ ghost use Rattle.table_facts.specs.States.{Stays, state_of};
 use crate::changing::{put, set_path, set_profile, take};
 use crate::faults::PutFault;
 use crate::opening::open;
-use crate::reading::{account_of, content_of, names_of};
+use crate::reading::{account_of, content_of, is_there, names_of};
 use mk_files::Content;
 use mk_paths::{FilesFault, Name, PathFault, SearchPath, Settings};
 use mk_text::Profile;
@@ -107,6 +107,21 @@ impl TenantStore {
         ensures same { self.new ≡ self.old }
     {
         shared_content(&mut self.conn, alloc, name.as_str())
+    }
+
+    /// Whether a file of this name is there. Its content isn't read.
+    ///
+    /// # Errors
+    ///
+    /// `Store` if the database refuses a statement, and `Memory` if memory runs out.
+    pub fn has_file(&mut self, name: &Name) -> Result<bool, FilesFault>
+        ensures there { IfOk result (λ there. there ≡ contains_key (files_in self.old) name.now) }
+        ensures same { self.new ≡ self.old }
+    {
+        match is_there(&mut self.conn, name.as_str()) {
+            Ok(there) => Ok(there),
+            Err(error) => Err(FilesFault::of_statement::<Sqlite>(&error)),
+        }
     }
 
     /// The names of all files, in the order of their bytes.

@@ -48,7 +48,10 @@ impl<'s> TenantFiles<'s> {
         ensures fault { OnErr result (Fails (view_of self.old) (view_of self.new)) }
         ensures stays { StaysOver self.old self.new }
     {
-        Ok(self.content(name)?.is_some())
+        match self.store.has_file(name) {
+            Ok(there) => Ok(there),
+            Err(fault) => Err(self.failed(fault)),
+        }
     }
 
     // The content of the file of this name; `None` if it isn't there.

@@ -1,0 +1,15 @@
+-- What the query shows.
+use Rattle.std.proofs.Common.{refl}
+use Rattle.sqlite.specs.Held.{state}
+use Rattle.sqlite.specs.Steps.{over_memory}
+use Rattle.sqlite.proofs.Callers.{memory_is_clean}
+use Rattle.tenant_store.proofs.Answering.{length_ends}
+use Rattle.tenant_store.proofs.reading.length_rows.Goals as goal
+
+pub returns : goal.returns
+returns c =
+    let new = c.query_all.new.self in
+    let both =
+    length_ends c.args.name.now (state over_memory c.args.conn.now) (state over_memory new) c.query_all.result c.requires.formed c.requires.settled refl
+    (rw c.params-to_sql.ensures at (c.query_all.ensures.ok (memory_is_clean new))) (rw c.params-to_sql.ensures at (c.query_all.ensures.err (memory_is_clean new))) in
+    record { rows = both.0; stays = both.1 }
