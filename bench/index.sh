@@ -3,8 +3,9 @@
 # how long portsd takes for questions about all of them, and for uploads. Each time is the difference of two
 # scripts' times, each the best of three runs. Beside the first list is the time of a plain program
 # (plain_tree.rs, built by rustc) that evaluates the same makefiles, makes the same records and writes the
-# same list; what both list is compared. If COUNT is `instructions`, valgrind counts the instructions of one
-# run in place of the time, and no list is compared.
+# same list; what both list is compared. Beside what comes after a first list is the time of a plain program that keeps
+# the records in memory (plain_index.rs). If COUNT is `instructions`, valgrind counts the instructions of one
+# run in place of the time, and nothing is compared.
 set -euo pipefail
 top=$(cd "$(dirname "$0")/.." && pwd)
 source "$top/bench/ports_tree.sh"
@@ -14,10 +15,13 @@ uploads=${UPLOADS:-200}
 count=${COUNT:-time}
 matching='/v1/match?spec=port1*-*'
 reaching='/v1/rdeps?path=category0/port0&depth=all'
+depended='/v1/deps?path=category0/port0'
+depending='/v1/rdeps?path=category0/port0'
 work=$(mktemp -d)
 trap 'rm -rf "$work"' EXIT
 source "$top/bench/programs.sh" && find_portsd
 rustc -O -o "$work/plain_tree" "$top/bench/plain_tree.rs"
+rustc -O -o "$work/plain_index" "$top/bench/plain_index.rs"
 
 put() { # put NAME FILE: what stores this file under the name
     echo "piece 0 PUT /v1/file?name=$1 HTTP/1.1\\r\\nHost: x\\r\\nX-Ports-Key: alpha\\r\\nContent-Length: $(wc -c <"$2")\\r\\n\\r\\n$(awk '{ printf "%s\\n", $0 }' "$2")"
@@ -52,8 +56,34 @@ repeat() { # repeat TIMES COMMAND..: what the command prints, so many times; eac
         "$@" "$number"
     done
 }
+# new_item NUMBER PORTS: what stores a port of the tree again, which depends on one more port than it did
+new_item() {
+    local number=$(($1 * 7 % $2))
+    {
+        port "$number" "$2" "1.$((number % 40))" | sed '$d'
+        echo "RUN_DEPENDS += $(item "$number" 9 "$2")"
+        echo ".include <bsd.port.mk>"
+    } >"$work/makefile"
+    put "/ports/$(path "$number")/Makefile" "$work/makefile"
+}
+
+# new_port NUMBER PORTS: what stores a port that the tree hasn't
+new_port() {
+    port "$(($2 + $1))" "$2" 1.0 >"$work/makefile"
+    put "/ports/added/port$1/Makefile" "$work/makefile"
+}
+
+remove() { # remove NAME: what removes the file of this name
+    echo "piece 0 DELETE /v1/file?name=$1 HTTP/1.1\\r\\nHost: x\\r\\nX-Ports-Key: alpha\\r\\n\\r\\n"
+    echo "turn 0"
+    echo "wrote 0 all"
+}
+
 asks() { get "$1" 1; }
 uploads_and_asks() { new_version "$2" "$1" && get "$matching" 2; }
+adds_an_item() { new_item "$2" "$1" && get "$matching" 2; }
+adds_a_port() { new_port "$2" "$1" && get "$matching" 2; }
+removes_a_port() { remove "/ports/$(path $(($2 * 7 % $1)))/Makefile" && get "$matching" 1; }
 uploads_one() { new_version "$2" "$1"; }
 
 run() { # run SCRIPT: runs it once, and prints the microseconds or the instructions that this took
@@ -90,12 +120,21 @@ best() { # best SCRIPT
     sort -n "$work/best.$1" | head -1
 }
 
-# tell NAME SCRIPT BEFORE TIMES: what one of so many takes by which the first script is longer than the other
+# tell NAME SCRIPT BEFORE TIMES: what one of so many takes by which the first script is longer than the other, and what
+# it takes the plain program, if that does the same
 tell() {
-    local unit=ms per=1000
-    [ "$count" = time ] || { unit="million instructions" && per=1000000; }
-    awk -v name="$1" -v whole="$(best "$2")" -v before="$(best "$3")" -v times="$4" -v per=$per -v unit="$unit" '
-        BEGIN { printf "    %-28s %9.3f %s\n", name, (whole - before) / times / per, unit }'
+    local unit=ms per=1000 plain=
+    if [ "$count" = time ]; then
+        plain=$(awk -v name="$2" '$1 == name { print $2 }' "$work/plain")
+    else
+        unit="million instructions" && per=1000000
+    fi
+    awk -v name="$1" -v whole="$(best "$2")" -v before="$(best "$3")" -v times="$4" -v per=$per -v unit="$unit" -v plain="$plain" '
+        BEGIN {
+            ours = (whole - before) / times / per
+            printf "    %-28s %9.3f %s", name, ours, unit
+            if (plain != "") printf ", plain %.3f ms, ratio %.1f", plain / 1000, ours * 1000 / plain
+            print "" }'
 }
 
 for ports in $sizes; do
@@ -107,17 +146,30 @@ for ports in $sizes; do
     { cat "$work/stored" && get "$reaching" "$all"; } >"$work/rdeps"
     { cat "$work/list" && repeat "$times" asks /v1/list; } >"$work/again"
     { cat "$work/list" && repeat "$times" uploads_and_asks "$ports"; } >"$work/changed"
+    { cat "$work/list" && repeat "$times" adds_an_item "$ports"; } >"$work/items"
+    { cat "$work/list" && repeat "$times" adds_a_port "$ports"; } >"$work/added"
+    { cat "$work/list" && repeat "$times" removes_a_port "$ports"; } >"$work/removed"
+    { cat "$work/list" && repeat "$times" asks "$depended"; } >"$work/depended"
+    { cat "$work/list" && repeat "$times" asks "$depending"; } >"$work/depending"
+    { cat "$work/list" && repeat "$times" asks /v1/faults; } >"$work/faults"
     { cat "$work/list" && repeat "$times" asks "$reaching"; } >"$work/reached"
     { cat "$work/list" && repeat "$uploads" uploads_one "$ports"; } >"$work/uploaded"
     { cat "$work/stored" && repeat "$uploads" uploads_one "$ports"; } >"$work/restored"
-    measure stored list match rdeps again changed reached uploaded restored
+    measure stored list match rdeps again changed items added removed depended depending faults reached uploaded restored
+    [ "$count" != time ] || "$work/plain_index" "$work/tree$ports" "$times" >"$work/plain"
     echo "$ports ports:"
     tell "first list" list stored 1
     tell "first match" match stored 1
     tell "first rdeps, depth all" rdeps stored 1
     tell "list again" again list "$times"
     tell "upload and match" changed list "$times"
+    tell "upload of an item and match" items list "$times"
+    tell "new makefile and match" added list "$times"
+    tell "removed one and match" removed list "$times"
+    tell "deps again" depended list "$times"
+    tell "rdeps again" depending list "$times"
     tell "rdeps, depth all, again" reached list "$times"
+    tell "faults again" faults list "$times"
     tell "upload, all listed" uploaded list "$uploads"
     tell "upload, nothing listed" restored stored "$uploads"
     [ "$count" = time ] || continue

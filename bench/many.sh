@@ -3,7 +3,8 @@
 # with 8 dependencies each for every one of them. Then each tenant in turn asks for its first list. Prints how
 # long the first tenant's first list takes and how long the last one's, the same for the list again, how many
 # uploads a second the first and the last tenant have, and what a DELETE of the first tenant takes before and after
-# the others store theirs. With 64 tenants it takes some minutes.
+# the others store theirs; and how much memory the program has after the uploads, after the first lists, and after each
+# tenant has asked what reaches a port. With 64 tenants it takes some minutes.
 set -euo pipefail
 top=$(cd "$(dirname "$0")/.." && pwd)
 source "$top/bench/ports_tree.sh"

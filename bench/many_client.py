@@ -4,7 +4,8 @@ many_client.py PORT PID TREE TENANTS: uploads the files below TREE as each of th
 then asks for the list of packages as each of them in turn, and prints how long the first one's first list and
 the last one's take, by the clock and by the processor time of the process PID. The lists have to be equal.
 Then it prints the same for both lists again, and how many uploads a second the first and the last tenant had. It
-also prints how long a DELETE of the first tenant takes before the others store their files, and after that."""
+also prints how long a DELETE of the first tenant takes before the others store their files, and after that, and how
+much memory the process has after the uploads, after the first lists, and after each tenant has asked what reaches a port."""
 import os
 import sys
 import time
@@ -12,6 +13,7 @@ import time
 from serve_client import Client, cpu_seconds, head
 
 AGAIN = 20
+REACHING = "/v1/rdeps?path=category0/port0&depth=all"
 REMOVED = 100
 
 
@@ -49,6 +51,13 @@ def removal(client, key, stored):
     return 1000 * spent / REMOVED
 
 
+def resident(pid):
+    """The megabytes of memory that the process has now, and the most that it had."""
+    with open(f"/proc/{pid}/status", encoding="ascii") as file:
+        said = dict(line.split(":", 1) for line in file)
+    return f"{int(said['VmRSS'].split()[0]) / 1024:.0f} MB, at most {int(said['VmHWM'].split()[0]) / 1024:.0f} MB"
+
+
 def list_of(client, key, wanted=None):
     """The list of packages of the key, which has to be the one that is wanted, if there is one."""
     return client.ask(f"GET /v1/list {head(key)}\r\n".encode(), wanted)
@@ -76,6 +85,7 @@ def main():
     rates += [uploads_a_second(client, key, stored) for key in keys[1:]]
     print(f"{tenants} tenants, {len(stored)} ports each: uploads a second of the first {rates[0]:.0f}, of the last {rates[-1]:.0f}")
     print(f"a DELETE of the first tenant: {alone:.2f} ms alone, {removal(client, keys[0], stored):.2f} ms among all")
+    print(f"memory after the uploads: {resident(pid)}")
     first = None
     for number, key in enumerate(keys, 1):
         watch = Watch(pid)
@@ -83,11 +93,15 @@ def main():
         if number in (1, tenants):
             print(f"first list of tenant {number}: {watch.told()}")
         first = first or got
+    print(f"memory after the first lists: {resident(pid)}")
     for number in sorted({1, tenants}):
         watch = Watch(pid)
         for _ in range(AGAIN):
             list_of(client, keys[number - 1], first)
         print(f"list again of tenant {number}: {watch.told(AGAIN)}")
+    for key in keys:
+        client.ask(f"GET {REACHING} {head(key)}\r\n".encode(), None)
+    print(f"memory after rdeps: {resident(pid)}")
 
 
 main()

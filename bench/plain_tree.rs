@@ -3,7 +3,7 @@
 //! directory `/ports/CATEGORY/PORT`, and prints the variable of each and, on standard error, the
 //! microseconds that this took without the loading. With `--list` for the variable it makes the record of
 //! each port and prints the list of packages as `GET /v1/list` has it. It reads what `tree.sh` and
-//! `index.sh` write and no more, proves nothing, and has none of the limits.
+//! `index.sh` write and no more, proves nothing, and has none of the limits. `plain_index.rs` uses what it has.
 use std::collections::HashMap;
 use std::env;
 use std::fs;
@@ -12,9 +12,9 @@ use std::path::Path;
 use std::process::ExitCode;
 use std::time::Instant;
 
-type Files = HashMap<String, String>;
+pub type Files = HashMap<String, String>;
 
-struct Make<'a> {
+pub struct Make<'a> {
     files: &'a Files,
     makefile: &'a str,
     variables: HashMap<String, String>,
@@ -247,7 +247,7 @@ fn put(line: &str, words: &[(String, String)]) -> String {
     line
 }
 
-fn load(top: &Path, at: &Path, files: &mut Files) -> io::Result<()> {
+pub fn load(top: &Path, at: &Path, files: &mut Files) -> io::Result<()> {
     for entry in fs::read_dir(at)? {
         let path = entry?.path();
         if path.is_dir() {
@@ -259,7 +259,7 @@ fn load(top: &Path, at: &Path, files: &mut Files) -> io::Result<()> {
     Ok(())
 }
 
-fn evaluated<'a>(files: &'a Files, makefile: &'a str) -> Make<'a> {
+pub fn evaluated<'a>(files: &'a Files, makefile: &'a str) -> Make<'a> {
     let mut make = Make { files, makefile, variables: HashMap::new(), shared_asked: false };
     make.variables.insert(".CURDIR".to_string(), directory(makefile).to_string());
     make.file(makefile);
@@ -278,27 +278,27 @@ fn values(out: &mut impl Write, files: &Files, names: &[&String], variable: &str
 /// What a port is, by its variables, as a service has to know it: a list has a port only where all of them
 /// can be had, though it shows its names alone.
 #[allow(dead_code)]
-struct Record {
-    path: String,
-    maintainer: String,
-    categories: Vec<String>,
-    flavors: Vec<String>,
-    packages: Vec<Package>,
-    depends: Vec<Depend>,
+pub struct Record {
+    pub path: String,
+    pub maintainer: String,
+    pub categories: Vec<String>,
+    pub flavors: Vec<String>,
+    pub packages: Vec<Package>,
+    pub depends: Vec<Depend>,
 }
 
 #[allow(dead_code)]
-struct Package {
-    subpackage: String,
-    name: String,
-    comment: String,
+pub struct Package {
+    pub subpackage: String,
+    pub name: String,
+    pub comment: String,
 }
 
 #[allow(dead_code)]
-struct Depend {
-    kind: &'static str,
-    subpackage: String,
-    item: String,
+pub struct Depend {
+    pub kind: &'static str,
+    pub subpackage: String,
+    pub item: String,
 }
 
 impl Make<'_> {
@@ -312,7 +312,7 @@ impl Make<'_> {
     }
 
     /// The record of a port; none where a flavor isn't known or a name is no package's name.
-    fn record(&self) -> Option<Record> {
+    pub fn record(&self) -> Option<Record> {
         let chosen = lowered(self.words("FLAVOR"));
         let flavors = lowered(self.words("FLAVORS"));
         let pseudo = lowered(self.words("PSEUDO_FLAVORS"));
