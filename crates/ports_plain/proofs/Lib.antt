@@ -6,7 +6,7 @@ mod QuestionLemmas
 mod RouteTable
 mod TargetLemmas
 mod TrimmingLemmas
-mod ListFloats
+mod WritingLemmas
 mod SpendingLemmas
 mod LanguageLemmas
 mod MakefileNames

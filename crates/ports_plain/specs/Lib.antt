@@ -4,6 +4,7 @@ pub mod ParametersSeen
 pub mod Routes
 pub mod RouteRows
 pub mod Bodies
+pub mod Writing
 pub mod PortBody
 pub mod ListBodies
 pub mod Subpackages

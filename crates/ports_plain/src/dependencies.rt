@@ -1,7 +1,7 @@
 // The routes of dependencies, both ways.
 ghost use Rattle.std.specs.Prelude.{◌≡◌, IfOk, Ok};
 ghost use Rattle.mk_paths.specs.World.{World};
-ghost use Rattle.serde_json.specs.View.{view};
+ghost use Rattle.serde_json.specs.Written.{compact_text};
 ghost use Rattle.ports_index.specs.Known.{IsIndexOf};
 ghost use Rattle.ports_query.specs.Kinds.{kinds_of};
 ghost use Rattle.ports_plain.specs.IndexRoutes as routes;
@@ -13,14 +13,13 @@ use crate::list_bodies;
 use crate::parameters::{optional, path_in};
 use crate::port_questions::has_named;
 use crate::questions::Question;
-use crate::replies::{faulty, json_reply, refusal};
+use crate::replies::{faulty, refusal};
 use mk_paths::FilesFault;
 use pkg_path::PkgPath;
 use port_deps::{Root, RootEdge};
-use ports_http::{Reply, StatusCode};
+use ports_http::{Content, Reply, StatusCode};
 use ports_index::KnownIndex;
 use ports_query::{Cursor, Kinds, RowsInMemory, edges_to, first_edges, reached, reaching, root_at};
-use serde_json::Value;
 use std::alloc::{AllocError, Global};
 
 /// Which way dependencies are followed.
@@ -107,7 +106,7 @@ pub fn dependency_reply(
         }
         Direction::Dependents => {
             let body = dependents_body(alloc, &mut edges, question)?;
-            Ok(json_reply(alloc, StatusCode::OK, &body)?)
+            Ok(Reply::of_bytes(StatusCode::OK, Some(Content::Json), body))
         }
     }
 }
@@ -133,7 +132,7 @@ fn dependencies_in<R: Cursor<Root>, E: Cursor<RootEdge>>(
         }
         Ok(_port) => {
             let body = dependencies_body(alloc, edges, question)?;
-            Ok(json_reply(alloc, StatusCode::OK, &body)?)
+            Ok(Reply::of_bytes(StatusCode::OK, Some(Content::Json), body))
         }
     }
 }
@@ -142,9 +141,9 @@ fn dependencies_body<E: Cursor<RootEdge>>(
     alloc: Global,
     edges: &mut E,
     question: &DependencyQuestion,
-) -> Result<Value, FilesFault>
-    ensures { IfOk result (λ value. view value
-        ≡ routes.dependencies_body_of (E.left edges.old) question.now) }
+) -> Result<Vec<u8>, FilesFault>
+    ensures { IfOk result (λ text. text.items
+        ≡ compact_text (routes.dependencies_body_of (E.left edges.old) question.now)) }
 {
     match question.depth {
         Depth::Direct => {
@@ -162,9 +161,9 @@ fn dependents_body<E: Cursor<RootEdge>>(
     alloc: Global,
     edges: &mut E,
     question: &DependencyQuestion,
-) -> Result<Value, FilesFault>
-    ensures { IfOk result (λ value. view value
-        ≡ routes.dependents_body_of (E.left edges.old) question.now) }
+) -> Result<Vec<u8>, FilesFault>
+    ensures { IfOk result (λ text. text.items
+        ≡ compact_text (routes.dependents_body_of (E.left edges.old) question.now)) }
 {
     match question.depth {
         Depth::Direct => {

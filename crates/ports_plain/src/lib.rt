@@ -22,6 +22,7 @@ mod replies;
 mod routing;
 mod target;
 mod trimming;
+mod writing;
 
 pub use answering::Plain;
 pub use changing::{Change, Prepared};

@@ -1,69 +1,79 @@
-// Lists of packages, dependencies and faults, as JSON values.
-ghost use Rattle.std.specs.Prelude.{◌≡◌, ◌++◌, IfOk, IfErr, OnOk, map, string_bytes, option_to_list};
+// Lists of packages, dependencies and faults, as JSON texts.
+ghost use Rattle.std.specs.Prelude.{◌≡◌, IfOk, IfErr, OnOk, map, string_bytes, option_to_list};
 ghost use Rattle.std.specs.Option.{option_copied};
-ghost use Rattle.serde_json.specs.View.{view};
+ghost use Rattle.serde_json.specs.Data.{string};
+ghost use Rattle.serde_json.specs.Written.{compact_text};
 ghost use Rattle.ports_query.specs.Failing.{MayFail};
 ghost use Rattle.ports_plain.specs.ListBodies as bodies;
+ghost use Rattle.ports_plain.specs.Writing.{Adds, AddsItems};
 
-use crate::port_bodies::texts;
+use crate::writing::Scalar::{Number, Text};
+use crate::writing::{begin_list, end_list, write_object};
+use json::Writer;
 use mk_base::Fault;
 use mk_paths::FilesFault;
 use pkg_path::PkgPath;
 use port_deps::{Edge, Root, RootEdge};
 use ports_query::{Cursor, Listed};
-use serde_json::{Value, json};
 use std::alloc::{AllocError, Global};
 
-// An object with one member, a list.
-fn list(alloc: Global, name: &str, values: Vec<Value>) -> Result<Value, AllocError>
-    ensures { IfOk result (λ value. view value
-        ≡ bodies.list_body name.now (map view values.items)) }
-{
-    let values = Value::Array(values);
-    json!(in alloc; {name: values})
-}
-
 // Packages.
-pub fn packages(alloc: Global, packages: &[Listed]) -> Result<Value, AllocError>
-    ensures { IfOk result (λ value. view value ≡ bodies.packages_body packages.now) }
+pub fn packages(alloc: Global, packages: &[Listed]) -> Result<Vec<u8>, AllocError>
+    ensures { IfOk result (λ text. text.items ≡ compact_text (bodies.packages_body packages.now)) }
 {
-    let mut values = Vec::new(alloc);
+    let mut out = begin_list(alloc, "packages")?;
     for one in packages {
-        values.push(listed(alloc, one)?)?;
+        listed(&mut out, one)?;
     }
-    list(alloc, "packages", values)
+    end_list(out)
 }
 
-fn listed(alloc: Global, one: &Listed) -> Result<Value, AllocError>
-    ensures { IfOk result (λ value. view value ≡ bodies.listed_body one.now) }
+fn listed(out: &mut Writer, one: &Listed) -> Result<(), AllocError>
+    ensures { OnOk result (Adds out.old out.new (bodies.listed_body one.now)) }
 {
-    json!(in alloc; {"name": one.name(), "path": one.path(), "subpackage": one.subpackage()})
+    write_object(
+        out,
+        &[
+            ("name", Text(one.name())),
+            ("path", Text(one.path())),
+            ("subpackage", Text(one.subpackage())),
+        ],
+    )
 }
 
 // What a port depends on.
-pub fn dependencies(alloc: Global, edges: &[RootEdge]) -> Result<Value, AllocError>
-    ensures { IfOk result (λ value. view value ≡ bodies.dependencies_body edges.now) }
+pub fn dependencies(alloc: Global, edges: &[RootEdge]) -> Result<Vec<u8>, AllocError>
+    ensures { IfOk result (λ text. text.items ≡ compact_text (bodies.dependencies_body edges.now)) }
 {
-    let mut values = Vec::new(alloc);
+    let mut out = begin_list(alloc, "deps")?;
     for edge in edges {
-        values.push(dependency(alloc, edge.edge())?)?;
+        dependency(alloc, &mut out, edge.edge())?;
     }
-    list(alloc, "deps", values)
+    end_list(out)
 }
 
-fn dependency(alloc: Global, edge: &Edge) -> Result<Value, AllocError>
-    ensures { IfOk result (λ value. view value ≡ bodies.dependency_body edge.now) }
+fn dependency(alloc: Global, out: &mut Writer, edge: &Edge) -> Result<(), AllocError>
+    ensures { OnOk result (Adds out.old out.new (bodies.dependency_body edge.now)) }
 {
-    let kind = edge.kind().as_str();
-    let status = edge.status().as_str();
     let target = target_text(alloc, edge.target())?;
-    json!(in alloc; {
-        "item": edge.item(),
-        "kind": kind,
-        "status": status,
-        "subpackage": edge.subpackage(),
-        "target": target.as_str()
-    })
+    dependency_on(out, edge, target.as_str())
+}
+
+// A dependency, given the path that its item names.
+fn dependency_on<'a>(out: &mut Writer, edge: &'a Edge, target: &'a str) -> Result<(), AllocError>
+    requires { target.now ≡ bodies.target_text edge.now.target }
+    ensures { OnOk result (Adds out.old out.new (bodies.dependency_body edge.now)) }
+{
+    write_object(
+        out,
+        &[
+            ("item", Text(edge.item())),
+            ("kind", Text(edge.kind().as_str())),
+            ("status", Text(edge.status().as_str())),
+            ("subpackage", Text(edge.subpackage())),
+            ("target", Text(target)),
+        ],
+    )
 }
 
 // The path that an item names. It is empty if the item can't be read.
@@ -78,73 +88,92 @@ fn target_text(alloc: Global, target: Option<&PkgPath>) -> Result<String, AllocE
 }
 
 // What depends on a port.
-pub fn dependents(alloc: Global, edges: &[RootEdge]) -> Result<Value, AllocError>
-    ensures { IfOk result (λ value. view value ≡ bodies.dependents_body edges.now) }
+pub fn dependents(alloc: Global, edges: &[RootEdge]) -> Result<Vec<u8>, AllocError>
+    ensures { IfOk result (λ text. text.items ≡ compact_text (bodies.dependents_body edges.now)) }
 {
-    let mut values = Vec::new(alloc);
+    let mut out = begin_list(alloc, "rdeps")?;
     for edge in edges {
-        values.push(dependent(alloc, edge)?)?;
+        dependent(&mut out, edge.root(), edge.edge())?;
     }
-    list(alloc, "rdeps", values)
+    end_list(out)
 }
 
-fn dependent(alloc: Global, rooted: &RootEdge) -> Result<Value, AllocError>
-    ensures { IfOk result (λ value. view value ≡ bodies.dependent_body rooted.now) }
+fn dependent<'a>(out: &mut Writer, root: &'a str, edge: &'a Edge) -> Result<(), AllocError>
+    ensures { OnOk result (Adds out.old out.new
+        (bodies.dependent_body (record { root = root.now; edge = edge.now }))) }
 {
-    let edge = rooted.edge();
-    let kind = edge.kind().as_str();
-    let status = edge.status().as_str();
-    json!(in alloc; {
-        "item": edge.item(),
-        "kind": kind,
-        "path": rooted.root(),
-        "status": status,
-        "subpackage": edge.subpackage()
-    })
+    write_object(
+        out,
+        &[
+            ("item", Text(edge.item())),
+            ("kind", Text(edge.kind().as_str())),
+            ("path", Text(root)),
+            ("status", Text(edge.status().as_str())),
+            ("subpackage", Text(edge.subpackage())),
+        ],
+    )
 }
 
 // The paths of ports that are reached.
-pub fn reached(alloc: Global, paths: &[String]) -> Result<Value, AllocError>
-    ensures { IfOk result (λ value. view value ≡ bodies.reached_body (map string_bytes paths.now)) }
+pub fn reached(alloc: Global, paths: &[String]) -> Result<Vec<u8>, AllocError>
+    ensures { IfOk result (λ text. text.items
+        ≡ compact_text (bodies.reached_body (map string_bytes paths.now))) }
 {
-    let paths = texts(alloc, paths)?;
-    json!(in alloc; {"deps": paths})
+    texts(alloc, "deps", paths)
 }
 
 // The paths of ports that reach one.
-pub fn reaching(alloc: Global, paths: &[String]) -> Result<Value, AllocError>
-    ensures { IfOk result (λ value. view value
-        ≡ bodies.reaching_body (map string_bytes paths.now)) }
+pub fn reaching(alloc: Global, paths: &[String]) -> Result<Vec<u8>, AllocError>
+    ensures { IfOk result (λ text. text.items
+        ≡ compact_text (bodies.reaching_body (map string_bytes paths.now))) }
 {
-    let paths = texts(alloc, paths)?;
-    json!(in alloc; {"rdeps": paths})
+    texts(alloc, "rdeps", paths)
+}
+
+fn texts(alloc: Global, name: &str, texts: &[String]) -> Result<Vec<u8>, AllocError>
+    ensures { IfOk result (λ text. text.items
+        ≡ compact_text (bodies.list_body name.now (map string (map string_bytes texts.now)))) }
+{
+    let mut out = begin_list(alloc, name)?;
+    for text in texts {
+        out.string(text)?;
+    }
+    end_list(out)
 }
 
 // The faults of roots.
-pub fn faults<C: Cursor<Root>>(alloc: Global, roots: &mut C) -> Result<Value, FilesFault>
-    ensures body { IfOk result (λ value. view value ≡ bodies.faults_body (C.left roots.old)) }
+pub fn faults<C: Cursor<Root>>(alloc: Global, roots: &mut C) -> Result<Vec<u8>, FilesFault>
+    ensures body { IfOk result (λ text. text.items
+        ≡ compact_text (bodies.faults_body (C.left roots.old))) }
     ensures kind { IfErr result (MayFail C.fails_with) }
 {
-    let mut values = Vec::new(alloc);
+    let mut out = begin_list(alloc, "faults")?;
     while let Some(root) = roots.next()? {
-        add_fault(alloc, &mut values, &root)?;
+        add_fault(&mut out, &root)?;
     }
-    Ok(list(alloc, "faults", values)?)
+    Ok(end_list(out)?)
 }
 
-// Adds the fault of a root, if it has one.
-fn add_fault(alloc: Global, values: &mut Vec<Value>, root: &Root) -> Result<(), AllocError>
-    ensures { OnOk result (map view values.new.items ≡ map view values.old.items
-        ++ option_to_list (bodies.fault_at root.now)) }
+// Writes the fault of a root, if it has one.
+fn add_fault(out: &mut Writer, root: &Root) -> Result<(), AllocError>
+    ensures { OnOk result (AddsItems out.old out.new (option_to_list (bodies.fault_at root.now))) }
 {
-    if let Err(fault) = root.state() {
-        values.push(fault_at(alloc, root.path(), fault)?)?;
+    match root.state() {
+        Ok(_port) => Ok(()),
+        Err(fault) => fault_at(out, root.path(), fault),
     }
-    Ok(())
 }
 
-fn fault_at(alloc: Global, path: &str, fault: &Fault) -> Result<Value, AllocError>
-    ensures { IfOk result (λ value. view value ≡ bodies.fault_at_body path.now fault.now) }
+fn fault_at<'a>(out: &mut Writer, path: &'a str, fault: &'a Fault) -> Result<(), AllocError>
+    ensures { OnOk result (Adds out.old out.new (bodies.fault_at_body path.now fault.now)) }
 {
-    json!(in alloc; {"kind": fault.kind().number(), "line": fault.line(), "name": fault.name(), "path": path})
+    write_object(
+        out,
+        &[
+            ("kind", Number(u64::from(fault.kind().number()))),
+            ("line", Number(fault.line())),
+            ("name", Text(fault.name())),
+            ("path", Text(path)),
+        ],
+    )
 }

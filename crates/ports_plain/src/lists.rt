@@ -9,10 +9,9 @@ use crate::index_questions::IndexQuestion;
 use crate::list_bodies;
 use crate::parameters::{optional, parameter};
 use crate::questions::Question;
-use crate::replies::json_reply;
 use mk_paths::FilesFault;
 use pkg_spec::{Spec, SpecFault};
-use ports_http::{Reply, StatusCode};
+use ports_http::{Content, Reply, StatusCode};
 use ports_index::KnownIndex;
 use ports_query::{Listed, Query, QueryFault, RowsInMemory, admitted, answer};
 use std::alloc::{AllocError, Global};
@@ -74,7 +73,7 @@ fn packages_reply(alloc: Global, packages: &[Listed]) -> Result<Reply, AllocErro
     ensures { IfOk result (λ reply. reply ≡ routes.packages_reply packages.now) }
 {
     let body = list_bodies::packages(alloc, packages)?;
-    json_reply(alloc, StatusCode::OK, &body)
+    Ok(Reply::of_bytes(StatusCode::OK, Some(Content::Json), body))
 }
 
 // The faults of ports and lists.
@@ -84,5 +83,5 @@ pub fn faults_reply(alloc: Global, index: &KnownIndex) -> Result<Reply, FilesFau
 {
     let mut roots = RowsInMemory::new(index.roots(alloc)?);
     let body = list_bodies::faults(alloc, &mut roots)?;
-    Ok(json_reply(alloc, StatusCode::OK, &body)?)
+    Ok(Reply::of_bytes(StatusCode::OK, Some(Content::Json), body))
 }

@@ -28,7 +28,7 @@ pub fn port(alloc: Global, path: &PkgPath, port: &PortRecord) -> Result<Value, A
 }
 
 // A list of texts.
-pub fn texts(alloc: Global, texts: &[String]) -> Result<Value, AllocError>
+fn texts(alloc: Global, texts: &[String]) -> Result<Value, AllocError>
     ensures { IfOk result (λ value. view value ≡ texts_body (map string_bytes texts.now)) }
 {
     let mut values = Vec::new(alloc);

@@ -1,0 +1,42 @@
+-- What is added to a JSON text as it is written, in tokens.
+use Rattle.std.specs.Prelude.{◌≡◌, ℕ, List, [], ◌∷◌, ◌++◌, flat_map}
+use Rattle.std.specs.Borrow.{Bor}
+use Rattle.json.specs.Token.{Token, begin_object, begin_array, key}
+use Rattle.json.specs.Tree.{json_tokens}
+use Rattle.json.specs.Written.{Written}
+use Rattle.serde_json.specs.Data.{Data, string, number, unsigned, Members, no_members, member}
+use Rattle.serde_json.specs.Written.{outline}
+use Rattle.ports_plain.specs.declared.writing.Scalar.{Scalar}
+use Rattle.ports_plain.specs.declared.writing.Scalar.TheVariants.{Number, Text}
+
+-- the tokens of a value
+abbrev pub value_tokens : Data → List Token
+value_tokens value = json_tokens (outline value)
+
+-- to what was written, these tokens are added
+pub record AddsTokens (old new : Written) (more : List Token) : Type 0 where
+  pub start : new.before ≡ old.before
+  pub grown : new.tokens ≡ old.tokens ++ more
+
+-- to what was written, a value is added
+abbrev pub Adds : Written → Written → Data → Type 0
+Adds old new value = AddsTokens old new (value_tokens value)
+
+-- to what was written, these items of a list are added
+abbrev pub AddsItems : Written → Written → List Data → Type 0
+AddsItems old new items = AddsTokens old new (flat_map value_tokens items)
+
+-- the value that a scalar is
+abbrev pub value_of : Scalar → Data
+value_of (Number value) = number (unsigned value)
+value_of (Text text) = string text.now
+
+-- the members with these names and values
+abbrev pub members_of : List (Bor (List ℕ) × Scalar) → Members
+members_of [] = no_members
+members_of (first ∷ others) = member first.0.now (value_of first.1) (members_of others)
+
+-- so far the text is an object with one member, a list, which has these items
+pub record HasItems (text : Written) (name : List ℕ) (items : List Data) : Type 0 where
+  pub start : text.before ≡ []
+  pub so_far : text.tokens ≡ (begin_object ∷ key name ∷ begin_array ∷ []) ++ flat_map value_tokens items
