@@ -1,5 +1,6 @@
 -- How often kept evaluations were used, after one was asked for.
 use Rattle.std.proofs.Common.{◌≡◌, ◌≤◌, ◌∙◌, ◌++◌, ap, ap₂, subst, sym, refl, if◌then◌else◌, ℕ, Option, Some, None, Bool, true, false, List, [], ◌∷◌, inl, inr, Result, Ok, Err, OnErr}
+use Rattle.turn_amounts.specs.declared.TheConstants.{MOST_CHECKS}
 use Rattle.mk_paths.specs.World.{FileMap}
 use Rattle.eval_cache.specs.Cache.{CacheValue, holds_parse, count_parse, count_look, traces_at, one_more}
 use Rattle.eval_cache.specs.Keys.{Key}
@@ -137,7 +138,7 @@ module _ (first middle last : FilesView) (trace : List Question) (goes : middle 
     -- a turn of an evaluation that is asked for
     pub turns-ask : (may : FilesFault → Type 0) (units : ℕ) (old : Ask) (turned : Turned) (came : AskTurned) → TellsIfDone (Ok turned) (means (middle.files, (key_in old).settings) (key_in old).name (key_in old).flavors)
         → Leaves may middle last (middle.files, (key_in old).settings) (key_in old).name (key_in old).flavors trace (Ok turned) → Spends middle.files units old.machine (Ok turned)
-        → ComesTo old.looked taken turned came → old.looked.checks ≤ 1028 → Agrees first.files taken → TurnsAsk first.files units old came
+        → ComesTo old.looked taken turned came → old.looked.checks ≤ MOST_CHECKS → Agrees first.files taken → TurnsAsk first.files units old came
     turns-ask may units old (More machine) came tells leaves spends comes few agrees =
         subst (TurnsAsk first.files units old) (sym comes) (
           refl,

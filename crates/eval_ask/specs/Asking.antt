@@ -1,8 +1,15 @@
 -- One evaluation that is asked for, with a cache.
-use Rattle.std.specs.Prelude.{◌≡◌, ◌≤◌, ℕ, ◌+◌, ◌-◌, Bool, true, false, if◌then◌else◌, List}
-use Rattle.mk_paths.specs.World.{FileMap}
+use Rattle.std.specs.Prelude.{◌≡◌, ◌≤◌, ◌<◌, ◌⊎◌, ℕ, ◌+◌, ◌-◌, Bool, true, false, if◌then◌else◌, List, Option, Some, None}
+use Rattle.mk_base.specs.declared.metering.TheConstants.{UNITS}
+use Rattle.mk_base.specs.Outcome.{left}
+use Rattle.turn_amounts.specs.declared.TheConstants.{MOST_CHECKS}
+use Rattle.mk_paths.specs.World.{FileMap, World, files_in}
 use Rattle.mk_paths.specs.FilesView.{Question}
+use Rattle.mk_files.specs.Asking.{Account}
 use Rattle.mk_eval.specs.Sharing.{cost_of, Agrees}
+use Rattle.mk_eval.specs.declared.state.EvalState.{EvalState}
+use Rattle.mk_step.specs.Machine.{Frame, advance}
+use Rattle.mk_step.specs.Points.{HasCome, point_before}
 use Rattle.mk_step.specs.Turning.{IsUnderWay, StopsInTime}
 use Rattle.mk_step.specs.Views.{point_of}
 use Rattle.mk_step.specs.declared.machine.Turned.{Turned}
@@ -11,7 +18,8 @@ use Rattle.eval_cache.specs.Cache.{CacheValue, traces_at, one_more}
 use Rattle.eval_cache.specs.Keys.{Key, key_of}
 use Rattle.eval_cache.specs.Looking.{agreeing}
 use Rattle.eval_cache.specs.Right.{evaluation_of, IsRight}
-use Rattle.ports_index.specs.Spending.{SpendsOnOne}
+use Rattle.ports_index.specs.Pairs.{Pair}
+use Rattle.ports_index.specs.Spending.{SpendsOnOne, evaluation_cost, no_spending}
 use Rattle.ports_index.specs.declared.spending.Spent.{Spent}
 use Rattle.eval_ask.specs.declared.asking.Ask.{Ask}
 use Rattle.eval_ask.specs.declared.asking.Looked.{Looked}
@@ -25,13 +33,13 @@ is_held files cache key = (agreeing files (traces_at cache key)).0
 
 -- What was asked for is the evaluation of the key, and each of its questions has the answer that the files give. A new
 -- one takes the units that it costs, and one that is held none. So many answers were checked of traces that are held:
--- at most 1,028, and at least one if an evaluation is held.
+-- at most as many as a look checks, and at least one if an evaluation is held.
 pub record IsAskedOf (files : FileMap) (cache : CacheValue) (key : Key) (asked : Asked) : Type 0 where
   pub evaluation : asked.evaluation.value ≡ evaluation_of files key
   pub answered : Agrees files asked.evaluation.value.trace
   pub units : asked.units ≡ (if is_held files cache key then 0 else cost_of (evaluation_of files key).outcome)
   pub checks : asked.checks ≡ (agreeing files (traces_at cache key)).1
-  pub few : asked.checks ≤ 1028
+  pub few : asked.checks ≤ MOST_CHECKS
   pub some : is_held files cache key ≡ true → 1 ≤ asked.checks
 
 -- the key of an evaluation that is asked for
@@ -43,11 +51,11 @@ abbrev pub spent_so_far : Ask → Spent
 spent_so_far ask = record { units = ask.machine.budget.spent; checks = ask.looked.checks }
 
 -- An evaluation that is asked for is under way among these files, has asked what its trace says, and was answered so.
--- At most 1,028 answers were checked before it began.
+-- No more answers were checked before it began than a look checks.
 pub record IsAskIn (files : FileMap) (ask : Ask) : Type 0 where
   pub under : IsUnderWay (files, (key_in ask).settings) (key_in ask).name (key_in ask).flavors ask.trace ask.machine
   pub answered : Agrees files ask.trace
-  pub few : ask.looked.checks ≤ 1028
+  pub few : ask.looked.checks ≤ MOST_CHECKS
 
 -- It begins: it is asked for, since nothing that is held agrees with the files, and no unit is spent; or it is there.
 abbrev pub BeginsAsk : FileMap → CacheValue → Key → AskTurned → Type 0
@@ -79,7 +87,7 @@ TurnsAsk files units old (Done asked) =
 pub record IsAnswerTo (files : FileMap) (key : Key) (asked : Asked) : Type 0 where
   pub evaluation : asked.evaluation.value ≡ evaluation_of files key
   pub answered : Agrees files asked.evaluation.value.trace
-  pub few : asked.checks ≤ 1028
+  pub few : asked.checks ≤ MOST_CHECKS
   pub whole : 1 ≤ asked.units → asked.units ≡ cost_of (evaluation_of files key).outcome
   pub unchecked : asked.checks ≡ 0 → asked.units ≡ cost_of (evaluation_of files key).outcome
 
@@ -107,15 +115,14 @@ spent_in (Done asked) = record { units = asked.units; checks = asked.checks }
 abbrev pub total_of : Spent → ℕ
 total_of spent = spent.units + spent.checks
 
--- An evaluation was asked for, and no line is done in any turn: no unit is spent, and at most 1,028 answers are checked.
-pub record HasOnlyLooked (came : AskTurned) : Type 0 where
-  pub units : (spent_in came).units ≡ 0
-  pub checks : (spent_in came).checks ≤ 1028
+-- An evaluation of which no more was done in a turn than a look at what is kept: so much was spent before.
+pub record HasLooked (before : Spent) (came : AskTurned) : Type 0 where
+  pub units : (spent_in came).units ≡ before.units
+  pub checks : (spent_in came).checks ≤ before.checks + MOST_CHECKS
 
--- A turn that is given no units spends nothing. Another one spends at most 50,000, as many as an evaluation may cost.
-pub record IsShortTurn (units : ℕ) (before after : Spent) : Type 0 where
-  pub none : units ≡ 0 → total_of after ≤ total_of before
-  pub few : total_of after ≤ total_of before + 50000
+-- A turn that is given some units spends at most as many more as one evaluation, record or value may cost.
+abbrev pub IsShort : ℕ → Spent → Spent → Type 0
+IsShort units before after = total_of after ≤ total_of before + (units + UNITS)
 
 -- nothing of what was spent is taken back
 pub record IsUpFrom (before after : Spent) : Type 0 where
@@ -136,13 +143,54 @@ abbrev pub SpendsTurn : ℕ → Spent → AskTurned → Type 0
 SpendsTurn units before (More ask) = IsUpBy units before (spent_so_far ask)
 SpendsTurn units before (Done asked) = Unit {0}
 
--- A turn of an evaluation that was given some units. It has come to the same evaluation, takes back nothing of what was
--- spent, and isn't at its end only if it spent its units. It is short.
+-- The last thing that was done for an evaluation, after which so much is spent on it. The evaluation came to where it was
+-- done, and had spent fewer units there than a turn was given, before which so much was spent.
+pub record IsLastThing (world : World) (pair : Pair) (units before after : ℕ) : Type 0 where
+  pub makefile : List ℕ
+  pub frame : Frame
+  pub others : List Frame
+  pub state : EvalState
+  pub account : Account
+  pub asked : List Question
+  pub comes : HasCome world pair.makefile pair.flavors asked (point_before makefile frame others state account)
+  pub since : before ≤ account.meter.spent
+  pub low : account.meter.spent < before + units
+  pub leaves : (left (advance (files_in world) makefile frame others state account)).meter.spent ≡ after
+
+-- The evaluation of a makefile, if it is there, stops in time in a turn that is given some units. Each answer that is
+-- checked in the turn is one of them. Nothing of it is done, or fewer were spent before the last thing that is done.
+abbrev pub EvaluatesInTime : World → Option Pair → ℕ → Spent → Spent → Type 0
+EvaluatesInTime world None units before after = ⊥
+EvaluatesInTime world (Some pair) units before after =
+    (after.units ≡ before.units) ⊎ IsLastThing world pair (units - (after.checks - before.checks)) before.units after.units
+
+-- What costs so many units, and rests on this makefile if it is there, is made in time in a turn that is given some units.
+-- Nothing is spent in the turn, or fewer than its units were spent before that was made of the evaluation.
+abbrev pub MakesInTime : World → ℕ → Option Pair → ℕ → Spent → Spent → Type 0
+MakesInTime world cost pair units before after =
+    (after ≡ before) ⊎ (total_of after < (total_of before + units) + (cost - evaluation_cost world pair))
+
+-- An evaluation that was under way has told all that it costs once it is at its end. One that was at its end stays as it
+-- was told: if it was kept, with none of its cost.
+abbrev pub TellsWhole : AskTurned → AskTurned → Type 0
+TellsWhole (More old) (More new) = Unit {0}
+TellsWhole (More old) (Done asked) = asked.units ≡ cost_of asked.evaluation.value.outcome
+TellsWhole (Done asked) came = came ≡ Done asked
+
+-- the makefile of a key, with its flavors
+abbrev pub pair_for : Key → Pair
+pair_for key = record { makefile = key.name; flavors = key.flavors }
+
+-- A turn of an evaluation that was given some units. It has come to the same evaluation, checks no answer, takes back
+-- nothing of what was spent, and isn't at its end only if it spent its units. It stops in time, and tells what it costs.
 pub record AsksOn (files : FileMap) (units : ℕ) (before came : AskTurned) : Type 0 where
   pub comes : (key : Key) → HasComeTo files key before → HasComeTo files key came
   pub up : IsUpFrom (spent_in before) (spent_in came)
+  pub unchecked : (spent_in came).checks ≡ (spent_in before).checks
   pub enough : SpendsTurn units (spent_in before) came
-  pub short : IsShortTurn units (spent_in before) (spent_in came)
+  pub in_time : (key : Key) → HasComeTo files key before
+      → EvaluatesInTime (files, key.settings) (Some (pair_for key)) units (spent_in before) (spent_in came)
+  pub whole : TellsWhole before came
 
 -- if a machine is done, its answer is right for the key, with what was asked
 abbrev pub EndsRight : Key → List Question → Turned → Type 0
@@ -167,7 +215,7 @@ evals_after files cache key = if is_held files cache key then one_more cache.cou
 pub record AsksFirst (files : FileMap) (old new : CacheValue) (key : Key) (came : AskTurned) : Type 0 where
   pub begins : BeginsAsk files old key came
   pub comes : HasComeTo files key came
-  pub looked : HasOnlyLooked came
+  pub looked : HasLooked no_spending came
   pub counted : new.counts.evals ≡ evals_after files old key
 
 -- what is spent on what costs so many units together with the evaluation: not what was saved of the evaluation's cost

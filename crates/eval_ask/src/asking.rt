@@ -164,8 +164,9 @@ impl Ask {
 }
 
 impl AskTurned {
-    /// Goes on until so many units more are spent, or the evaluation is at its end. If it is at its end already, or
-    /// no units are given, nothing is done.
+    /// Goes on until so many units more are spent, or the evaluation is at its end. Before the last thing that is done,
+    /// fewer are spent. If it is at its end already, or no units are given, nothing is done. So a new evaluation has told
+    /// all that it costs at its end, and one that was kept tells none of that.
     ///
     /// # Errors
     ///

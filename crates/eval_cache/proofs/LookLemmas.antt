@@ -1,5 +1,6 @@
 -- Traces are tried one after another.
 use Rattle.std.proofs.Common.{◌≡◌, ◌∙◌, ap, sym, subst, arith, ℕ, suc, zero, ◌+◌, ◌≤◌, ◌<◌, Bool, true, false, List, [], ◌∷◌, ◌++◌, map, length, take, drop, get_or, Option, Some, None, IfSome, inl, inr, Global, append_assoc}
+use Rattle.turn_amounts.specs.declared.TheConstants.{MOST_ANSWERS, MOST_EVALUATIONS}
 use Rattle.std.specs.Prelude.{if◌then◌else◌}
 use Rattle.std.proofs.lemmas.List.{drop_more}
 use Rattle.std.specs.List.{AllByRecursion}
@@ -63,7 +64,7 @@ agreement-some files (question ∷ questions) some = one_more-checked files ques
 -- so one trace adds few of them, and at least one
 pub few-more : (kept : List (Rc Evaluation Global)) (i : ℕ) (one : Rc Evaluation Global) (evaluation : Evaluation) (files : FileMap) (answer : Bool × ℕ)
     → AreShort kept → i < length kept → one ≡ get_or kept i one → evaluation ≡ one.value → answer ≡ agreement files evaluation.trace
-    → (answer.1 ≤ 257) × (i < 4) × (1 ≤ answer.1)
+    → (answer.1 ≤ MOST_ANSWERS) × (i < MOST_EVALUATIONS) × (1 ≤ answer.1)
 few-more kept i one evaluation files answer short within is same found =
     let at : HasFewAnswers one.value.trace = short-at kept i one short.0 within is in
     let trace : HasFewAnswers evaluation.trace = subst (λ (e : Evaluation). HasFewAnswers e.trace) (sym same) at in

@@ -1,5 +1,6 @@
 -- What is seen of the tables has their order.
 use Rattle.std.proofs.Common.{◌≡◌, ◌∙◌, ap, refl, sym, cond, ℕ, ◌-◌, Bool, true, false, List, [], ◌∷◌, map, take, Option, Some, None, option_map, is_some, inl, inr, ◌⊎◌, Result, Ok, Err, OnOk, OnErr, Global}
+use Rattle.turn_amounts.specs.declared.TheConstants.{MOST_EVALUATIONS}
 use Rattle.std.specs.List.{AllByRecursion, IsDistinct, list_any}
 use Rattle.std.specs.Map.{lookup, lookup_entry, remove_entry, keys_of}
 use Rattle.std.specs.Option.{option_map_or}
@@ -163,7 +164,7 @@ Keeps-put result contents parses counts old middle new key evaluation older kept
     record {
       few = λ _. elim (traces-put result old middle new key kept distinct removed ok err) [
         | inl put ↦ elim newest.traces [
-          | inl four ↦ inl (put ∙ ap first (four ∙ ap (λ traces. take 4 (evaluation.trace ∷ traces)) before))
+          | inl four ↦ inl (put ∙ ap first (four ∙ ap (λ traces. take MOST_EVALUATIONS (evaluation.trace ∷ traces)) before))
           | inr three ↦ inr (inl (put ∙ ap first (three ∙ ap (take 3) before)))
         ]
         | inr gone ↦ inr (inr gone)

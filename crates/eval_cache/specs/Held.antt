@@ -1,5 +1,6 @@
 -- What the tables of a cache hold, and what makes it right.
-use Rattle.std.specs.Prelude.{◌≡◌, ◌≤◌, ◌⊎◌, ℕ, List, [], ◌∷◌, length, map, take, Option, Some, None, Result, Contains}
+use Rattle.std.specs.Prelude.{◌≡◌, ◌≤◌, ◌⊎◌, ◌-◌, ℕ, List, [], ◌∷◌, length, map, take, Option, Some, None, Result, Contains}
+use Rattle.turn_amounts.specs.declared.TheConstants.{MOST_ANSWERS, MOST_EVALUATIONS}
 use Rattle.std.specs.List.{AllByRecursion}
 use Rattle.std.specs.declared.alloc.Global.{Global}
 use Rattle.std.specs.declared.rc.Rc.{Rc}
@@ -39,13 +40,13 @@ traces_by_key evals = map (λ entry. (key_of entry.0, traces_of entry.1.items)) 
 abbrev pub AreRight : Key → List (Rc Evaluation Global) → Type 0
 AreRight key kept = AllByRecursion (λ evaluation. IsRight key evaluation.value) kept
 
--- a trace has an answer, and no more than that about the makefile and those to 256 questions
+-- a trace has an answer, and no more than that about the makefile and those to its questions
 abbrev pub HasFewAnswers : List Question → Type 0
-HasFewAnswers trace = (1 ≤ length trace) × (length trace ≤ 257)
+HasFewAnswers trace = (1 ≤ length trace) × (length trace ≤ MOST_ANSWERS)
 
--- there are at most four evaluations, and the trace of each has few answers
+-- there are few evaluations, and the trace of each has few answers
 abbrev pub AreShort : List (Rc Evaluation Global) → Type 0
-AreShort kept = AllByRecursion (λ evaluation. HasFewAnswers evaluation.value.trace) kept × (length kept ≤ 4)
+AreShort kept = AllByRecursion (λ evaluation. HasFewAnswers evaluation.value.trace) kept × (length kept ≤ MOST_EVALUATIONS)
 
 -- each parse that is kept is the tree of its content, or its fault
 abbrev pub AreTrees : KeptParses → Type 0
@@ -79,4 +80,5 @@ items_of (Some kept) = kept.items
 pub record AreNewest (evaluation : Evaluation) (older kept : List (Rc Evaluation Global)) : Type 0 where
   pub right : (key : Key) → IsRight key evaluation → AreRight key older → AreRight key kept
   pub short : HasFewAnswers evaluation.trace → AreShort older → AreShort kept
-  pub traces : (traces_of kept ≡ take 4 (evaluation.trace ∷ traces_of older)) ⊎ (traces_of kept ≡ take 3 (traces_of older))
+  pub traces : (traces_of kept ≡ take MOST_EVALUATIONS (evaluation.trace ∷ traces_of older))
+      ⊎ (traces_of kept ≡ take (MOST_EVALUATIONS - 1) (traces_of older))

@@ -1,6 +1,7 @@
 -- In which order things are kept, and which of them go. What was used last stands first. If there are too many, what
 -- was used the longest time ago goes.
 use Rattle.std.specs.Prelude.{◌≡◌, ◌⊎◌, ◌-◌, true, false, if◌then◌else◌, ℕ, List, [], ◌∷◌, take}
+use Rattle.turn_amounts.specs.declared.TheConstants.{MOST_EVALUATIONS}
 use Rattle.std.specs.Map.{remove_entry}
 use Rattle.std.specs.Str.{bytes_eq}
 use Rattle.lru.specs.LruCache.{promoted}
@@ -28,11 +29,11 @@ put_traces key traces cache = (key, traces) ∷ take (cache.sizes.keys - 1) (oth
 -- newest three of the others stay, or none of the key.
 abbrev pub BecomesNewest : Key → List Question → CacheValue → CacheValue → Type 0
 BecomesNewest key trace old new =
-    (new.traces ≡ put_traces key (take 4 (trace ∷ traces_at old key)) old)
-    ⊎ (new.traces ≡ put_traces key (take 3 (traces_at old key)) old)
+    (new.traces ≡ put_traces key (take MOST_EVALUATIONS (trace ∷ traces_at old key)) old)
+    ⊎ (new.traces ≡ put_traces key (take (MOST_EVALUATIONS - 1) (traces_at old key)) old)
     ⊎ (new.traces ≡ other_traces key old)
 
--- An evaluation with this trace was to be kept. Without an answer in its trace, or with more than 257, it isn't.
+-- An evaluation with this trace was to be kept. Without an answer in its trace, or with more than it may have, it isn't.
 pub record Keeps (key : Key) (trace : List Question) (old new : CacheValue) : Type 0 where
   pub few : HasFewAnswers trace → BecomesNewest key trace old new
   pub other : (HasFewAnswers trace → ⊥) → new ≡ old

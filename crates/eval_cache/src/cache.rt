@@ -1,5 +1,6 @@
 // The cache of parses and evaluations.
 ghost use Rattle.std.specs.Prelude.{◌≡◌, ◌≤◌, false, length, is_some, IfOk, IfErr, IfSome, OnOk, OnErr};
+ghost use Rattle.turn_amounts.specs.declared.TheConstants.{MOST_CHECKS};
 ghost use Rattle.std.specs.NonZero.{non_zero_usize_get};
 ghost use Rattle.mk_ast.specs.Parsing.{parsed};
 ghost use Rattle.mk_eval.specs.Trees.{tree_in};
@@ -25,13 +26,7 @@ use std::alloc::{AllocError, Global};
 use std::marker::Model;
 use std::num::NonZeroUsize;
 use std::rc::Rc;
-
-/// The most evaluations that are kept under one key.
-const MOST_EVALUATIONS: usize = 4;
-
-/// The most answers that the trace of an evaluation has: that about the makefile itself, and those to 256
-/// questions.
-const MOST_ANSWERS: usize = 257;
+use turn_amounts::{MOST_ANSWERS, MOST_EVALUATIONS};
 
 /// A file's tree, or its fault.
 type Parse = Result<Rc<Makefile>, ParseFault>;
@@ -121,7 +116,7 @@ impl EvalCache {
             (traces_at self.old (key_of key.now)) found.1 found.0) }
         ensures checked { IfOk result (λ found. found.1
             ≡ (agreeing (F.view files.old).files (traces_at self.old (key_of key.now))).1) }
-        ensures bound { IfOk result (λ found. found.1 ≤ 1028) }
+        ensures bound { IfOk result (λ found. found.1 ≤ MOST_CHECKS) }
         ensures asks { OnOk result (ChecksAmong (F.view files.old)
             (traces_at self.old (key_of key.now)) (F.view files.new)) }
         ensures fails { IfErr result (λ fault.
@@ -149,7 +144,7 @@ impl EvalCache {
     /// Keeps an evaluation that is right for the key, as the newest one there. The oldest one goes if there
     /// are more than four. The key is then the one that was used last, and the key that was used the longest time
     /// ago goes if there are too many. If there is no memory to keep it, it isn't kept, and others of the key may
-    /// go. It isn't kept either if its trace has no answer, or more than 257. Right for a key is what its makefile
+    /// go. It isn't kept either if its trace has no answer, or more than a trace may have. Right for a key is what its makefile
     /// means in some files, with each question that this evaluation asks there and its answer.
     pub fn keep(&mut self, key: EvalKey, evaluation: Rc<Evaluation>)
         requires { IsRight (key_of key) evaluation.value }
@@ -231,7 +226,7 @@ impl EvalCache {
             IsAgreed (F.view files.old).files (key_of key.now) found.1 evaluation.value)) }
         ensures asks { OnOk result (ChecksAmong (F.view files.old)
             (traces_at self.now (key_of key.now)) (F.view files.new)) }
-        ensures bound { IfOk result (λ found. found.1 ≤ 1028) }
+        ensures bound { IfOk result (λ found. found.1 ≤ MOST_CHECKS) }
         ensures fails { IfErr result (λ fault.
             FailsAmong F.fails_with (F.view files.old) (F.view files.new) fault) }
     {

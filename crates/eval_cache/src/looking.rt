@@ -1,5 +1,6 @@
 // Evaluations that are kept under one key, looked at in turn.
 ghost use Rattle.std.specs.Prelude.{◌≡◌, ◌≤◌, is_some, IfOk, IfErr, IfSome, OnOk};
+ghost use Rattle.turn_amounts.specs.declared.TheConstants.{MOST_CHECKS};
 ghost use Rattle.read_trace.specs.Agreement.{IsAnswered};
 ghost use Rattle.eval_cache.specs.Held.{AreShort, IsOneOf, traces_of};
 ghost use Rattle.eval_cache.specs.Looking.{agreeing, ChecksAmong, FailsAmong};
@@ -31,7 +32,7 @@ pub(crate) fn first_agreeing<F: Files>(
     ensures found { IfOk result (λ found. IfSome found.0 (λ evaluation.
         IsOneOf kept.now evaluation.value × IsAnswered
         (F.view files.old).files evaluation.value.trace × (1 ≤ found.1))) }
-    ensures bound { IfOk result (λ found. found.1 ≤ 1028) }
+    ensures bound { IfOk result (λ found. found.1 ≤ MOST_CHECKS) }
     ensures asks { OnOk result (ChecksAmong (F.view files.old) (traces_of kept.now)
         (F.view files.new)) }
     ensures fails { IfErr result (λ fault.

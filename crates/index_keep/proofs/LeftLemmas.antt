@@ -1,26 +1,32 @@
 -- What a path that is left costs, and what is left.
-use Rattle.std.proofs.Common.{◌≡◌, ◌≤◌, ◌⊎◌, ◌∙◌, inl, inr, sym, ap, subst, refl, arith, ℕ, zero, suc, ◌+◌, ◌-◌, ◌*◌, Bool, true, false, ◌||◌, if◌then◌else◌, List, [], ◌∷◌, length, Option, Some, None, is_none, option_to_list}
+use Rattle.std.proofs.Common.{◌≡◌, ◌≤◌, ◌⊎◌, ◌∙◌, inl, inr, sym, ap, subst, refl, arith, ℕ, zero, suc, ◌+◌, ◌-◌, ◌*◌, Bool, true, false, ◌||◌, if◌then◌else◌, List, [], ◌∷◌, length, Option, Some, None, is_none, is_some, option_and_then, option_to_list}
 use Rattle.std.proofs.lemmas.Bool.{false≢true}
 use Rattle.std.proofs.lemmas.List.Sums.{sum_by-cons}
 use Rattle.std.proofs.lemmas.Slice.Eq.{bytes_eq-Decides}
 use Rattle.std.specs.List.{filter, filter_map, sum_by}
+use Rattle.mk_base.specs.declared.metering.TheConstants.{UNITS}
+use Rattle.turn_amounts.specs.declared.TheConstants.{MOST_CHECKS}
+use Rattle.mk_eval.specs.Costs.{CostFew}
 use Rattle.std.specs.Str.{bytes_eq}
 use Rattle.text_parts.specs.Order.{in_order}
 use Rattle.text_parts.specs.Ordered.{among-in_order}
 use Rattle.mk_paths.specs.World.{World}
-use Rattle.ports_index.specs.Efforts.{evaluations_at, evaluations_over, is_there}
+use Rattle.ports_index.specs.Efforts.{cost_over, evaluations_at, evaluations_over, is_there}
 use Rattle.ports_index.specs.Filling.{is_one_of}
 use Rattle.ports_index.specs.Index.{needed_paths}
 use Rattle.ports_index.specs.Pairs.{Pair, pair_at}
 use Rattle.ports_index.specs.PathLaws.{MakefilesAreEvaluated}
 use Rattle.ports_index.specs.PathOutcomes.{cost_at, outcome_at}
 use Rattle.ports_index.specs.RowLaws.{OneRowMoreLeavesLess}
-use Rattle.ports_index.specs.Spending.{ChecksFew, evaluations_of}
+use Rattle.ports_index.specs.Spending.{ChecksFew, evaluation_cost, evaluations_of}
 use Rattle.ports_index.specs.declared.spending.Spent.{Spent}
-use Rattle.eval_ask.specs.Asking.{IsUpBy, spent_in}
+use Rattle.eval_ask.specs.Asking.{EvaluatesInTime, IsShort, IsUpBy, spent_in}
 use Rattle.index_keep.specs.Paths.{IsPathAsk}
-use Rattle.index_keep.specs.Shown.{ShownRows, fresh}
-use Rattle.index_keep.specs.Turns.{GoesOn, RefreshingPays, evaluations_left, paths_left, refresh_at, spent_in_all}
+use Rattle.index_keep.specs.Right.{fresh_row}
+use Rattle.index_keep.specs.Shown.{ShownRows, fresh, fresh_outcome}
+use Rattle.index_keep.specs.Turns.{GoesOn, PaysAll, RefreshView, RefreshingPays, StayFresh, TakesTurn, cost_left, evaluations_left, paths_left, refresh_at, spent_by, spent_in_all, units_left, units_saved}
+use Rattle.index_keep.specs.declared.keeper.Refreshed.{Refreshed}
+use Rattle.index_keep.specs.declared.keeper.Refreshed.TheVariants as turned
 use Rattle.index_keep.specs.Walking.{IsLacking}
 use Rattle.index_keep.specs.declared.evaluating.PathAsk.{PathAsk}
 use Rattle.eval_ask.proofs.AnswerLemmas.{few-come}
@@ -66,15 +72,20 @@ enough_by : (units old_units old_checks more_units more_checks new_units new_che
     → (old_units + old_checks) + units ≤ new_units + new_checks → units ≤ more_units + more_checks
 enough_by units old_units old_checks more_units more_checks new_units new_checks e f up = omega (arith, e, f, up)
 
-few_by : (checks evaluations : ℕ) → checks ≤ 1028 → 1 ≤ evaluations → checks ≤ 1028 * evaluations
+few_by : (checks evaluations : ℕ) → checks ≤ MOST_CHECKS → 1 ≤ evaluations → checks ≤ MOST_CHECKS * evaluations
 few_by checks evaluations few some = omega (arith, few, some)
 
 -- the evaluation of a path that is left isn't at its end
 pub goes-on : (world : World) (rows : ShownRows) (path : List ℕ) (units : ℕ) (before spent : Spent) (ask : PathAsk) → IsLacking world rows path → IsPathAsk world path ask
     → IsUpBy units before (spent_in ask.ask) → (spent_in ask.ask).units ≤ cost_at world path → spent_in_all before spent ≡ spent_in ask.ask
+    → EvaluatesInTime world (pair_at world path) units before (spent_in ask.ask) → IsShort units before (spent_in ask.ask)
     → GoesOn world units (refresh_at rows before) (refresh_at rows (spent_in ask.ask)) spent
-goes-on world rows path units before spent ask lacking is up low all = record {
+goes-on world rows path units before spent ask lacking is up low all in_time short = record {
   rows = λ other. refl;
+  path = path;
+  lacking = lacking;
+  in_time = subst (EvaluatesInTime world (pair_at world path) units before) (sym all) in_time;
+  short = subst (IsShort units before) (sym all) short;
   begun = sym all;
   enough = enough_by units before.units before.checks spent.units spent.checks _ _ (ap (λ (s : Spent). s.units) all) (ap (λ (s : Spent). s.checks) all) up.1;
   within = record {
@@ -88,7 +99,7 @@ paid_less : (units cost evaluation checks after all : ℕ) → (units ≡ cost) 
 paid_less units cost evaluation checks after all paid sum =
     elim paid [ inl full ↦ omega (arith, full, sum) | inr saved ↦ omega (arith, saved.1, sum) ]
 
-few_less : (checks one after all : ℕ) → checks ≤ 1028 * one → one + after ≡ all → checks + 1028 * after ≤ 1028 * all
+few_less : (checks one after all : ℕ) → checks ≤ MOST_CHECKS * one → one + after ≡ all → checks + MOST_CHECKS * after ≤ MOST_CHECKS * all
 few_less checks one after all few sum = omega (arith, few, sum)
 
 one_at_most : (test : Bool) → (if test then 1 else 0) ≤ 1
@@ -96,15 +107,63 @@ one_at_most true = omega arith
 one_at_most false = omega arith
 
 -- a path on which anything was spent has a makefile
-some_evaluated : (evaluations cost evaluation units checks : ℕ) → evaluations ≤ 1 → (evaluations ≡ 0 → cost ≡ 0) → checks ≤ 1028 * evaluations
+some_evaluated : (evaluations cost evaluation units checks : ℕ) → evaluations ≤ 1 → (evaluations ≡ 0 → cost ≡ 0) → checks ≤ MOST_CHECKS * evaluations
     → (units ≡ cost) ⊎ ((1 ≤ checks) × (units ≡ cost - evaluation)) → 1 ≤ units + checks → evaluations ≡ 1
 some_evaluated zero cost evaluation units checks most none few paid some =
     let free = none refl in
     absurd (elim paid [ inl full ↦ omega (arith, full, free, few, some) | inr saved ↦ omega (arith, saved.0, few) ])
 some_evaluated (suc evaluations) cost evaluation units checks most none few paid some = omega (arith, most)
 
-pub RefreshingPays-all : OneRowMoreLeavesLess → MakefilesAreEvaluated → RefreshingPays
-RefreshingPays-all law evaluated = record {
+-- an evaluation costs few units
+evaluation_few : CostFew → (world : World) (pair : Option Pair) → evaluation_cost world pair ≤ UNITS
+evaluation_few few world None = omega arith
+evaluation_few few world (Some pair) = few.evaluations world pair.makefile pair.flavors
+
+-- what one row takes off what is left was spent, or its evaluation was kept
+pays_row : (cost evaluation left all begun spent : ℕ) (begun_checks checks : ℕ) → evaluation ≤ UNITS → cost + left ≡ all
+    → (begun + spent ≡ cost) ⊎ ((1 ≤ begun_checks + checks) × (begun + spent ≡ cost - evaluation))
+    → all - begun ≤ ((left - 0) + spent) + (units_saved begun_checks + units_saved checks)
+pays_row cost evaluation left all begun spent begun_checks checks few sum paid =
+    elim paid [ inl full ↦ omega (arith, sum, full) | inr saved ↦ omega (arith, few, sum, saved.0, saved.1) ]
+
+pays_by : CostFew → OneRowMoreLeavesLess → (world : World) (units : ℕ) (old new : RefreshView) (turned : Refreshed) → TakesTurn world units old new turned
+    → PaysAll world old new (spent_by turned)
+pays_by few law world units old new (turned.Evaluated spent) takes =
+    let renews = takes.renews.0 in
+    let path = renews.path in
+    let less = left_less law world old.rows new.rows (spent_in_all old.begun spent) renews (cost_at world) in
+    subst (λ (begun : Spent). units_left world old ≤ ((cost_left world new.rows - begun.units) + spent.units) + (units_saved old.begun.checks + units_saved spent.checks)) (sym takes.renews.1)
+    (pays_row (cost_at world path) (evaluation_cost world (pair_at world path)) (cost_left world new.rows) (cost_left world old.rows) old.begun.units spent.units old.begun.checks spent.checks
+    (evaluation_few few world (pair_at world path)) less renews.spent.paid)
+pays_by few law world units old new (turned.More spent) takes =
+    let rows : new.rows ≡ old.rows = λ i path. takes.rows path i in
+    goes_by (cost_left world old.rows) (cost_left world new.rows) old.begun.units spent.units new.begun.units old.begun.checks spent.checks (ap (cost_left world) rows) (ap (λ (s : Spent). s.units) takes.begun)
+  where
+    goes_by : (left after begun spent now begun_checks checks : ℕ) → after ≡ left → now ≡ begun + spent → left - begun ≤ ((after - now) + spent) + (units_saved begun_checks + units_saved checks)
+    goes_by left after begun spent now begun_checks checks same is = omega (arith, same, is)
+pays_by few law world units old new turned.Done takes =
+    let none : cost_left world old.rows ≡ 0 = ap (λ paths. cost_over world paths) (lacking-none world old.rows takes.fresh) in
+    nothing (cost_left world old.rows) old.begun.units _ none
+  where
+    nothing : (left begun other : ℕ) → left ≡ 0 → left - begun ≤ other
+    nothing left begun other none = omega (arith, none)
+
+fresh_put : (world : World) (path other : List ℕ) (old : ShownRows) (same : Bool) → is_some (fresh old other) ≡ true
+    → is_some (option_and_then fresh_outcome (if same then Some (fresh_row world path) else old other)) ≡ true
+fresh_put world path other old true is = refl
+fresh_put world path other old false is = is
+
+-- a row that is fresh stays fresh
+pub stays-fresh : (world : World) (units : ℕ) (old new : RefreshView) (turned : Refreshed) → TakesTurn world units old new turned → StayFresh world old.rows new.rows
+stays-fresh world units old new (turned.Evaluated spent) takes other needed is =
+    let renews = takes.renews.0 in
+    ap (λ row. is_some (option_and_then fresh_outcome row)) (renews.rows other) ∙ fresh_put world renews.path other old.rows (bytes_eq renews.path other) is
+stays-fresh world units old new (turned.More spent) takes other needed is = ap (λ row. is_some (option_and_then fresh_outcome row)) (takes.rows other) ∙ is
+stays-fresh world units old new turned.Done takes other needed is = HaveFresh-current world new.rows takes.current other needed
+
+pub RefreshingPays-all : OneRowMoreLeavesLess → MakefilesAreEvaluated → CostFew → RefreshingPays
+RefreshingPays-all law evaluated few = record {
+  pays = pays_by few law;
   renews = λ world old new spent renewed.
       let all : Spent = spent_in_all old.begun spent in
       let renews = renewed.0 in

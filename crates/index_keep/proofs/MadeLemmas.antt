@@ -1,5 +1,5 @@
 -- The row of a path, made of what was found and asked.
-use Rattle.std.proofs.Common.{Result, Ok, Err, codes, append-nil, ◌≡◌, ◌≤◌, ◌∙◌, sym, ap, ap₂, subst, refl, inl, arith, ℕ, zero, suc, ◌+◌, ◌-◌, Bool, true, false, if◌then◌else◌, List, [], ◌∷◌, ◌++◌, Option, Some, None, option_map, option_and_then, string_bytes}
+use Rattle.std.proofs.Common.{Result, Ok, Err, codes, append-nil, ◌≡◌, ◌≤◌, ◌<◌, ◌∙◌, sym, ap, ap₂, subst, refl, inl, inr, arith, ℕ, zero, suc, ◌+◌, ◌-◌, Bool, true, false, if◌then◌else◌, List, [], ◌∷◌, ◌++◌, Option, Some, None, option_map, option_and_then, string_bytes}
 use Rattle.std.proofs.lemmas.Slice.Eq.{bytes_eq-Decides}
 use Rattle.std.specs.Str.{bytes_eq}
 use Rattle.mk_paths.specs.World.{World, FileMap, files_in, search_path_of}
@@ -26,21 +26,23 @@ use Rattle.ports_index.specs.NamedPaths.{finding-own, finding-named, finding-non
 use Rattle.ports_index.specs.Pairs.{Pair, pair_in, pair_named, pair_at}
 use Rattle.ports_index.specs.PathOutcomes.{port_finding, list_finding, finding_by, Finding, finding_at, cost_at, finding_in, finding_named, finding_of, finding_of_evaluation, nothing_found, own_directory}
 use Rattle.ports_index.specs.PathQuestions.{questions_in, questions_after, questions_at}
-use Rattle.ports_index.specs.Spending.{SpendsOnOne, SpendsOn, SpendsOnPath, no_spending}
+use Rattle.ports_index.specs.Spending.{SpendsOnOne, SpendsOn, SpendsOnPath, evaluation_cost, no_spending}
 use Rattle.ports_index.specs.declared.spending.Spent.{Spent}
 use Rattle.row_text.specs.Rows.{RowValue}
 use Rattle.row_text.specs.Seen.{row_seen}
-use Rattle.eval_ask.specs.Asking.{HasComeTo, IsAnswerTo, IsShortTurn, IsUpBy, IsUpFrom, spent_in, spent_on, total_of}
+use Rattle.eval_ask.specs.Asking.{AsksOn, EvaluatesInTime, HasComeTo, HasLooked, IsAnswerTo, IsShort, IsUpBy, IsUpFrom, MakesInTime, spent_in, spent_on, total_of}
+use Rattle.mk_base.specs.declared.metering.TheConstants.{UNITS}
 use Rattle.index_keep.specs.Paths.{directory_of, flavors_of, absent_row, row_made, IsNamed, IsFoundAt, IsPathAsk, IsMade}
 use Rattle.index_keep.specs.Right.{names_in, row_with, IsRightRow}
 use Rattle.eval_ask.specs.declared.asking.Asked.{Asked}
+use Rattle.eval_ask.specs.declared.asking.AskTurned.{AskTurned}
 use Rattle.eval_ask.specs.declared.asking.AskTurned.TheVariants as asks
 use Rattle.index_keep.specs.declared.evaluating.FoundPath.{FoundPath}
 use Rattle.index_keep.specs.declared.evaluating.MadeRow.{MadeRow}
 use Rattle.index_keep.specs.declared.evaluating.PathAsk.{PathAsk}
 use Rattle.index_keep.specs.declared.evaluating.NamedDirectory.{NamedDirectory}
 use Rattle.index_keep.specs.declared.evaluating.NamedDirectory.TheVariants.{Own, OfPath}
-use Rattle.eval_ask.proofs.AnswerLemmas.{SpendsOnOne-answer, cost-within, within-answer}
+use Rattle.eval_ask.proofs.AnswerLemmas.{SpendsOnOne-answer, cost-within, few-come, in-time-looked, short-looked, within-answer}
 
 pub Agrees-joined : (files : FileMap) (first rest : List Question) → Agrees files first → Agrees files rest → Agrees files (first ++ rest)
 Agrees-joined files [] rest agrees more = more
@@ -158,22 +160,22 @@ module _ (world : World) (found : FoundPath) (at : IsFoundAt world found) (asked
 
 -- ---- a turn that ends the evaluation
 
-cost_port : (n spent : ℕ) (recorded : Result Recorded Failed) → n ≤ spent → n ≤ 50000 → n ≤ (port_finding spent recorded).cost
+cost_port : (n spent : ℕ) (recorded : Result Recorded Failed) → n ≤ spent → n ≤ UNITS → n ≤ (port_finding spent recorded).cost
 cost_port n spent (Ok recorded) low few = omega (arith, low, few)
 cost_port n spent (Err failed) low few = omega (arith, low, few)
 
-cost_list : (n spent : ℕ) (value : Result (Option Expanded) Failed) → n ≤ spent → n ≤ 50000 → n ≤ (list_finding spent value).cost
+cost_list : (n spent : ℕ) (value : Result (Option Expanded) Failed) → n ≤ spent → n ≤ UNITS → n ≤ (list_finding spent value).cost
 cost_list n spent (Ok value) low few = omega (arith, low, few)
 cost_list n spent (Err failed) low few = omega (arith, low, few)
 
-cost_after : (n : ℕ) (makefile : List ℕ) (flavors : Option (List (List ℕ))) (evaluated : Evaluated) (kind : Kind) → n ≤ evaluated.cost → n ≤ 50000 → n ≤ (finding_by makefile flavors evaluated kind).cost
+cost_after : (n : ℕ) (makefile : List ℕ) (flavors : Option (List (List ℕ))) (evaluated : Evaluated) (kind : Kind) → n ≤ evaluated.cost → n ≤ UNITS → n ≤ (finding_by makefile flavors evaluated kind).cost
 cost_after n makefile flavors evaluated kinds.Port low few = cost_port n evaluated.cost (record_of evaluated.env makefile) low few
 cost_after n makefile (Some flavors) evaluated kinds.List low few = low
 cost_after n makefile None evaluated kinds.List low few = cost_list n evaluated.cost (value_of evaluated.env makefile (codes "SUBDIR")) low few
 cost_after n makefile flavors evaluated kinds.Other low few = low
 
 -- a path costs no less than its makefile's evaluation
-cost_up : (n : ℕ) (makefile : List ℕ) (flavors : Option (List (List ℕ))) (outcome : Result Evaluated Failed) → n ≤ cost_of outcome → n ≤ 50000 → n ≤ (finding_of_evaluation makefile flavors outcome).cost
+cost_up : (n : ℕ) (makefile : List ℕ) (flavors : Option (List (List ℕ))) (outcome : Result Evaluated Failed) → n ≤ cost_of outcome → n ≤ UNITS → n ≤ (finding_of_evaluation makefile flavors outcome).cost
 cost_up n makefile flavors (Ok evaluated) low few = cost_after n makefile flavors evaluated evaluated.kind low few
 cost_up n makefile flavors (Err failed) low few = low
 
@@ -185,7 +187,7 @@ within-path world path self is units within =
     let flavors = flavors_of self.found.named in
     let outcome = means world makefile flavors in
     let low : units ≤ cost_of outcome = within (files_in world) (key_for world.1 makefile flavors) is.come in
-    let all : cost_of outcome ≤ 50000 = cost-within (files_in world) (key_for world.1 makefile flavors) in
+    let all : cost_of outcome ≤ UNITS = cost-within (files_in world) (key_for world.1 makefile flavors) in
     let up = cost_up units makefile flavors outcome low (omega (arith, low, all)) in
     let cost : cost_at world path ≡ (finding_of_evaluation makefile flavors outcome).cost = ap (cost_at world) (sym is.at) ∙ ap (λ (finding : Finding). finding.cost) is.found.finding in
     omega (arith, up, cost)
@@ -223,7 +225,7 @@ module _ (files : FileMap) (found : FoundPath) (asked : Asked) (made : MadeRow)
   made-up key is =
       let outcome = asked.evaluation.value.outcome in
       let same : cost_of outcome ≡ cost_of (evaluation_of files key).outcome = ap (λ (e : Evaluation). cost_of e.outcome) is.evaluation in
-      let all : cost_of outcome ≤ 50000 = omega (arith, same, cost-within files key) in
+      let all : cost_of outcome ≤ UNITS = omega (arith, same, cost-within files key) in
       let up = cost_up (cost_of outcome) found.makefile (flavors_of found.named) outcome (omega arith) all in
       let row : (row_seen made.row).cost ≡ (finding_of_evaluation found.makefile (flavors_of found.named) outcome).cost = ap (λ (r : RowValue). r.cost) row_is in
       let units : made.spent.units ≡ (row_seen made.row).cost - (cost_of outcome - asked.units) = ap (λ (s : Spent). s.units) spent_is in
@@ -253,39 +255,75 @@ all-spent units before after now same up none =
 
 -- ---- what is spent in a turn
 
--- what is given is what is left of the turn's units; if that is nothing, nothing more is spent
-pub short-on : (units given : ℕ) (before middle after : Spent) → IsUpFrom before middle
-    → given ≡ units - ((middle.units - before.units) + (middle.checks - before.checks)) → total_of middle ≤ total_of before + 50000
-    → IsShortTurn given middle after → total_of after ≤ total_of before + (units + 50000)
-short-on units zero before middle after up is few short = omega (arith, few, short.none refl)
-short-on units (suc given) before middle after up is few short = omega (arith, is, up.units, up.checks, short.few)
+-- what is given is what is left of the turn's units, after a look in the same turn
+module _ (files : FileMap) (settings : Settings) (path : PathAsk) (before : Spent) (came : AskTurned) (units given : ℕ)
+    (is : let world : World = (files, settings) in IsPathAsk world (string_bytes path.found.path) path) (looked : HasLooked before path.ask) (up : IsUpFrom before (spent_in path.ask))
+    (given_is : given ≡ units - (((spent_in path.ask).units - before.units) + ((spent_in path.ask).checks - before.checks)))
+    (asks : AsksOn files given path.ask came) where
+  abbrev in_world : World
+  in_world = (files, settings)
+
+  abbrev path_pair : Option Pair
+  path_pair = Some (record { makefile = path.found.makefile; flavors = flavors_of path.found.named })
+
+  abbrev path_key : Key
+  path_key = key_for settings path.found.makefile (flavors_of path.found.named)
+
+  pub in-time-on : EvaluatesInTime in_world (pair_at in_world (string_bytes path.found.path)) units before (spent_in came)
+  in-time-on =
+      subst (λ (pair : Option Pair). EvaluatesInTime in_world pair units before (spent_in came)) (sym is.found.pair)
+      (in-time-looked in_world before (spent_in path.ask) (spent_in came) units given looked.units up.checks given_is asks.unchecked path_pair (asks.in_time path_key is.come))
+
+  pub short-on : IsShort units before (spent_in came)
+  short-on =
+      short-looked in_world before (spent_in path.ask) (spent_in came) units given looked.units up.checks given_is asks.unchecked path_pair
+      (few-come files path_key came (asks.comes path_key is.come)).0 looked.checks (asks.in_time path_key is.come)
 
 -- a row that is made while some units are left
 pub short-made : (units left : ℕ) (before middle made : Spent) → IsUpFrom before middle → (left ≡ 0 → ⊥)
-    → left ≡ units - ((middle.units - before.units) + (middle.checks - before.checks)) → total_of made ≤ total_of middle + 50000
-    → total_of made ≤ total_of before + (units + 50000)
+    → left ≡ units - ((middle.units - before.units) + (middle.checks - before.checks)) → total_of made ≤ total_of middle + UNITS
+    → IsShort units before made
 short-made units zero before middle made up some is few = absurd (some refl)
 short-made units (suc left) before middle made up some is few = omega (arith, is, up.units, up.checks, few)
 
-most_port : (spent : ℕ) (recorded : Result Recorded Failed) → record_units recorded ≤ 50000 → (port_finding spent recorded).cost ≤ spent + 50000
+made_low : (units left cost evaluation : ℕ) (before middle made : Spent) → IsUpFrom before middle → (left ≡ 0 → ⊥)
+    → left ≡ units - ((middle.units - before.units) + (middle.checks - before.checks)) → made.units ≡ cost - (evaluation - middle.units) → made.checks ≡ middle.checks
+    → total_of made < (total_of before + units) + (cost - evaluation)
+made_low units zero cost evaluation before middle made up some is paid checked = absurd (some refl)
+made_low units (suc left) cost evaluation before middle made up some is paid checked = omega (arith, is, up.units, up.checks, paid, checked)
+
+-- is made in time
+pub in-time-made : (world : World) (found : FoundPath) (asked : Asked) (made : MadeRow) (units left : ℕ) (before : Spent) → IsFoundAt world found
+    → asked.evaluation.value ≡ evaluation_of (files_in world) (key_for world.1 found.makefile (flavors_of found.named)) → IsMade world (string_bytes found.path) made
+    → made.spent ≡ spent_on asked (row_seen made.row).cost → IsUpFrom before (spent_in (asks.Done asked)) → (left ≡ 0 → ⊥)
+    → left ≡ units - ((asked.units - before.units) + (asked.checks - before.checks)) → MakesInTime world (cost_at world (string_bytes found.path)) (pair_at world (string_bytes found.path)) units before made.spent
+in-time-made world found asked made units left before at same is spent_is up some left_is =
+    let cost : (row_seen made.row).cost ≡ cost_at world (string_bytes found.path) = ap (λ (r : RowValue). r.cost) is.row.same in
+    let evaluation : cost_of asked.evaluation.value.outcome ≡ evaluation_cost world (pair_at world (string_bytes found.path)) =
+    ap (λ (e : Evaluation). cost_of e.outcome) same ∙ ap (evaluation_cost world) (sym at.pair) in
+    let paid : made.spent.units ≡ (row_seen made.row).cost - (cost_of asked.evaluation.value.outcome - asked.units) = ap (λ (s : Spent). s.units) spent_is in
+    inr (made_low units left (cost_at world (string_bytes found.path)) (evaluation_cost world (pair_at world (string_bytes found.path))) before (spent_in (asks.Done asked)) made.spent up some left_is
+    (paid ∙ ap₂ (λ (all : ℕ) (one : ℕ). all - (one - asked.units)) cost evaluation) (ap (λ (s : Spent). s.checks) spent_is))
+
+most_port : (spent : ℕ) (recorded : Result Recorded Failed) → record_units recorded ≤ UNITS → (port_finding spent recorded).cost ≤ spent + UNITS
 most_port spent (Ok recorded) few = omega (arith, few)
 most_port spent (Err failed) few = omega (arith, few)
 
-most_list : (spent : ℕ) (value : Result (Option Expanded) Failed) → value_units value ≤ 50000 → (list_finding spent value).cost ≤ spent + 50000
+most_list : (spent : ℕ) (value : Result (Option Expanded) Failed) → value_units value ≤ UNITS → (list_finding spent value).cost ≤ spent + UNITS
 most_list spent (Ok value) few = omega (arith, few)
 most_list spent (Err failed) few = omega (arith, few)
 
 most_after : CostFew → RecordsCostFew → (makefile : List ℕ) (flavors : Option (List (List ℕ))) (evaluated : Evaluated) (kind : Kind)
-    → (finding_by makefile flavors evaluated kind).cost ≤ evaluated.cost + 50000
+    → (finding_by makefile flavors evaluated kind).cost ≤ evaluated.cost + UNITS
 most_after few records makefile flavors evaluated kinds.Port = most_port evaluated.cost (record_of evaluated.env makefile) (records evaluated.env makefile)
 most_after few records makefile (Some flavors) evaluated kinds.List = omega arith
 most_after few records makefile None evaluated kinds.List =
     most_list evaluated.cost (value_of evaluated.env makefile (codes "SUBDIR")) (few.values evaluated.env makefile (codes "SUBDIR"))
 most_after few records makefile flavors evaluated kinds.Other = omega arith
 
--- what a makefile describes costs at most 50,000 units more than its evaluation
+-- what a makefile describes costs few units more than its evaluation
 pub most-found : CostFew → RecordsCostFew → (makefile : List ℕ) (flavors : Option (List (List ℕ))) (outcome : Result Evaluated Failed)
-    → (finding_of_evaluation makefile flavors outcome).cost ≤ cost_of outcome + 50000
+    → (finding_of_evaluation makefile flavors outcome).cost ≤ cost_of outcome + UNITS
 most-found few records makefile flavors (Ok evaluated) = most_after few records makefile flavors evaluated evaluated.kind
 most-found few records makefile flavors (Err failed) = omega arith
 

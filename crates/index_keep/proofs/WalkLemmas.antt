@@ -10,8 +10,9 @@ use Rattle.ports_index.specs.Depending.{items_among, target_of}
 use Rattle.ports_index.specs.Filling.{is_one_of}
 use Rattle.ports_index.specs.Index.{listed_paths, needed_among, needed_paths}
 use Rattle.ports_index.specs.Naming.{directories, listed_from, named_at}
-use Rattle.ports_index.specs.PathOutcomes.{outcome_at}
-use Rattle.ports_index.specs.Spending.{SpendsOnPath}
+use Rattle.ports_index.specs.Pairs.{pair_at}
+use Rattle.ports_index.specs.PathOutcomes.{cost_at, outcome_at}
+use Rattle.ports_index.specs.Spending.{SpendsOnPath, no_spending}
 use Rattle.ports_index.specs.declared.spending.Spent.{Spent}
 use Rattle.row_text.specs.Rows.{RowValue}
 use Rattle.ports_index.specs.RowLaws.{HaveRows, KnownRowsAreEnough}
@@ -21,7 +22,9 @@ use Rattle.index_keep.specs.declared.walking.LastStage.{LastStage}
 use Rattle.index_keep.specs.Shown.{ShownRow, ShownRows, fresh, fresh_outcome}
 use Rattle.index_keep.specs.Right.{IsRightRow, AreKept, AreCurrent, right_row, fresh_row, RenewsRow}
 use Rattle.index_keep.specs.Keeping.{IsReadyFor}
+use Rattle.eval_ask.specs.Asking.{IsShort, MakesInTime}
 use Rattle.index_keep.specs.Paths.{IsMade}
+use Rattle.index_keep.specs.Turns.{Evaluates, refresh_at, spent_in_all}
 use Rattle.index_keep.specs.Walking.{IsStage, IsLacking, HasRowMore, paths_of, LacksNone, IsLackingAt, ListsPaths, NeedsPaths}
 use Rattle.index_keep.specs.declared.evaluating.MadeRow.{MadeRow}
 use Rattle.index_keep.specs.declared.walking.Walk.{Walk}
@@ -177,11 +180,21 @@ module _ (world : World) (old new : ShownRows) (walk : Walk) (path : List ℕ) (
       ∙ ap (λ (r : RowValue). if bytes_eq path other then Some r.outcome else fresh old other) (sym is.row.same)
       ∙ ap (λ at. if bytes_eq at other then Some (row_seen made.row).outcome else fresh old other) (sym is.at)
 
-  pub renews-made : (spent : Spent) → spent ≡ made.spent → RenewsRow world old new spent
+  renews-made : (spent : Spent) → spent ≡ made.spent → RenewsRow world old new spent
   renews-made spent same = record {
     path = path;
     needed = ready.lacking.needed;
     lacking = ready.lacking.lacking;
     spent = subst (SpendsOnPath world path) (sym same) is.spent;
     rows = put_fresh;
+  }
+
+  -- in a turn, before which so much was spent on it
+  pub evaluates-made : (units : ℕ) (before spent : Spent) → spent_in_all before spent ≡ made.spent → MakesInTime world (cost_at world path) (pair_at world path) units before made.spent → IsShort units before made.spent
+      → Evaluates world units (refresh_at old before) (refresh_at new no_spending) spent
+  unfolding renews-made
+  evaluates-made units before spent same in_time short = record {
+    renews = (renews-made (spent_in_all before spent) same, refl);
+    in_time = subst (MakesInTime world (cost_at world path) (pair_at world path) units before) (sym same) in_time;
+    short = subst (IsShort units before) (sym same) short;
   }

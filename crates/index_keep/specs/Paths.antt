@@ -1,5 +1,5 @@
 -- The row of a path, while it is made.
-use Rattle.std.specs.Prelude.{◌≡◌, ◌≤◌, ◌+◌, ℕ, ◌++◌, true, false, List, Option, Some, None, string_bytes}
+use Rattle.std.specs.Prelude.{◌≡◌, ℕ, ◌++◌, true, false, List, Option, Some, None, string_bytes}
 use Rattle.std.specs.Str.{bytes_eq}
 use Rattle.mk_paths.specs.World.{World, files_in}
 use Rattle.mk_eval.specs.Meaning.{means}
@@ -7,13 +7,13 @@ use Rattle.mk_eval.specs.Sharing.{Agrees, questions_of}
 use Rattle.eval_cache.specs.Keys.{key_for}
 use Rattle.pkg_path.specs.Paths.{path_if_one}
 use Rattle.ports_index.specs.Pairs.{Pair, pair_at}
-use Rattle.ports_index.specs.PathOutcomes.{finding_at, finding_of_evaluation, nothing_found, own_directory}
+use Rattle.ports_index.specs.PathOutcomes.{cost_at, finding_at, finding_of_evaluation, nothing_found, own_directory}
 use Rattle.ports_index.specs.PathQuestions.{questions_at}
 use Rattle.ports_index.specs.Spending.{SpendsOnPath}
 use Rattle.ports_index.specs.declared.spending.Spent.{Spent}
 use Rattle.row_text.specs.Rows.{RowValue, make_row}
 use Rattle.row_text.specs.Seen.{row_seen}
-use Rattle.eval_ask.specs.Asking.{HasComeTo, IsUpBy, IsUpFrom, spent_in, total_of}
+use Rattle.eval_ask.specs.Asking.{EvaluatesInTime, HasComeTo, IsShort, IsUpBy, IsUpFrom, MakesInTime, spent_in}
 use Rattle.index_keep.specs.Right.{IsRightRow, row_with}
 use Rattle.eval_ask.specs.declared.asking.Asked.{Asked}
 use Rattle.index_keep.specs.declared.evaluating.FoundPath.{FoundPath}
@@ -81,16 +81,18 @@ spent_on_row (More ask) = spent_in ask.ask
 abbrev pub IsUpTo : Spent → PathTurned → Type 0
 IsUpTo before turned = IsUpFrom before (spent_on_row turned)
 
--- a turn for the row of a path spends at most 50,000 more than it was given: before the last thing it had spent fewer
-abbrev pub IsShortOnRow : ℕ → Spent → PathTurned → Type 0
-IsShortOnRow units before turned = total_of (spent_on_row turned) ≤ total_of before + (units + 50000)
-
 -- the row is made; or it isn't yet, and the units are spent that the turn was given
 abbrev pub HasTurned : World → List ℕ → ℕ → Spent → PathTurned → Type 0
 HasTurned world path units before (Made made) = IsMade world path made
 HasTurned world path units before (More ask) = IsPathAsk world path ask × IsUpBy units before (spent_in ask.ask)
 
+-- before the last thing that the turn did, fewer were spent
+abbrev pub IsInTime : World → List ℕ → ℕ → Spent → PathTurned → Type 0
+IsInTime world path units before (Made made) = MakesInTime world (cost_at world path) (pair_at world path) units before made.spent
+IsInTime world path units before (More ask) = EvaluatesInTime world (pair_at world path) units before (spent_in ask.ask)
+
 -- What a turn makes of the row of a path, on which so much was spent before.
 pub record TurnsPath (world : World) (path : List ℕ) (units : ℕ) (before : Spent) (turned : PathTurned) : Type 0 where
   pub come : HasTurned world path units before turned
-  pub short : IsShortOnRow units before turned
+  pub in_time : IsInTime world path units before turned
+  pub short : IsShort units before (spent_on_row turned)

@@ -1,17 +1,23 @@
 -- What one turn of a refresh does.
-use Rattle.std.specs.Prelude.{◌≡◌, ◌≤◌, ℕ, ◌+◌, ◌*◌, List, []}
+use Rattle.std.specs.Prelude.{◌≡◌, ◌≤◌, ℕ, ◌+◌, ◌-◌, ◌*◌, min, true, is_some, List, []}
 use Rattle.std.specs.List.{sum_by}
+use Rattle.mk_base.specs.declared.metering.TheConstants.{UNITS}
+use Rattle.turn_amounts.specs.declared.TheConstants.{MOST_CHECKS}
 use Rattle.mk_paths.specs.World.{World}
 use Rattle.ports_index.specs.Efforts.{cost_over, evaluations_over, lacking}
+use Rattle.ports_index.specs.Filling.{is_one_of}
 use Rattle.ports_index.specs.Index.{needed_paths}
+use Rattle.ports_index.specs.Pairs.{pair_at}
+use Rattle.ports_index.specs.PathOutcomes.{cost_at}
 use Rattle.ports_index.specs.Spending.{ChecksFew, no_spending}
 use Rattle.ports_index.specs.declared.spending.Spent.{Spent}
 use Rattle.index_keep.specs.declared.keeper.Refreshed.{Refreshed}
 use Rattle.index_keep.specs.declared.keeper.Refreshed.TheVariants.{Evaluated, More, Done}
 pub use Rattle.eval_ask.specs.Asking.{spent_in_all}
-use Rattle.eval_ask.specs.Asking.{total_of}
+use Rattle.eval_ask.specs.Asking.{EvaluatesInTime, IsShort, MakesInTime, total_of}
 use Rattle.index_keep.specs.Shown.{ShownRows, ShowsSame, fresh}
 use Rattle.index_keep.specs.Right.{HaveFresh, AreCurrent, RenewsRow}
+use Rattle.index_keep.specs.Walking.{IsLacking}
 
 -- How far a refresh is: the rows as they are shown, and what was spent so far on a path that is evaluated.
 pub record RefreshView : Type 0 where
@@ -48,12 +54,25 @@ pub record IsWithinLeft (world : World) (refresh : RefreshView) : Type 0 where
   pub units : refresh.begun.units ≤ cost_left world refresh.rows
   pub checks : ChecksFew (evaluations_left world refresh.rows) refresh.begun.checks
 
--- A path has no row yet. The turn has spent its units, of which each checked answer was one.
+-- A path was evaluated in a turn that was given some units: its row is renewed. Before it was made, the turn had spent
+-- fewer than its units.
+pub record Evaluates (world : World) (units : ℕ) (old new : RefreshView) (spent : Spent) : Type 0 where
+  pub renews : RenewsOne world old new spent
+  pub in_time : MakesInTime world (cost_at world renews.0.path) (pair_at world renews.0.path) units old.begun
+      (spent_in_all old.begun spent)
+  pub short : IsShort units old.begun (spent_in_all old.begun spent)
+
+-- A path that is left has no row yet. The turn has spent its units, of which each checked answer was one. Before the last
+-- thing that was done, it had spent fewer.
 pub record GoesOn (world : World) (units : ℕ) (old new : RefreshView) (spent : Spent) : Type 0 where
   pub rows : ShowsSame old.rows new.rows
+  pub path : List ℕ
+  pub lacking : IsLacking world old.rows path
   pub begun : new.begun ≡ spent_in_all old.begun spent
-  pub enough : units ≤ spent.units + spent.checks
+  pub enough : units ≤ total_of spent
   pub within : IsWithinLeft world new
+  pub in_time : EvaluatesInTime world (pair_at world path) units old.begun (spent_in_all old.begun spent)
+  pub short : IsShort units old.begun (spent_in_all old.begun spent)
 
 -- No row was left to be renewed, and the rows are those of the index.
 pub record EndsRefresh (world : World) (old new : RefreshView) : Type 0 where
@@ -62,16 +81,36 @@ pub record EndsRefresh (world : World) (old new : RefreshView) : Type 0 where
   pub current : AreCurrent world new.rows
   pub nothing_left : new.begun ≡ no_spending
 
--- A turn that is given some units spends at most 50,000 more: before the last thing that it did, it had spent fewer than
--- it was given.
-abbrev pub IsShort : ℕ → Spent → Type 0
-IsShort units spent = total_of spent ≤ units + 50000
-
 -- what a turn does that is given some units
 abbrev pub TakesTurn : World → ℕ → RefreshView → RefreshView → Refreshed → Type 0
-TakesTurn world units old new (Evaluated spent) = RenewsOne world old new spent × IsShort units spent
-TakesTurn world units old new (More spent) = GoesOn world units old new spent × IsShort units spent
+TakesTurn world units old new (Evaluated spent) = Evaluates world units old new spent
+TakesTurn world units old new (More spent) = GoesOn world units old new spent
 TakesTurn world units old new Done = EndsRefresh world old new
+
+-- what was spent in a turn
+abbrev pub spent_by : Refreshed → Spent
+spent_by (Evaluated spent) = spent
+spent_by (More spent) = spent
+spent_by Done = no_spending
+
+-- how many units are left to be spent on a refresh
+abbrev pub units_left : World → RefreshView → ℕ
+units_left world refresh = cost_left world refresh.rows - refresh.begun.units
+
+-- of an evaluation for which so many answers were checked, at most these units aren't spent: all, if it was kept
+abbrev pub units_saved : ℕ → ℕ
+units_saved checks = UNITS * min checks 1
+
+-- What is taken off the units that are left is spent. Only the evaluation that was under way may have been kept, and one
+-- more for which answers were checked.
+abbrev pub PaysAll : World → RefreshView → RefreshView → Spent → Type 0
+PaysAll world old new spent =
+    units_left world old ≤ (units_left world new + spent.units) + (units_saved old.begun.checks + units_saved spent.checks)
+
+-- a path on which the index depends, and which had a fresh row, has one still
+abbrev pub StayFresh : World → ShownRows → ShownRows → Type 0
+StayFresh world old new =
+    (path : List ℕ) → is_one_of path (needed_paths world) ≡ true → is_some (fresh old path) ≡ true → is_some (fresh new path) ≡ true
 
 -- a turn that failed: all rows are as they were, and nothing is under way
 pub record DropsTurn (old new : RefreshView) : Type 0 where
@@ -83,8 +122,8 @@ pub record RefreshingPays : Type 0 where
   -- a row that is renewed leaves less to be done, by at least what was spent on it
   pub renews : (world : World) (old new : RefreshView) (spent : Spent) → RenewsOne world old new spent
       → ((old.begun.units + spent.units) + cost_left world new.rows ≤ cost_left world old.rows)
-      × ((old.begun.checks + spent.checks) + 1028 * evaluations_left world new.rows
-      ≤ 1028 * evaluations_left world old.rows)
+      × ((old.begun.checks + spent.checks) + MOST_CHECKS * evaluations_left world new.rows
+      ≤ MOST_CHECKS * evaluations_left world old.rows)
   -- and one path fewer
   pub fewer : (world : World) (old new : RefreshView) (spent : Spent) → RenewsOne world old new spent
       → 1 + count_left world new.rows ≡ count_left world old.rows
@@ -94,3 +133,6 @@ pub record RefreshingPays : Type 0 where
       → 1 + evaluations_left world new.rows ≡ evaluations_left world old.rows
   -- rows that are those of the index leave nothing to be done
   pub ends : (world : World) (rows : ShownRows) → AreCurrent world rows → paths_left world rows ≡ []
+  -- what a turn takes off the units that are left is spent in it, unless evaluations were kept
+  pub pays : (world : World) (units : ℕ) (old new : RefreshView) (turned : Refreshed) → TakesTurn world units old new turned
+      → PaysAll world old new (spent_by turned)

@@ -1,6 +1,7 @@
 //! The row of a path, made by evaluating its makefile turn by turn, with what was asked for it.
 ghost use Rattle.std.specs.Prelude.{◌≡◌, ◌≤◌, ◌+◌, ◌++◌, ℕ, List, map, option_map, string_bytes, IfOk, OnOk};
 ghost use Rattle.std.specs.Result.{result_err};
+ghost use Rattle.mk_base.specs.declared.metering.TheConstants.{UNITS};
 ghost use Rattle.mk_paths.specs.FilesView.{world_of};
 ghost use Rattle.mk_paths.specs.World.{World};
 ghost use Rattle.mk_paths.specs.Place.{place, places_asked};
@@ -11,7 +12,7 @@ ghost use Rattle.ports_index.specs.PathOutcomes.{cost_at};
 ghost use Rattle.ports_index.specs.Spending.{no_spending};
 ghost use Rattle.read_trace.specs.Recording.{view_of};
 ghost use Rattle.row_text.specs.Seen.{row_seen};
-ghost use Rattle.eval_ask.specs.Asking.{HasBegun, IsUpFrom, spent_in, spent_on, total_of};
+ghost use Rattle.eval_ask.specs.Asking.{HasBegun, HasLooked, IsUpFrom, spent_in, spent_on, total_of};
 ghost use Rattle.index_keep.specs.Paths as paths;
 ghost use Rattle.index_keep.specs.Paths.{IsNamed, IsPathAsk, IsUpTo, TurnsPath};
 ghost use Rattle.index_keep.specs.Right.{LeavesFiles, names_in};
@@ -142,7 +143,7 @@ impl PathAsk {
     ) -> Result<PathTurned, FilesFault>
         requires begun { HasBegun (view_of F.view files.old).files self.ask }
         requires up { IsUpFrom before (spent_in self.ask) }
-        requires few { total_of (spent_in self.ask) ≤ total_of before + 50000 }
+        requires looked { HasLooked before self.ask }
         ensures turns { (settings : Settings)
             → IsPathAsk ((view_of F.view files.old).files, settings) (string_bytes self.found.path) self
             → IfOk result (TurnsPath ((view_of F.view files.old).files, settings)
@@ -214,7 +215,7 @@ impl FoundPath {
         ensures path { IfOk result (λ made. string_bytes made.path ≡ string_bytes self.path) }
         ensures row { IfOk result (λ made. row_seen made.row ≡ paths.row_made self asked.now) }
         ensures spent { IfOk result (λ made. made.spent ≡ spent_on asked.now (row_seen made.row).cost) }
-        ensures few { IfOk result (λ made. total_of made.spent ≤ (asked.now.units + asked.now.checks) + 50000) }
+        ensures few { IfOk result (λ made. total_of made.spent ≤ (asked.now.units + asked.now.checks) + UNITS) }
     {
         evaluations_cost_few();
         records_cost_few();

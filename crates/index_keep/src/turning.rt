@@ -54,8 +54,8 @@ impl<R: PathRows + Drop> Keeper<R> {
     /// of them. The evaluation is one that the cache keeps, if the files agree with it. If it is at its end and fewer
     /// units are spent in this turn, the path's row is made and written; otherwise the next turn goes on there. Once
     /// each path has its row, the rows that nothing needs are taken out, and the refresh is done: the index is at hand.
-    /// If it was put away, and nothing has changed, a turn reads the rows again. A turn spends at most 50,000 more than
-    /// its units, since it had spent fewer before the last thing that it did.
+    /// If it was put away, and nothing has changed, a turn reads the rows again. Before the last thing that a turn does, it
+    /// has spent fewer than its units, and so it spends at most 50,000 more.
     ///
     /// # Errors
     ///

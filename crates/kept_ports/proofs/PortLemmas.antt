@@ -1,5 +1,5 @@
 -- What is taken from the evaluation of a port's makefile.
-use Rattle.std.proofs.Common.{◌≡◌, ◌≤◌, ◌∙◌, ℕ, zero, suc, ◌+◌, ◌-◌, ◌*◌, ◌^◌, min, List, length, Some, None, Result, Ok, Err, refl, sym, ap, subst, arith}
+use Rattle.std.proofs.Common.{◌≡◌, ◌≤◌, ◌<◌, inr, ◌∙◌, ℕ, zero, suc, ◌+◌, ◌-◌, ◌*◌, ◌^◌, min, List, length, Option, Some, Result, Ok, Err, refl, sym, ap, subst, arith}
 use Rattle.std.specs.Prelude.{option_map, option_to_list}
 use Rattle.mk_paths.specs.Place.{place}
 use Rattle.mk_paths.specs.World.{World, FileMap, files_in}
@@ -18,10 +18,12 @@ use Rattle.ports_index.specs.Spending.{evaluation_cost, evaluations_of, ChecksFe
 use Rattle.ports_index.specs.declared.spending.Spent.{Spent}
 use Rattle.ports_plain.specs.Answers.{answer_to, reply_after}
 use Rattle.ports_plain.specs.Plain.{Answer, reply_alone, variable_at, port_at}
-use Rattle.ports_plain.specs.Resting.{path_asked, cost_after, cost_if_there, value_cost_of, record_cost_of, record_cost_by}
+use Rattle.ports_plain.specs.Resting.{pair_of, path_asked, port_cost_at, cost_after, cost_if_there, value_cost_of, record_cost_of, record_cost_by}
 use Rattle.ports_plain.specs.Spending.{SpendsFor}
 use Rattle.ports_http.specs.Messages.{ReplyMessage}
-use Rattle.eval_ask.specs.Asking.{HasComeTo, IsAnswerTo, IsUpFrom, AskingSpends, spent_in, spent_on, total_of}
+use Rattle.turn_amounts.specs.declared.TheConstants.{MOST_CHECKS, TURN_UNITS}
+use Rattle.eval_ask.specs.Asking.{AsksOn, EvaluatesInTime, HasComeTo, HasLooked, IsAnswerTo, IsShort, IsUpFrom, AskingSpends, spent_in, spent_on, total_of}
+use Rattle.eval_ask.proofs.AnswerLemmas.{few-come, in-time-looked, short-looked}
 use Rattle.index_keep.specs.Turns.{RefreshView}
 use Rattle.eval_ask.specs.declared.asking.AskTurned.{AskTurned}
 use Rattle.eval_ask.specs.declared.asking.AskTurned.TheVariants.{More, Done}
@@ -32,7 +34,7 @@ use Rattle.ports_plain.specs.declared.port_questions.PortQuestion.{PortQuestion}
 use Rattle.ports_plain.specs.declared.port_questions.PortQuestion.TheVariants.{Variable, Record}
 use Rattle.kept_ports.specs.Evaluating.{IsPortAsk}
 use Rattle.ports_plain.specs.declared.questions.Question.TheVariants.{OfPort}
-use Rattle.kept_ports.specs.Pending.{ActsForValue, Answers, LeavesOpen, StaysWithin}
+use Rattle.kept_ports.specs.Pending.{ActsForValue, Answers, LeavesOpen, RepliesInTime, StaysWithin}
 
 abbrev pub pair_with : PathValue → List ℕ → Pair
 pair_with path makefile = record { makefile = makefile; flavors = path.flavors }
@@ -70,12 +72,12 @@ covers (Variable asked) makefile (Err failed) units small less = less
 covers (Record path) makefile (Ok evaluated) units small less = kind_covers evaluated.kind units evaluated.cost _ small less
 covers (Record path) makefile (Err failed) units small less = less
 
-one_few : (checks : ℕ) → checks ≤ 1028 → checks ≤ 1028 * 1
+one_few : (checks : ℕ) → checks ≤ MOST_CHECKS → checks ≤ MOST_CHECKS * 1
 one_few checks few = omega (arith, few)
 
 -- so what is spent on the evaluation stays within what is asked costs
 pub stays : (world : World) (question : PortQuestion) (makefile : List ℕ) (spent : Spent) → place world (path_asked question).directory ≡ Some makefile
-    → spent.units ≤ cost_after question makefile (means world makefile (path_asked question).flavors) → spent.checks ≤ 1028
+    → spent.units ≤ cost_after question makefile (means world makefile (path_asked question).flavors) → spent.checks ≤ MOST_CHECKS
     → StaysWithin world (OfPort question) spent
 stays world (Variable asked) makefile spent placed less few = record {
   units = subst (λ p. spent.units ≤ cost_if_there (option_map (value_cost_of world asked) p)) (sym placed) less;
@@ -86,28 +88,56 @@ stays world (Record path) makefile spent placed less few = record {
   checks = subst (λ p. ChecksFew (length (option_to_list (option_map (pair_with path) p))) spent.checks) (sym placed) (one_few spent.checks few);
 }
 
+-- what is asked costs this, if this is its makefile
+port_cost : (world : World) (question : PortQuestion) (makefile : List ℕ) → place world (path_asked question).directory ≡ Some makefile
+    → port_cost_at world question ≡ cost_after question makefile (means world makefile (path_asked question).flavors)
+port_cost world (Variable asked) makefile placed = ap (λ p. cost_if_there (option_map (value_cost_of world asked) p)) placed
+port_cost world (Record path) makefile placed = ap (λ p. cost_if_there (option_map (record_cost_of world path) p)) placed
+
+-- and rests on it
+pub pair-there : (world : World) (path : PathValue) (makefile : List ℕ) → place world path.directory ≡ Some makefile → pair_of world path ≡ Some (pair_with path makefile)
+pair-there world path makefile placed = ap (option_map (pair_with path)) placed
+
 -- few answers were checked before an evaluation began
-pub few_in : (files : FileMap) (key : Key) (came : AskTurned) → HasComeTo files key came → (spent_in came).checks ≤ 1028
+pub few_in : (files : FileMap) (key : Key) (came : AskTurned) → HasComeTo files key came → (spent_in came).checks ≤ MOST_CHECKS
 few_in files key (More ask) is = is.1.few
 few_in files key (Done asked) is = is.few
 
 -- a turn that has spent its units
-pub acts : (question : PortQuestion) (before after : Spent) → total_of before + 1000 ≤ total_of after → ActsForValue (OfPort question) before after
+pub acts : (question : PortQuestion) (before after : Spent) → total_of before + TURN_UNITS ≤ total_of after → ActsForValue (OfPort question) before after
 acts (Variable asked) before after more = more
 acts (Record path) before after more = tt
+
+-- an evaluation that went on after a look in the same turn, by what was left of the turn's units
+module _ (world : World) (question : PortQuestion) (before : Spent) (ask : PortAsk) (came : AskTurned) (given : ℕ) (is : IsPortAsk world (path_asked question) ask)
+    (looked : HasLooked before ask.came) (up : IsUpFrom before (spent_in ask.came)) (given_is : given ≡ TURN_UNITS - (((spent_in ask.came).units - before.units) + ((spent_in ask.came).checks - before.checks)))
+    (asks : AsksOn (files_in world) given ask.came came) where
+  abbrev port_key : Key
+  port_key = key_for world.1 ask.makefile (path_asked question).flavors
+
+  pub in-time-on : EvaluatesInTime world (pair_of world (path_asked question)) TURN_UNITS before (spent_in came)
+  in-time-on =
+      subst (λ (pair : Option Pair). EvaluatesInTime world pair TURN_UNITS before (spent_in came)) (sym (pair-there world (path_asked question) ask.makefile is.placed))
+      (in-time-looked world before (spent_in ask.came) (spent_in came) TURN_UNITS given looked.units up.checks given_is asks.unchecked (Some (pair_with (path_asked question) ask.makefile)) (asks.in_time port_key is.came))
+
+  pub few-on : IsShort TURN_UNITS before (spent_in came)
+  few-on =
+      short-looked world before (spent_in ask.came) (spent_in came) TURN_UNITS given looked.units up.checks given_is asks.unchecked (Some (pair_with (path_asked question) ask.makefile))
+      (few-come (files_in world) port_key came (asks.comes port_key is.came)).0 looked.checks (asks.in_time port_key is.came)
 
 -- an evaluation that isn't at its end, or waits for the next turn
 pub goes_on : (world : World) (refresh : RefreshView) (question : PortQuestion) (ask : PortAsk) (before evaluated : Spent) → IsPortAsk world (path_asked question) ask
     → evaluated ≡ spent_in ask.came → evaluated.units ≤ 2 ^ 64 - 1
     → evaluated.units ≤ cost_of (evaluation_of (files_in world) (key_for world.1 ask.makefile (path_asked question).flavors)).outcome
-    → IsUpFrom before evaluated → total_of before + 1000 ≤ total_of evaluated
+    → IsUpFrom before evaluated → total_of before + TURN_UNITS ≤ total_of evaluated → EvaluatesInTime world (pair_of world (path_asked question)) TURN_UNITS before evaluated
     → LeavesOpen world refresh (OfPort question) before (record { stage = Evaluating question ask; spent = evaluated })
-goes_on world refresh question ask before evaluated is so_far small within up more = record {
+goes_on world refresh question ask before evaluated is so_far small within up more in_time = record {
+  in_time = in_time;
   same = refl;
   pending = (is, so_far);
   up = up;
   within = stays world question ask.makefile evaluated is.placed (covers question ask.makefile (means world ask.makefile (path_asked question).flavors) evaluated.units small within)
-      (subst (λ (s : Spent). s.checks ≤ 1028) (sym so_far) (few_in (files_in world) _ ask.came is.came));
+      (subst (λ (s : Spent). s.checks ≤ MOST_CHECKS) (sym so_far) (few_in (files_in world) _ ask.came is.came));
   acts = acts question before evaluated more;
 }
 
@@ -150,6 +180,16 @@ module _ (world : World) (question : PortQuestion) (makefile : List ℕ) (asked 
         covers_asked (suc units) some =
             let all = is.whole (omega (arith, some)) in
             covers question makefile asked.evaluation.value.outcome asked.units small (omega (arith, all, ap cost_of outcome_is))
+
+    made_low : (all evaluation own_cost own_evaluation : ℕ) (before : Spent) → all ≡ own_cost → evaluation ≡ own_evaluation → total_of (spent_in (Done asked)) < total_of before + TURN_UNITS
+        → (all - (evaluation - asked.units)) + asked.checks < (total_of before + TURN_UNITS) + (own_cost - own_evaluation)
+    made_low all evaluation own_cost own_evaluation before same one less = omega (arith, same, one, less)
+
+    -- and made in time
+    pub made-in-time : (before : Spent) → total_of (spent_in (Done asked)) < total_of before + TURN_UNITS → RepliesInTime world question before (spent_on asked cost)
+    made-in-time before less =
+        inr (made_low cost (cost_of asked.evaluation.value.outcome) (port_cost_at world question) (evaluation_cost world (pair_of world (path_asked question))) before
+        (cost_all ∙ sym (port_cost world question makefile placed)) (ap cost_of outcome_is ∙ ap (evaluation_cost world) (sym (pair-there world (path_asked question) makefile placed))) less)
 
     less_cost : (evaluation units : ℕ) → cost - (evaluation - units) ≤ cost
     less_cost evaluation units = omega arith

@@ -1,5 +1,5 @@
 -- Paths that are picked from others, each once, cost no more than these.
-use Rattle.std.proofs.Common.{ℕ, ◌+◌, ◌*◌, ◌^◌, ◌-◌, min, ◌≤◌, ◌<◌, ◌≡◌, ◌∙◌, refl, sym, ap, subst, length, Bool, true, false, if◌then◌else◌, List, [], ◌∷◌, arith}
+use Rattle.std.proofs.Common.{ℕ, ◌+◌, ◌*◌, ◌^◌, ◌-◌, min, ◌≤◌, ◌<◌, ◌≡◌, ◌∙◌, refl, sym, ap, subst, length, Bool, true, false, if◌then◌else◌, List, [], ◌∷◌, Result, Ok, Err, IfOk, OnErr, is_some, option_and_then, arith}
 use Rattle.std.proofs.lemmas.List.Sums.{sum_by-cons}
 use Rattle.std.specs.BTreeSet.{insert_key}
 use Rattle.std.specs.Cmp.Lexicographic.{slice_cmp}
@@ -9,6 +9,7 @@ use Rattle.std.specs.Ordering.{nat_cmp, match_ordering}
 use Rattle.std.specs.declared.cmp.Ordering.{Ordering}
 use Rattle.std.specs.declared.cmp.Ordering.TheVariants.{Less, Equal, Greater}
 use Rattle.text_parts.specs.Order.{in_order}
+use Rattle.turn_amounts.specs.declared.TheConstants.{MOST_CHECKS, TURN_UNITS}
 use Rattle.mk_paths.specs.World.{World}
 use Rattle.ports_index.specs.Efforts.{cost_over, evaluations_at, evaluations_over}
 use Rattle.ports_index.specs.Index.{needed_paths}
@@ -17,13 +18,23 @@ use Rattle.ports_index.specs.PathOutcomes.{cost_at}
 use Rattle.ports_index.specs.Pairs.{pairs_at}
 use Rattle.ports_index.specs.Spending.{no_spending, spent_together, ChecksFew}
 use Rattle.ports_index.specs.declared.spending.Spent.{Spent}
-use Rattle.ports_plain.specs.Spending.{SpendsFor}
 use Rattle.ports_plain.specs.declared.index_questions.IndexQuestion.{IndexQuestion}
 use Rattle.ports_plain.specs.declared.questions.Question.TheVariants.{OfIndex}
-use Rattle.index_keep.specs.Shown.{ShownRows, fresh}
-use Rattle.index_keep.specs.Turns.{RefreshView, refresh_at, spent_in_all, cost_left, count_left, evaluations_left, paths_left, IsWithinLeft, GoesOn, RenewsOne, EndsRefresh, TakesTurn, RefreshingPays}
+use Rattle.index_store.specs.Entries.{Entries}
+use Rattle.mk_paths.specs.declared.asking.FilesFault.{FilesFault}
+use Rattle.index_keep.specs.Keeping.{TurnsKeeper, refresh_of, rows_of}
+use Rattle.index_keep.specs.Shown.{ShownRows, fresh, fresh_outcome}
+use Rattle.index_keep.specs.declared.keeper.Keeper.{Keeper}
+use Rattle.index_keep.proofs.LeftLemmas.{stays-fresh}
+use Rattle.index_keep.specs.Turns.{DropsTurn, RefreshView, refresh_at, spent_by, spent_in_all, cost_left, count_left, evaluations_left, paths_left, units_left, units_saved, IsWithinLeft, GoesOn, RenewsOne, EndsRefresh, PaysAll, StayFresh, TakesTurn, RefreshingPays}
 use Rattle.index_keep.specs.declared.keeper.Refreshed.{Refreshed}
-use Rattle.kept_ports.specs.Pending.{IsSpentOnIndex, StaysWithin}
+use Rattle.mk_paths.specs.FilesView.{FilesView}
+use Rattle.mk_paths.specs.declared.asking.Names as names
+use Rattle.index_store.specs.declared.path_rows.PathRows as rows
+use Rattle.eval_cache.proofs.UseLemmas.{UsesCache-on}
+use Rattle.kept_ports.specs.Leaving.{LeavesPorts, world_at}
+use Rattle.kept_ports.specs.declared.keeping.KeptPorts.{KeptPorts}
+use Rattle.kept_ports.specs.Pending.{IsSpentOnIndex, RefreshesInTime, StaysWithin}
 
 abbrev by_bytes : List ℕ → List ℕ → Ordering
 by_bytes = slice_cmp nat_cmp
@@ -66,7 +77,7 @@ left_takes_no_more world rows =
     let few = picked (evaluations_at world) (λ path. is_none (fresh rows path)) (in_order paths) in
     omega (arith, few, ordered (evaluations_at world) paths)
 
-few_left : (left all : ℕ) → left ≤ all → 0 + 1028 * left ≤ 1028 * all + 0
+few_left : (left all : ℕ) → left ≤ all → 0 + MOST_CHECKS * left ≤ MOST_CHECKS * all + 0
 few_left left all less = omega (arith, less)
 
 -- nothing is begun
@@ -105,7 +116,7 @@ goes_on world units old new before spent goes is =
     let rows : old.rows ≡ new.rows = λ i path. sym (goes.rows path) i in
     let so_far : IsSpentOnIndex world (refresh_at old.rows (spent_in_all old.begun spent)) (spent_together before spent) = record {
       units = more_begun before.units _ (cost_left world old.rows) (cost_over world (needed_paths world)) old.begun.units spent.units is.units (sum_few (2 ^ 64 - 1) before.units spent.units);
-      checks = more_begun before.checks _ (1028 * evaluations_left world old.rows) (1028 * evaluations_over world (needed_paths world)) old.begun.checks spent.checks is.checks
+      checks = more_begun before.checks _ (MOST_CHECKS * evaluations_left world old.rows) (MOST_CHECKS * evaluations_over world (needed_paths world)) old.begun.checks spent.checks is.checks
           (sum_few (2 ^ 64 - 1) before.checks spent.checks);
       begun = subst (λ rows. IsWithinLeft world (refresh_at rows (spent_in_all old.begun spent))) (sym rows)
           (subst (λ begun. IsWithinLeft world (refresh_at new.rows begun)) goes.begun goes.within);
@@ -120,7 +131,7 @@ renews_by law world old new before spent after renews is units checks =
     let pays = law.renews world old new spent renews in
     let so_far : IsSpentOnIndex world (refresh_at new.rows no_spending) after = record {
       units = one_done before.units after.units (cost_left world old.rows) (cost_left world new.rows) (cost_over world (needed_paths world)) old.begun.units spent.units is.units units pays.0;
-      checks = one_done before.checks after.checks (1028 * evaluations_left world old.rows) (1028 * evaluations_left world new.rows) (1028 * evaluations_over world (needed_paths world))
+      checks = one_done before.checks after.checks (MOST_CHECKS * evaluations_left world old.rows) (MOST_CHECKS * evaluations_left world new.rows) (MOST_CHECKS * evaluations_over world (needed_paths world))
           old.begun.checks spent.checks is.checks checks pays.1;
       begun = within_nothing world (refresh_at new.rows no_spending) refl;
     } in
@@ -148,8 +159,8 @@ ends law world old new before ended is =
     let so_far : IsSpentOnIndex world (refresh_at new.rows no_spending) before = record {
       units = subst (λ paths. before.units + cost_over world paths ≤ cost_over world (needed_paths world) + 0) (sym none)
           (nothing_left before.units (cost_left world old.rows) (cost_over world (needed_paths world)) old.begun.units is.units (ap (λ (s : Spent). s.units) ended.nothing_begun));
-      checks = subst (λ paths. before.checks + 1028 * evaluations_over world paths ≤ 1028 * evaluations_over world (needed_paths world) + 0) (sym none)
-          (nothing_left before.checks (1028 * evaluations_left world old.rows) (1028 * evaluations_over world (needed_paths world)) old.begun.checks is.checks
+      checks = subst (λ paths. before.checks + MOST_CHECKS * evaluations_over world paths ≤ MOST_CHECKS * evaluations_over world (needed_paths world) + 0) (sym none)
+          (nothing_left before.checks (MOST_CHECKS * evaluations_left world old.rows) (MOST_CHECKS * evaluations_over world (needed_paths world)) old.begun.checks is.checks
           (ap (λ (s : Spent). s.checks) ended.nothing_begun));
       begun = within_nothing world (refresh_at new.rows no_spending) refl;
     } in
@@ -158,7 +169,7 @@ ends law world old new before ended is =
 at_most_all : (before left all begun : ℕ) → before + left ≤ all + begun → begun ≤ left → before ≤ all
 at_most_all before left all begun is within = omega (arith, is, within)
 
-few_for_pairs : (checks all pairs : ℕ) → checks ≤ 1028 * all → all ≡ pairs → checks ≤ 1028 * pairs
+few_for_pairs : (checks all pairs : ℕ) → checks ≤ MOST_CHECKS * all → all ≡ pairs → checks ≤ MOST_CHECKS * pairs
 few_for_pairs checks all pairs few same = omega (arith, few, same)
 
 -- what is spent on the index so far stays within what it takes
@@ -167,7 +178,7 @@ index_stays : MakefilesAreEvaluated → (world : World) (refresh : RefreshView) 
 index_stays law world refresh spent is = (
   at_most_all spent.units (cost_left world refresh.rows) (cost_over world (needed_paths world)) refresh.begun.units is.units is.begun.units,
   few_for_pairs spent.checks (evaluations_over world (needed_paths world)) (length (pairs_at world (needed_paths world)))
-      (at_most_all spent.checks (1028 * evaluations_left world refresh.rows) (1028 * evaluations_over world (needed_paths world)) refresh.begun.checks is.checks is.begun.checks)
+      (at_most_all spent.checks (MOST_CHECKS * evaluations_left world refresh.rows) (MOST_CHECKS * evaluations_over world (needed_paths world)) refresh.begun.checks is.checks is.begun.checks)
       (law world (needed_paths world)),
 )
 
@@ -177,18 +188,72 @@ stays law world refresh question spent is =
     let both = index_stays law world refresh spent is in
     record { units = both.0; checks = both.1 }
 
--- nothing is left of the index, so all is spent
-pub charged : MakefilesAreEvaluated → (world : World) (refresh : RefreshView) (question : IndexQuestion) (spent : Spent) → IsSpentOnIndex world refresh spent
-    → SpendsFor world (OfIndex question) spent
-charged law world refresh question spent is =
-    let both = index_stays law world refresh spent is in
-    record { few = both.1; within = both.0 }
-
 -- a turn of a refresh in a world that is the first one, which came to this
 pub turn_in : (first now : World) (units : ℕ) (old new : RefreshView) (turned one : Refreshed) → now ≡ first → turned ≡ one → TakesTurn now units old new turned
     → TakesTurn first units old new one
 turn_in first now units old new turned one same is takes =
     subst (TakesTurn first units old new) is (subst (λ (world : World). TakesTurn world units old new turned) same takes)
+
+-- rows that are fresh stay fresh in one turn after another
+pub fresh-on : (first now : World) (one next last : ShownRows) → now ≡ first → StayFresh first one next → StayFresh now next last → StayFresh first one last
+fresh-on first now one next last same more further path needed is =
+    subst (λ (world : World). StayFresh world next last) same further path needed (more path needed is)
+
+-- one thing after another is done to ports
+module _ {F R : Type 0} {files : names.Ghosts F} {entries : rows.Ghosts R} (view : F → FilesView) (stored : R → Entries) where
+  pub leaves-on : (one next last : KeptPorts F R files entries) → LeavesPorts view stored one next → LeavesPorts view stored next last → LeavesPorts view stored one last
+  leaves-on one next last first more = record {
+    world = more.world ∙ first.world;
+    fresh = fresh-on (world_at view one) (world_at view next) (rows_of stored one.keeper.now) (rows_of stored next.keeper.now) (rows_of stored last.keeper.now) first.world first.fresh more.fresh;
+    keeper = more.keeper ∙ first.keeper;
+    cache = more.cache ∙ first.cache;
+    uses = UsesCache-on one.cache.now next.cache.now last.cache.now first.uses more.uses;
+  }
+
+-- and in one turn
+pub fresh-once : {R : Type 0} (entries : R → Entries) (world : World) (units : ℕ) (old : RefreshView) (new : Keeper R) (result : Result Refreshed FilesFault)
+    → IfOk result (TurnsKeeper entries world units old new) → OnErr result (DropsTurn old (refresh_of entries new)) → StayFresh world old.rows (rows_of entries new)
+fresh-once entries world units old new (Ok turned) turn drops = stays-fresh world units old (refresh_of entries new) turned turn.turn
+fresh-once entries world units old new (Err fault) turn drops = λ path needed is. ap (λ row. is_some (option_and_then fresh_outcome row)) (drops.rows path) ∙ is
+
+-- ---- what is taken off the units that are left
+
+-- Turns that spent nothing: all that they took off was spent before, or saved on what was under way.
+abbrev pub PaidSoFar : World → RefreshView → RefreshView → Type 0
+PaidSoFar world old now =
+    units_left world old + units_saved now.begun.checks ≤ units_left world now + units_saved old.begun.checks
+
+pub paid-nothing : (world : World) (old : RefreshView) → PaidSoFar world old old
+paid-nothing world old = omega arith
+
+paid_more : (left middle after spent begun now checks : ℕ) → left + now ≤ middle + begun → middle ≤ (after + spent) + (now + checks) → left ≤ (after + spent) + (begun + checks)
+paid_more left middle after spent begun now checks so_far more = omega (arith, so_far, more)
+
+-- one more turn
+pub pays-on : (world : World) (old middle new : RefreshView) (spent : Spent) → PaidSoFar world old middle → PaysAll world middle new spent → PaysAll world old new spent
+pays-on world old middle new spent so_far more =
+    paid_more (units_left world old) (units_left world middle) (units_left world new) spent.units (units_saved old.begun.checks) (units_saved middle.begun.checks) (units_saved spent.checks) so_far more
+
+paid_freely : (left middle after spent begun now last checks : ℕ) → left + now ≤ middle + begun → middle ≤ (after + spent) + (now + checks) → spent ≡ 0 → checks ≡ 0 → last ≡ 0 → left + last ≤ after + begun
+paid_freely left middle after spent begun now last checks so_far more none unchecked nothing = omega (arith, so_far, more, none, unchecked, nothing)
+
+-- one more turn, which spent nothing and made a row
+pub paid-on : (world : World) (old middle new : RefreshView) (spent : Spent) → PaidSoFar world old middle → PaysAll world middle new spent → spent ≡ no_spending → new.begun ≡ no_spending
+    → PaidSoFar world old new
+paid-on world old middle new spent so_far more none nothing =
+    paid_freely (units_left world old) (units_left world middle) (units_left world new) spent.units (units_saved old.begun.checks) (units_saved middle.begun.checks) (units_saved new.begun.checks)
+    (units_saved spent.checks) so_far more (ap (λ (s : Spent). s.units) none) (ap (λ (s : Spent). units_saved s.checks) none) (ap (λ (s : Spent). units_saved s.checks) nothing)
+
+-- what a turn told whose last part this was
+pub in-time : RefreshingPays → (world : World) (old middle new : RefreshView) (before : Spent) (turned : Refreshed) → PaidSoFar world old middle → TakesTurn world TURN_UNITS middle new turned
+    → RefreshesInTime world old new before (spent_together before (spent_by turned))
+in-time law world old middle new before turned so_far takes = record {
+  from = middle;
+  turned = turned;
+  last = takes;
+  told = refl;
+  pays = pays-on world old middle new (spent_by turned) so_far (law.pays world TURN_UNITS middle new turned takes);
+}
 
 one_fewer : (after before : ℕ) → 1 + after ≡ before → after < before
 one_fewer after before is = omega (arith, is)

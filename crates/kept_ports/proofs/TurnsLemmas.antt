@@ -1,6 +1,8 @@
 -- How many turns may follow, and what one of them spends.
-use Rattle.std.proofs.Common.{◌≡◌, ◌≤◌, ◌<◌, ◌+◌, ◌-◌, ◌*◌, ◌^◌, min, ℕ, zero, suc, true, false, List, [], length, Some, Result, Ok, Err, IfOk, sym, ap, subst, refl, arith}
+use Rattle.std.proofs.Common.{◌≡◌, ◌≤◌, ◌<◌, ◌+◌, ◌-◌, ◌*◌, ◌^◌, min, ℕ, List, length, Some, Result, Ok, Err, IfOk, sym, ap, subst, arith}
 use Rattle.std.specs.Prelude.{option_map, option_to_list}
+use Rattle.mk_base.specs.declared.metering.TheConstants.{UNITS}
+use Rattle.turn_amounts.specs.declared.TheConstants.{MOST_CHECKS, TURN_UNITS}
 use Rattle.mk_paths.specs.Place.{place}
 use Rattle.mk_paths.specs.World.{World}
 use Rattle.mk_eval.specs.Costs.{CostFew, value_units}
@@ -21,13 +23,14 @@ use Rattle.ports_plain.specs.Resting.{path_asked, cost_after, cost_for, cost_if_
 use Rattle.ports_plain.specs.declared.index_questions.IndexQuestion.{IndexQuestion}
 use Rattle.ports_plain.specs.declared.questions.Question.TheVariants.{OfPort, OfIndex}
 use Rattle.ports_plain.specs.declared.questions.Question.{Question}
-use Rattle.eval_ask.specs.Asking.{IsShortTurn, IsUpFrom, SpendsTurn, spent_in, spent_on, total_of}
-use Rattle.index_keep.specs.Turns.{GoesOn, RefreshView, RefreshingPays, RenewsOne, cost_left, evaluations_left}
+use Rattle.eval_ask.specs.Asking.{HasLooked, IsShort, IsUpFrom, SpendsTurn, spent_in, spent_on, total_of}
+use Rattle.index_keep.specs.Turns.{GoesOn, RefreshView, RefreshingPays, RenewsOne, TakesTurn, cost_left, evaluations_left, spent_by, spent_in_all}
+use Rattle.index_keep.specs.declared.keeper.Refreshed.{Refreshed}
+use Rattle.index_keep.specs.declared.keeper.Refreshed.TheVariants as turned
 use Rattle.index_keep.specs.Shown.{ShownRows}
 use Rattle.eval_ask.specs.declared.asking.Asked.{Asked}
 use Rattle.eval_ask.specs.declared.asking.AskTurned.{AskTurned}
 use Rattle.eval_ask.specs.declared.asking.AskTurned.TheVariants.{More, Done}
-use Rattle.kept_ports.specs.Evaluating.{HasLooked}
 use Rattle.kept_ports.specs.Pending.{StaysWithin}
 use Rattle.kept_ports.specs.TurnsLeft.{open_turns, turns_after, turns_of_refresh}
 use Rattle.ports_plain.specs.declared.port_questions.PortQuestion.{PortQuestion}
@@ -43,24 +46,24 @@ both_ok (Err fault) f p q = tt
 -- ---- turns of an evaluation
 
 -- so much more is spent
-pub open_less : (evaluations cost before after : ℕ) → before + 1000 ≤ after → after ≤ cost + 1028 * evaluations
+pub open_less : (evaluations cost before after : ℕ) → before + TURN_UNITS ≤ after → after ≤ cost + MOST_CHECKS * evaluations
     → open_turns evaluations cost after < open_turns evaluations cost before
 open_less evaluations cost before after more within = omega (arith, more, within)
 
 -- an evaluation that went on, or waits for the next turn
-pub fewer-after : (world : World) (question : Question) (before after : Spent) → total_of before + 1000 ≤ total_of after → StaysWithin world question after
+pub fewer-after : (world : World) (question : Question) (before after : Spent) → total_of before + TURN_UNITS ≤ total_of after → StaysWithin world question after
     → turns_after world question (total_of after) < turns_after world question (total_of before)
 fewer-after world question before after more within =
     open_less (length (rests_for world question)) (cost_for world question) (total_of before) (total_of after) more (omega (arith, within.units, within.checks))
 
 -- a turn that has no units left
-pub all-acted : (before after : Spent) (left : ℕ) → IsUpFrom before after → left ≡ 1000 - ((after.units - before.units) + (after.checks - before.checks)) → left ≡ 0
-    → total_of before + 1000 ≤ total_of after
+pub all-acted : (before after : Spent) (left : ℕ) → IsUpFrom before after → left ≡ TURN_UNITS - ((after.units - before.units) + (after.checks - before.checks)) → left ≡ 0
+    → total_of before + TURN_UNITS ≤ total_of after
 all-acted before after left up is none = omega (arith, up.units, up.checks, is, none)
 
 -- a turn that has some
-pub may-act : (before after : Spent) (left : ℕ) → IsUpFrom before after → left ≡ 1000 - ((after.units - before.units) + (after.checks - before.checks)) → 1 ≤ left
-    → total_of after < total_of before + 1000
+pub may-act : (before after : Spent) (left : ℕ) → IsUpFrom before after → left ≡ TURN_UNITS - ((after.units - before.units) + (after.checks - before.checks)) → 1 ≤ left
+    → total_of after < total_of before + TURN_UNITS
 may-act before after left up is some = omega (arith, up.units, up.checks, is, some)
 
 one_left : (cost spent : ℕ) → 0 < open_turns 1 cost spent
@@ -79,55 +82,47 @@ some-left world (Record path) makefile spent placed =
 -- ---- a turn of an evaluation, after a look in the same turn
 
 module _ (before : Spent) (old new : AskTurned) (units : ℕ) (looked : HasLooked before old) (up : IsUpFrom before (spent_in old))
-    (units_is : units ≡ 1000 - (((spent_in old).units - before.units) + ((spent_in old).checks - before.checks))) where
-  enough_by : (new : AskTurned) → SpendsTurn units (spent_in old) new → SpendsTurn 1000 before new
+    (units_is : units ≡ TURN_UNITS - (((spent_in old).units - before.units) + ((spent_in old).checks - before.checks))) where
+  enough_by : (new : AskTurned) → SpendsTurn units (spent_in old) new → SpendsTurn TURN_UNITS before new
   enough_by (More ask) spends = (
     record { units = omega (arith, looked.units, spends.0.units); checks = omega (arith, up.checks, spends.0.checks) },
     omega (arith, looked.units, up.checks, units_is, spends.1, spends.0.units, spends.0.checks),
   )
   enough_by (Done asked) spends = tt
 
-  pub enough-looked : SpendsTurn units (spent_in old) new → SpendsTurn 1000 before new
+  pub enough-looked : SpendsTurn units (spent_in old) new → SpendsTurn TURN_UNITS before new
   enough-looked spends = enough_by new spends
-
-  short_by : (units : ℕ) (after : Spent) → units ≡ 1000 - (((spent_in old).units - before.units) + ((spent_in old).checks - before.checks)) → IsShortTurn units (spent_in old) after
-      → total_of after ≤ total_of before + 51000
-  short_by zero after is short = omega (arith, looked.units, looked.checks, short.none refl)
-  short_by (suc units) after is short = omega (arith, looked.units, up.checks, is, short.few)
-
-  pub short-looked : IsShortTurn units (spent_in old) (spent_in new) → total_of (spent_in new) ≤ total_of before + 51000
-  short-looked short = short_by units (spent_in new) units_is short
 
 -- ---- what is made of an evaluation
 
-most_with : (cost more : ℕ) → more ≤ 50000 → with_cost cost more ≤ cost + 50000
+most_with : (cost more : ℕ) → more ≤ UNITS → with_cost cost more ≤ cost + UNITS
 most_with cost more few = omega (arith, few)
 
-most_by : (kind : Kind) (cost more : ℕ) → more ≤ 50000 → record_cost_by kind cost more ≤ cost + 50000
+most_by : (kind : Kind) (cost more : ℕ) → more ≤ UNITS → record_cost_by kind cost more ≤ cost + UNITS
 most_by kinds.Port cost more few = most_with cost more few
 most_by kinds.List cost more few = omega arith
 most_by kinds.Other cost more few = omega arith
 
 -- what is asked costs at most 50,000 units more than the evaluation
 pub most-asked : CostFew → RecordsCostFew → (question : PortQuestion) (makefile : List ℕ) (outcome : Result Evaluated Failed)
-    → cost_after question makefile outcome ≤ cost_of outcome + 50000
+    → cost_after question makefile outcome ≤ cost_of outcome + UNITS
 most-asked few records (Variable asked) makefile (Ok evaluated) = most_with evaluated.cost (value_units (value_of evaluated.env makefile asked.name)) (few.values evaluated.env makefile asked.name)
 most-asked few records (Variable asked) makefile (Err failed) = omega arith
 most-asked few records (Record path) makefile (Ok evaluated) = most_by evaluated.kind evaluated.cost (record_units (record_of evaluated.env makefile)) (records evaluated.env makefile)
 most-asked few records (Record path) makefile (Err failed) = omega arith
 
--- the same in the turn that makes it, which had spent fewer than 1,000 before
-pub few-made : (before : Spent) (asked : Asked) (cost : ℕ) → cost ≤ cost_of asked.evaluation.value.outcome + 50000
-    → total_of (spent_in (Done asked)) < total_of before + 1000 → total_of (spent_on asked cost) ≤ total_of before + 51000
+-- the same in the turn that makes it, which had spent fewer than its units before
+pub few-made : (before : Spent) (asked : Asked) (cost : ℕ) → cost ≤ cost_of asked.evaluation.value.outcome + UNITS
+    → total_of (spent_in (Done asked)) < total_of before + TURN_UNITS → IsShort TURN_UNITS before (spent_on asked cost)
 few-made before asked cost most few = omega (arith, most, few)
 
 -- ---- turns of a refresh
 
-renewed_few : (old_count count old_cost cost begun_units begun_checks units checks : ℕ) → (begun_units + units) + cost ≤ old_cost → (begun_checks + checks) + 1028 * count ≤ 1028 * old_count
+renewed_few : (old_count count old_cost cost begun_units begun_checks units checks : ℕ) → (begun_units + units) + cost ≤ old_cost → (begun_checks + checks) + MOST_CHECKS * count ≤ MOST_CHECKS * old_count
     → open_turns count cost 0 ≤ open_turns old_count old_cost (begun_units + begun_checks)
 renewed_few old_count count old_cost cost begun_units begun_checks units checks pays few = omega (arith, pays, few)
 
-renewed_less : (old_count count old_cost cost begun_units begun_checks units checks : ℕ) → (begun_units + units) + cost ≤ old_cost → (begun_checks + checks) + 1028 * count ≤ 1028 * old_count
+renewed_less : (old_count count old_cost cost begun_units begun_checks units checks : ℕ) → (begun_units + units) + cost ≤ old_cost → (begun_checks + checks) + MOST_CHECKS * count ≤ MOST_CHECKS * old_count
     → 1 + count ≡ old_count → open_turns count cost 0 < open_turns old_count old_cost (begun_units + begun_checks)
 renewed_less old_count count old_cost cost begun_units begun_checks units checks pays few fewer = omega (arith, pays, few, fewer)
 
@@ -151,15 +146,15 @@ renews-less law world old new spent renewed some =
     (renewed_less (evaluations_left world old.rows) (evaluations_left world new.rows) (cost_left world old.rows) (cost_left world new.rows) old.begun.units old.begun.checks spent.units spent.checks
     pays.0 pays.1 fewer)
 
-begun_more : (old_units old_checks units checks new_units new_checks : ℕ) → new_units ≡ old_units + units → new_checks ≡ old_checks + checks → 1000 ≤ units + checks
-    → (old_units + old_checks) + 1000 ≤ new_units + new_checks
+begun_more : (old_units old_checks units checks new_units new_checks : ℕ) → new_units ≡ old_units + units → new_checks ≡ old_checks + checks → TURN_UNITS ≤ units + checks
+    → (old_units + old_checks) + TURN_UNITS ≤ new_units + new_checks
 begun_more old_units old_checks units checks new_units new_checks is same enough = omega (arith, is, same, enough)
 
-within_both : (units checks cost count : ℕ) → units ≤ cost → checks ≤ 1028 * count → units + checks ≤ cost + 1028 * count
+within_both : (units checks cost count : ℕ) → units ≤ cost → checks ≤ MOST_CHECKS * count → units + checks ≤ cost + MOST_CHECKS * count
 within_both units checks cost count one other = omega (arith, one, other)
 
 -- a path's evaluation went on
-pub goes-less : (world : World) (old new : RefreshView) (spent : Spent) → GoesOn world 1000 old new spent → turns_of_refresh world new < turns_of_refresh world old
+pub goes-less : (world : World) (old new : RefreshView) (spent : Spent) → GoesOn world TURN_UNITS old new spent → turns_of_refresh world new < turns_of_refresh world old
 goes-less world old new spent goes =
     let rows : old.rows ≡ new.rows = λ i path. sym (goes.rows path) i in
     subst (λ (rows : ShownRows). turns_of_refresh world new < open_turns (evaluations_left world rows) (cost_left world rows) (total_of old.begun)) (sym rows)
@@ -179,8 +174,14 @@ begins-few law world refresh question nothing =
     (left_takes_no_more world refresh.rows) (left_costs_no_more world refresh.rows) (law world (needed_paths world)))
 
 -- so much more is spent in a turn
-pub short-together : (before spent : Spent) → total_of spent ≤ 51000 → total_of (spent_together before spent) ≤ total_of before + 51000
-short-together before spent few = omega (arith, few)
+pub short-together : (before begun spent : Spent) → IsShort TURN_UNITS begun (spent_in_all begun spent) → IsShort TURN_UNITS before (spent_together before spent)
+short-together before begun spent few = omega (arith, few)
+
+-- what a turn of the refresh spends is little
+pub short-turn : (world : World) (old new : RefreshView) (before : Spent) (turned : Refreshed) → TakesTurn world TURN_UNITS old new turned → IsShort TURN_UNITS before (spent_together before (spent_by turned))
+short-turn world old new before (turned.Evaluated spent) takes = short-together before old.begun spent takes.short
+short-turn world old new before (turned.More spent) takes = short-together before old.begun spent takes.short
+short-turn world old new before turned.Done takes = omega arith
 
 -- and nothing is taken back
 pub up-together : (before spent : Spent) → before.units ≤ 2 ^ 64 - 1 → before.checks ≤ 2 ^ 64 - 1 → IsUpFrom before (spent_together before spent)

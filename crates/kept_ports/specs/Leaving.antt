@@ -8,6 +8,9 @@ use Rattle.index_store.specs.declared.path_rows.PathRows as rows
 use Rattle.read_trace.specs.Recording.{view_of}
 use Rattle.eval_cache.specs.Cache.{CacheValue}
 use Rattle.eval_cache.specs.Using.{UsesCache}
+use Rattle.index_store.specs.Entries.{Entries}
+use Rattle.index_keep.specs.Keeping.{rows_of}
+use Rattle.index_keep.specs.Turns.{StayFresh}
 use Rattle.index_keep.specs.declared.keeper.Keeper.{Keeper}
 use Rattle.kept_ports.specs.declared.keeping.KeptPorts.{KeptPorts}
 
@@ -16,9 +19,11 @@ module _ {F R : Type 0} {files : names.Ghosts F} {entries : rows.Ghosts R} (view
   abbrev pub world_at : KeptPorts F R files entries → World
   world_at ports = world_of (view_of view ports.files.now) ports.settings.now
 
-  -- The world stays, and so do the references to the keeper and to the cache. Some of what is kept was used, or nothing.
-  pub record LeavesPorts (old new : KeptPorts F R files entries) : Type 0 where
+  -- The world stays, and so do the references to the keeper and to the cache. Rows that were fresh are still. Some of what
+  -- is kept was used, or nothing.
+  pub record LeavesPorts (stored : R → Entries) (old new : KeptPorts F R files entries) : Type 0 where
     pub world : world_at new ≡ world_at old
+    pub fresh : StayFresh (world_at old) (rows_of stored old.keeper.now) (rows_of stored new.keeper.now)
     pub keeper : new.keeper.ghost_name ≡ old.keeper.ghost_name
     pub cache : new.cache.ghost_name ≡ old.cache.ghost_name
     pub uses : UsesCache old.cache.now new.cache.now

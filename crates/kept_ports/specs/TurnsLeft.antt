@@ -1,5 +1,6 @@
 -- How many turns may follow for a question, and how much one of them spends.
 use Rattle.std.specs.Prelude.{◌≡◌, ◌≤◌, ◌<◌, ◌+◌, ◌*◌, ◌-◌, ◌/◌, ℕ, length, Option, None, OnSome}
+use Rattle.turn_amounts.specs.declared.TheConstants.{MOST_CHECKS, TURN_UNITS}
 use Rattle.mk_paths.specs.Place.{place}
 use Rattle.mk_paths.specs.World.{World}
 use Rattle.ports_index.specs.Spending.{no_spending}
@@ -9,19 +10,19 @@ use Rattle.ports_plain.specs.declared.port_questions.PortQuestion.TheVariants.{V
 use Rattle.ports_plain.specs.declared.questions.Question.{Question}
 use Rattle.ports_plain.specs.declared.questions.Question.TheVariants.{OfPort}
 use Rattle.ports_plain.specs.Resting.{cost_for, rests_for}
-use Rattle.eval_ask.specs.Asking.{total_of}
+use Rattle.eval_ask.specs.Asking.{IsShort, total_of}
 use Rattle.index_keep.specs.Turns.{RefreshView, cost_left, evaluations_left}
 use Rattle.kept_ports.specs.declared.under_way.Turned.{Turned}
 use Rattle.kept_ports.specs.declared.under_way.Turned.TheVariants.{More, Done}
 use Rattle.kept_ports.specs.declared.under_way.Stage.{Stage}
 use Rattle.kept_ports.specs.declared.under_way.Stage.TheVariants.{Begun, Evaluating, Ready, Refreshing}
 use Rattle.kept_ports.specs.declared.under_way.UnderWay.{UnderWay}
-use Rattle.kept_ports.specs.Pending.{IsPending, TurnsQuestion, question_in}
+use Rattle.kept_ports.specs.Pending.{IsPending, RefreshesInTime, TurnsQuestion, question_in}
 
 -- How many turns may end without an answer, if so many makefiles are left to be evaluated at this cost, and so much of
--- that is spent. It is one for each of them, and one for each 1,000 of units and of answers that may be checked.
+-- that is spent. It is one for each of them, and one for as many units and answers that may be checked as a turn has units.
 abbrev pub open_turns : ℕ → ℕ → ℕ → ℕ
-open_turns evaluations cost spent = evaluations + (cost + 1028 * evaluations - spent) / 1000
+open_turns evaluations cost spent = evaluations + (cost + MOST_CHECKS * evaluations - spent) / TURN_UNITS
 
 -- the same for a question, of which so much is spent
 abbrev pub turns_after : World → Question → ℕ → ℕ
@@ -60,17 +61,13 @@ abbrev pub spent_after : Turned → Spent
 spent_after (More under_way) = under_way.spent
 spent_after (Done reply spent) = spent
 
--- no turn spends more units and checked answers than these: fewer than 1,000, and then those of its last thing
-abbrev pub SpendsFew : Spent → Turned → Type 0
-SpendsFew before came = total_of (spent_after came) ≤ total_of before + 51000
-
 -- A turn of a question that left the refresh of the index as far as this. So much was spent before it, and so many turns
 -- could come without an answer.
 pub record IsQuestionTurn (world : World) (refresh : RefreshView) (question : Question) (before : Spent) (turns : ℕ)
     (came : Turned) : Type 0 where
   pub turned : TurnsQuestion world refresh question before came
   pub fewer : LeavesFewer world refresh turns came
-  pub short : SpendsFew before came
+  pub short : IsShort TURN_UNITS before (spent_after came)
 
 -- a turn that ends an evaluation doesn't tell the record that is taken from it
 abbrev pub TellsNoRecord : PortQuestion → Turned → Type 0
@@ -91,10 +88,18 @@ TellsRecordLater world (Evaluating asked ask) came = TellsNoRecord asked came
 TellsRecordLater world (Ready asked reply) came = Unit {0}
 TellsRecordLater world (Refreshing asked) came = Unit {0}
 
+-- what a turn spent on the refresh of the index, if the question is as far as that
+abbrev pub TellsRefresh : World → RefreshView → RefreshView → Spent → Spent → Stage → Type 0
+TellsRefresh world old new before after (Begun asked) = Unit {0}
+TellsRefresh world old new before after (Evaluating asked ask) = Unit {0}
+TellsRefresh world old new before after (Ready asked reply) = Unit {0}
+TellsRefresh world old new before after (Refreshing asked) = RefreshesInTime world old new before after
+
 -- a turn for what was under way, by how far the refresh of the index was and is
 pub record TurnsOn (world : World) (old new : RefreshView) (under_way : UnderWay) (came : Turned) : Type 0 where
   pub turn : IsQuestionTurn world new (question_in under_way) under_way.spent (turns_left world old under_way) came
   pub later : TellsRecordLater world under_way.stage came
+  pub refresh : TellsRefresh world old new under_way.spent (spent_after came) under_way.stage
 
 -- A part of a turn in which anything was spent on the refresh leaves fewer such turns.
 abbrev pub RefreshesFewer : World → RefreshView → RefreshView → Option Spent → Type 0

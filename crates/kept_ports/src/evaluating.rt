@@ -11,8 +11,8 @@ ghost use Rattle.eval_cache.specs.Keys.{Key};
 ghost use Rattle.eval_cache.specs.Using.{UsesCache};
 ghost use Rattle.eval_cache.specs.Right.{evaluation_of};
 ghost use Rattle.ports_index.specs.Spending.{no_spending};
-ghost use Rattle.eval_ask.specs.Asking.{spent_in, AsksOn, CanGoOn, HasComeTo};
-ghost use Rattle.kept_ports.specs.Evaluating.{IsPortAsk, BeginsPortAsk, HasLooked};
+ghost use Rattle.eval_ask.specs.Asking.{spent_in, AsksOn, CanGoOn, HasComeTo, HasLooked};
+ghost use Rattle.kept_ports.specs.Evaluating.{IsPortAsk, BeginsPortAsk};
 
 use eval_ask::{Ask, AskTurned};
 use eval_cache::EvalCache;

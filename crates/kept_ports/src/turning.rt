@@ -1,16 +1,17 @@
 //! The turns for a question over ports whose index is kept.
-ghost use Rattle.std.specs.Prelude.{◌≡◌, ◌≤◌, ◌+◌, IfOk, IfSome, Ok, None, true, false};
+ghost use Rattle.std.specs.Prelude.{◌≡◌, ◌≤◌, IfOk, Ok, None, unwrap_or, true, false};
 ghost use Rattle.index_keep.specs.Keeping.{refresh_of, IsDone, TurnsKeeper};
 ghost use Rattle.mk_paths.specs.World.{World};
-ghost use Rattle.ports_index.specs.Spending.{no_spending};
-ghost use Rattle.ports_plain.specs.Resting.{path_asked};
+ghost use Rattle.ports_index.specs.Spending.{no_spending, spent_together};
+ghost use Rattle.ports_index.specs.declared.spending.Spent.{Spent};
+ghost use Rattle.ports_plain.specs.Resting.{pair_of, path_asked};
 ghost use Rattle.index_keep.specs.Turns.{RefreshView};
-ghost use Rattle.eval_ask.specs.Asking.{spent_in, total_of, IsUpFrom, SpendsTurn};
-ghost use Rattle.kept_ports.specs.Evaluating.{IsPortAsk, HasBegun, HasLooked};
+ghost use Rattle.eval_ask.specs.Asking.{spent_in, total_of, EvaluatesInTime, HasLooked, IsShort, IsUpFrom, SpendsTurn};
+ghost use Rattle.kept_ports.specs.Evaluating.{IsPortAsk, HasBegun};
 ghost use Rattle.kept_ports.specs.Leaving.{world_at, LeavesPorts};
-ghost use Rattle.kept_ports.specs.Pending.{IsPending, IsSpentOnIndex, RefreshesOn, is_of_record};
+ghost use Rattle.kept_ports.specs.Pending.{IsPending, IsSpentOnIndex, RefreshesInTime, RefreshesOn, is_of_record};
 ghost use Rattle.kept_ports.specs.TurnsLeft.{IsQuestionTurn, TurnsOn, RefreshesFewer, TellsNoRecord, TellsNoRecordAtOnce};
-ghost use Rattle.kept_ports.specs.TurnsLeft.{turns_after, turns_of_refresh};
+ghost use Rattle.kept_ports.specs.TurnsLeft.{spent_after, turns_after, turns_of_refresh};
 ghost use Rattle.ports_plain.specs.declared.questions.Question.TheVariants.{OfPort, OfIndex};
 
 use crate::evaluating::PortAsk;
@@ -26,9 +27,7 @@ use port_rules::records_cost_few;
 use ports_index::{Spent, makefiles_are_evaluated};
 use ports_plain::{IndexQuestion, PortQuestion, no_port};
 use std::alloc::{AllocError, Global};
-
-/// A turn acts while it has spent fewer than so many units, checked answers among them.
-const TURN_UNITS: u64 = 1_000;
+use turn_amounts::TURN_UNITS;
 
 impl<F: Listing + Drop, R: PathRows + Drop> KeptPorts<'_, F, R> {
     /// A turn for the question for which this is under way.
@@ -38,7 +37,7 @@ impl<F: Listing + Drop, R: PathRows + Drop> KeptPorts<'_, F, R> {
         ensures turn { IfOk result (TurnsOn (world_at F.view self.old)
             (refresh_of R.entries self.old.keeper.now) (refresh_of R.entries self.new.keeper.now)
             under_way) }
-        ensures leaves { LeavesPorts F.view self.old self.new }
+        ensures leaves { LeavesPorts F.view R.entries self.old self.new }
     {
         let UnderWay { stage, spent } = under_way;
         match stage {
@@ -55,7 +54,7 @@ impl<F: Listing + Drop, R: PathRows + Drop> KeptPorts<'_, F, R> {
             (world_at F.view self.old) refresh (OfPort question) no_spending
             (turns_after (world_at F.view self.old) (OfPort question) 0)) }
         ensures later { IfOk result (TellsNoRecordAtOnce (world_at F.view self.old) question) }
-        ensures leaves { LeavesPorts F.view self.old self.new }
+        ensures leaves { LeavesPorts F.view R.entries self.old self.new }
     {
         let path = question.path();
         match PortAsk::begin(alloc, self.cache, self.files, self.settings, path)? {
@@ -79,7 +78,7 @@ impl<F: Listing + Drop, R: PathRows + Drop> KeptPorts<'_, F, R> {
             (world_at F.view self.old) refresh (OfPort question) before
             (turns_after (world_at F.view self.old) (OfPort question) (total_of before))) }
         ensures later { IfOk result (TellsNoRecord question) }
-        ensures leaves { LeavesPorts F.view self.old self.new }
+        ensures leaves { LeavesPorts F.view R.entries self.old self.new }
     {
         let units = left_of(TURN_UNITS, before, ask.spent());
         let ask = ask.turn(alloc, self.cache, self.files, units)?;
@@ -99,7 +98,10 @@ impl<F: Listing + Drop, R: PathRows + Drop> KeptPorts<'_, F, R> {
         ensures turn { IfOk result (IsQuestionTurn (world_at F.view self.old)
             (refresh_of R.entries self.new.keeper.now) (OfIndex question) before
             (turns_of_refresh (world_at F.view self.old) (refresh_of R.entries self.old.keeper.now))) }
-        ensures leaves { LeavesPorts F.view self.old self.new }
+        ensures told { IfOk result (λ came. RefreshesInTime (world_at F.view self.old)
+            (refresh_of R.entries self.old.keeper.now) (refresh_of R.entries self.new.keeper.now)
+            before (spent_after came)) }
+        ensures leaves { LeavesPorts F.view R.entries self.old self.new }
     {
         makefiles_are_evaluated();
         match self.refresh(alloc)? {
@@ -124,9 +126,11 @@ impl<F: Listing + Drop, R: PathRows + Drop> KeptPorts<'_, F, R> {
         ensures fewer { IfOk result (RefreshesFewer (world_at F.view self.old)
             (refresh_of R.entries self.old.keeper.now)
             (refresh_of R.entries self.new.keeper.now)) }
-        ensures short { IfOk result (λ spent. IfSome spent (λ some. total_of some ≤ 51000)) }
+        ensures told { (before : Spent) → IfOk result (λ spent. RefreshesInTime (world_at F.view self.old)
+            (refresh_of R.entries self.old.keeper.now) (refresh_of R.entries self.new.keeper.now)
+            before (spent_together before (unwrap_or spent no_spending))) }
         ensures done { result ≡ Ok None → IsDone self.new.keeper.now }
-        ensures leaves { LeavesPorts F.view self.old self.new }
+        ensures leaves { LeavesPorts F.view R.entries self.old self.new }
     {
         refreshing_pays();
         loop {
@@ -144,9 +148,9 @@ impl<F: Listing + Drop, R: PathRows + Drop> KeptPorts<'_, F, R> {
 
     // Takes a turn of the refresh of the index.
     fn refresh_once(&mut self, alloc: Global) -> Result<Refreshed, FilesFault>
-        ensures turn { IfOk result (TurnsKeeper R.entries (world_at F.view self.old) 1000
+        ensures turn { IfOk result (TurnsKeeper R.entries (world_at F.view self.old) TURN_UNITS
             (refresh_of R.entries self.old.keeper.now) self.new.keeper.now) }
-        ensures leaves { LeavesPorts F.view self.old self.new }
+        ensures leaves { LeavesPorts F.view R.entries self.old self.new }
     {
         self.keeper
             .refresh_turn(alloc, self.cache, self.files, self.settings, TURN_UNITS)
@@ -164,10 +168,11 @@ impl PortAsk {
     ) -> Result<Turned, AllocError>
         requires begun { HasBegun (path_asked question) self }
         requires up { IsUpFrom before (spent_in self.came) }
-        requires enough { SpendsTurn 1000 before self.came }
-        requires few { total_of (spent_in self.came) ≤ total_of before + 51000 }
+        requires enough { SpendsTurn TURN_UNITS before self.came }
+        requires few { IsShort TURN_UNITS before (spent_in self.came) }
         ensures turn { (world : World) (refresh : RefreshView)
             → IsPortAsk world (path_asked question) self
+            → EvaluatesInTime world (pair_of world (path_asked question)) TURN_UNITS before (spent_in self.came)
             → IfOk result (IsQuestionTurn world refresh (OfPort question) before
             (turns_after world (OfPort question) (total_of before))) }
         ensures later { IfOk result (TellsNoRecord question) }

@@ -3,9 +3,9 @@ ghost use Rattle.std.specs.Prelude.{◌≡◌, IfOk};
 ghost use Rattle.mk_paths.specs.FilesView.{world_of};
 ghost use Rattle.eval_cache.specs.Using.{UsesCache};
 ghost use Rattle.ports_index.specs.Spending.{no_spending};
-ghost use Rattle.index_keep.specs.Keeping.{IsKept, refresh_of};
+ghost use Rattle.index_keep.specs.Keeping.{IsKept, refresh_of, rows_of};
 ghost use Rattle.kept_ports.specs.Pending.{IsPending};
-ghost use Rattle.index_keep.specs.Turns.{RefreshView};
+ghost use Rattle.index_keep.specs.Turns.{RefreshView, StayFresh};
 ghost use Rattle.mk_paths.specs.World.{World};
 ghost use Rattle.ports_plain.specs.declared.questions.Question.TheVariants.{OfPort, OfIndex};
 ghost use Rattle.kept_ports.specs.TurnsLeft.{Begins, TurnsOn};
@@ -85,12 +85,12 @@ impl UnderWay {
     /// the cache keeps, if the files agree with it, and else a new one. Nothing of the world is changed.
     ///
     /// A turn without a reply leaves fewer turns to come that have none. No turn spends more than 51,000 units and
-    /// checked answers.
+    /// checked answers. What a turn takes off the units that the index has left is told, unless evaluations were kept.
     ///
     /// # Errors
     ///
     /// It is the fault of the files or of the rows if they fail, and `Memory` if memory runs out. The keeper stays right
-    /// about the world.
+    /// about the world, and rows that were fresh are fresh still.
     pub fn turn<F: Listing + Drop, R: PathRows + Drop>(
         self,
         alloc: Global,
@@ -105,6 +105,8 @@ impl UnderWay {
         ensures turn { IfOk result (TurnsOn (world_of (F.view files) settings.now)
             (refresh_of R.entries keeper.old) (refresh_of R.entries keeper.new) self) }
         ensures kept { IsKept R.entries (world_of (F.view files) settings.now) keeper.new }
+        ensures fresh { StayFresh (world_of (F.view files) settings.now)
+            (rows_of R.entries keeper.old) (rows_of R.entries keeper.new) }
         ensures uses { UsesCache cache.old cache.new }
     {
         let mut files = Recorder::new(alloc, files, Trace::new(alloc));

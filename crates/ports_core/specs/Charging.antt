@@ -1,5 +1,6 @@
 -- What is told as spent on a request, in the turn that answers it and in the turns before.
 use Rattle.std.specs.Prelude.{◌≡◌, ℕ, ◌+◌, ◌<◌, ◌≤◌, MatchBool, MatchOption, List, [], ◌∷◌, slice_get, Option, Some, None}
+use Rattle.turn_amounts.specs.declared.TheConstants.{MOST_SPENT}
 use Rattle.mk_paths.specs.World.{World}
 use Rattle.ports_index.specs.declared.spending.Spent.{Spent}
 use Rattle.ports_index.specs.Spending.{no_spending, spent_together, ChecksFew}
@@ -30,9 +31,9 @@ pub record MayHaveHad (world : World) (request : RequestMessage) (had : Job) : T
   pub units : had.units ≤ cost world (plain_request_of request)
   pub checks : ChecksFew (evaluations world (plain_request_of request)) had.checks
 
--- what one turn may spend: at most 51,000 units and checks together
+-- what one turn may spend, units and checks together
 abbrev pub FitsTurn : Spent → Type 0
-FitsTurn spent = spent.units + spent.checks ≤ 51000
+FitsTurn spent = spent.units + spent.checks ≤ MOST_SPENT
 
 -- What is told as spent with a reply, if so much was spent before: nothing with 503. Else it is, with that together,
 -- what is spent on the request.

@@ -1,5 +1,6 @@
 -- What is spent to learn something of a world, if some evaluations may be kept already.
 use Rattle.std.specs.Prelude.{◌≡◌, ◌⊎◌, ℕ, ◌+◌, ◌-◌, ◌*◌, ◌≤◌, List, length, Option, Some, None, option_to_list}
+use Rattle.turn_amounts.specs.declared.TheConstants.{MOST_CHECKS}
 use Rattle.mk_paths.specs.World.{World}
 use Rattle.mk_eval.specs.Meaning.{means}
 use Rattle.mk_eval.specs.Sharing.{cost_of}
@@ -22,10 +23,9 @@ evaluation_cost world (Some pair) = cost_of (means world pair.makefile pair.flav
 abbrev pub evaluations_of : Option Pair → ℕ
 evaluations_of pair = length (option_to_list pair)
 
--- At most 1,028 answers are checked for each of so many evaluations: those of four traces, each with the answer
--- about the makefile and those to 256 questions.
+-- For each of so many evaluations no more answers are checked than one look checks.
 abbrev pub ChecksFew : ℕ → ℕ → Type 0
-ChecksFew evaluations checks = checks ≤ 1028 * evaluations
+ChecksFew evaluations checks = checks ≤ MOST_CHECKS * evaluations
 
 -- What is spent to learn what costs so many units, of which one evaluation takes some: all of them. Or the evaluation
 -- was kept, as at least one answer shows that was checked; then what it takes isn't spent.

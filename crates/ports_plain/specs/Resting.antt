@@ -1,6 +1,7 @@
 -- What the answer to a request rests on: which makefiles are evaluated for it, and what that costs.
 use Rattle.std.specs.Prelude.{◌≢◌, ℕ, ◌+◌, ◌*◌, ◌/◌, List, [], AllPairs, length, Option, Some, None, option_map}
 use Rattle.std.specs.Prelude.{option_to_list, Result, Ok, Err}
+use Rattle.turn_amounts.specs.declared.TheConstants.{MOST_CHECKS, TURN_UNITS}
 use Rattle.mk_paths.specs.Place.{place}
 use Rattle.mk_paths.specs.SearchPath.{IsSearchPath}
 use Rattle.mk_paths.specs.World.{World, search_path_of}
@@ -107,10 +108,11 @@ abbrev pub cost : World → PlainRequest → ℕ
 cost world request = cost_for world (question_of request)
 
 -- Within so many of its tenant's own turns a request that asks this is told its reply. It is one for that, one for each
--- makefile that is evaluated, and one for each 1,000 of the units that it costs and the answers that may be checked.
+-- makefile that is evaluated, and one for as many units that it costs and answers that may be checked as a turn has units.
 abbrev pub turns_for : World → Question → ℕ
 turns_for world question =
-    1 + length (rests_for world question) + (cost_for world question + 1028 * length (rests_for world question)) / 1000
+    1 + length (rests_for world question)
+    + (cost_for world question + MOST_CHECKS * length (rests_for world question)) / TURN_UNITS
 
 -- the same of a request
 abbrev pub most_turns : World → PlainRequest → ℕ

@@ -3,3 +3,4 @@ mod WorldLemmas
 mod JobLemmas
 mod TurnLemmas
 mod ShareLemmas
+mod RowLemmas

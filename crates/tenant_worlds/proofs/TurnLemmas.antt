@@ -1,6 +1,7 @@
 -- What a turn of a tenant's request leaves.
 use Rattle.std.proofs.Common.{◌≡◌, ◌≤◌, ◌<◌, ◌+◌, ◌*◌, ◌-◌, ◌∙◌, ap, subst, sym, arith, ℕ, length, Option}
 use Rattle.std.specs.Prelude.{◌/◌, Bool}
+use Rattle.turn_amounts.specs.declared.TheConstants.{MOST_CHECKS, TURN_UNITS}
 use Rattle.mk_paths.specs.World.{World}
 use Rattle.ports_index.specs.declared.spending.Spent.{Spent}
 use Rattle.ports_plain.specs.Resting.{cost_for, rests_for, turns_for}
@@ -17,7 +18,7 @@ use Rattle.tenant_worlds.specs.declared.tenant.TenantJob.{TenantJob}
 use Rattle.tenant_worlds.specs.Kept.{IsJobOver, seen_job}
 use Rattle.tenant_worlds.specs.Turning.{WorksFor}
 
-most_first : (left evaluations cost : ℕ) → left ≤ open_turns evaluations cost 0 → 0 + left < 1 + evaluations + (cost + 1028 * evaluations) / 1000
+most_first : (left evaluations cost : ℕ) → left ≤ open_turns evaluations cost 0 → 0 + left < 1 + evaluations + (cost + MOST_CHECKS * evaluations) / TURN_UNITS
 most_first left evaluations cost few = omega (arith, few)
 
 -- a question before its first turn
@@ -39,7 +40,7 @@ new-had world refresh question under_way job is begins =
     ∙ ap (λ (s : Spent). let had : Job = record { turns = 0; units = s.units; checks = s.checks } in had) begins.nothing
 
 -- and it is for the question
-new-question : (world : World) (refresh : RefreshView) (question : Question) (under_way : UnderWay) (job : TenantJob) → job ≡ record { turns = 0; under_way = under_way }
+pub new-question : (world : World) (refresh : RefreshView) (question : Question) (under_way : UnderWay) (job : TenantJob) → job ≡ record { turns = 0; under_way = under_way }
     → Begins world refresh question under_way → question_in job.under_way ≡ question
 new-question world refresh question under_way job is begins = ap (λ (j : TenantJob). question_in j.under_way) is ∙ begins.asked
 

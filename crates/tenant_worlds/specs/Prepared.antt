@@ -3,7 +3,8 @@ use Rattle.std.specs.Prelude.{◌≡◌, IfOk, IfSome, IsSome}
 use Rattle.mk_paths.specs.World.{World, FileMap}
 use Rattle.eval_cache.specs.Using.{UsesCache}
 use Rattle.index_store.specs.PortTable.{stored_by}
-use Rattle.index_keep.specs.Keeping.{refresh_of, IsKept}
+use Rattle.index_keep.specs.Keeping.{refresh_of, rows_of, IsKept}
+use Rattle.index_keep.specs.Turns.{StayFresh}
 use Rattle.kept_ports.specs.Pending.{IsPending}
 use Rattle.kept_ports.specs.TurnsLeft.{TurnsOn}
 use Rattle.kept_ports.specs.declared.under_way.UnderWay.{UnderWay}
@@ -26,11 +27,13 @@ IsTurnOf files old new under_way =
     IfSome new.turn.now.turned (λ turned. IfOk turned (TurnsOn (world_asked files old)
     (refresh_of stored_by old.keeper.now) (refresh_of stored_by new.keeper.now) under_way))
 
--- A turn was taken over these files. The keeper is still right. Some of what is kept in the cache was used, or nothing.
+-- A turn was taken over these files. The keeper is still right, and rows that were fresh are fresh. Some of what is kept in
+-- the cache was used, or nothing.
 pub record IsAsked (files : FileMap) (old new : Asking) : Type 0 where
   pub taken : IsSome new.turn.now.turned
   pub turn : IfSome old.turn.now.under_way (IsTurnOf files old new)
   pub kept : IsKept stored_by (world_asked files old) new.keeper.now
+  pub fresh : StayFresh (world_asked files old) (rows_of stored_by old.keeper.now) (rows_of stored_by new.keeper.now)
   pub keeper : new.keeper.ghost_name ≡ old.keeper.ghost_name
   pub place : new.turn.ghost_name ≡ old.turn.ghost_name
   pub cache : new.cache.ghost_name ≡ old.cache.ghost_name

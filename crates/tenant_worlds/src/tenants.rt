@@ -3,8 +3,11 @@ ghost use Rattle.std.specs.Prelude.{◌≡◌, ◌≢◌, ◌<◌, ℕ, [], ◌�
 ghost use Rattle.std.specs.Prelude.{IfOk, OnOk, OnErr};
 ghost use Rattle.eval_cache.specs.Using.{UsesCache};
 ghost use Rattle.mk_paths.specs.World.{opening_world};
+ghost use Rattle.ports_plain.specs.Questions.{question_of};
+ghost use Rattle.ports_core.specs.Answering.{plain_request_of};
 ghost use Rattle.ports_core.specs.Jobs.{IsForRequest};
 ghost use Rattle.tenant_worlds.specs.Kept.{AreRight, IsIdle, IsRight, HaveNoJob, HaveOpeningWorlds, KeepJobs, KeepWorlds, job_at, world_at};
+ghost use Rattle.tenant_worlds.specs.Marking.{LeaveRowsAt};
 ghost use Rattle.tenant_worlds.specs.Turning.{WorksOn};
 
 use crate::tenant::Tenant;
@@ -88,6 +91,7 @@ pub(crate) fn turn_at(
         incoming.now (job_at number tenants.old) (job_at number tenants.new)) }
     ensures err { OnErr result (world_at number tenants.new ≡ world_at number tenants.old) }
     ensures dropped { OnErr result (job_at number tenants.new ≡ None) }
+    ensures rows { LeaveRowsAt number (question_of (plain_request_of incoming.now.request.now)) tenants.old tenants.new }
     ensures count { length tenants.new ≡ length tenants.old }
     ensures right { AreRight tenants.new }
     ensures same { (other : ℕ) → other ≢ number

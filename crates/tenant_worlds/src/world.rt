@@ -11,7 +11,8 @@ ghost use Rattle.index_keep.specs.Keeping.{refresh_of, rows_of};
 ghost use Rattle.kept_ports.specs.Pending.{IsPending, question_in};
 ghost use Rattle.kept_ports.specs.TurnsLeft.{TurnsOn};
 ghost use Rattle.tenant_worlds.specs.Kept.{IsIdle, IsJobOver, IsRight, job_of, seen_job, world_of};
-ghost use Rattle.tenant_worlds.specs.Marking.{Marks, MarksIfAny, MarksAtMost};
+ghost use Rattle.index_keep.specs.Turns.{StayFresh};
+ghost use Rattle.tenant_worlds.specs.Marking.{LeavesRowsOf, Marks, MarksIfAny, MarksAtMost};
 ghost use Rattle.tenant_worlds.specs.Turning.{WorksFor, WorksOn};
 
 use crate::asking::{Asking, Turn};
@@ -41,7 +42,8 @@ impl Tenant {
     /// connection closes, and are made before the world changes.
     ///
     /// It fails if the store of the files or that of the index fails, or if memory runs out; then the world has
-    /// not changed, and there is no job. Whatever happens, the tenant's keeper is right about the world.
+    /// not changed, and there is no job. Whatever happens, the tenant's keeper is right about the world. Rows of the index
+    /// that were fresh are stale only if the request changes what they rest on.
     pub(crate) fn take_turn(
         &mut self,
         alloc: Global,
@@ -53,6 +55,7 @@ impl Tenant {
         ensures works { IfOk result (WorksOn (world_of self.old) (world_of self.new)
             incoming.now (job_of self.old) (job_of self.new)) }
         ensures err { OnErr result (IsIdle (world_of self.old) self.new) }
+        ensures rows { LeavesRowsOf (question_of (plain_request_of incoming.now.request.now)) self.old self.new }
         ensures right { IsRight self.new }
         ensures uses { UsesCache cache.old cache.new }
     {
@@ -75,6 +78,7 @@ impl Tenant {
         ensures works { IfOk result (WorksFor (world_of self.old) (world_of self.new)
             (question_of (plain_request_of incoming.now.request.now)) incoming.now.close no_job (job_of self.new)) }
         ensures err { OnErr result (IsIdle (world_of self.old) self.new) }
+        ensures rows { LeavesRowsOf (question_of (plain_request_of incoming.now.request.now)) self.old self.new }
         ensures right { IsRight self.new }
         ensures uses { UsesCache cache.old cache.new }
     {
@@ -117,6 +121,7 @@ impl Tenant {
         ensures works { IfOk result (WorksFor (world_of self.old) (world_of self.new)
             (question_in job.under_way) close (seen_job job).had (job_of self.new)) }
         ensures err { OnErr result (IsIdle (world_of self.old) self.new) }
+        ensures rows { LeavesRowsOf (question_in job.under_way) self.old self.new }
         ensures right { IsRight self.new }
         ensures uses { UsesCache cache.old cache.new }
     {
@@ -150,6 +155,8 @@ impl Tenant {
         requires pending { IsPending (world_of self.old) (refresh_of stored_by self.old.keeper) under_way }
         ensures turn { IfOk result (TurnsOn (world_of self.old)
             (refresh_of stored_by self.old.keeper) (refresh_of stored_by self.new.keeper) under_way) }
+        ensures fresh { StayFresh (world_of self.old)
+            (rows_of stored_by self.old.keeper) (rows_of stored_by self.new.keeper) }
         ensures idle { IsIdle (world_of self.old) self.new }
         ensures right { IsRight self.new }
         ensures uses { UsesCache cache.old cache.new }

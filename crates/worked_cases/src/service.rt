@@ -17,12 +17,7 @@ use ports_script::read_script;
 use std::alloc::{AllocError, Global};
 use std::fmt::Write;
 use tenant_worlds::StoredTenants;
-
-/// A turn acts while it has spent fewer than so many units and checked answers.
-const TURN_UNITS: u64 = 1_000;
-
-/// The most answers that are checked for one makefile.
-const MOST_CHECKS: u64 = 1_028;
+use turn_amounts::{MOST_CHECKS, TURN_UNITS};
 
 /// The service over worlds in one store.
 pub type StoredService = Service<StoredTenants>;

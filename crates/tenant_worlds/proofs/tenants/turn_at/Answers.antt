@@ -4,8 +4,13 @@ use Rattle.std.specs.Prelude.{option_map, slice_set}
 use Rattle.mk_paths.specs.World.{World}
 use Rattle.ports_core.specs.Jobs.{TenantJob, IsForRequest}
 use Rattle.tenant_worlds.specs.Kept.{IsIdle, job_of, job_at, seen_job, world_of, world_at}
+use Rattle.std.proofs.lemmas.Option.{slice_get-get_or}
+use Rattle.ports_plain.specs.Questions.{question_of}
+use Rattle.ports_core.specs.Answering.{plain_request_of}
+use Rattle.tenant_worlds.specs.declared.tenant.Tenant.{Tenant}
+use Rattle.tenant_worlds.specs.Marking.{LeavesRowsOf}
 use Rattle.tenant_worlds.specs.Turning.{WorksOn}
-use Rattle.tenant_worlds.proofs.KeptLemmas.{get-set_other, right_at, set_right}
+use Rattle.tenant_worlds.proofs.KeptLemmas.{get-set_other, get-set_same, right_at, set_right, some_same}
 use Rattle.tenant_worlds.proofs.JobLemmas.{job_set, job_there}
 use Rattle.tenant_worlds.proofs.WorldLemmas.{if_ok, if_err, world_set, world_there}
 use Rattle.tenant_worlds.proofs.tenants.turn_at.Goals as goal
@@ -43,6 +48,18 @@ returns-clause-dropped c =
     if_err c.take_turn.result
     (λ (is : IsIdle (world_of (get_or c.args.tenants.now c.args.number c.index-tenants-number.result)) c.take_turn.new.self).
     job_set c.args.tenants.now c.args.number c.take_turn.new.self c.requires.there ∙ ap (option_map seen_job) is.none) c.take_turn.ensures.err
+
+pub returns-clause-rows : goal.returns-clause-rows
+returns-clause-rows c = λ before after was becomes.
+    let tenants = c.args.tenants.now in
+    let number = c.args.number in
+    let any = c.index-tenants-number.result in
+    let old = get_or tenants number any in
+    let new = c.take_turn.new.self in
+    let question = question_of (plain_request_of c.args.incoming.now.request.now) in
+    let was_old : old ≡ before = some_same (sym (slice_get-get_or tenants number any c.requires.there) ∙ was) in
+    let is_new : new ≡ after = some_same (sym (get-set_same tenants number new c.requires.there) ∙ becomes) in
+    subst (λ (one : Tenant). LeavesRowsOf question one after) was_old (subst (λ (one : Tenant). LeavesRowsOf question old one) is_new c.take_turn.ensures.rows)
 
 pub returns-clause-right : goal.returns-clause-right
 returns-clause-right c = set_right c.args.tenants.now c.args.number c.take_turn.new.self c.requires.there c.requires.right c.take_turn.ensures.right

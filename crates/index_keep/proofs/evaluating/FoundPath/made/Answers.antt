@@ -1,6 +1,7 @@
 -- The names are those of the place's questions, and then of the evaluation's.
 use Rattle.std.proofs.Common.{◌≡◌, ◌≤◌, ◌+◌, ◌++◌, ◌∙◌, ap, ap₂, arith, subst, sym, List, Option, ℕ, map, string_bytes}
 use Rattle.std.proofs.lemmas.List.{map-append}
+use Rattle.mk_base.specs.declared.metering.TheConstants.{UNITS}
 use Rattle.mk_paths.specs.FilesView.{Question}
 use Rattle.mk_eval.specs.Sharing.{cost_of}
 use Rattle.read_trace.specs.declared.evaluating.Evaluation.{Evaluation}
@@ -24,8 +25,8 @@ returns-clause-row c =
     c.in_ok-add_names.ensures ∙ ap₂ (λ first more. first ++ more) placed (ap names_in (c.questions-2.ensures ∙ ap (λ (evaluation : Evaluation). evaluation.trace) c.deref-2.ensures)) in
     ap₂ (λ (found : Finding) (names : List (List ℕ)). let row : RowValue = record { outcome = found.outcome; cost = found.cost; names = names } in row) found (names ∙ sym (map-append (λ (question : Question). question.0) c.args.self.placed c.args.asked.now.evaluation.value.trace))
 
-few_spent : (asked : Asked) (cost : ℕ) (spent : Spent) → spent ≡ spent_on asked cost → cost ≤ cost_of asked.evaluation.value.outcome + 50000
-    → total_of spent ≤ (asked.units + asked.checks) + 50000
+few_spent : (asked : Asked) (cost : ℕ) (spent : Spent) → spent ≡ spent_on asked cost → cost ≤ cost_of asked.evaluation.value.outcome + UNITS
+    → total_of spent ≤ (asked.units + asked.checks) + UNITS
 few_spent asked cost spent is most = omega (arith, ap (λ (s : Spent). s.units) is, ap (λ (s : Spent). s.checks) is, most)
 
 pub returns-clause-few : goal.returns-clause-few
@@ -34,4 +35,4 @@ returns-clause-few c =
     let found : finding_seen c.in_ok-row.row ≡ finding_of_evaluation c.args.self.makefile (flavors_of c.args.self.named) asked.evaluation.value.outcome = c.in_ok-row.ensures ∙ ap₂ (λ (flavors : Option (List (List ℕ))) (evaluation : Evaluation). finding_of_evaluation c.args.self.makefile flavors evaluation.outcome) c.flavors.ensures c.deref.ensures in
     let most = most-found c.evaluations_cost_few.ensures c.records_cost_few.ensures c.args.self.makefile (flavors_of c.args.self.named) asked.evaluation.value.outcome in
     few_spent asked _ c.spent_on-spent.result c.spent_on-spent.ensures
-    (subst (λ n. n ≤ cost_of asked.evaluation.value.outcome + 50000) (sym (ap (λ (finding : Finding). finding.cost) found)) most)
+    (subst (λ n. n ≤ cost_of asked.evaluation.value.outcome + UNITS) (sym (ap (λ (finding : Finding). finding.cost) found)) most)

@@ -1,13 +1,12 @@
 -- The makefile is found where the path says, and its evaluation is asked for in the same files.
-use Rattle.std.proofs.Common.{◌≡◌, ◌≤◌, ◌+◌, ◌∙◌, ℕ, ap, refl, subst, sym, arith, IfOk, Bor, map, option_map, string_bytes, List, String, Global}
+use Rattle.std.proofs.Common.{◌≡◌, ◌∙◌, ℕ, ap, inl, refl, subst, sym, arith, IfOk, Bor, map, option_map, string_bytes, List, String, Global}
 use Rattle.mk_paths.specs.Place.{place, places_asked}
 use Rattle.mk_paths.specs.World.{World, FileMap}
 use Rattle.eval_cache.specs.Keys.{key_for}
 use Rattle.ports_index.specs.declared.spending.Spent.{Spent}
 use Rattle.read_trace.specs.Recording.{view_of}
 use Rattle.ports_index.specs.Spending.{no_spending}
-use Rattle.eval_ask.specs.Asking.{HasComeTo, HasOnlyLooked, IsUpFrom, spent_in, total_of}
-use Rattle.eval_ask.specs.declared.asking.AskTurned.{AskTurned}
+use Rattle.eval_ask.specs.Asking.{HasComeTo, HasLooked, IsShort, IsUpFrom, spent_in}
 use Rattle.index_keep.specs.Paths.{IsNamed, IsFoundAt, IsPathAsk, TurnsPath, absent_row}
 use Rattle.index_keep.specs.Right.{names_in}
 use Rattle.index_keep.specs.declared.evaluating.FoundPath.{FoundPath}
@@ -15,10 +14,7 @@ use Rattle.index_keep.specs.declared.evaluating.PathAsk.{PathAsk}
 use Rattle.index_keep.proofs.MadeLemmas.{IsMade-none, IsMade-absent, IsFoundAt-placed}
 use Rattle.index_keep.proofs.evaluating.PathAsk.begin.Goals as goal
 
-few_looked : (came : AskTurned) (before : Spent) → before ≡ no_spending → HasOnlyLooked came → total_of (spent_in came) ≤ total_of before + 50000
-few_looked came before none looked = omega (arith, looked.units, looked.checks)
-
-short_absent : (units : ℕ) (spent : Spent) → spent ≡ no_spending → total_of spent ≤ total_of no_spending + (units + 50000)
+short_absent : (units : ℕ) (spent : Spent) → spent ≡ no_spending → IsShort units no_spending spent
 short_absent units spent none = omega (arith, ap (λ (s : Spent). s.units) none, ap (λ (s : Spent). s.checks) none)
 
 pub returns-in_default-clause-turns : goal.returns-in_default-clause-turns
@@ -28,6 +24,7 @@ returns-in_default-clause-turns g c =
     record {
       come = IsMade-none world (string_bytes c.args.path) c.absent-made.result named c.absent-made.ensures.path
           (c.absent-made.ensures.row ∙ ap (λ (items : List (String Global)). absent_row (map string_bytes items)) c.new.ensures.items) c.absent-made.ensures.spent;
+      in_time = inl c.absent-made.ensures.spent;
       short = short_absent c.args.units c.absent-made.result.spent c.absent-made.ensures.spent;
     }
 
@@ -42,6 +39,7 @@ returns-in_default-makefile-clause-turns g c =
     record {
       come = IsMade-absent world (string_bytes c.args.path) c.in-Some.named is c.in_ok-makefile.placed asked c.in_ok-makefile.ensures.answered c.absent-made-in_default-makefile.result none absent.path
           (absent.row ∙ ap absent_row (c.in_ok-names.ensures ∙ ap names_in c.questions.ensures)) absent.spent;
+      in_time = inl absent.spent;
       short = short_absent c.args.units c.absent-made-in_default-makefile.result.spent absent.spent;
     }
 
@@ -51,7 +49,7 @@ go_on-requires g c =
     record {
       begun = record { key = key; come = subst (λ (f : FileMap). HasComeTo f key c.in_ok-ask.ask) (sym c.in_ok-ask.ensures.leaves.0) c.in_ok-ask.ensures.asks.comes };
       up = subst (λ (before : Spent). IsUpFrom before (spent_in c.in_ok-ask.ask)) (sym c.nothing.ensures) (record { units = omega arith; checks = omega arith });
-      few = few_looked c.in_ok-ask.ask c.nothing.result c.nothing.ensures c.in_ok-ask.ensures.asks.looked;
+      looked = subst (λ (before : Spent). HasLooked before c.in_ok-ask.ask) (sym c.nothing.ensures) c.in_ok-ask.ensures.asks.looked;
     }
 
 pub returns-clause-turns : goal.returns-clause-turns

@@ -6,9 +6,10 @@ use Rattle.read_trace.specs.Recording.{view_of}
 use Rattle.index_keep.specs.declared.keeper.Progress.{Progress}
 use Rattle.index_keep.specs.declared.keeper.Progress.TheVariants.{Changed, Walking, Asking}
 use Rattle.index_keep.specs.Shown.{shown, no_name, ShowsSame}
-use Rattle.index_keep.specs.Keeping.{changed_in, begun_in, rows_of, IsKept, IsProgress, IsAskOnTheWay, TurnsKeeper}
+use Rattle.ports_index.specs.Spending.{no_spending}
+use Rattle.index_keep.specs.Keeping.{changed_in, begun_in, refresh_of, rows_of, IsKept, IsProgress, IsAskOnTheWay, TurnsKeeper}
 use Rattle.index_keep.specs.Right.{AreKept}
-use Rattle.index_keep.specs.Turns.{refresh_at}
+use Rattle.index_keep.specs.Turns.{RefreshView, refresh_at}
 use Rattle.index_keep.specs.Walking.{IsOnTheWay}
 use Rattle.index_keep.proofs.KeepLemmas.{AreKept-same, OnErr-map, OnErr-and, OnOk-or, drops-forgotten, IsProgress-taken}
 use Rattle.index_keep.proofs.ShownLemmas.{shown-same}
@@ -27,6 +28,18 @@ walk_on-requires g c =
       far = begun.walk c.args.settings.now;
     } in
     subst (λ (files : FileMap). let w : World = (files, c.args.settings.now) in IsOnTheWay w (shown no_name (entries c.begun.new.self.rows)) c.in_ok-walk-in-Changed.walk) (sym begun.leaves.files) there
+
+pub returns-in_ok-walk-in-Changed-clause-turn : goal.returns-in_ok-walk-in-Changed-clause-turn
+returns-in_ok-walk-in-Changed-clause-turn g c =
+    let entries = g.R.PathRows.entries in
+    let rows = entries c.args.self.now.rows in
+    let middle = shown no_name (entries c.begun.new.self.rows) in
+    let is : c.args.self.now.progress ≡ Changed c.in-Changed.names = sym c.replace.ensures.value ∙ c.in-Changed.is in
+    let begun = c.in_ok-walk-in-Changed.ensures in
+    let same : ShowsSame (rows_of entries c.args.self.now) middle = λ path. begun.ok.0 path ∙ sym (ap (λ (p : Progress). shown (changed_in p) rows path) is) in
+    let first : refresh_at middle no_spending ≡ refresh_of entries c.args.self.now = λ i. refresh_at (λ path. same path i) (ap begun_in (sym is) i) in
+    subst (λ (old : RefreshView). IfOk c.walk_on.result (TurnsKeeper entries (world_of (view_of g.F.Names.view c.args.files.now) c.args.settings.now) c.args.units old c.walk_on.new.self)) first
+    (subst (λ (files : FileMap). let w : World = (files, c.args.settings.now) in IfOk c.walk_on.result (TurnsKeeper entries w c.args.units (refresh_at middle no_spending) c.walk_on.new.self)) begun.leaves.files c.walk_on.ensures.turn)
 
 pub returns-in_ok-walk-in-Changed-clause-err : goal.returns-in_ok-walk-in-Changed-clause-err
 returns-in_ok-walk-in-Changed-clause-err g c =

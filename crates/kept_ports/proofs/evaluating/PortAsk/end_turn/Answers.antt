@@ -10,35 +10,38 @@ use Rattle.port_rules.specs.Records.{RecordsCostFew}
 use Rattle.ports_http.specs.Messages.{ReplyMessage}
 use Rattle.ports_index.specs.declared.spending.Spent.{Spent}
 use Rattle.ports_plain.specs.Answers.{reply_after}
-use Rattle.ports_plain.specs.Resting.{path_asked, cost_after}
+use Rattle.ports_plain.specs.Resting.{pair_of, path_asked, cost_after}
 use Rattle.ports_plain.specs.Spending.{SpendsFor}
 use Rattle.ports_plain.specs.declared.port_questions.PortQuestion.{PortQuestion}
 use Rattle.ports_plain.specs.declared.port_questions.PortQuestion.TheVariants.{Variable, Record}
 use Rattle.ports_plain.specs.declared.questions.Question.TheVariants.{OfPort}
 use Rattle.eval_cache.specs.Keys.{key_for}
-use Rattle.eval_ask.specs.Asking.{AskingSpends, HasComeTo, IsAnswerTo, IsUpFrom, spent_in, spent_on, total_of}
+use Rattle.mk_base.specs.declared.metering.TheConstants.{UNITS}
+use Rattle.turn_amounts.specs.declared.TheConstants.{TURN_UNITS}
+use Rattle.eval_ask.specs.Asking.{AskingSpends, EvaluatesInTime, HasComeTo, IsAnswerTo, IsShort, IsUpFrom, spent_in, spent_on, total_of}
 use Rattle.eval_ask.specs.declared.asking.Asked.{Asked}
 use Rattle.eval_ask.specs.declared.asking.AskTurned.{AskTurned}
 use Rattle.eval_ask.specs.declared.asking.AskTurned.TheVariants.{Done}
-use Rattle.kept_ports.specs.Pending.{ActsForValue, Answers, StaysWithin, is_of_record}
-use Rattle.kept_ports.proofs.PortLemmas.{acts, goes_on, made-answers, made-spends, made-up, made-within}
+use Rattle.kept_ports.specs.Pending.{ActsForValue, Answers, RepliesInTime, StaysWithin, is_of_record}
+use Rattle.kept_ports.proofs.PortLemmas.{acts, goes_on, made-answers, made-in-time, made-spends, made-up, made-within}
 use Rattle.kept_ports.proofs.TurnsLemmas.{all-acted, may-act, few-made, fewer-after, most-asked, some-left}
 use Rattle.kept_ports.proofs.evaluating.PortAsk.end_turn.Goals as goal
 use Rattle.kept_ports.proofs.evaluating.PortAsk.end_turn.Goals.{else-not-takes_record-via-then-not-takes_record+else-left_of-gt0, else-not-takes_record-via-else-not-takes_record}
 
 pub returns-then-left_of-eq0-clause-turn : goal.returns-then-left_of-eq0-clause-turn
-returns-then-left_of-eq0-clause-turn c = λ world refresh is.
+returns-then-left_of-eq0-clause-turn c = λ world refresh is in_time.
     let before = c.args.before in
     let evaluated = c.spent-evaluated.result in
     let so_far = c.spent-evaluated.ensures.is in
     let up = subst (IsUpFrom before) (sym so_far) c.requires.up in
     let more = all-acted before evaluated c.left_of.result up c.left_of.ensures grind (arith, nat_tests, c.if-left_of-eq0.true) in
     let turned = goes_on world refresh c.args.question c.args.self before evaluated is so_far (omega arith)
-    (c.spent-evaluated.ensures.within (files_in world) (key_for world.1 c.args.self.makefile (path_asked c.args.question).flavors) is.came) up more in
+    (c.spent-evaluated.ensures.within (files_in world) (key_for world.1 c.args.self.makefile (path_asked c.args.question).flavors) is.came) up more
+    (subst (EvaluatesInTime world (pair_of world (path_asked c.args.question)) TURN_UNITS before) (sym so_far) in_time) in
     record {
       turned = turned;
       fewer = fewer-after world (OfPort c.args.question) before evaluated more turned.within;
-      short = subst (λ (s : Spent). total_of s ≤ total_of before + 51000) (sym so_far) c.requires.few;
+      short = subst (IsShort TURN_UNITS before) (sym so_far) c.requires.few;
     }
 
 -- what was made of an evaluation that is at its end
@@ -63,11 +66,16 @@ module _ (world : World) (question : PortQuestion) (makefile : List ℕ) (before
   made_answers : (reply : ReplyMessage) → reply ≡ reply_after question makefile asked.evaluation.value.outcome → Answers world (OfPort question) reply
   made_answers reply reply_is = made-answers world question makefile asked placed answer cost cost_is reply reply_is
 
-  made_few : CostFew → RecordsCostFew → (evaluated : Spent) → evaluated ≡ spent_in came → total_of evaluated < total_of before + 1000 → total_of spent ≤ total_of before + 51000
+  made_few : CostFew → RecordsCostFew → (evaluated : Spent) → evaluated ≡ spent_in came → total_of evaluated < total_of before + TURN_UNITS → IsShort TURN_UNITS before spent
   made_few few records evaluated evaluated_is less =
-      subst (λ (s : Spent). total_of s ≤ total_of before + 51000) (sym spent_is)
-      (few-made before asked cost (subst (λ (n : ℕ). n ≤ cost_of asked.evaluation.value.outcome + 50000) (sym cost_is) (most-asked few records question makefile asked.evaluation.value.outcome))
-      (subst (λ (s : Spent). total_of s < total_of before + 1000) (evaluated_is ∙ ap spent_in is) less))
+      subst (IsShort TURN_UNITS before) (sym spent_is)
+      (few-made before asked cost (subst (λ (n : ℕ). n ≤ cost_of asked.evaluation.value.outcome + UNITS) (sym cost_is) (most-asked few records question makefile asked.evaluation.value.outcome))
+      (subst (λ (s : Spent). total_of s < total_of before + TURN_UNITS) (evaluated_is ∙ ap spent_in is) less))
+
+  made_in_time : (evaluated : Spent) → evaluated ≡ spent_in came → total_of evaluated < total_of before + TURN_UNITS → RepliesInTime world question before spent
+  made_in_time evaluated evaluated_is less =
+      subst (RepliesInTime world question before) (sym spent_is)
+      (made-in-time world question makefile asked placed answer cost cost_is before (subst (λ (s : Spent). total_of s < total_of before + TURN_UNITS) (evaluated_is ∙ ap spent_in is) less))
 
 acts-record : (question : PortQuestion) (before after : Spent) → is_of_record question ≡ true → ActsForValue (OfPort question) before after
 acts-record (Variable asked) before after is = absurd cc
@@ -82,7 +90,7 @@ left_of-requires-then-not-takes_record c =
     c.requires.begun.is.placed c.requires.begun.is.came c.requires.up c.in-Done.is (omega arith) cost c.spent_on-spent.ensures
 
 pub returns-then-left_of-gt0-clause-turn : goal.returns-then-left_of-gt0-clause-turn
-returns-then-left_of-gt0-clause-turn c = λ world refresh is.
+returns-then-left_of-gt0-clause-turn c = λ world refresh is in_time.
     let question = c.args.question in
     let makefile = c.args.self.makefile in
     let before = c.args.before in
@@ -93,8 +101,12 @@ returns-then-left_of-gt0-clause-turn c = λ world refresh is.
     let reply = c.in_ok-reply.ensures.reply ∙ ap (λ (e : Evaluation). reply_after question makefile e.outcome) c.deref.ensures in
     let up = made_up world question makefile before came asked c.in_ok-reply.cost spent is.placed is.came c.requires.up c.in-Done.is (omega arith) cost c.spent_on-spent.ensures in
     let few = may-act before spent c.left_of-then-not-takes_record.result up c.left_of-then-not-takes_record.ensures (grind (arith, nat_tests, c.if-left_of-gt0.true)) in
+    let evaluated_up = subst (IsUpFrom before) (sym c.spent-evaluated.ensures.is) c.requires.up in
     record {
       turned = record {
+        in_time = made_in_time world question makefile before came asked c.in_ok-reply.cost spent is.placed is.came c.requires.up c.in-Done.is (omega arith) cost c.spent_on-spent.ensures
+            c.spent-evaluated.result c.spent-evaluated.ensures.is
+            (may-act before c.spent-evaluated.result c.left_of.result evaluated_up c.left_of.ensures (grind (arith, nat_tests, c.if-left_of-eq0.false)));
         answer = made_answers world question makefile before came asked c.in_ok-reply.cost spent is.placed is.came c.requires.up c.in-Done.is (omega arith) cost c.spent_on-spent.ensures c.in_ok-reply.reply reply;
         up = up;
         charged = made_charged world question makefile before came asked c.in_ok-reply.cost spent is.placed is.came c.requires.up c.in-Done.is (omega arith) cost c.spent_on-spent.ensures c.asking_spends.ensures;
@@ -104,7 +116,7 @@ returns-then-left_of-gt0-clause-turn c = λ world refresh is.
     }
 
 pub returns-clause-turn : goal.returns-clause-turn
-returns-clause-turn c = λ world refresh is.
+returns-clause-turn c = λ world refresh is in_time.
     let question = c.args.question in
     let makefile = c.args.self.makefile in
     let before = c.args.before in
@@ -117,6 +129,9 @@ returns-clause-turn c = λ world refresh is.
     let evaluated_up = subst (IsUpFrom before) (sym c.spent-evaluated.ensures.is) c.requires.up in
     record {
       turned = record {
+        in_time = made_in_time world question makefile before came asked c.in_ok-reply.cost spent is.placed is.came c.requires.up c.in-Done.is (omega arith) cost c.spent_on-spent.ensures
+            c.spent-evaluated.result c.spent-evaluated.ensures.is
+            (may-act before c.spent-evaluated.result c.left_of.result evaluated_up c.left_of.ensures (grind (arith, nat_tests, c.if-left_of-eq0.false)));
         same = refl;
         pending = (
           made_answers world question makefile before came asked c.in_ok-reply.cost spent is.placed is.came c.requires.up c.in-Done.is (omega arith) cost c.spent_on-spent.ensures c.in_ok-reply.reply reply,

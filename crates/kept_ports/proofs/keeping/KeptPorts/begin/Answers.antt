@@ -5,9 +5,8 @@ use Rattle.mk_paths.specs.World.{World, FileMap}
 use Rattle.ports_index.specs.Spending.{no_spending}
 use Rattle.ports_index.specs.declared.spending.Spent.{Spent}
 use Rattle.ports_plain.specs.declared.questions.Question.TheVariants.{OfPort}
-use Rattle.eval_ask.specs.Asking.{total_of}
+use Rattle.eval_ask.specs.Asking.{HasLooked, total_of}
 use Rattle.kept_ports.specs.Leaving.{world_at}
-use Rattle.kept_ports.specs.Evaluating.{HasLooked}
 use Rattle.kept_ports.specs.TurnsLeft.{IsQuestionTurn, TellsNoRecord, TellsNoRecordAtOnce, turns_after}
 use Rattle.kept_ports.specs.declared.evaluating.PortAsk.{PortAsk}
 use Rattle.std.proofs.lemmas.Result.{IfOk-weaker}

@@ -4,7 +4,9 @@ use Rattle.ports_index.specs.declared.spending.Spent.{Spent}
 use Rattle.ports_plain.specs.Resting.{path_asked}
 use Rattle.eval_ask.specs.Asking.{IsUpFrom, spent_in}
 use Rattle.kept_ports.specs.Leaving.{world_at}
-use Rattle.kept_ports.proofs.TurnsLemmas.{enough-looked, short-looked}
+use Rattle.turn_amounts.specs.declared.TheConstants.{TURN_UNITS}
+use Rattle.kept_ports.proofs.PortLemmas.{few-on, in-time-on}
+use Rattle.kept_ports.proofs.TurnsLemmas.{enough-looked}
 use Rattle.kept_ports.proofs.keeping.KeptPorts.evaluate_on.Goals as goal
 
 up-on : (first next last : Spent) → IsUpFrom first next → IsUpFrom next last → IsUpFrom first last
@@ -13,7 +15,7 @@ up-on first next last up more = record { units = omega (arith, up.units, more.un
 pub end_turn-requires : goal.end_turn-requires
 end_turn-requires g c =
     let before = c.args.before in
-    let units_is = c.left_of-units.ensures ∙ ap (λ (s : Spent). 1000 - ((s.units - before.units) + (s.checks - before.checks))) c.spent.ensures.is in
+    let units_is = c.left_of-units.ensures ∙ ap (λ (s : Spent). TURN_UNITS - ((s.units - before.units) + (s.checks - before.checks))) c.spent.ensures.is in
     record {
       begun = record {
         world = world_at g.F.Names.view c.args.self.now;
@@ -21,10 +23,14 @@ end_turn-requires g c =
       };
       up = up-on before (spent_in c.args.ask.came) (spent_in c.in_ok-ask.ask.came) c.requires.up c.in_ok-ask.ensures.turns.up;
       enough = enough-looked before c.args.ask.came c.in_ok-ask.ask.came _ c.requires.looked c.requires.up units_is c.in_ok-ask.ensures.turns.enough;
-      few = short-looked before c.args.ask.came c.in_ok-ask.ask.came _ c.requires.looked c.requires.up units_is c.in_ok-ask.ensures.turns.short;
+      few = few-on (world_at g.F.Names.view c.args.self.now) c.args.question before c.args.ask c.in_ok-ask.ask.came _ c.requires.ask c.requires.looked c.requires.up units_is c.in_ok-ask.ensures.turns;
     }
 
 pub returns-clause-turn : goal.returns-clause-turn
 returns-clause-turn g c = λ refresh.
-    c.in_ok-end_turn.ensures.turn (world_at g.F.Names.view c.args.self.now) refresh
+    let world = world_at g.F.Names.view c.args.self.now in
+    let before = c.args.before in
+    let units_is = c.left_of-units.ensures ∙ ap (λ (s : Spent). TURN_UNITS - ((s.units - before.units) + (s.checks - before.checks))) c.spent.ensures.is in
+    c.in_ok-end_turn.ensures.turn world refresh
     (c.in_ok-ask.ensures.goes_on c.args.self.now.settings.now (path_asked c.args.question) c.requires.ask)
+    (in-time-on world c.args.question before c.args.ask c.in_ok-ask.ask.came _ c.requires.ask c.requires.looked c.requires.up units_is c.in_ok-ask.ensures.turns)

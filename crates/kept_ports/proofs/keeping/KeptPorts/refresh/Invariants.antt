@@ -6,13 +6,15 @@ use Rattle.ports_index.specs.declared.spending.Spent.{Spent}
 use Rattle.kept_ports.specs.Leaving.{world_at, LeavesPorts}
 use Rattle.kept_ports.specs.Pending.{IsSpentOnIndex}
 use Rattle.kept_ports.specs.TurnsLeft.{turns_of_refresh}
+use Rattle.kept_ports.proofs.SpendingLemmas.{PaidSoFar}
 use Rattle.kept_ports.proofs.keeping.KeptPorts.refresh.Given as goal
 
 abbrev pub invariant-loop-spent : goal.invariant-loop-spent
 invariant-loop-spent g l =
     let world = world_at g.F.Names.view l.initial.self in
     record {
-      leaves : LeavesPorts g.F.Names.view l.initial.self l.self;
+      leaves : LeavesPorts g.F.Names.view g.R.PathRows.entries l.initial.self l.self;
+      paid : PaidSoFar world (refresh_of g.R.PathRows.entries l.initial.self.keeper.now) (refresh_of g.R.PathRows.entries l.self.keeper.now);
       spent : (before : Spent) → IsSpentOnIndex world (refresh_of g.R.PathRows.entries l.initial.self.keeper.now) before
           → IsSpentOnIndex world (refresh_of g.R.PathRows.entries l.self.keeper.now) before;
       few : turns_of_refresh world (refresh_of g.R.PathRows.entries l.self.keeper.now)

@@ -24,13 +24,13 @@ module _ (world : World) (old new : RefreshView) (under_way : UnderWay) (questio
       → TellsNoRecordAtOnce world question came → TurnsOn world old new under_way came
   begun is nothing turn later =
       subst (λ (stage : Stage). TurnsOn world old new (record { stage = stage; spent = under_way.spent }) came) (sym is)
-      (subst (λ (spent : Spent). TurnsOn world old new (record { stage = Begun question; spent = spent }) came) (sym nothing) (record { turn = turn; later = later }))
+      (subst (λ (spent : Spent). TurnsOn world old new (record { stage = Begun question; spent = spent }) came) (sym nothing) (record { turn = turn; later = later; refresh = tt }))
 
   evaluating : (ask : PortAsk) → under_way.stage ≡ Evaluating question ask
       → IsQuestionTurn world new (OfPort question) under_way.spent (turns_after world (OfPort question) (total_of under_way.spent)) came
       → TellsNoRecord question came → TurnsOn world old new under_way came
   evaluating ask is turn later =
-      subst (λ (stage : Stage). TurnsOn world old new (record { stage = stage; spent = under_way.spent }) came) (sym is) (record { turn = turn; later = later })
+      subst (λ (stage : Stage). TurnsOn world old new (record { stage = stage; spent = under_way.spent }) came) (sym is) (record { turn = turn; later = later; refresh = tt })
 
 pub returns-in-Begun-clause-turn : goal.returns-in-Begun-clause-turn
 returns-in-Begun-clause-turn g c =

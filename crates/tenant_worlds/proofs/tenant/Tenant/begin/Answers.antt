@@ -1,14 +1,18 @@
 -- The job that begins is one for the request's question, and has had nothing.
-use Rattle.std.proofs.Common.{◌≡◌, ◌∙◌, ap, ap₂, sym}
+use Rattle.std.proofs.Common.{◌∙◌, ap, ap₂, subst, sym}
 use Rattle.ports_http.specs.Messages.{RequestMessage}
 use Rattle.index_store.specs.PortTable.{stored_by}
-use Rattle.index_keep.specs.Keeping.{refresh_of}
+use Rattle.index_keep.specs.Keeping.{refresh_of, rows_of}
 use Rattle.ports_plain.specs.Plain.{plain_request}
+use Rattle.ports_plain.specs.Answers.{answer_to}
 use Rattle.ports_plain.specs.Questions.{question_of}
+use Rattle.ports_plain.specs.declared.questions.Question.{Question}
 use Rattle.ports_plain.specs.declared.questions.Question.TheVariants.{OfPort, OfIndex}
 use Rattle.ports_core.specs.Answering.{plain_request_of}
 use Rattle.tenant_worlds.specs.Kept.{job_of, world_of}
-use Rattle.tenant_worlds.proofs.TurnLemmas.{begun-works, new-job}
+use Rattle.tenant_worlds.specs.Marking.{LeavesRows, LeavesRowsOf}
+use Rattle.tenant_worlds.proofs.RowLemmas.{fresh-after}
+use Rattle.tenant_worlds.proofs.TurnLemmas.{begun-works, new-job, new-question}
 use Rattle.tenant_worlds.proofs.WorldLemmas.{if_ok}
 use Rattle.tenant_worlds.proofs.tenant.Tenant.begin.Goals as goal
 
@@ -47,3 +51,29 @@ returns-in-OfIndex-clause-works c =
     (λ worked. begun-works world (world_of c.work_on-in-OfIndex.new.self) refresh (OfIndex c.in-OfIndex.asked) _ c.of_index.result c.new-job-in-OfIndex.result c.args.incoming.now.close
     (job_of c.work_on-in-OfIndex.new.self) worked c.new-job-in-OfIndex.ensures (c.of_index.ensures world refresh c.stop.ensures.begun) asked)
     c.work_on-in-OfIndex.ensures.works
+
+pub returns-in-OfPort-clause-rows : goal.returns-in-OfPort-clause-rows
+returns-in-OfPort-clause-rows c =
+    let world = world_of c.args.self.now in
+    let refresh = refresh_of stored_by c.args.self.now.keeper in
+    let asked = sym c.in-OfPort.is ∙ c.in_ok-prepared.ensures
+    ∙ ap₂ (λ target body. question_of (plain_request c.request.inside.method target body)) c.as_str-target.ensures.value c.as_slice.ensures.value
+    ∙ ap (λ (request : RequestMessage). question_of (plain_request_of request)) c.request.view_is in
+    subst (λ (question : Question). LeavesRowsOf question c.args.self.now c.work_on.new.self)
+    (new-question world refresh (OfPort c.in-OfPort.asked) c.of_port.result c.new-job.result c.new-job.ensures (c.of_port.ensures world refresh) ∙ asked) c.work_on.ensures.rows
+
+pub returns-in-OfIndex-clause-rows : goal.returns-in-OfIndex-clause-rows
+returns-in-OfIndex-clause-rows c =
+    let world = world_of c.args.self.now in
+    let refresh = refresh_of stored_by c.stop.new.self in
+    let old = rows_of stored_by c.args.self.now.keeper in
+    let middle = rows_of stored_by c.stop.new.self in
+    let new = rows_of stored_by c.work_on-in-OfIndex.new.self.keeper in
+    let asked = sym c.in-OfIndex.is ∙ c.in_ok-prepared.ensures
+    ∙ ap₂ (λ target body. question_of (plain_request c.request.inside.method target body)) c.as_str-target.ensures.value c.as_slice.ensures.value
+    ∙ ap (λ (request : RequestMessage). question_of (plain_request_of request)) c.request.view_is in
+    let fresh =
+    subst (λ (question : Question). LeavesRows world (answer_to world question).1 middle new)
+    (new-question world refresh (OfIndex c.in-OfIndex.asked) c.of_index.result c.new-job-in-OfIndex.result c.new-job-in-OfIndex.ensures (c.of_index.ensures world refresh c.stop.ensures.begun))
+    c.work_on-in-OfIndex.ensures.rows in
+    subst (λ (question : Question). LeavesRows world (answer_to world question).1 old new) asked (fresh-after world old middle new c.stop.ensures.rows fresh)

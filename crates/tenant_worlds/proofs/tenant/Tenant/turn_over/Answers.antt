@@ -4,12 +4,13 @@ use Rattle.std.specs.Prelude.{IfOk, IfSome}
 use Rattle.mk_paths.specs.World.{World}
 use Rattle.mk_paths.specs.declared.asking.FilesFault.{FilesFault}
 use Rattle.index_store.specs.PortTable.{stored_by}
-use Rattle.index_keep.specs.Keeping.{IsKept, refresh_of}
-use Rattle.index_keep.specs.Turns.{RefreshView, refresh_at}
+use Rattle.index_keep.specs.Keeping.{IsKept, refresh_of, rows_of}
+use Rattle.index_keep.specs.Turns.{RefreshView, StayFresh, refresh_at}
 use Rattle.kept_ports.specs.TurnsLeft.{TurnsOn}
 use Rattle.kept_ports.specs.declared.under_way.Turned.{Turned}
 use Rattle.tenant_worlds.specs.Kept.{IsRight}
 use Rattle.tenant_worlds.proofs.KeptLemmas.{idle_right}
+use Rattle.tenant_worlds.proofs.RowLemmas.{fresh-before}
 use Rattle.tenant_worlds.proofs.tenant.Tenant.turn_over.Goals as goal
 
 pub returns-clause-turn : goal.returns-clause-turn
@@ -25,6 +26,15 @@ returns-clause-turn c =
     c.ask_tenant.ensures.asked.turn in
     subst (λ (r : RefreshView). IfOk c.in-Some.turned (TurnsOn world old r c.args.under_way)) (sym refresh_is)
     (subst (λ (w : World). IfOk c.in-Some.turned (TurnsOn w old (refresh_of stored_by kept) c.args.under_way)) world_is turned)
+
+pub returns-clause-fresh : goal.returns-clause-fresh
+returns-clause-fresh c =
+    let world : World = c.args.self.now.store in
+    let asked_in : World = (c.args.self.now.store.0, c.args.self.now.settings) in
+    let world_is : asked_in ≡ world = λ i. (c.args.self.now.store.0, c.requires.right.settings i) in
+    let old = rows_of stored_by c.args.self.now.keeper in
+    let kept = rows_of stored_by c.ask_tenant.new.self.keeper.now in
+    fresh-before world old kept (rows_of stored_by c.put_away.new.self) (subst (λ (w : World). StayFresh w old kept) world_is c.ask_tenant.ensures.asked.fresh) c.put_away.ensures.rows
 
 pub returns-clause-right : goal.returns-clause-right
 returns-clause-right c =
