@@ -1,5 +1,5 @@
 -- What a change of a file, and what is known of changes, makes of rows; and what is left of a refresh.
-use Rattle.std.proofs.Common.{◌≡◌, ◌⊎◌, inl, inr, ◌∙◌, sym, ap, subst, refl, ℕ, ◌+◌, Bool, true, false, ◌||◌, if◌then◌else◌, List, [], ◌∷◌, Result, Ok, Err, OnOk, OnErr, Option, Some, None, is_some, is_none, option_map, option_and_then, String, Global, string_bytes}
+use Rattle.std.proofs.Common.{◌≡◌, ◌⊎◌, inl, inr, ◌∙◌, sym, ap, subst, refl, ℕ, ◌+◌, Bool, true, false, ◌||◌, if◌then◌else◌, List, [], ◌∷◌, Result, Ok, Err, OnOk, OnErr, Option, Some, None, IfSome, is_some, is_none, option_map, option_and_then, String, Global, string_bytes}
 use Rattle.std.proofs.lemmas.Bool.{false≢true, or_right}
 use Rattle.std.proofs.lemmas.Slice.Eq.{bytes_eq-Decides}
 use Rattle.std.specs.BTreeSet.{BTreeSet, contains_text, keys}
@@ -16,6 +16,8 @@ use Rattle.ports_index.specs.Efforts.{lacking}
 use Rattle.ports_index.specs.declared.spending.Spent.{Spent}
 use Rattle.ports_index.specs.Filling.{is_one_of, Fills}
 use Rattle.ports_index.specs.Index.{needed_paths}
+use Rattle.ports_index.specs.Known.{IsIndexOf}
+use Rattle.ports_index.specs.declared.known_index.KnownIndex.{KnownIndex}
 use Rattle.ports_index.specs.PathLaws.{PathIsTheSameWhereAnswered}
 use Rattle.ports_index.specs.PathOutcomes.{PathOutcome, Finding, finding_at, outcome_at}
 use Rattle.ports_index.specs.PathQuestions.{questions_at}
@@ -24,11 +26,12 @@ use Rattle.row_text.specs.Rows.{RowValue, row_of}
 use Rattle.index_store.specs.Entries.{StoredValue, Entries}
 use Rattle.index_keep.specs.declared.keeper.Progress.{Progress}
 use Rattle.index_keep.specs.declared.keeper.Progress.TheVariants.{Changed, Walking, Asking, Current, AtHand}
-use Rattle.index_keep.specs.Shown.{ShownRow, ShownRows, shown, show_row, show_stored, asked_one, no_name, fresh, fresh_outcome, stale_if_asked, ShowsSame}
+use Rattle.index_keep.specs.Shown.{ShownRow, ShownRows, shown, show_row, show_stored, asked_one, no_name, fresh, fresh_outcome, said_in_row, stale_if_asked, ShowsSame}
+use Rattle.index_keep.specs.Last.{IsLast, SaysAll}
 use Rattle.index_keep.specs.Right.{names_in, row_with, IsRightRow, AreKept, AreCurrent, HaveFresh, DifferAt, RenewsOneOf, fresh_row}
 use Rattle.ports_index.specs.Spending.{no_spending}
 use Rattle.index_keep.specs.Turns.{DropsTurn, refresh_at}
-use Rattle.index_keep.specs.Keeping.{changed_in, begun_in, IsKept, IsProgress, HasForgotten, IsDropped, Halts}
+use Rattle.index_keep.specs.Keeping.{changed_in, begun_in, last_in, DropsTo, IsKept, IsProgress, HasForgotten, Halts, Stops}
 use Rattle.index_keep.specs.declared.keeper.Keeper.{Keeper}
 use Rattle.index_keep.proofs.ShownLemmas.{shown-test}
 
@@ -110,40 +113,46 @@ pub none_among : (names : BTreeSet (String Global)) → keys names ≡ [] → (n
 none_among names none name = ap (list_any (λ (one : String Global). is_eq (slice_cmp nat_cmp name (string_bytes one)))) none
 
 pub forgotten : (progress : Progress) → HasForgotten progress → (name : List ℕ) → changed_in progress name ≡ no_name name
-forgotten (Changed names) none name = none_among names none name
+forgotten (Changed names last) none name = none_among names none.0 name
 forgotten (Walking walk) none name = absurd none
 forgotten (Asking walk ask) none name = absurd none
-forgotten (Current listed) none name = absurd none
+forgotten (Current paths) none name = absurd none
 forgotten (AtHand index) none name = absurd none
 
 begun-forgotten : (progress : Progress) → HasForgotten progress → begun_in progress ≡ no_spending
-begun-forgotten (Changed names) none = refl
+begun-forgotten (Changed names last) none = refl
 begun-forgotten (Walking walk) none = absurd none
 begun-forgotten (Asking walk ask) none = absurd none
-begun-forgotten (Current listed) none = absurd none
+begun-forgotten (Current paths) none = absurd none
 begun-forgotten (AtHand index) none = absurd none
 
 -- ---- a refresh that is stopped
 
 pub shown-halted : (entries : Entries) (old new : Progress) → Halts old new → ShowsSame (shown (changed_in old) entries) (shown (changed_in new) entries)
-shown-halted entries (Changed names) new is path = ap (λ (p : Progress). shown (changed_in p) entries path) is
+shown-halted entries (Changed names last) new is path = ap (λ (p : Progress). shown (changed_in p) entries path) is
 shown-halted entries (Walking walk) new none path = shown-test (changed_in new) no_name entries (forgotten new none) path
 shown-halted entries (Asking walk ask) new none path = shown-test (changed_in new) no_name entries (forgotten new none) path
-shown-halted entries (Current listed) new is path = ap (λ (p : Progress). shown (changed_in p) entries path) is
+shown-halted entries (Current paths) new is path = ap (λ (p : Progress). shown (changed_in p) entries path) is
 shown-halted entries (AtHand index) new is path = ap (λ (p : Progress). shown (changed_in p) entries path) is
 
 pub IsProgress-forgotten : (world : World) (rows : ShownRows) (progress : Progress) → HasForgotten progress → IsProgress world rows progress
-IsProgress-forgotten world rows (Changed names) none = tt
+IsProgress-forgotten world rows (Changed names last) none = subst (λ (l : Option KnownIndex). IfSome l (IsLast (contains_text names) rows)) (sym none.1) tt
 IsProgress-forgotten world rows (Walking walk) none = absurd none
 IsProgress-forgotten world rows (Asking walk ask) none = absurd none
-IsProgress-forgotten world rows (Current listed) none = absurd none
+IsProgress-forgotten world rows (Current paths) none = absurd none
 IsProgress-forgotten world rows (AtHand index) none = absurd none
 
+-- a refresh that goes on as before, or not at all, over rows that are shown the same
+pub IsProgress-stopped : (world : World) (rows new : ShownRows) (old after : Progress) → Stops old after → ShowsSame rows new → IsProgress world rows old → IsProgress world new after
+IsProgress-stopped world rows new old after (inl same) shows is =
+    subst (λ (p : Progress). IsProgress world new p) (sym same) (subst (λ (r : ShownRows). IsProgress world r old) (λ i path. sym (shows path) i) is)
+IsProgress-stopped world rows new old after (inr none) shows is = IsProgress-forgotten world new after none
+
 either-halted : (old new : Progress) → Halts old new → HasForgotten new ⊎ (new ≡ old)
-either-halted (Changed names) new is = inr is
+either-halted (Changed names last) new is = inr is
 either-halted (Walking walk) new none = inl none
 either-halted (Asking walk ask) new none = inl none
-either-halted (Current listed) new is = inr is
+either-halted (Current paths) new is = inr is
 either-halted (AtHand index) new is = inr is
 
 pub IsKept-halted : {R : Type 0} (entries : R → Entries) (world : World) (rows : R) (old new : Progress) → Halts old new
@@ -156,13 +165,6 @@ IsKept-halted {R = R} entries world rows old new halts kept = elim (either-halte
   }
   | inr same ↦ subst (λ (p : Progress). let keeper : Keeper R = record { rows = rows; progress = p } in IsKept entries world keeper) (sym same) kept
 ]
-
-pub IsProgress-dropped : (world : World) (rows : ShownRows) (progress : Progress) → IsDropped progress → IsProgress world rows progress
-IsProgress-dropped world rows (Changed names) dropped = tt
-IsProgress-dropped world rows (Walking walk) dropped = absurd dropped
-IsProgress-dropped world rows (Asking walk ask) dropped = absurd dropped
-IsProgress-dropped world rows (Current listed) dropped = absurd dropped
-IsProgress-dropped world rows (AtHand index) dropped = absurd dropped
 
 module _ (name : List ℕ) (one more : List ℕ → Bool) (is : (other : List ℕ) → more other ≡ (bytes_eq name other || one other)) where
   either : (a b c d : Bool) → ((a || b) || (c || d)) ≡ ((b || c) || (a || d))
@@ -199,6 +201,74 @@ module _ (name : List ℕ) (one more : List ℕ → Bool) (is : (other : List �
   -- one name more has changed
   pub shown-more : (entries : Entries) (path : List ℕ) → shown more entries path ≡ option_map (stale_if_asked name) (shown one entries path)
   shown-more entries path = stored_more (entries path)
+
+  shown_said : (row : Option ShownRow) → option_map said_in_row (option_map (stale_if_asked name) row) ≡ option_map said_in_row row
+  shown_said None = refl
+  shown_said (Some row) = refl
+
+  still_there : (row : Option ShownRow) → is_some (option_map (stale_if_asked name) row) ≡ is_some row
+  still_there None = refl
+  still_there (Some row) = refl
+
+  module _ (old new : ShownRows) (index : KnownIndex) (noted : (path : List ℕ) → new path ≡ option_map (stale_if_asked name) (old path)) (last : IsLast one old index) where
+    stale_at : (path : List ℕ) (before : Option ShownRow) → old path ≡ before → (row : ShownRow) → option_map (stale_if_asked name) before ≡ Some row → row.stale ≡ asked_one more row.row
+    stale_at path None was row is = absurd cc
+    stale_at path (Some before) was row is =
+        let same : stale_if_asked name before ≡ row = cc in
+        subst (λ (r : ShownRow). r.stale ≡ asked_one more r.row) same
+        (ap (λ b. b || asked_one (λ asked. bytes_eq name asked) before.row) (last.stale path before was) ∙ sym (asked_more before.row.names))
+
+    -- an index of before the last changes is one of before this change too
+    pub IsLast-noted : IsLast more new index
+    IsLast-noted = record {
+      says = λ path. last.says path ∙ sym (ap (option_map said_in_row) (noted path) ∙ shown_said (old path));
+      paths = λ path. ap is_some (noted path) ∙ still_there (old path) ∙ last.paths path;
+      stale = λ path row is. stale_at path (old path) refl row (sym (noted path) ∙ is);
+    }
+
+-- ---- an index at hand is the last one, once a name has changed
+
+asked_nobody : (names : List (List ℕ)) → list_any no_name names ≡ false
+asked_nobody [] = refl
+asked_nobody (name ∷ names) = asked_nobody names
+
+module _ (world : World) (rows : ShownRows) (index : KnownIndex) (current : AreCurrent world rows) (is : IsIndexOf world index) (says : SaysAll rows index.rows) where
+  there_if : (path : List ℕ) (needed : Bool) → is_some (if needed then Some (fresh_row world path) else None) ≡ needed
+  there_if path true = refl
+  there_if path false = refl
+
+  fresh_if : (path : List ℕ) (needed : Bool) (row : ShownRow) → (if needed then Some (fresh_row world path) else None) ≡ Some row → row.stale ≡ asked_one no_name row.row
+  fresh_if path true row same =
+      let one : fresh_row world path ≡ row = cc in
+      subst (λ (r : ShownRow). r.stale ≡ asked_one no_name r.row) one (sym (asked_nobody (fresh_row world path).row.names))
+  fresh_if path false row same = absurd cc
+
+  pub IsLast-current : IsLast no_name rows index
+  IsLast-current = record {
+    says = says;
+    paths = λ path. ap is_some (current.each path) ∙ there_if path (is_one_of path (needed_paths world)) ∙ ap (is_one_of path) (sym is.paths.needed);
+    stale = λ path row there. fresh_if path (is_one_of path (needed_paths world)) row (sym (current.each path) ∙ there);
+  }
+
+module _ (name : List ℕ) (world other : World) (rows noted : ShownRows) (notes : (path : List ℕ) → noted path ≡ option_map (stale_if_asked name) (rows path)) where
+  last_of : (old : Progress) → IsProgress world rows old → (more : List ℕ → Bool) → ((file : List ℕ) → more file ≡ (bytes_eq name file || changed_in old file))
+      → IfSome (last_in old) (IsLast more noted)
+  last_of (Changed names (Some index)) is more adds = IsLast-noted name (contains_text names) more adds rows noted index notes is
+  last_of (Changed names None) is more adds = tt
+  last_of (Walking walk) is more adds = tt
+  last_of (Asking walk ask) is more adds = tt
+  last_of (Current paths) is more adds = tt
+  last_of (AtHand index) is more adds = IsLast-noted name no_name more adds rows noted index notes (IsLast-current world rows index is.0 is.1 is.2)
+
+  -- the file of a name has changed, or is about to
+  pub IsProgress-noted : (old new : Progress) → IsProgress world rows old → DropsTo old new → ((file : List ℕ) → changed_in new file ≡ (bytes_eq name file || changed_in old file))
+      → IsProgress other noted new
+  IsProgress-noted old (Changed names last) is drops adds =
+      subst (λ (l : Option KnownIndex). IfSome l (IsLast (contains_text names) noted)) (sym drops) (last_of old is (contains_text names) adds)
+  IsProgress-noted old (Walking walk) is drops adds = absurd drops
+  IsProgress-noted old (Asking walk ask) is drops adds = absurd drops
+  IsProgress-noted old (Current paths) is drops adds = absurd drops
+  IsProgress-noted old (AtHand index) is drops adds = absurd drops
 
 -- ---- what is left of a refresh
 

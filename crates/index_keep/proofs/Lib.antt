@@ -3,6 +3,7 @@ pub mod SortLemmas
 pub mod ListLemmas
 pub mod WalkLemmas
 pub mod RowLemmas
+pub mod LastLemmas
 pub mod KeepLemmas
 pub mod Props
 pub mod MadeLemmas

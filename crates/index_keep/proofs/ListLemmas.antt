@@ -1,5 +1,5 @@
 -- Lists of names and paths.
-use Rattle.std.proofs.Common.{◌≡◌, ◌∙◌, sym, ap, refl, ℕ, ◌+◌, ◌<◌, Bool, true, false, cond, ◌||◌, ◌&&◌, not, if◌then◌else◌, List, [], ◌∷◌, ◌++◌, map, take, length, get_or, Option, Some, None, is_some, option_map, String, string_bytes, Global}
+use Rattle.std.proofs.Common.{◌≡◌, ◌∙◌, sym, ap, refl, ℕ, ◌+◌, ◌<◌, Bool, true, false, cond, ◌||◌, ◌&&◌, if◌then◌else◌, List, [], ◌∷◌, ◌++◌, map, take, length, get_or, Option, Some, None, is_some, option_map, String, string_bytes, Global}
 use Rattle.std.proofs.lemmas.Bool.{false≢true}
 use Rattle.std.proofs.lemmas.List.{take_more, take-map}
 use Rattle.ports_index.specs.PathOutcomes.{PathOutcome}
@@ -43,20 +43,19 @@ pub set-more : (texts : List (String Global)) (place : ℕ) (text : String Globa
 set-more texts place text name before inside is was =
     swap (bytes_eq (string_bytes text) name) before ∙ ap (λ b. b || bytes_eq (string_bytes text) name) was ∙ sym (one_of-more texts place text name inside is)
 
-step : (added : Bool) (a same n : Bool) (before : Bool) → before ≡ (a && not n) → (same ≡ true → not n ≡ added)
-    → (if added then before || same else before) ≡ ((a || same) && not n)
-step true true true true before was is = absurd (false≢true (is refl))
-step true true true false before was is = ap (λ b. b || true) was
-step true true false n before was is = ap (λ b. b || false) was ∙ or-none (not n)
-step true false true true before was is = absurd (false≢true (is refl))
-step true false true false before was is = ap (λ b. b || true) was
-step true false false n before was is = ap (λ b. b || false) was
-step false true true true before was is = was
+step : (added a same t before : Bool) → before ≡ (a && t) → (same ≡ true → t ≡ added) → (if added then before || same else before) ≡ ((a || same) && t)
+step true true true true before was is = ap (λ b. b || true) was
+step true true true false before was is = absurd (false≢true (is refl))
+step true true false t before was is = ap (λ b. b || false) was ∙ or-none t
+step true false true true before was is = ap (λ b. b || true) was
+step true false true false before was is = absurd (false≢true (is refl))
+step true false false t before was is = ap (λ b. b || false) was
+step false true true true before was is = absurd (false≢true (sym (is refl)))
 step false true true false before was is = was
-step false true false n before was is = was
-step false false true true before was is = was
-step false false true false before was is = absurd (false≢true (sym (is refl)))
-step false false false n before was is = was
+step false true false t before was is = was
+step false false true true before was is = absurd (false≢true (sym (is refl)))
+step false false true false before was is = was
+step false false false t before was is = was
 
 one_of-end : (path p : List ℕ) (paths : List (List ℕ)) → is_one_of path (paths ++ p ∷ []) ≡ (is_one_of path paths || bytes_eq p path)
 one_of-end path p paths = one_of-append path paths (p ∷ []) ∙ ap (λ b. is_one_of path paths || b) (or-none (bytes_eq p path))
@@ -66,15 +65,15 @@ added_at : (others : List (List ℕ)) (p path : List ℕ) (added : Bool)
 added_at others p path true = one_of-end path p others
 added_at others p path false = refl
 
--- those of some paths that aren't needed, with the next path
-pub others-more : (others passed needed : List (List ℕ)) (p : List ℕ) (added : Bool) → not (is_one_of p needed) ≡ added
-    → ((path : List ℕ) → is_one_of path others ≡ (is_one_of path passed && not (is_one_of path needed)))
-    → (path : List ℕ) → is_one_of path (if added then others ++ p ∷ [] else others) ≡ (is_one_of path (passed ++ p ∷ []) && not (is_one_of path needed))
-others-more others passed needed p added is were path =
-    added_at others p path added
-    ∙ step added (is_one_of path passed) (bytes_eq p path) (is_one_of path needed) (is_one_of path others) (were path)
-    (λ same. ap (λ at. not (is_one_of at needed)) (sym ((bytes_eq-Decides p path).0 same)) ∙ is)
-    ∙ ap (λ b. b && not (is_one_of path needed)) (sym (one_of-end path p passed))
+-- those of some paths that pass a test, with the next path
+pub chosen-more : (chosen passed : List (List ℕ)) (test : List ℕ → Bool) (p : List ℕ) (added : Bool) → test p ≡ added
+    → ((path : List ℕ) → is_one_of path chosen ≡ (is_one_of path passed && test path))
+    → (path : List ℕ) → is_one_of path (if added then chosen ++ p ∷ [] else chosen) ≡ (is_one_of path (passed ++ p ∷ []) && test path)
+chosen-more chosen passed test p added is were path =
+    added_at chosen p path added
+    ∙ step added (is_one_of path passed) (bytes_eq p path) (test path) (is_one_of path chosen) (were path)
+    (λ same. ap test (sym ((bytes_eq-Decides p path).0 same)) ∙ is)
+    ∙ ap (λ b. b && test path) (sym (one_of-end path p passed))
 
 some_known : {X Y : Type 0} (f : X → Y) (found : Option X) (known : Option Y) → option_map f found ≡ known → is_some found ≡ true → is_some known ≡ true
 some_known f None known e some = absurd (false≢true some)

@@ -1,7 +1,6 @@
 -- That a keeper is right about a world has one proof at most.
 use Rattle.std.proofs.Common.{ℕ, List}
 use Rattle.std.proofs.Props.{props}
-use Rattle.std.specs.Coded.{Unit-prop}
 use Rattle.mk_paths.specs.World.{World}
 use Rattle.row_text.specs.Rows.{RowValue}
 use Rattle.index_store.specs.Entries.{Entries}
@@ -36,10 +35,10 @@ IsPathAsk-prop : (world : World) (path : List ℕ) (ask : PathAsk) → IsProp (I
 IsPathAsk-prop world path ask = hlevel (props, Agrees-prop, HasComeTo-prop)
 
 IsProgress-prop : (world : World) (rows : ShownRows) (progress : Progress) → IsProp (IsProgress world rows progress)
-IsProgress-prop world rows (Changed names) = Unit-prop
+IsProgress-prop world rows (Changed names last) = hlevel props
 IsProgress-prop world rows (Walking walk) = IsWalk-prop world rows walk
 IsProgress-prop world rows (Asking walk ask) = hlevel (props, IsWalk-prop, IsPathAsk-prop)
-IsProgress-prop world rows (Current listed) = hlevel (props, AreCurrent-prop)
+IsProgress-prop world rows (Current paths) = hlevel (props, AreCurrent-prop)
 IsProgress-prop world rows (AtHand index) = hlevel (props, AreCurrent-prop)
 
 pub IsKept-prop : {R : Type 0} (entries : R → Entries) (world : World) (keeper : Keeper R) → IsProp (IsKept entries world keeper)

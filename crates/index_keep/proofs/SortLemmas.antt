@@ -4,10 +4,10 @@ use Rattle.std.proofs.lemmas.Slice.Eq.{bytes_eq-Decides}
 use Rattle.std.specs.Option.{option_map_or}
 use Rattle.std.specs.Str.{bytes_eq}
 use Rattle.ports_index.specs.Filling.{is_one_of}
-use Rattle.ports_index.specs.PathOutcomes.{PathOutcome}
+use Rattle.ports_index.specs.Seen.{Said}
 use Rattle.index_store.specs.Entries.{StoredValue, Entries, SeenRow, AreRowsOf, path_of, value_in, stored_seen}
 use Rattle.index_store.specs.declared.path_rows.StoredRow.{StoredRow}
-use Rattle.index_keep.specs.Judging.{judge, outcome_of, is_outdated, fresh_at, outdated_at, known_with, known_by, outdated_in}
+use Rattle.index_keep.specs.Judging.{judge, said_of, is_outdated, fresh_at, outdated_at, known_with, known_by, outdated_in}
 
 regroup : (a b c : Bool) → (a || (b || c)) ≡ ((a || b) || c)
 regroup true b c = refl
@@ -24,7 +24,7 @@ or-none false = refl
 
 module _ (test : List ℕ → Bool) (entries : Entries) where
   -- the rows so far are known
-  abbrev pub KnowsRows : List SeenRow → (List ℕ → Option PathOutcome) → Type 0
+  abbrev pub KnowsRows : List SeenRow → (List ℕ → Option Said) → Type 0
   KnowsRows rows known = (path : List ℕ) → known path ≡ (if is_one_of path (map path_of rows) then fresh_at test entries path else None)
 
   -- the rows so far that have to be marked are listed
@@ -42,35 +42,35 @@ module _ (test : List ℕ → Bool) (entries : Entries) where
     here : (path : List ℕ) → bytes_eq row.path path ≡ true → entries path ≡ Some (value_in row)
     here path e = subst (λ at. entries at ≡ Some (value_in row)) ((bytes_eq-Decides row.path path).0 e) is
 
-    module _ (known : List ℕ → Option PathOutcome) (knows : KnowsRows rows known) where
-      put_by : (path : List ℕ) (same before : Bool) (outcome : Option PathOutcome) → bytes_eq row.path path ≡ same
-          → outcome_of (judge test (value_in row)) ≡ outcome
+    module _ (known : List ℕ → Option Said) (knows : KnowsRows rows known) where
+      put_by : (path : List ℕ) (same before : Bool) (said : Option Said) → bytes_eq row.path path ≡ same
+          → said_of (judge test (value_in row)) ≡ said
           → known path ≡ (if before then fresh_at test entries path else None)
-          → known_by outcome row.path known path ≡ (if before || same then fresh_at test entries path else None)
+          → known_by said row.path known path ≡ (if before || same then fresh_at test entries path else None)
       put_by path true before None e says was = was ∙ both before
         where
           fresh_here : fresh_at test entries path ≡ None
-          fresh_here = ap (λ (found : Option StoredValue). option_and_then (λ (stored : StoredValue). outcome_of (judge test stored)) found) (here path e) ∙ says
+          fresh_here = ap (λ (found : Option StoredValue). option_and_then (λ (stored : StoredValue). said_of (judge test stored)) found) (here path e) ∙ says
 
           both : (before : Bool) → (if before then fresh_at test entries path else None) ≡ (if before || true then fresh_at test entries path else None)
           both true = refl
           both false = sym fresh_here
-      put_by path true before (Some outcome) e says was =
-          ap (λ (b : Bool). if b then Some outcome else known path) e
-          ∙ sym (ap (λ (found : Option StoredValue). option_and_then (λ (stored : StoredValue). outcome_of (judge test stored)) found) (here path e) ∙ says)
+      put_by path true before (Some said) e says was =
+          ap (λ (b : Bool). if b then Some said else known path) e
+          ∙ sym (ap (λ (found : Option StoredValue). option_and_then (λ (stored : StoredValue). said_of (judge test stored)) found) (here path e) ∙ says)
           ∙ sym (ap (λ (b : Bool). if b then fresh_at test entries path else None) (or_true before))
         where
           or_true : (a : Bool) → (a || true) ≡ true
           or_true true = refl
           or_true false = refl
       put_by path false before None e says was = was ∙ sym (ap (λ (b : Bool). if b then fresh_at test entries path else None) (or-none before))
-      put_by path false before (Some outcome) e says was =
-          ap (λ (b : Bool). if b then Some outcome else known path) e ∙ was
+      put_by path false before (Some said) e says was =
+          ap (λ (b : Bool). if b then Some said else known path) e ∙ was
           ∙ sym (ap (λ (b : Bool). if b then fresh_at test entries path else None) (or-none before))
 
       pub KnowsRows-more : KnowsRows (rows ++ row ∷ []) (known_with test row known)
       KnowsRows-more path =
-          put_by path (bytes_eq row.path path) (is_one_of path (map path_of rows)) (outcome_of (judge test (value_in row))) refl refl (knows path)
+          put_by path (bytes_eq row.path path) (is_one_of path (map path_of rows)) (said_of (judge test (value_in row))) refl refl (knows path)
           ∙ sym (ap (λ (b : Bool). if b then fresh_at test entries path else None) (is_one-more path (bytes_eq row.path path) refl))
 
     module _ (paths : List (List ℕ)) (lists : ListsOutdated rows paths) where
@@ -127,7 +127,7 @@ row-stored entries rows passed rest row is are =
     each-at (λ one. entries one.path ≡ Some (value_in one)) (map stored_seen passed) (stored_seen row) (map stored_seen rest) each
 
 module _ (test : List ℕ → Bool) (entries : Entries) (passed : List StoredRow) (row : StoredRow) (is : entries (stored_seen row).path ≡ Some (value_in (stored_seen row))) where
-  pub KnowsRows-next : (known after : List ℕ → Option PathOutcome) → ((path : List ℕ) → after path ≡ known_with test (stored_seen row) known path)
+  pub KnowsRows-next : (known after : List ℕ → Option Said) → ((path : List ℕ) → after path ≡ known_with test (stored_seen row) known path)
       → KnowsRows test entries (map stored_seen passed) known → KnowsRows test entries (map stored_seen (passed ++ row ∷ [])) after
   KnowsRows-next known after adds knows path =
       adds path ∙ KnowsRows-more test entries (map stored_seen passed) (stored_seen row) is known knows path

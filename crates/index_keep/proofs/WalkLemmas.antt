@@ -1,5 +1,5 @@
 -- A refresh that goes through paths.
-use Rattle.std.proofs.Common.{string_bytes, ◌≡◌, ◌∙◌, sym, ap, subst, refl, ℕ, zero, suc, Bool, true, false, ◌||◌, if◌then◌else◌, List, [], ◌∷◌, ◌++◌, take, Option, Some, None, is_some, option_and_then, slice_get}
+use Rattle.std.proofs.Common.{string_bytes, ◌≡◌, ◌∙◌, sym, ap, subst, refl, ℕ, zero, suc, Bool, true, false, ◌||◌, ◌&&◌, not, if◌then◌else◌, List, [], ◌∷◌, ◌++◌, take, Option, Some, None, is_some, option_and_then, option_map, slice_get}
 use Rattle.std.proofs.lemmas.Bool.{false≢true, or_right}
 use Rattle.std.proofs.lemmas.Slice.Eq.{bytes_eq-Decides}
 use Rattle.std.specs.List.{filter_map, flat_map}
@@ -16,10 +16,12 @@ use Rattle.ports_index.specs.Spending.{SpendsOnPath, no_spending}
 use Rattle.ports_index.specs.declared.spending.Spent.{Spent}
 use Rattle.row_text.specs.Rows.{RowValue}
 use Rattle.ports_index.specs.RowLaws.{HaveRows, KnownRowsAreEnough}
-use Rattle.ports_index.specs.Seen.{entries_in, known_in}
+use Rattle.ports_index.specs.Seen.{Said, entries_in, known_in, said_in}
+use Rattle.ports_index.specs.declared.keeping.MemoryRows.{MemoryRows}
+use Rattle.index_keep.specs.Last.{SaysAll}
 use Rattle.index_keep.specs.declared.walking.Stage.{Stage}
 use Rattle.index_keep.specs.declared.walking.LastStage.{LastStage}
-use Rattle.index_keep.specs.Shown.{ShownRow, ShownRows, fresh, fresh_outcome}
+use Rattle.index_keep.specs.Shown.{ShownRow, ShownRows, ShowsSame, fresh, fresh_outcome, fresh_said, said_by, said_if_fresh, said_in_row}
 use Rattle.index_keep.specs.Right.{IsRightRow, AreKept, AreCurrent, right_row, fresh_row, RenewsRow}
 use Rattle.index_keep.specs.Keeping.{IsReadyFor}
 use Rattle.eval_ask.specs.Asking.{IsShort, MakesInTime}
@@ -29,6 +31,7 @@ use Rattle.index_keep.specs.Walking.{IsStage, IsLacking, HasRowMore, paths_of, L
 use Rattle.index_keep.specs.declared.evaluating.MadeRow.{MadeRow}
 use Rattle.index_keep.specs.declared.walking.Walk.{Walk}
 use Rattle.row_text.specs.Seen.{row_seen}
+use Rattle.index_keep.proofs.ShownLemmas.{entries-fresh}
 use Rattle.index_keep.proofs.SortLemmas.{one_of-append}
 
 -- ---- which paths are among which
@@ -104,17 +107,20 @@ module _ (world : World) (rows : ShownRows) (kept : AreKept world rows) where
     pub AreKept-put : AreKept world new
     AreKept-put = record { right = λ other row e stale. put_right other (bytes_eq path other) refl row e stale }
 
-    fresh_by : (other : List ℕ) (same : Bool) → option_and_then fresh_outcome (if same then Some (fresh_row world path) else rows other) ≡ (if same then Some (outcome_at world path) else fresh rows other)
-    fresh_by other true = refl
-    fresh_by other false = refl
+    said_cases : (other : List ℕ) (same : Bool) → option_and_then said_if_fresh (if same then Some (fresh_row world path) else rows other) ≡ (if same then Some (said_by (right_row world path)) else fresh_said rows other)
+    said_cases other true = refl
+    said_cases other false = refl
 
-    pub fresh-put : (other : List ℕ) → fresh new other ≡ (if bytes_eq path other then Some (outcome_at world path) else fresh rows other)
-    fresh-put other = ap (option_and_then fresh_outcome) (put other) ∙ fresh_by other (bytes_eq path other)
+    pub said-put : (other : List ℕ) → fresh_said new other ≡ (if bytes_eq path other then Some (said_by (right_row world path)) else fresh_said rows other)
+    said-put other = ap (option_and_then said_if_fresh) (put other) ∙ said_cases other (bytes_eq path other)
 
   -- ---- one stage after another
 
   module _ (enough : KnownRowsAreEnough) (before stage : Stage) (none : LacksNone before)
-      (knows : (path : List ℕ) → entries_in before.known path ≡ fresh rows path) where
+      (says : (path : List ℕ) → said_in before.known path ≡ fresh_said rows path) where
+    knows : (path : List ℕ) → entries_in before.known path ≡ fresh rows path
+    knows = entries-fresh rows before.known says
+
     same_known : entries_in before.known ≡ fresh rows
     same_known i path = knows path i
 
@@ -124,39 +130,84 @@ module _ (world : World) (rows : ShownRows) (kept : AreKept world rows) where
     all_known : (paths : List (List ℕ)) → paths_of before ≡ paths → (path : List ℕ) → is_one_of path paths ≡ true → is_some (fresh rows path) ≡ true
     all_known paths are path is = ap is_some (sym (knows path)) ∙ none path (ap (is_one_of path) are ∙ is)
 
-    pub IsStage-listed : paths_of before ≡ directories (files_in world) → ListsPaths before stage → IsStage (fresh rows) (listed_paths world) stage
+    pub IsStage-listed : paths_of before ≡ directories (files_in world) → ListsPaths before stage → IsStage rows (listed_paths world) stage
     IsStage-listed are lists = record {
       through = lists.paths ∙ ap (λ known. listed_from (known_in known) (paths_of before)) same_known ∙ ap (listed_from (known_in (fresh rows))) are
           ∙ enough.listed world (fresh rows) (have-fresh (directories (files_in world)) (all_known (directories (files_in world)) are));
-      knows = λ path. lists.known path ∙ knows path;
+      knows = λ path. lists.known path ∙ says path;
       passed = nothing_passed (listed_paths world) stage.place lists.place;
     }
 
-    pub IsStage-needed : (last : LastStage) → paths_of before ≡ listed_paths world → NeedsPaths before last → IsStage (fresh rows) (needed_paths world) last.stage
+    pub IsStage-needed : (last : LastStage) → paths_of before ≡ listed_paths world → NeedsPaths before last → IsStage rows (needed_paths world) last.stage
     IsStage-needed last are needs = record {
       through = needs.paths ∙ ap (λ known. needed_among (known_in known) (paths_of before)) same_known ∙ ap (needed_among (known_in (fresh rows))) are
           ∙ enough.needed world (fresh rows) (have-fresh (listed_paths world) (all_known (listed_paths world) are));
-      knows = λ path. needs.known path ∙ knows path;
+      knows = λ path. needs.known path ∙ says path;
       passed = nothing_passed (needed_paths world) last.stage.place needs.place;
     }
 
+-- ---- rows that are current
+
+-- rows that are shown the same are current too, and say the same where they are fresh
+module _ (world : World) (old new : ShownRows) (same : ShowsSame old new) where
+  pub AreCurrent-same : AreCurrent world old → AreCurrent world new
+  AreCurrent-same current = record { each = λ path. same path ∙ current.each path }
+
+pub said-same : (old new : ShownRows) → ShowsSame old new → (path : List ℕ) → fresh_said old path ≡ fresh_said new path
+said-same old new same path = sym (ap (option_and_then said_if_fresh) (same path))
+
+module _ (world : World) (rows : ShownRows) (current : AreCurrent world rows) where
+  said_if : (path : List ℕ) (needed : Bool) → option_and_then said_if_fresh (if needed then Some (fresh_row world path) else None) ≡ option_map said_in_row (if needed then Some (fresh_row world path) else None)
+  said_if path true = refl
+  said_if path false = refl
+
+  -- none of them is stale
+  pub says-current : (known : MemoryRows) → ((path : List ℕ) → said_in known path ≡ fresh_said rows path) → SaysAll rows known
+  says-current known says path =
+      says path ∙ ap (option_and_then said_if_fresh) (current.each path) ∙ said_if path (is_one_of path (needed_paths world)) ∙ ap (option_map said_in_row) (sym (current.each path))
+
+  -- what says all that they say has a row for each path on which the index depends
+  pub have-said : (known : MemoryRows) → SaysAll rows known → HaveRows world (entries_in known) (needed_paths world)
+  have-said known says path is =
+      ap (option_map (λ (said : Said). said.outcome)) (says path ∙ ap (option_map said_in_row) (current.each path ∙ ap (λ (b : Bool). if b then Some (fresh_row world path) else None) is))
+
+-- ---- rows of which those are left that are needed
+
+module _ (old new : ShownRows) (known left : MemoryRows) (needed others : List (List ℕ)) (stored : List ℕ → Bool)
+    (says : (path : List ℕ) → said_in known path ≡ fresh_said old path)
+    (nothing : (path : List ℕ) → stored path ≡ false → old path ≡ None)
+    (are : (path : List ℕ) → is_one_of path others ≡ (stored path && not (is_one_of path needed)))
+    (leaves : (path : List ℕ) → new path ≡ (if is_one_of path needed then old path else None))
+    (keeps : (path : List ℕ) → said_in left path ≡ (if is_one_of path others then None else said_in known path)) where
+  left_by : (path : List ℕ) (there need : Bool) → stored path ≡ there → is_one_of path needed ≡ need
+      → (if there && not need then None else said_in known path) ≡ option_and_then said_if_fresh (if need then old path else None)
+  left_by path true true e f = says path
+  left_by path true false e f = refl
+  left_by path false true e f = says path
+  left_by path false false e f = says path ∙ ap (option_and_then said_if_fresh) (nothing path e)
+
+  pub said-left : (path : List ℕ) → said_in left path ≡ fresh_said new path
+  said-left path =
+      keeps path ∙ ap (λ (b : Bool). if b then None else said_in known path) (are path)
+      ∙ left_by path (stored path) (is_one_of path needed) refl refl ∙ sym (ap (option_and_then said_if_fresh) (leaves path))
+
 -- ---- the next path of a stage
 
-module _ (rows : ShownRows) (paths : List (List ℕ)) (stage : Stage) (is : IsStage (fresh rows) paths stage) where
+module _ (rows : ShownRows) (paths : List (List ℕ)) (stage : Stage) (is : IsStage rows paths stage) where
   module _ (place : ℕ) (found : IsLackingAt stage place) where
     -- a stage that has come to it
-    pub stage-at : (more : Stage) → more ≡ record stage { place = place } → IsStage (fresh rows) paths more
-    stage-at more same = subst (IsStage (fresh rows) paths) (sym same) (record {
+    pub stage-at : (more : Stage) → more ≡ record stage { place = place } → IsStage rows paths more
+    stage-at more same = subst (IsStage rows paths) (sym same) (record {
       through = is.through;
       knows = is.knows;
-      passed = λ path one. ap is_some (sym (is.knows path)) ∙ found.passed path (ap (λ at. is_one_of path (take place at)) is.through ∙ one);
+      passed = λ path one. ap is_some (sym (entries-fresh rows stage.known is.knows path)) ∙ found.passed path (ap (λ at. is_one_of path (take place at)) is.through ∙ one);
     })
 
     pub lacking-at : (world : World) → ((path : List ℕ) → is_one_of path paths ≡ true → is_one_of path (needed_paths world) ≡ true)
         → (path : List ℕ) → slice_get (paths_of stage) place ≡ Some path → IsLacking world rows path
     lacking-at world needed path at = record {
       needed = needed path (ap (is_one_of path) (sym is.through) ∙ one_of-at (paths_of stage) place path at);
-      lacking = sym (is.knows path) ∙ found.lacking path at;
+      lacking = sym (entries-fresh rows stage.known is.knows path) ∙ found.lacking path at;
     }
 
 -- ---- the row of a path is made, and written
@@ -174,11 +225,11 @@ module _ (world : World) (old new : ShownRows) (walk : Walk) (path : List ℕ) (
   pub kept-made : AreKept world new
   kept-made = AreKept-put world old ready.kept path itself new put_fresh
 
-  pub more-made : HasRowMore (string_bytes made.path) (row_seen made.row).outcome old new
+  pub more-made : HasRowMore (string_bytes made.path) (said_by (row_seen made.row)) old new
   more-made other =
-      fresh-put world old ready.kept path itself new put_fresh other
-      ∙ ap (λ (r : RowValue). if bytes_eq path other then Some r.outcome else fresh old other) (sym is.row.same)
-      ∙ ap (λ at. if bytes_eq at other then Some (row_seen made.row).outcome else fresh old other) (sym is.at)
+      said-put world old ready.kept path itself new put_fresh other
+      ∙ ap (λ (r : RowValue). if bytes_eq path other then Some (said_by r) else fresh_said old other) (sym is.row.same)
+      ∙ ap (λ at. if bytes_eq at other then Some (said_by (row_seen made.row)) else fresh_said old other) (sym is.at)
 
   renews-made : (spent : Spent) → spent ≡ made.spent → RenewsRow world old new spent
   renews-made spent same = record {

@@ -1,9 +1,9 @@
 -- What a keeper of rows has, and when it is right about a world.
-use Rattle.std.specs.Prelude.{◌≡◌, ◌⊎◌, ℕ, Bool, List, [], map, string_bytes}
+use Rattle.std.specs.Prelude.{◌≡◌, ◌⊎◌, ℕ, Bool, List, [], Option, Some, None, IfSome, string_bytes}
 use Rattle.std.specs.BTreeSet.{contains_text, keys}
 use Rattle.mk_paths.specs.World.{World}
-use Rattle.ports_index.specs.Index.{listed_paths}
-use Rattle.ports_index.specs.Known.{IsIndexOf}
+use Rattle.ports_index.specs.Known.{ArePathsOf, IsIndexOf}
+use Rattle.ports_index.specs.Seen.{size_of}
 use Rattle.index_store.specs.Entries.{Entries}
 use Rattle.index_keep.specs.declared.keeper.Progress.{Progress}
 use Rattle.index_keep.specs.declared.keeper.Progress.TheVariants.{Changed, Walking, Asking, Current, AtHand}
@@ -11,7 +11,9 @@ use Rattle.index_keep.specs.declared.keeper.Keeper.{Keeper}
 use Rattle.index_keep.specs.declared.keeper.Refreshed.{Refreshed}
 use Rattle.index_keep.specs.declared.keeper.Refreshed.TheVariants.{Done}
 use Rattle.index_keep.specs.Shown.{ShownRows, shown, no_name}
+use Rattle.index_keep.specs.Last.{IsLast, SaysAll}
 use Rattle.ports_index.specs.Spending.{no_spending}
+use Rattle.ports_index.specs.declared.known_index.KnownIndex.{KnownIndex}
 use Rattle.ports_index.specs.declared.spending.Spent.{Spent}
 use Rattle.index_keep.specs.declared.evaluating.PathAsk.{PathAsk}
 use Rattle.index_keep.specs.declared.walking.LastStage.{LastStage}
@@ -27,21 +29,22 @@ use Rattle.index_keep.specs.Walking.{IsWalk, IsLacking}
 abbrev pub path_in : PathAsk → List ℕ
 path_in ask = string_bytes ask.found.path
 
--- a refresh goes on where it stopped; or the rows are current, and the listed paths are known, or the whole index
+-- The index that was at hand before files changed is so still. Or a refresh goes on where it stopped. Or the rows are
+-- current, and the paths of the index are known, or the whole index.
 abbrev pub IsProgress : World → ShownRows → Progress → Type 0
-IsProgress world rows (Changed names) = Unit {0}
+IsProgress world rows (Changed names last) = IfSome last (IsLast (contains_text names) rows)
 IsProgress world rows (Walking walk) = IsWalk world rows walk
 IsProgress world rows (Asking walk ask) =
     IsWalk world rows walk × IsLacking world rows (path_in ask) × IsPathAsk world (path_in ask) ask
-IsProgress world rows (Current listed) = AreCurrent world rows × (map string_bytes listed.items ≡ listed_paths world)
-IsProgress world rows (AtHand index) = AreCurrent world rows × IsIndexOf world index
+IsProgress world rows (Current paths) = AreCurrent world rows × ArePathsOf world paths
+IsProgress world rows (AtHand index) = AreCurrent world rows × IsIndexOf world index × SaysAll rows index.rows
 
 -- the names that have changed since a refresh began last
 abbrev pub changed_in : Progress → List ℕ → Bool
-changed_in (Changed names) = contains_text names
+changed_in (Changed names last) = contains_text names
 changed_in (Walking walk) = no_name
 changed_in (Asking walk ask) = no_name
-changed_in (Current listed) = no_name
+changed_in (Current paths) = no_name
 changed_in (AtHand index) = no_name
 
 -- the rows of a keeper, as they are shown, by what is stored
@@ -50,10 +53,10 @@ rows_of entries keeper = shown (changed_in keeper.progress) (entries keeper.rows
 
 -- what was spent so far on a path that is evaluated
 abbrev pub begun_in : Progress → Spent
-begun_in (Changed names) = no_spending
+begun_in (Changed names last) = no_spending
 begun_in (Walking walk) = no_spending
 begun_in (Asking walk ask) = spent_in ask.ask
-begun_in (Current listed) = no_spending
+begun_in (Current paths) = no_spending
 begun_in (AtHand index) = no_spending
 
 -- how far the refresh of a keeper is
@@ -84,11 +87,22 @@ pub record IsKept {R : Type 0} (entries : R → Entries) (world : World) (keeper
 
 -- the index is refreshed and at hand, and nothing has changed since
 abbrev pub IsEnded : Progress → Type 0
-IsEnded (Changed names) = ⊥
+IsEnded (Changed names last) = ⊥
 IsEnded (Walking walk) = ⊥
 IsEnded (Asking walk ask) = ⊥
-IsEnded (Current listed) = ⊥
+IsEnded (Current paths) = ⊥
 IsEnded (AtHand index) = Unit {0}
+
+-- how many bytes the rows of the index have, if it is at hand
+abbrev pub size_in : Progress → Option ℕ
+size_in (Changed names last) = None
+size_in (Walking walk) = None
+size_in (Asking walk ask) = None
+size_in (Current paths) = None
+size_in (AtHand index) = Some (size_of index.rows)
+
+abbrev pub size_at_hand : {R : Type 0} → Keeper R → Option ℕ
+size_at_hand keeper = size_in keeper.progress
 
 abbrev pub IsDone : {R : Type 0} → Keeper R → Type 0
 IsDone keeper = IsEnded keeper.progress
@@ -100,28 +114,40 @@ pub record TurnsKeeper {R : Type 0} (entries : R → Entries) (world : World) (u
   pub turn : TakesTurn world units old (refresh_of entries new) turned
   pub done : turned ≡ Done → IsDone new
 
--- no refresh is under way or done
-abbrev pub IsDropped : Progress → Type 0
-IsDropped (Changed names) = Unit {0}
-IsDropped (Walking walk) = ⊥
-IsDropped (Asking walk ask) = ⊥
-IsDropped (Current listed) = ⊥
-IsDropped (AtHand index) = ⊥
+-- the index that is in memory from before a change
+abbrev pub last_in : Progress → Option KnownIndex
+last_in (Changed names last) = last
+last_in (Walking walk) = None
+last_in (Asking walk ask) = None
+last_in (Current paths) = None
+last_in (AtHand index) = Some index
+
+-- no refresh is under way or done, and this index is in memory from before a change
+abbrev pub IsDropped : Option KnownIndex → Progress → Type 0
+IsDropped before (Changed names last) = last ≡ before
+IsDropped before (Walking walk) = ⊥
+IsDropped before (Asking walk ask) = ⊥
+IsDropped before (Current paths) = ⊥
+IsDropped before (AtHand index) = ⊥
+
+-- a refresh is under way or done no more, and an index that was in memory still is
+abbrev pub DropsTo : Progress → Progress → Type 0
+DropsTo old new = IsDropped (last_in old) new
 
 -- no name is known to have changed since, and no refresh is under way or done
 abbrev pub HasForgotten : Progress → Type 0
-HasForgotten (Changed names) = keys names ≡ []
+HasForgotten (Changed names last) = (keys names ≡ []) × (last ≡ None)
 HasForgotten (Walking walk) = ⊥
 HasForgotten (Asking walk ask) = ⊥
-HasForgotten (Current listed) = ⊥
+HasForgotten (Current paths) = ⊥
 HasForgotten (AtHand index) = ⊥
 
 -- a refresh that is under way is dropped; names that have changed, and an index that is current, stay
 abbrev pub Halts : Progress → Progress → Type 0
-Halts (Changed names) new = new ≡ Changed names
+Halts (Changed names last) new = new ≡ Changed names last
 Halts (Walking walk) new = HasForgotten new
 Halts (Asking walk ask) new = HasForgotten new
-Halts (Current listed) new = new ≡ Current listed
+Halts (Current paths) new = new ≡ Current paths
 Halts (AtHand index) new = new ≡ AtHand index
 
 -- a refresh goes on as before, or not at all

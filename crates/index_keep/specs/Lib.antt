@@ -1,4 +1,5 @@
 pub mod Shown
+pub mod Last
 pub mod Right
 pub mod Judging
 pub mod Paths

@@ -3,6 +3,7 @@ use Rattle.std.specs.Prelude.{◌≡◌, ℕ, ◌||◌, if◌then◌else◌, Boo
 use Rattle.std.specs.List.{list_any}
 use Rattle.std.specs.Str.{bytes_eq}
 use Rattle.ports_index.specs.PathOutcomes.{PathOutcome}
+use Rattle.ports_index.specs.Seen.{Said}
 use Rattle.row_text.specs.Rows.{RowValue, row_of}
 use Rattle.index_store.specs.Entries.{StoredValue, Entries}
 
@@ -54,3 +55,24 @@ stale_if_asked name row = record row { stale = row.stale || asked_one (λ asked.
 -- a row is stale now
 abbrev pub made_stale : ShownRow → ShownRow
 made_stale row = record row { stale = true }
+
+-- what a row says: what its path leads to, and the names of the files that were asked for to learn that
+abbrev pub said_by : RowValue → Said
+said_by row = record { outcome = row.outcome; names = row.names }
+
+-- the same of a row that is shown, whether or not it is stale
+abbrev pub said_in_row : ShownRow → Said
+said_in_row row = said_by row.row
+
+-- what a row says, unless it is stale
+abbrev pub said_if_fresh : ShownRow → Option Said
+said_if_fresh row = if row.stale then None else Some (said_in_row row)
+
+-- what rows that aren't stale say of each path, and which names they asked for
+abbrev pub fresh_said : ShownRows → List ℕ → Option Said
+fresh_said rows path = option_and_then said_if_fresh (rows path)
+
+-- whether one of these names passes a test
+abbrev pub has_asked_for : (List ℕ → Bool) → Option (List (List ℕ)) → Bool
+has_asked_for test None = false
+has_asked_for test (Some names) = list_any test names

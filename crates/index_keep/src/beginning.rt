@@ -1,19 +1,21 @@
 //! What a refresh begins with: the rows that are fresh.
-ghost use Rattle.std.specs.Prelude.{◌≡◌, ◌++◌, ◌∷◌, [], ℕ, List, if◌then◌else◌, map, string_bytes, IfOk, OnOk, OnErr, Some};
+ghost use Rattle.std.specs.Prelude.{◌≡◌, ◌&&◌, ◌++◌, ◌∷◌, [], ℕ, List, if◌then◌else◌, map};
+ghost use Rattle.std.specs.Prelude.{option_map, string_bytes, IfOk, OnOk, OnErr, Some, None};
 ghost use Rattle.std.specs.BTreeSet.{contains_text};
 ghost use Rattle.std.specs.List.{list_any};
 ghost use Rattle.std.specs.Str.{bytes_eq};
 ghost use Rattle.ports_index.specs.Filling.{is_one_of};
-ghost use Rattle.ports_index.specs.Seen.{entries_in};
+ghost use Rattle.ports_index.specs.Seen.{known_seen, names_in, names_seen, said_in};
 ghost use Rattle.index_store.specs.Entries.{Entries, SameRows, AreRowsOf, stored_seen, value_in};
 ghost use Rattle.index_store.specs.Entries.{SameProfiles};
 ghost use Rattle.row_text.specs.Seen.{row_seen};
-ghost use Rattle.index_keep.specs.Shown.{shown, no_name, ShowsSame, fresh, asked_one};
+ghost use Rattle.index_keep.specs.Shown.{shown, no_name, ShowsSame, asked_one, fresh_said, has_asked_for, said_by};
+ghost use Rattle.index_keep.specs.Last.{IsLast};
 ghost use Rattle.index_keep.specs.Judging as judging;
 
 use index_store::{PathRows, StoredRow};
 use mk_paths::FilesFault;
-use ports_index::{MemoryRows, Row};
+use ports_index::{KnownIndex, KnownRow, MemoryRows};
 use row_text::{KeptRow, read_row};
 use std::alloc::{AllocError, Global};
 use std::collections::BTreeSet;
@@ -22,7 +24,7 @@ use std::collections::BTreeSet;
 #[derive(Drop)]
 pub(crate) enum Judged {
     /// It is fresh, and says this.
-    Fresh(Row),
+    Fresh(KnownRow),
     /// It asked for a name that has changed since, and isn't marked yet.
     Outdated,
     /// It is marked, or its bytes are no row.
@@ -37,7 +39,7 @@ pub(crate) fn begin<R: PathRows>(
     changed: &BTreeSet<String>,
 ) -> Result<MemoryRows, FilesFault>
     ensures known { IfOk result (λ known. (path : List ℕ)
-        → entries_in known path ≡ fresh (shown (contains_text changed.now) (R.entries rows.old)) path) }
+        → said_in known path ≡ fresh_said (shown (contains_text changed.now) (R.entries rows.old)) path) }
     ensures marked { OnOk result (ShowsSame
         (shown (contains_text changed.now) (R.entries rows.old)) (shown no_name (R.entries rows.new))) }
     ensures err { OnErr result (SameRows (R.entries rows.old) (R.entries rows.new)) }
@@ -49,10 +51,74 @@ pub(crate) fn begin<R: PathRows>(
     Ok(known)
 }
 
+/// The same, by what all rows said before these files changed.
+pub(crate) fn begin_over<R: PathRows>(
+    alloc: Global,
+    rows: &mut R,
+    last: KnownIndex,
+    changed: &BTreeSet<String>,
+) -> Result<MemoryRows, FilesFault>
+    requires { IsLast (contains_text changed.now) (shown (contains_text changed.now) (R.entries rows.old)) last }
+    ensures known { IfOk result (λ known. (path : List ℕ)
+        → said_in known path ≡ fresh_said (shown (contains_text changed.now) (R.entries rows.old)) path) }
+    ensures marked { OnOk result (ShowsSame
+        (shown (contains_text changed.now) (R.entries rows.old)) (shown no_name (R.entries rows.new))) }
+    ensures err { OnErr result (SameRows (R.entries rows.old) (R.entries rows.new)) }
+    ensures profiles { SameProfiles (R.profiles rows.old) (R.profiles rows.new) }
+{
+    let KnownIndex { paths, rows: known } = last;
+    let outdated = outdated_among(alloc, paths.needed, &known, changed)?;
+    rows.mark(&outdated)?;
+    Ok(without(known, &outdated))
+}
+
+// Those of these paths whose rows asked for a name that has changed.
+fn outdated_among(
+    alloc: Global,
+    paths: Vec<String>,
+    known: &MemoryRows,
+    changed: &BTreeSet<String>,
+) -> Result<Vec<String>, AllocError>
+    ensures { IfOk result (λ outdated. (path : List ℕ) → is_one_of path (map string_bytes outdated.items)
+        ≡ (is_one_of path (map string_bytes paths.items)
+        && has_asked_for (contains_text changed.now) (names_in known.now path))) }
+{
+    let mut outdated = Vec::new(alloc);
+    for path in paths {
+        if is_outdated(known.names(path.as_str()), changed) {
+            outdated.push(path)?;
+        }
+    }
+    Ok(outdated)
+}
+
+// Whether one of these names has changed, if there are any.
+fn is_outdated(names: Option<&[String]>, changed: &BTreeSet<String>) -> bool
+    ensures { result ≡ has_asked_for (contains_text changed.now)
+        (option_map (λ names. names_seen names.now) names.entry) }
+{
+    match names {
+        Some(names) => has_asked(names, changed),
+        None => false,
+    }
+}
+
+/// Rows without those of these paths.
+pub(crate) fn without(known: MemoryRows, paths: &[String]) -> MemoryRows
+    ensures { (path : List ℕ) → said_in result path
+        ≡ (if is_one_of path (map string_bytes paths.now) then None else said_in known path) }
+{
+    let mut known = known;
+    for path in paths {
+        known.take_out(path.as_str());
+    }
+    known
+}
+
 /// The rows that are fresh, if no name has changed since they were marked.
 pub(crate) fn fresh_rows<R: PathRows>(alloc: Global, rows: &mut R) -> Result<MemoryRows, FilesFault>
     ensures known { IfOk result (λ known. (path : List ℕ)
-        → entries_in known path ≡ fresh (shown no_name (R.entries rows.old)) path) }
+        → said_in known path ≡ fresh_said (shown no_name (R.entries rows.old)) path) }
     ensures same { SameRows (R.entries rows.old) (R.entries rows.new) }
     ensures profiles { SameProfiles (R.profiles rows.old) (R.profiles rows.new) }
 {
@@ -76,7 +142,7 @@ fn sort(
 ) -> Result<Sorted, AllocError>
     ensures known { (entries : Entries) → AreRowsOf entries (map stored_seen stored.items)
         → IfOk result (λ sorted. (path : List ℕ)
-        → entries_in sorted.known path ≡ judging.fresh_at (contains_text changed.now) entries path) }
+        → said_in sorted.known path ≡ judging.fresh_at (contains_text changed.now) entries path) }
     ensures outdated { (entries : Entries) → AreRowsOf entries (map stored_seen stored.items)
         → IfOk result (λ sorted. (path : List ℕ)
         → is_one_of path (map string_bytes sorted.outdated.items)
@@ -99,14 +165,14 @@ fn add(
     stored: StoredRow,
     changed: &BTreeSet<String>,
 ) -> Result<(), AllocError>
-    ensures known { OnOk result ((path : List ℕ) → entries_in sorted.new.known path
-        ≡ judging.known_with (contains_text changed.now) (stored_seen stored) (entries_in sorted.old.known) path) }
+    ensures known { OnOk result ((path : List ℕ) → said_in sorted.new.known path
+        ≡ judging.known_with (contains_text changed.now) (stored_seen stored) (said_in sorted.old.known) path) }
     ensures outdated { OnOk result (map string_bytes sorted.new.outdated.items
         ≡ map string_bytes sorted.old.outdated.items
         ++ judging.outdated_in (contains_text changed.now) (stored_seen stored)) }
 {
     match judge(alloc, &stored, changed)? {
-        Judged::Fresh(row) => sorted.known.put(stored.path, row)?,
+        Judged::Fresh(known) => sorted.known.put(stored.path, known)?,
         Judged::Outdated => sorted.outdated.push(stored.path)?,
         Judged::Unusable => {}
     }
@@ -126,20 +192,20 @@ fn judge(
         return Ok(Judged::Unusable);
     }
     match read_row(alloc, &stored.text)? {
-        Some(row) => Ok(judge_row(row, changed)),
+        Some(row) => Ok(judge_row(row, stored.text.len() as u64, changed)),
         None => Ok(Judged::Unusable),
     }
 }
 
-// What a row that isn't marked is after files of these names have changed.
-fn judge_row(row: KeptRow, changed: &BTreeSet<String>) -> Judged
+// What a row of so many bytes that isn't marked is after files of these names have changed.
+fn judge_row(row: KeptRow, size: u64, changed: &BTreeSet<String>) -> Judged
     ensures { judging.judged_seen result
         ≡ judging.judge_row (contains_text changed.now) (Some (row_seen row)) }
 {
     if has_asked(&row.names, changed) {
         return Judged::Outdated;
     }
-    Judged::Fresh(row.found.row)
+    Judged::Fresh(known_row(row, size))
 }
 
 // Whether one of these names has changed.
@@ -147,4 +213,15 @@ fn has_asked(names: &[String], changed: &BTreeSet<String>) -> bool
     ensures { result ≡ list_any (λ name. contains_text changed.now (string_bytes name)) names.now }
 {
     names.iter().any(|name| changed.contains(name.as_str()))
+}
+
+/// What is kept in memory of a row of so many bytes.
+pub(crate) fn known_row(row: KeptRow, size: u64) -> KnownRow
+    ensures { known_seen result ≡ said_by (row_seen row) }
+{
+    KnownRow {
+        row: row.found.row,
+        names: row.names,
+        size,
+    }
 }

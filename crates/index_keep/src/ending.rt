@@ -1,5 +1,5 @@
 //! The end of a refresh: rows that nothing needs are taken out.
-ghost use Rattle.std.specs.Prelude.{◌≡◌, ◌&&◌, not, ℕ, List, if◌then◌else◌, None, map, string_bytes, IfOk, OnOk, OnErr};
+ghost use Rattle.std.specs.Prelude.{◌≡◌, ◌&&◌, not, ℕ, List, if◌then◌else◌, None, is_some, map, string_bytes, IfOk, OnOk, OnErr};
 ghost use Rattle.ports_index.specs.Filling.{is_one_of};
 ghost use Rattle.index_store.specs.Entries.{SameRows};
 ghost use Rattle.mk_text.specs.declared.profile.Profile as kinds;
@@ -10,12 +10,15 @@ use index_store::PathRows;
 use mk_paths::FilesFault;
 use std::alloc::{AllocError, Global};
 
-/// Takes out the rows of all paths but these. If it fails, all rows stay.
+/// Takes out the rows of all paths but these, and gives the paths of the rows that it took out. If it fails, all rows
+/// stay.
 pub(crate) fn take_out_others<R: PathRows>(
     alloc: Global,
     rows: &mut R,
     needed: &[String],
-) -> Result<(), FilesFault>
+) -> Result<Vec<String>, FilesFault>
+    ensures others { IfOk result (λ others. (path : List ℕ) → is_one_of path (map string_bytes others.items)
+        ≡ (is_some (R.entries rows.old path) && not (is_one_of path (map string_bytes needed.now)))) }
     ensures ok { OnOk result ((path : List ℕ) → R.entries rows.new path
         ≡ (if is_one_of path (map string_bytes needed.now) then R.entries rows.old path else None)) }
     ensures err { OnErr result (SameRows (R.entries rows.old) (R.entries rows.new)) }
@@ -23,10 +26,10 @@ pub(crate) fn take_out_others<R: PathRows>(
 {
     let paths = rows.paths(alloc)?;
     let others = others(alloc, paths, needed)?;
-    if others.is_empty() {
-        return Ok(());
+    if !others.is_empty() {
+        rows.take_out(&others)?;
     }
-    rows.take_out(&others)
+    Ok(others)
 }
 
 // Those of these paths that aren't needed.

@@ -9,8 +9,8 @@ ghost use Rattle.index_store.specs.Entries.{SameProfiles};
 ghost use Rattle.index_keep.specs.Profiles.{profiles_of};
 ghost use Rattle.index_keep.specs.Shown.{ShowsSame, made_stale, stale_if_asked};
 ghost use Rattle.index_keep.specs.Right.{DifferAt};
-ghost use Rattle.index_keep.specs.Keeping.{rows_of, begun_in, changed_in, IsKept, IsDone};
-ghost use Rattle.index_keep.specs.Keeping.{IsDropped, HasForgotten, Halts, Stops};
+ghost use Rattle.index_keep.specs.Keeping.{rows_of, begun_in, changed_in, size_at_hand, IsKept, IsDone};
+ghost use Rattle.index_keep.specs.Keeping.{DropsTo, HasForgotten, Halts, Stops};
 
 use crate::beginning::begin;
 use crate::evaluating::PathAsk;
@@ -18,7 +18,7 @@ use crate::names::insert_name;
 use crate::walking::Walk;
 use index_store::PathRows;
 use mk_paths::{FilesFault, Name};
-use ports_index::{KnownIndex, Spent, path_is_the_same_where_answered};
+use ports_index::{IndexPaths, KnownIndex, Spent, path_is_the_same_where_answered};
 use std::alloc::{AllocError, Global};
 use std::collections::BTreeSet;
 use std::mem;
@@ -41,14 +41,14 @@ pub enum Refreshed {
 /// How far the index is refreshed.
 #[derive(Drop)]
 pub(crate) enum Progress {
-    /// Files of these names have changed since a refresh began.
-    Changed(BTreeSet<String>),
+    /// Files of these names have changed since a refresh began. The index before that may still be in memory.
+    Changed(BTreeSet<String>, Option<KnownIndex>),
     /// A refresh is under way, and is between two paths.
     Walking(Walk),
     /// A refresh is under way, and a path is evaluated.
     Asking(Walk, PathAsk),
-    /// All rows are right, and these are the listed paths. What the rows say isn't in memory.
-    Current(Vec<String>),
+    /// All rows are right, and these are the index's paths. What the rows say isn't in memory.
+    Current(IndexPaths),
     /// All rows are right, and this is the index that they make.
     AtHand(KnownIndex),
 }
@@ -124,8 +124,21 @@ impl<R: PathRows + Drop> Keeper<R> {
         index
     }
 
-    /// Drops from memory what the rows say, if a refresh is done. Nothing else changes. The next turn of a refresh
-    /// reads the rows again.
+    /// How many bytes the rows of the index have, if it is at hand.
+    pub fn size_at_hand(&self) -> Option<u64>
+        ensures { result ≡ size_at_hand self.now }
+    {
+        match &self.progress {
+            Progress::AtHand(index) => Some(index.rows.size()),
+            Progress::Changed(_, _)
+            | Progress::Walking(_)
+            | Progress::Asking(_, _)
+            | Progress::Current(_) => None,
+        }
+    }
+
+    /// Drops from memory what the rows say, unless a refresh is under way. Nothing else changes. The next turn of a
+    /// refresh reads the rows again.
     pub fn put_away(&mut self, alloc: Global)
         ensures rows { ShowsSame (rows_of R.entries self.old) (rows_of R.entries self.new) }
         ensures begun { begun_in self.new.progress ≡ begun_in self.old.progress }
@@ -134,7 +147,8 @@ impl<R: PathRows + Drop> Keeper<R> {
         ensures profiles { SameProfiles (profiles_of R.profiles self.old) (profiles_of R.profiles self.new) }
     {
         match mem::replace(&mut self.progress, Progress::nothing(alloc)) {
-            Progress::AtHand(index) => self.progress = Progress::Current(index.into_listed()),
+            Progress::AtHand(index) => self.progress = Progress::Current(index.paths),
+            Progress::Changed(names, _last) => self.progress = Progress::Changed(names, None),
             progress => self.progress = progress,
         }
     }
@@ -164,7 +178,7 @@ impl<R: PathRows + Drop> Keeper<R> {
     // Whether no more names are to be kept.
     fn is_full(&self) -> bool {
         match &self.progress {
-            Progress::Changed(names) => names.len() >= MOST_CHANGED,
+            Progress::Changed(names, _) => names.len() >= MOST_CHANGED,
             Progress::Walking(_)
             | Progress::Asking(_, _)
             | Progress::Current(_)
@@ -178,7 +192,7 @@ impl<R: PathRows + Drop> Keeper<R> {
         ensures progress { Stops self.old.progress self.new.progress }
         ensures profiles { SameProfiles (profiles_of R.profiles self.old) (profiles_of R.profiles self.new) }
     {
-        if let Progress::Changed(names) = &self.progress {
+        if let Progress::Changed(names, _) = &self.progress {
             let _known = begin(alloc, &mut self.rows, names)?;
             self.progress = Progress::nothing(alloc);
         }
@@ -191,7 +205,7 @@ impl Progress {
     pub(crate) fn nothing(alloc: Global) -> Progress
         ensures { HasForgotten result }
     {
-        Progress::Changed(BTreeSet::new(alloc))
+        Progress::Changed(BTreeSet::new(alloc), None)
     }
 
     // A refresh that is under way is dropped.
@@ -200,29 +214,31 @@ impl Progress {
     {
         match self {
             Progress::Walking(_) | Progress::Asking(_, _) => *self = Progress::nothing(alloc),
-            Progress::Changed(_) | Progress::Current(_) | Progress::AtHand(_) => {}
+            Progress::Changed(_, _) | Progress::Current(_) | Progress::AtHand(_) => {}
         }
     }
 
-    // The file of this name has changed too. A refresh that is under way is dropped. If memory runs out,
-    // nothing changes.
+    // The file of this name has changed too. A refresh that is under way is dropped. An index at hand stays in memory.
+    // If memory runs out, nothing changes.
     fn add_change(&mut self, alloc: Global, name: String) -> Result<(), AllocError>
         ensures changed { OnOk result ((other : List ℕ) → changed_in self.new other
             ≡ (bytes_eq (string_bytes name) other || changed_in self.old other)) }
-        ensures dropped { OnOk result (IsDropped self.new) }
+        ensures dropped { OnOk result (DropsTo self.old self.new) }
         ensures err { OnErr result (self.new ≡ self.old) }
     {
-        match self {
-            Progress::Changed(names) => insert_name(names, name),
-            Progress::Walking(_)
-            | Progress::Asking(_, _)
-            | Progress::Current(_)
-            | Progress::AtHand(_) => {
-                let mut names = BTreeSet::new(alloc);
-                insert_name(&mut names, name)?;
-                *self = Progress::Changed(names);
-                Ok(())
-            }
+        if let Progress::Changed(names, _last) = self {
+            return insert_name(names, name);
         }
+        let mut names = BTreeSet::new(alloc);
+        insert_name(&mut names, name)?;
+        let last = match mem::replace(self, Progress::nothing(alloc)) {
+            Progress::AtHand(index) => Some(index),
+            Progress::Changed(_, _)
+            | Progress::Walking(_)
+            | Progress::Asking(_, _)
+            | Progress::Current(_) => None,
+        };
+        *self = Progress::Changed(names, last);
+        Ok(())
     }
 }

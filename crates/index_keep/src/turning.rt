@@ -1,6 +1,6 @@
 //! The turns of a refresh.
 ghost use Rattle.std.specs.Prelude.{◌≡◌, ℕ, List, false, Some, None, if◌then◌else◌, string_bytes};
-ghost use Rattle.std.specs.Prelude.{IfOk, OnOk, OnErr};
+ghost use Rattle.std.specs.Prelude.{IfOk, IfSome, OnOk, OnErr};
 ghost use Rattle.std.specs.BTreeSet.{contains_text};
 ghost use Rattle.std.specs.Result.{result_err};
 ghost use Rattle.std.specs.Str.{bytes_eq};
@@ -14,7 +14,8 @@ ghost use Rattle.index_store.specs.Entries.{SameRows, SameProfiles};
 ghost use Rattle.ports_index.specs.Spending.{no_spending};
 ghost use Rattle.row_text.specs.Seen.{row_seen};
 ghost use Rattle.eval_ask.specs.Asking.{HasBegun, spent_in};
-ghost use Rattle.index_keep.specs.Shown.{ShownRows, shown, no_name, ShowsSame};
+ghost use Rattle.index_keep.specs.Shown.{ShownRows, shown, no_name, said_by, ShowsSame};
+ghost use Rattle.index_keep.specs.Last.{IsLast};
 ghost use Rattle.index_keep.specs.Profiles.{WritesIn, profiles_of};
 ghost use Rattle.index_keep.specs.Right.{LeavesFiles};
 ghost use Rattle.index_keep.specs.Paths.{IsUpTo, TurnsPath};
@@ -23,7 +24,7 @@ ghost use Rattle.index_keep.specs.Walking.{IsWalk, IsOnTheWay, HasRowMore};
 ghost use Rattle.index_keep.specs.Keeping.{rows_of, refresh_of, begun_in, IsKept, IsDone};
 ghost use Rattle.index_keep.specs.Keeping.{IsAskOnTheWay, IsReadyFor, IsAtEnd, TurnsKeeper};
 
-use crate::beginning::fresh_rows;
+use crate::beginning::{fresh_rows, known_row, without};
 use crate::ending::take_out_others;
 use crate::evaluating::{MadeRow, PathAsk, PathTurned};
 use crate::keeper::{Keeper, Progress, Refreshed};
@@ -34,7 +35,7 @@ use index_store::PathRows;
 use mk_files::Listing;
 use mk_paths::{FilesFault, Settings};
 use mk_text::Profile;
-use ports_index::{KnownIndex, Spent};
+use ports_index::{IndexPaths, KnownIndex, Spent};
 use read_trace::Recorder;
 use row_text::{KeptRow, write_row};
 use std::alloc::Global;
@@ -80,8 +81,8 @@ impl<R: PathRows + Drop> Keeper<R> {
         ensures uses { UsesCache cache.old cache.new }
     {
         match mem::replace(&mut self.progress, Progress::nothing(alloc)) {
-            Progress::Changed(names) => {
-                let walk = self.begun(alloc, files, names)?;
+            Progress::Changed(names, last) => {
+                let walk = self.begun(alloc, files, last, names)?;
                 self.walk_on(alloc, cache, files, settings, walk, units)
             }
             Progress::Walking(walk) => self.walk_on(alloc, cache, files, settings, walk, units),
@@ -90,8 +91,8 @@ impl<R: PathRows + Drop> Keeper<R> {
                 let writing = WritingWalk { walk, profile };
                 self.ask_on(alloc, cache, files, writing, ask, units)
             }
-            Progress::Current(listed) => {
-                self.read_index(alloc, listed)?;
+            Progress::Current(paths) => {
+                self.read_index(alloc, paths)?;
                 Ok(Refreshed::Done)
             }
             Progress::AtHand(index) => {
@@ -222,55 +223,65 @@ impl<R: PathRows + Drop> Keeper<R> {
             → WritesIn profile (profiles_of R.profiles self.old) (profiles_of R.profiles self.new) }
     {
         let LastStage { stage, listed } = last;
-        let Stage { paths, known, .. } = stage;
-        take_out_others(alloc, &mut self.rows, &paths)?;
-        self.progress = Progress::AtHand(KnownIndex::new(listed, known));
+        let Stage {
+            paths: needed,
+            known,
+            ..
+        } = stage;
+        let others = take_out_others(alloc, &mut self.rows, &needed)?;
+        self.progress = Progress::AtHand(KnownIndex {
+            paths: IndexPaths { listed, needed },
+            rows: without(known, &others),
+        });
         Ok(())
     }
 
-    // Reads what the rows say, all of which are right; these listed paths were taken out of the keeper. If that fails,
+    // Reads what the rows say, all of which are right; the index's paths were taken out of the keeper. If that fails,
     // they are put back.
-    fn read_index(&mut self, alloc: Global, listed: Vec<String>) -> Result<(), FilesFault>
+    fn read_index(&mut self, alloc: Global, paths: IndexPaths) -> Result<(), FilesFault>
         ensures rows { ShowsSame (shown no_name (R.entries self.old.rows)) (rows_of R.entries self.new) }
         ensures begun { begun_in self.new.progress ≡ no_spending }
         ensures done { OnOk result (IsDone self.new) }
-        ensures kept { (world : World) → IsKept R.entries world (record self.old { progress = Progress.Current listed })
+        ensures kept { (world : World) → IsKept R.entries world (record self.old { progress = Progress.Current paths })
             → IsKept R.entries world self.new }
         ensures profiles { SameProfiles (profiles_of R.profiles self.old) (profiles_of R.profiles self.new) }
     {
         match fresh_rows(alloc, &mut self.rows) {
             Ok(rows) => {
-                self.progress = Progress::AtHand(KnownIndex::new(listed, rows));
+                self.progress = Progress::AtHand(KnownIndex { paths, rows });
                 Ok(())
             }
             Err(fault) => {
-                self.progress = Progress::Current(listed);
+                self.progress = Progress::Current(paths);
                 Err(fault)
             }
         }
     }
 
-    // The walk with which a refresh begins after files of these names have changed. If that fails, the names
-    // are kept.
+    // The walk with which a refresh begins after files of these names have changed, by the index before that, if it is
+    // in memory. If that fails, the names are kept.
     fn begun<F: Listing + Drop>(
         &mut self,
         alloc: Global,
         files: &mut Recorder<F>,
+        last: Option<KnownIndex>,
         names: BTreeSet<String>,
     ) -> Result<Walk, FilesFault>
+        requires { IfSome last (IsLast (contains_text names)
+            (shown (contains_text names) (R.entries self.old.rows))) }
         ensures walk { IfOk result (λ walk. (settings : Settings) → IsWalk
             (world_of (view_of F.view files.old) settings) (shown no_name (R.entries self.new.rows)) walk) }
         ensures ok { OnOk result (ShowsSame (shown (contains_text names) (R.entries self.old.rows))
             (shown no_name (R.entries self.new.rows)) × (self.new.progress ≡ self.old.progress)) }
         ensures err { OnErr result (SameRows (R.entries self.old.rows) (R.entries self.new.rows)
-            × (self.new.progress ≡ Progress.Changed names)) }
+            × (self.new.progress ≡ Progress.Changed names None)) }
         ensures profiles { SameProfiles (profiles_of R.profiles self.old) (profiles_of R.profiles self.new) }
         ensures leaves { LeavesFiles (result_err result) (view_of F.view files.old) (view_of F.view files.new) }
     {
-        match begin_walk(alloc, files, &mut self.rows, &names) {
+        match begin_walk(alloc, files, &mut self.rows, last, &names) {
             Ok(walk) => Ok(walk),
             Err(fault) => {
-                self.progress = Progress::Changed(names);
+                self.progress = Progress::Changed(names, None);
                 Err(fault)
             }
         }
@@ -292,14 +303,14 @@ fn put_row<R: PathRows>(
         then Some (record { row = row_seen row; stale = false })
         else shown no_name (R.entries rows.old) other)) }
     ensures walk { (world : World) (old new : ShownRows) → IsWalk world old walk
-        → HasRowMore (string_bytes path) (row_seen row).outcome old new
+        → HasRowMore (string_bytes path) (said_by (row_seen row)) old new
         → IfOk result (IsWalk world new) }
     ensures err { OnErr result (SameRows (R.entries rows.old) (R.entries rows.new)) }
     ensures profiles { WritesIn profile (R.profiles rows.old) (R.profiles rows.new) }
 {
     let text = write_row(alloc, &row)?;
     let key = String::from_str(alloc, path.as_str())?;
-    let walk = walk.with_row(key, row.found.row)?;
+    let walk = walk.with_row(key, known_row(row, text.len() as u64))?;
     rows.put(path.as_str(), profile, &text)?;
     Ok(walk)
 }

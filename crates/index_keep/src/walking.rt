@@ -13,14 +13,17 @@ ghost use Rattle.std.specs.BTreeSet.{contains_text};
 ghost use Rattle.index_store.specs.Entries.{SameRows, SameProfiles};
 ghost use Rattle.index_keep.specs.Shown.{ShownRows, shown, no_name, ShowsSame};
 ghost use Rattle.index_keep.specs.Right.{LeavesFiles};
+ghost use Rattle.index_keep.specs.Last.{IsLast};
 ghost use Rattle.index_keep.specs.Walking as walking;
 ghost use Rattle.index_keep.specs.declared.walking.Walk.TheVariants.{Directories, Listed, Needed};
 
-use crate::beginning::begin;
+use crate::beginning::{begin, begin_over};
 use index_store::PathRows;
 use mk_files::Listing;
 use mk_paths::FilesFault;
-use ports_index::{MemoryRows, Row, directories, known_rows_are_enough, listed, needed_among};
+use ports_index::{
+    KnownIndex, KnownRow, MemoryRows, directories, known_rows_are_enough, listed, needed_among,
+};
 use read_trace::Recorder;
 use std::alloc::{AllocError, Global};
 use std::collections::BTreeSet;
@@ -78,8 +81,8 @@ impl Stage {
     }
 
     /// The same stage, which knows of one more fresh row.
-    fn with_row(self, path: String, row: Row) -> Result<Stage, AllocError>
-        ensures { IfOk result (walking.KnowsRow (string_bytes path) (seen.row_seen row) self) }
+    fn with_row(self, path: String, row: KnownRow) -> Result<Stage, AllocError>
+        ensures { IfOk result (walking.KnowsRow (string_bytes path) (seen.known_seen row) self) }
     {
         let Stage {
             paths,
@@ -131,14 +134,17 @@ pub(crate) enum Next {
     All(LastStage),
 }
 
-/// The walk with which a refresh begins after files of these names have changed. The rows that asked for them
-/// are marked. If it fails, nothing is marked.
+/// The walk with which a refresh begins after files of these names have changed, by the index before that, if it is in
+/// memory. The rows that asked for these names are marked. If it fails, nothing is marked.
 pub(crate) fn begin_walk<F: Listing + Drop, R: PathRows>(
     alloc: Global,
     files: &mut Recorder<F>,
     rows: &mut R,
+    last: Option<KnownIndex>,
     changed: &BTreeSet<String>,
 ) -> Result<Walk, FilesFault>
+    requires { IfSome last (IsLast (contains_text changed.now)
+        (shown (contains_text changed.now) (R.entries rows.old))) }
     ensures walk { IfOk result (λ walk. (settings : Settings) → walking.IsWalk
         (world_of (view_of F.view files.old) settings) (shown no_name (R.entries rows.new)) walk) }
     ensures marked { OnOk result (ShowsSame (shown (contains_text changed.now) (R.entries rows.old))
@@ -148,7 +154,10 @@ pub(crate) fn begin_walk<F: Listing + Drop, R: PathRows>(
     ensures leaves { LeavesFiles (result_err result) (view_of F.view files.old) (view_of F.view files.new) }
 {
     let paths = directories(alloc, files)?;
-    let known = begin(alloc, rows, changed)?;
+    let known = match last {
+        Some(last) => begin_over(alloc, rows, last, changed)?,
+        None => begin(alloc, rows, changed)?,
+    };
     Ok(Walk::Directories(Stage::new(paths, known)))
 }
 
@@ -167,9 +176,9 @@ impl Walk {
     }
 
     /// The same walk, which knows of one more fresh row. It fails only if memory runs out.
-    pub(crate) fn with_row(self, path: String, row: Row) -> Result<Walk, AllocError>
+    pub(crate) fn with_row(self, path: String, row: KnownRow) -> Result<Walk, AllocError>
         ensures { (world : World) (old new : ShownRows) → walking.IsWalk world old self
-            → walking.HasRowMore (string_bytes path) (seen.row_seen row) old new
+            → walking.HasRowMore (string_bytes path) (seen.known_seen row) old new
             → IfOk result (walking.IsWalk world new) }
     {
         match self {

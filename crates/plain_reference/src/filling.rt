@@ -13,7 +13,7 @@ use crate::effort::Effort;
 use crate::evaluating::evaluate_path;
 use mk_files::Files;
 use mk_paths::{FilesFault, Settings};
-use ports_index::MemoryRows;
+use ports_index::{KnownRow, MemoryRows, Row};
 use std::alloc::Global;
 
 /// Gives a row to each of these paths that has none yet: what the path leads to. If all rows were right
@@ -69,6 +69,17 @@ fn fill_one<F: Files>(
     let found = evaluate_path(alloc, files, settings, path)?;
     let effort = Effort::of(&found);
     let key = String::from_str(alloc, path)?;
-    rows.put(key, found.row)?;
+    rows.put(key, unstored(alloc, found.row))?;
     Ok(effort)
+}
+
+// A row that is stored nowhere. Nobody asks what it rests on.
+fn unstored(alloc: Global, row: Row) -> KnownRow
+    ensures { result.row ≡ row }
+{
+    KnownRow {
+        row,
+        names: Vec::new(alloc),
+        size: 0,
+    }
 }

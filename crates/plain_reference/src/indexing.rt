@@ -16,7 +16,7 @@ use crate::filling::fill;
 use mk_files::Listing;
 use mk_paths::{FilesFault, Settings};
 use ports_index::{
-    KnownIndex, MemoryRows, directories, known_rows_are_enough, listed, needed_among,
+    IndexPaths, KnownIndex, MemoryRows, directories, known_rows_are_enough, listed, needed_among,
 };
 use std::alloc::Global;
 
@@ -58,7 +58,13 @@ pub fn index_files<F: Listing>(
     let needed = needed_among(alloc, &paths, &rows)?;
     let more = fill(alloc, files, settings, &needed, &mut rows)?;
     Ok(Index {
-        known: KnownIndex::new(paths, rows),
+        known: KnownIndex {
+            paths: IndexPaths {
+                listed: paths,
+                needed,
+            },
+            rows,
+        },
         effort: effort.and(more),
     })
 }

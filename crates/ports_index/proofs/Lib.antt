@@ -1,3 +1,4 @@
+pub mod AddedLemmas
 pub mod Known
 pub mod Filled
 pub mod Totals

@@ -4,9 +4,15 @@ use Rattle.mk_paths.specs.World.{World}
 use Rattle.ports_index.specs.Index.{listed_paths, needed_paths}
 use Rattle.ports_index.specs.RowLaws.{HaveRows}
 use Rattle.ports_index.specs.Seen.{entries_in}
+use Rattle.ports_index.specs.declared.known_index.IndexPaths.{IndexPaths}
 use Rattle.ports_index.specs.declared.known_index.KnownIndex.{KnownIndex}
 
--- it is the index of a world: its paths are those that are listed there, and each path on which the index depends has its row
+-- they are the paths of the index of a world
+pub record ArePathsOf (world : World) (paths : IndexPaths) : Type 0 where
+  pub listed : map string_bytes paths.listed.items ≡ listed_paths world
+  pub needed : map string_bytes paths.needed.items ≡ needed_paths world
+
+-- it is the index of a world: its paths are those of that index, and each path on which the index depends has its row
 pub record IsIndexOf (world : World) (index : KnownIndex) : Type 0 where
-  pub listed : map string_bytes index.listed.items ≡ listed_paths world
+  pub paths : ArePathsOf world index.paths
   pub rows : HaveRows world (entries_in index.rows) (needed_paths world)

@@ -3,6 +3,7 @@ ghost use Rattle.std.specs.Prelude.{◌≡◌, ◌++◌, map, string_bytes, IfOk
 ghost use Rattle.std.specs.List.{filter_map, flat_map};
 ghost use Rattle.std.specs.Option.{option_copied};
 ghost use Rattle.port_deps.specs.Seen.{found_seen};
+ghost use Rattle.ports_index.specs.Adding.{AddSame};
 ghost use Rattle.ports_index.specs.Depending as depending;
 ghost use Rattle.ports_index.specs.Index.{needed_among};
 ghost use Rattle.ports_index.specs.Seen.{row_seen, known_row, known_in, entries_in, item_seen};
@@ -204,10 +205,30 @@ pub fn needed_among(
     ensures { IfOk result (λ found. map string_bytes found.items
         ≡ needed_among (known_in (entries_in rows.now)) (map string_bytes listed.now)) }
 {
+    let targets = targets_among(alloc, listed, rows)?;
     let mut paths = clones_of(alloc, listed)?;
-    append(&mut paths, targets_among(alloc, listed, rows)?)?;
+    append(&mut paths, not_found_in(alloc, targets, listed)?)?;
     put_in_order(&mut paths);
     Ok(paths)
+}
+
+// Those of these targets that a search doesn't find among listed paths. Where these are in order, it finds each that is
+// there, so that few are left to be put in order.
+fn not_found_in(
+    alloc: Global,
+    targets: Vec<String>,
+    listed: &[String],
+) -> Result<Vec<String>, AllocError>
+    ensures { IfOk result (λ others. AddSame (map string_bytes listed.now)
+        (map string_bytes targets.items) (map string_bytes others.items)) }
+{
+    let mut others = Vec::new(alloc);
+    for target in targets {
+        if listed.binary_search(&target).is_err() {
+            others.push(target)?;
+        }
+    }
+    Ok(others)
 }
 
 /// The roots at these paths, in their order: the ports, and the faults there. The ports are shared with the rows.

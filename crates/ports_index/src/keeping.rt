@@ -1,27 +1,42 @@
 //! A map of rows in memory: what paths lead to, as far as that is known.
-ghost use Rattle.std.specs.Prelude.{◌≡◌, ℕ, List, Option, Some, None, option_map, if◌then◌else◌, string_bytes, OnOk, OnErr};
+ghost use Rattle.std.specs.Prelude.{◌≡◌, ◌+◌, ℕ, List, Option, Some, None, option_map, if◌then◌else◌, string_bytes, OnOk, OnErr};
 ghost use Rattle.std.specs.Str.{bytes_eq};
 ghost use Rattle.std.specs.BTreeMap.{get_by_text};
-ghost use Rattle.ports_index.specs.PathOutcomes.{PathOutcome};
-ghost use Rattle.ports_index.specs.Seen.{row_seen, entries_in};
+ghost use Rattle.ports_index.specs.PathOutcomes.{PathOutcome, counted};
+ghost use Rattle.ports_index.specs.Seen.{entries_in, known_seen, names_in, names_seen, row_seen, said_in, size_of};
 
 use crate::evaluating::Row;
 use std::alloc::{AllocError, Global};
 use std::collections::BTreeMap;
 
-/// Rows in memory, by the canonical paths that lead to them.
+/// A row that is known.
+#[derive(Debug, Drop)]
+pub struct KnownRow {
+    /// What the path leads to.
+    pub row: Row,
+    /// The names of the files that were asked for to learn that.
+    pub names: Vec<String>,
+    /// How many bytes the row has where it is stored.
+    pub size: u64,
+}
+
+/// Rows in memory, by the canonical paths that lead to them, and their size: the bytes of all rows that were put. It
+/// stops at 2^64 - 1.
 #[derive(Debug, Drop)]
 pub struct MemoryRows {
-    rows: BTreeMap<String, Row>,
+    rows: BTreeMap<String, KnownRow>,
+    size: u64,
 }
 
 impl MemoryRows {
     /// A map without rows. It takes no memory.
     pub fn new(alloc: Global) -> MemoryRows
-        ensures { (path : List ℕ) → entries_in result path ≡ None }
+        ensures none { (path : List ℕ) → said_in result path ≡ None }
+        ensures size { size_of result ≡ 0 }
     {
         MemoryRows {
             rows: BTreeMap::new(alloc),
+            size: 0,
         }
     }
 
@@ -29,22 +44,53 @@ impl MemoryRows {
     pub fn get(&self, path: &str) -> Option<&Row>
         ensures { option_map (λ row. row_seen row.now) result ≡ entries_in self.now path.now }
     {
-        self.rows.get(path)
+        match self.rows.get(path) {
+            Some(known) => Some(&known.row),
+            None => None,
+        }
     }
 
-    /// Gives this path this row, whether or not it had one. If memory runs out, it fails, and
-    /// all rows stay as they are.
-    pub fn put(&mut self, path: String, row: Row) -> Result<(), AllocError>
-        ensures ok { OnOk result ((other : List ℕ)
-            → entries_in self.new other
-            ≡ (if bytes_eq (string_bytes path) other
-            then Some (row_seen row) else entries_in self.old other)) }
-        ensures err { OnErr result ((other : List ℕ)
-            → entries_in self.new other ≡ entries_in self.old other) }
+    /// The names of the files that were asked for to learn what this path leads to, if it has a row.
+    pub fn names(&self, path: &str) -> Option<&[String]>
+        ensures { option_map (λ names. names_seen names.now) result ≡ names_in self.now path.now }
     {
-        match self.rows.insert(path, row) {
-            Ok(_before) => Ok(()),
+        match self.rows.get(path) {
+            Some(known) => Some(known.names.as_slice()),
+            None => None,
+        }
+    }
+
+    /// How many bytes all rows have that were put.
+    pub fn size(&self) -> u64
+        ensures { result ≡ size_of self.now }
+    {
+        self.size
+    }
+
+    /// Gives this path this row, whether or not it had one. If memory runs out, it fails, and all rows stay as they are.
+    pub fn put(&mut self, path: String, known: KnownRow) -> Result<(), AllocError>
+        ensures says { OnOk result ((other : List ℕ) → said_in self.new other
+            ≡ (if bytes_eq (string_bytes path) other then Some (known_seen known) else said_in self.old other)) }
+        ensures ok { OnOk result ((other : List ℕ) → entries_in self.new other
+            ≡ (if bytes_eq (string_bytes path) other then Some (row_seen known.row) else entries_in self.old other)) }
+        ensures size { OnOk result (size_of self.new ≡ counted (size_of self.old + known.size)) }
+        ensures err { OnErr result ((other : List ℕ) → said_in self.new other ≡ said_in self.old other) }
+    {
+        let size = known.size;
+        match self.rows.insert(path, known) {
+            Ok(_before) => {
+                self.size = self.size.saturating_add(size);
+                Ok(())
+            }
             Err(failed) => Err(failed.into()),
         }
+    }
+
+    /// Takes out the row of this path, if it has one.
+    pub fn take_out(&mut self, path: &str)
+        ensures { (other : List ℕ) → said_in self.new other
+            ≡ (if bytes_eq path.now other then None else said_in self.old other) }
+    {
+        let _taken = self.rows.remove(path);
     }
 }

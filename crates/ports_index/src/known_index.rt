@@ -1,10 +1,8 @@
 //! An index whose rows are known.
-ghost use Rattle.std.specs.Prelude.{◌≡◌, map, string_bytes, IfOk};
+ghost use Rattle.std.specs.Prelude.{◌≡◌, IfOk};
 ghost use Rattle.mk_paths.specs.World.{World};
 ghost use Rattle.ports_index.specs.Index as indexed;
 ghost use Rattle.ports_index.specs.Known.{IsIndexOf};
-ghost use Rattle.ports_index.specs.RowLaws.{HaveRows};
-ghost use Rattle.ports_index.specs.Seen.{entries_in};
 
 use crate::depending::{edges_among, roots_among};
 use crate::keeping::MemoryRows;
@@ -12,30 +10,25 @@ use crate::laws::known_rows_are_enough;
 use port_deps::{Root, RootEdge};
 use std::alloc::{AllocError, Global};
 
+/// The paths of an index.
+#[derive(Debug, Drop)]
+pub struct IndexPaths {
+    /// Those that are listed.
+    pub listed: Vec<String>,
+    /// Those on which the index depends.
+    pub needed: Vec<String>,
+}
+
 /// The index of a ports tree, with what each path leads to on which it depends.
 #[derive(Debug, Drop)]
 pub struct KnownIndex {
-    listed: Vec<String>,
-    rows: MemoryRows,
+    /// Its paths.
+    pub paths: IndexPaths,
+    /// The rows of its paths.
+    pub rows: MemoryRows,
 }
 
 impl KnownIndex {
-    /// The index in which these paths are listed, by these rows.
-    pub fn new(listed: Vec<String>, rows: MemoryRows) -> KnownIndex
-        ensures { (world : World) → map string_bytes listed.items ≡ indexed.listed_paths world
-            → HaveRows world (entries_in rows) (indexed.needed_paths world) → IsIndexOf world result }
-    {
-        KnownIndex { listed, rows }
-    }
-
-    /// The listed paths alone, without what they lead to.
-    pub fn into_listed(self) -> Vec<String>
-        ensures { (world : World) → IsIndexOf world self
-            → map string_bytes result.items ≡ indexed.listed_paths world }
-    {
-        self.listed
-    }
-
     /// The ports, and the faults met where ports should be, in the order of their canonical paths, each once.
     /// The ports are shared with the index. It fails only if memory runs out.
     pub fn roots(&self, alloc: Global) -> Result<Vec<Root>, AllocError>
@@ -43,7 +36,7 @@ impl KnownIndex {
             → IfOk result (λ roots. roots.items ≡ indexed.roots world) }
     {
         known_rows_are_enough();
-        roots_among(alloc, &self.listed, &self.rows)
+        roots_among(alloc, &self.paths.listed, &self.rows)
     }
 
     /// The dependencies of all ports, in the order of the ports, and those of each port in the order of its items. It
@@ -53,6 +46,6 @@ impl KnownIndex {
             → IfOk result (λ edges. edges.items ≡ indexed.edges world) }
     {
         known_rows_are_enough();
-        edges_among(alloc, &self.listed, &self.rows)
+        edges_among(alloc, &self.paths.listed, &self.rows)
     }
 }

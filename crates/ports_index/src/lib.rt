@@ -12,8 +12,8 @@ mod spending;
 
 pub use depending::needed_among;
 pub use evaluating::{Finding, Row, finding_of};
-pub use keeping::MemoryRows;
-pub use known_index::KnownIndex;
+pub use keeping::{KnownRow, MemoryRows};
+pub use known_index::{IndexPaths, KnownIndex};
 pub use laws::{
     known_rows_are_enough, listed_paths_cost_no_more, makefiles_are_evaluated,
     one_row_more_leaves_less, path_is_the_same_where_answered,

@@ -2,7 +2,8 @@
 use Rattle.std.proofs.Common.{◌∙◌, sym, ap, Bool, if◌then◌else◌, string_bytes}
 use Rattle.std.specs.BTreeSet.{contains_text}
 use Rattle.std.specs.List.{list_any}
-use Rattle.ports_index.specs.Seen.{row_seen}
+use Rattle.row_text.specs.Seen.{row_seen}
+use Rattle.index_keep.specs.Shown.{said_by}
 use Rattle.index_keep.specs.Judging.{Fresh, Outdated}
 use Rattle.index_keep.proofs.ListLemmas.{list_any-map}
 use Rattle.index_keep.proofs.beginning.judge_row.Goals as goal
@@ -11,10 +12,10 @@ pub returns-then-has_asked : goal.returns-then-has_asked
 returns-then-has_asked c =
     let test = contains_text c.args.changed.now in
     let asked = list_any-map test string_bytes c.args.row.names.items ∙ sym (c.has_asked.ensures ∙ ap (list_any (λ name. test (string_bytes name))) c.deref.ensures.value) ∙ c.if-has_asked.true in
-    sym (ap (λ (b : Bool). if b then Outdated else Fresh (row_seen c.args.row.found.row)) asked)
+    sym (ap (λ (b : Bool). if b then Outdated else Fresh (said_by (row_seen c.args.row))) asked)
 
 pub returns : goal.returns
 returns c =
     let test = contains_text c.args.changed.now in
     let asked = list_any-map test string_bytes c.args.row.names.items ∙ sym (c.has_asked.ensures ∙ ap (list_any (λ name. test (string_bytes name))) c.deref.ensures.value) ∙ c.if-has_asked.false in
-    sym (ap (λ (b : Bool). if b then Outdated else Fresh (row_seen c.args.row.found.row)) asked)
+    ap Fresh c.known_row.ensures ∙ sym (ap (λ (b : Bool). if b then Outdated else Fresh (said_by (row_seen c.args.row))) asked)

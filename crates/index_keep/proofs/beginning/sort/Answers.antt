@@ -1,7 +1,7 @@
 -- One row more is sorted.
 use Rattle.std.proofs.Common.{◌≡◌, ◌∙◌, ap, sym, append_assoc, ◌++◌, ◌∷◌, [], map, string_bytes}
 use Rattle.std.specs.BTreeSet.{contains_text}
-use Rattle.ports_index.specs.Seen.{entries_in}
+use Rattle.ports_index.specs.Seen.{said_in}
 use Rattle.index_keep.proofs.SortLemmas.{row-stored, KnowsRows-next, ListsOutdated-next}
 use Rattle.index_keep.proofs.beginning.sort.Goals as goal
 
@@ -16,7 +16,7 @@ loop-row-preserved c =
     record {
       left = left;
       known = λ entries are. KnowsRows-next test entries passed row (row-stored entries c.args.stored.items passed rest row left are)
-          (entries_in c.loop-row.sorted.known) (entries_in c.add.new.sorted.known) c.in_ok-add.ensures.known (c.loop-row.invariant.known entries are);
+          (said_in c.loop-row.sorted.known) (said_in c.add.new.sorted.known) c.in_ok-add.ensures.known (c.loop-row.invariant.known entries are);
       outdated = λ entries are. ListsOutdated-next test entries passed row (row-stored entries c.args.stored.items passed rest row left are)
           (map string_bytes c.loop-row.sorted.outdated.items) (map string_bytes c.add.new.sorted.outdated.items) c.in_ok-add.ensures.outdated (c.loop-row.invariant.outdated entries are);
     }

@@ -1,8 +1,8 @@
 use Rattle.std.proofs.Common.{◌∙◌, ap, subst, sym, string_bytes}
-use Rattle.ports_index.specs.Seen as seen
 use Rattle.row_text.specs.Rows.{row_of}
 use Rattle.row_text.specs.Seen.{row_seen}
 use Rattle.index_store.specs.Entries.{PutsRow}
+use Rattle.index_keep.specs.Shown.{said_by}
 use Rattle.index_keep.specs.Walking.{HasRowMore}
 use Rattle.index_keep.proofs.RowLemmas.{shown-put}
 use Rattle.index_keep.proofs.turning.put_row.Goals as goal
@@ -17,4 +17,5 @@ returns-clause-rows g c =
 pub returns-clause-walk : goal.returns-clause-walk
 returns-clause-walk g c = λ world old new far more.
     c.in_ok-walk.ensures world old new far
-    (subst (λ path. HasRowMore path (seen.row_seen c.args.row.found.row) old new) (sym (c.in_ok-key.ensures.ok ∙ c.as_str.ensures.value)) more)
+    (subst (λ said. HasRowMore (string_bytes c.in_ok-key.key) said old new) (sym c.known_row.ensures)
+    (subst (λ path. HasRowMore path (said_by (row_seen c.args.row)) old new) (sym (c.in_ok-key.ensures.ok ∙ c.as_str.ensures.value)) more))

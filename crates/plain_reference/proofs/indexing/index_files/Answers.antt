@@ -1,5 +1,5 @@
 -- The rows of the listed paths say which paths are needed, and then each of these has its row.
-use Rattle.std.proofs.Common.{◌≡◌, ◌∙◌, ◌++◌, ◌||◌, ap, ap₂, subst, ℕ, true, List, map, string_bytes}
+use Rattle.std.proofs.Common.{◌≡◌, ◌∙◌, ◌++◌, ◌||◌, ap, ap₂, subst, ℕ, true, List, map, option_map, string_bytes}
 use Rattle.std.specs.List.{filter_map}
 use Rattle.mk_paths.specs.World.{FileMap, World}
 use Rattle.ports_index.specs.PathOutcomes.{outcome_at}
@@ -7,7 +7,7 @@ use Rattle.ports_index.specs.Depending.{items_among, target_of}
 use Rattle.ports_index.specs.Efforts.{lacking}
 use Rattle.ports_index.specs.Filling.{is_one_of, Fills}
 use Rattle.ports_index.specs.Index.{listed_paths, needed_among, needed_paths}
-use Rattle.ports_index.specs.Seen.{known_in, entries_in}
+use Rattle.ports_index.specs.Seen.{Said, known_in, entries_in}
 use Rattle.ports_index.proofs.Filled.{one_of-in_order}
 use Rattle.plain_reference.specs.Work.{both, effort_over}
 use Rattle.plain_reference.proofs.Filled.{have-filled}
@@ -37,7 +37,13 @@ returns-clause-known g c =
     let filled : Fills world (needed_paths world) middle end =
     subst (λ paths. Fills world paths middle end) needed_are
     (subst (λ files. Fills (files, settings) (map string_bytes c.deref-2.result.now) middle end) c.in_ok-paths.ensures.keeps.files c.in_ok-more.ensures.fills) in
-    c.new.ensures world c.in_ok-paths.ensures.listed (have-filled world (needed_paths world) middle end filled)
+    let needed = c.in_ok-needed.ensures ∙ ap (λ paths. needed_among (known_in middle) (map string_bytes paths)) c.deref.ensures.value
+    ∙ ap (needed_among (known_in middle)) c.in_ok-paths.ensures.listed
+    ∙ c.known_rows_are_enough.ensures.needed world middle (have-filled world (listed_paths world) start middle c.in_ok-paths.ensures.fills) in
+    record {
+      paths = record { listed = c.in_ok-paths.ensures.listed; needed = needed };
+      rows = have-filled world (needed_paths world) middle end filled;
+    }
 
 pub returns-clause-effort : goal.returns-clause-effort
 returns-clause-effort g c =
@@ -54,4 +60,4 @@ returns-clause-effort g c =
     c.and.ensures
     ∙ ap₂ both c.in_ok-paths.ensures.effort (c.in_ok-more.ensures.effort ∙ ap₂ more c.in_ok-paths.ensures.keeps.files needed_are)
     ∙ Effort-on world (listed_paths world) (needed_paths world) start middle c.in_ok-paths.ensures.fills
-    ∙ ap (effort_over world) (lacking-absorbed start (listed_paths world) (needed_paths world) (listed-needed world) ∙ lacking-all start c.new-rows.ensures (listed_paths world ++ targets world))
+    ∙ ap (effort_over world) (lacking-absorbed start (listed_paths world) (needed_paths world) (listed-needed world) ∙ lacking-all start (λ path. ap (option_map (λ (said : Said). said.outcome)) (c.new-rows.ensures.none path)) (listed_paths world ++ targets world))

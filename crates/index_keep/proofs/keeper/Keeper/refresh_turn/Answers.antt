@@ -15,12 +15,19 @@ use Rattle.index_keep.proofs.KeepLemmas.{AreKept-same, OnErr-map, OnErr-and, OnO
 use Rattle.index_keep.proofs.ShownLemmas.{shown-same}
 use Rattle.index_keep.proofs.keeper.Keeper.refresh_turn.Goals as goal
 
+pub begun-requires : goal.begun-requires
+begun-requires g c =
+    let entries = g.R.PathRows.entries in
+    let world : World = world_of (view_of g.F.Names.view c.args.files.now) c.args.settings.now in
+    let is : c.args.self.now.progress ≡ Changed c.in-Changed.names c.in-Changed.last = sym c.replace.ensures.value ∙ c.in-Changed.is in
+    subst (λ (p : Progress). IsProgress world (shown (changed_in p) (entries c.args.self.now.rows)) p) is c.requires.progress
+
 pub walk_on-requires : goal.walk_on-requires
 walk_on-requires g c =
     let entries = g.R.PathRows.entries in
     let world : World = world_of (view_of g.F.Names.view c.args.files.now) c.args.settings.now in
     let rows = entries c.args.self.now.rows in
-    let is : c.args.self.now.progress ≡ Changed c.in-Changed.names = sym c.replace.ensures.value ∙ c.in-Changed.is in
+    let is : c.args.self.now.progress ≡ Changed c.in-Changed.names c.in-Changed.last = sym c.replace.ensures.value ∙ c.in-Changed.is in
     let begun = c.in_ok-walk-in-Changed.ensures in
     let same : ShowsSame (rows_of entries c.args.self.now) (shown no_name (entries c.begun.new.self.rows)) = λ path. begun.ok.0 path ∙ sym (ap (λ (p : Progress). shown (changed_in p) rows path) is) in
     let there : IsOnTheWay world (shown no_name (entries c.begun.new.self.rows)) c.in_ok-walk-in-Changed.walk = record {
@@ -34,7 +41,7 @@ returns-in_ok-walk-in-Changed-clause-turn g c =
     let entries = g.R.PathRows.entries in
     let rows = entries c.args.self.now.rows in
     let middle = shown no_name (entries c.begun.new.self.rows) in
-    let is : c.args.self.now.progress ≡ Changed c.in-Changed.names = sym c.replace.ensures.value ∙ c.in-Changed.is in
+    let is : c.args.self.now.progress ≡ Changed c.in-Changed.names c.in-Changed.last = sym c.replace.ensures.value ∙ c.in-Changed.is in
     let begun = c.in_ok-walk-in-Changed.ensures in
     let same : ShowsSame (rows_of entries c.args.self.now) middle = λ path. begun.ok.0 path ∙ sym (ap (λ (p : Progress). shown (changed_in p) rows path) is) in
     let first : refresh_at middle no_spending ≡ refresh_of entries c.args.self.now = λ i. refresh_at (λ path. same path i) (ap begun_in (sym is) i) in
@@ -45,7 +52,7 @@ pub returns-in_ok-walk-in-Changed-clause-err : goal.returns-in_ok-walk-in-Change
 returns-in_ok-walk-in-Changed-clause-err g c =
     let entries = g.R.PathRows.entries in
     let rows = entries c.args.self.now.rows in
-    let is : c.args.self.now.progress ≡ Changed c.in-Changed.names = sym c.replace.ensures.value ∙ c.in-Changed.is in
+    let is : c.args.self.now.progress ≡ Changed c.in-Changed.names c.in-Changed.last = sym c.replace.ensures.value ∙ c.in-Changed.is in
     let begun = c.in_ok-walk-in-Changed.ensures in
     OnErr-map c.walk_on.result (λ stays. drops-forgotten rows (entries c.walk_on.new.self.rows) c.args.self.now.progress c.walk_on.new.self.progress c.nothing.result c.nothing.ensures
     (stays.1 ∙ begun.ok.1 ∙ c.replace.ensures.after)

@@ -1,0 +1,12 @@
+use Rattle.std.proofs.Common.{◌∙◌, ap, None, option_map}
+use Rattle.std.proofs.lemmas.Map.Text.{btree_map_updates_text}
+use Rattle.std.specs.BTreeMap.{get_by_text}
+use Rattle.std.specs.Str.{bytes_eq}
+use Rattle.ports_index.specs.Seen.{known_seen}
+use Rattle.ports_index.proofs.Lookups.{known-cases}
+use Rattle.ports_index.proofs.keeping.MemoryRows.take_out.Goals as goal
+
+pub returns : goal.returns
+returns c = λ other.
+    ap (option_map known_seen) (btree_map_updates_text c.args.path.now c.args.self.now.rows c.remove-taken.new.self None c.remove-taken.ensures.updates other)
+    ∙ known-cases (bytes_eq c.args.path.now other) None (get_by_text c.args.self.now.rows other)
