@@ -6,7 +6,7 @@ use Rattle.ports_plain.specs.Resting.{turns_for}
 use Rattle.ports_core.specs.Jobs as jobs
 use Rattle.ports_core.specs.Jobs.{job_in}
 use Rattle.index_store.specs.PortTable.{stored_by}
-use Rattle.index_keep.specs.Keeping.{IsKept, refresh_of}
+use Rattle.index_keep.specs.Keeping.{IsKept, refresh_of, size_at_hand}
 use Rattle.index_keep.specs.Turns.{RefreshView}
 use Rattle.kept_ports.specs.Pending.{IsPending, question_in}
 use Rattle.kept_ports.specs.TurnsLeft.{turns_left}
@@ -33,6 +33,10 @@ pub record IsJobOver (world : World) (refresh : RefreshView) (job : TenantJob) :
 -- the world of a tenant: its files and its settings
 abbrev pub world_of : Tenant → World
 world_of tenant = tenant.store
+
+-- how many bytes the rows of a tenant's index have, if the index is at hand
+abbrev pub index_size : Tenant → Option ℕ
+index_size tenant = size_at_hand tenant.keeper
 
 -- The settings are those of the tenant's world, the keeper is right about this world, and the job is one over it.
 pub record IsRight (tenant : Tenant) : Type 0 where

@@ -49,3 +49,10 @@ abbrev pub LeaveRowsAt : ℕ → Question → List Tenant → List Tenant → Ty
 LeaveRowsAt number question old new =
     (before after : Tenant) → slice_get old number ≡ Some before → slice_get new number ≡ Some after
     → LeavesRowsOf question before after
+
+-- the rows of each tenant are shown as before
+abbrev pub KeepRows : List Tenant → List Tenant → Type 0
+KeepRows old new =
+    (number : ℕ) (before after : Tenant) → slice_get old number ≡ Some before
+    → slice_get new number ≡ Some after
+    → ShowsSame (rows_of stored_by before.keeper) (rows_of stored_by after.keeper)

@@ -1,13 +1,14 @@
 //! The tenants, by their numbers.
-ghost use Rattle.std.specs.Prelude.{◌≡◌, ◌≢◌, ◌<◌, ℕ, [], ◌∷◌, ◌++◌, None, length, slice_get};
+ghost use Rattle.std.specs.Prelude.{◌≡◌, ◌≢◌, ◌<◌, ℕ, [], ◌∷◌, ◌++◌, None, length, option_and_then, slice_get};
 ghost use Rattle.std.specs.Prelude.{IfOk, OnOk, OnErr};
 ghost use Rattle.eval_cache.specs.Using.{UsesCache};
 ghost use Rattle.mk_paths.specs.World.{opening_world};
 ghost use Rattle.ports_plain.specs.Questions.{question_of};
 ghost use Rattle.ports_core.specs.Answering.{plain_request_of};
 ghost use Rattle.ports_core.specs.Jobs.{IsForRequest};
-ghost use Rattle.tenant_worlds.specs.Kept.{AreRight, IsIdle, IsRight, HaveNoJob, HaveOpeningWorlds, KeepJobs, KeepWorlds, job_at, world_at};
-ghost use Rattle.tenant_worlds.specs.Marking.{LeaveRowsAt};
+ghost use Rattle.tenant_worlds.specs.Kept.{AreRight, IsIdle, IsRight, HaveNoJob, HaveOpeningWorlds, KeepJobs, KeepWorlds};
+ghost use Rattle.tenant_worlds.specs.Kept.{index_size, job_at, world_at};
+ghost use Rattle.tenant_worlds.specs.Marking.{KeepRows, LeaveRowsAt};
 ghost use Rattle.tenant_worlds.specs.Turning.{WorksOn};
 
 use crate::tenant::Tenant;
@@ -72,6 +73,26 @@ pub(crate) fn limit_tenants(tenants: &mut [Tenant], limit: Option<u64>)
     for tenant in tenants.iter_mut() {
         tenant.store.limit_steps(limit);
         tenant.keeper.limit_steps(limit);
+    }
+}
+
+/// How many bytes the rows of the index have of the tenant with this number, if the index is at hand.
+pub(crate) fn index_size_at(tenants: &[Tenant], number: usize) -> Option<u64>
+    ensures { result ≡ option_and_then index_size (slice_get tenants.now number) }
+{
+    tenants.get(number)?.keeper.size_at_hand()
+}
+
+/// Puts the index of the tenant with this number away. No world, no job and no row changes.
+pub(crate) fn put_away_at(alloc: Global, tenants: &mut [Tenant], number: usize)
+    ensures count { length tenants.new ≡ length tenants.old }
+    ensures right { AreRight tenants.old → AreRight tenants.new }
+    ensures worlds { KeepWorlds tenants.old tenants.new }
+    ensures jobs { KeepJobs tenants.old tenants.new }
+    ensures rows { KeepRows tenants.old tenants.new }
+{
+    if number < tenants.len() {
+        tenants[number].keeper.put_away(alloc);
     }
 }
 

@@ -173,9 +173,7 @@ impl Tenant {
             turn: &mut turn,
         };
         asking.ask_tenant(&mut self.store);
-        let turned = asking.turn.turned.take();
-        self.keeper.put_away(alloc);
-        match turned {
+        match asking.turn.turned.take() {
             Some(turned) => turned,
             None => unreachable!(), // the turn was taken
         }

@@ -1,16 +1,15 @@
--- The turn was taken over the tenant's world, and the rows that were at hand were put away.
+-- The turn was taken over the tenant's world.
 use Rattle.std.proofs.Common.{◌≡◌, ◌∙◌, subst, sym, Option, Result}
 use Rattle.std.specs.Prelude.{IfOk, IfSome}
 use Rattle.mk_paths.specs.World.{World}
 use Rattle.mk_paths.specs.declared.asking.FilesFault.{FilesFault}
 use Rattle.index_store.specs.PortTable.{stored_by}
 use Rattle.index_keep.specs.Keeping.{IsKept, refresh_of, rows_of}
-use Rattle.index_keep.specs.Turns.{RefreshView, StayFresh, refresh_at}
+use Rattle.index_keep.specs.Turns.{StayFresh}
 use Rattle.kept_ports.specs.TurnsLeft.{TurnsOn}
 use Rattle.kept_ports.specs.declared.under_way.Turned.{Turned}
 use Rattle.tenant_worlds.specs.Kept.{IsRight}
 use Rattle.tenant_worlds.proofs.KeptLemmas.{idle_right}
-use Rattle.tenant_worlds.proofs.RowLemmas.{fresh-before}
 use Rattle.tenant_worlds.proofs.tenant.Tenant.turn_over.Goals as goal
 
 pub returns-clause-turn : goal.returns-clause-turn
@@ -19,13 +18,11 @@ returns-clause-turn c =
     let asked_in : World = (c.args.self.now.store.0, c.args.self.now.settings) in
     let world_is : asked_in ≡ world = λ i. (c.args.self.now.store.0, c.requires.right.settings i) in
     let old = refresh_of stored_by c.args.self.now.keeper in
-    let kept = c.ask_tenant.new.self.keeper.now in
-    let refresh_is : refresh_of stored_by c.put_away.new.self ≡ refresh_of stored_by kept = λ i. refresh_at (λ path. c.put_away.ensures.rows path i) (c.put_away.ensures.begun i) in
+    let new = refresh_of stored_by c.ask_tenant.new.self.keeper.now in
     let turned =
-    subst (λ (t : Option (Result Turned FilesFault)). IfSome t (λ turned. IfOk turned (TurnsOn asked_in old (refresh_of stored_by kept) c.args.under_way))) (sym c.take-turned.ensures.value ∙ c.in-Some.is)
+    subst (λ (t : Option (Result Turned FilesFault)). IfSome t (λ turned. IfOk turned (TurnsOn asked_in old new c.args.under_way))) (sym c.take.ensures.value ∙ c.in-Some.is)
     c.ask_tenant.ensures.asked.turn in
-    subst (λ (r : RefreshView). IfOk c.in-Some.turned (TurnsOn world old r c.args.under_way)) (sym refresh_is)
-    (subst (λ (w : World). IfOk c.in-Some.turned (TurnsOn w old (refresh_of stored_by kept) c.args.under_way)) world_is turned)
+    subst (λ (w : World). IfOk c.in-Some.turned (TurnsOn w old new c.args.under_way)) world_is turned
 
 pub returns-clause-fresh : goal.returns-clause-fresh
 returns-clause-fresh c =
@@ -33,8 +30,7 @@ returns-clause-fresh c =
     let asked_in : World = (c.args.self.now.store.0, c.args.self.now.settings) in
     let world_is : asked_in ≡ world = λ i. (c.args.self.now.store.0, c.requires.right.settings i) in
     let old = rows_of stored_by c.args.self.now.keeper in
-    let kept = rows_of stored_by c.ask_tenant.new.self.keeper.now in
-    fresh-before world old kept (rows_of stored_by c.put_away.new.self) (subst (λ (w : World). StayFresh w old kept) world_is c.ask_tenant.ensures.asked.fresh) c.put_away.ensures.rows
+    subst (λ (w : World). StayFresh w old (rows_of stored_by c.ask_tenant.new.self.keeper.now)) world_is c.ask_tenant.ensures.asked.fresh
 
 pub returns-clause-right : goal.returns-clause-right
 returns-clause-right c =
@@ -42,6 +38,6 @@ returns-clause-right c =
     let asked_in : World = (c.args.self.now.store.0, c.args.self.now.settings) in
     let world_is : asked_in ≡ world = λ i. (c.args.self.now.store.0, c.requires.right.settings i) in
     let kept = c.ask_tenant.new.self.keeper.now in
-    subst (λ (w : World). IsRight (record { store = w; settings = c.args.self.now.settings; keeper = c.put_away.new.self; job = c.args.self.now.job })) (sym c.ask_tenant.ensures.same)
-    (idle_right world c.args.self.now.settings c.put_away.new.self c.args.self.now.job c.requires.idle.none c.requires.right.settings
-    (c.put_away.ensures.kept world (subst (λ (w : World). IsKept stored_by w kept) world_is c.ask_tenant.ensures.asked.kept)))
+    subst (λ (w : World). IsRight (record { store = w; settings = c.args.self.now.settings; keeper = kept; job = c.args.self.now.job })) (sym c.ask_tenant.ensures.same)
+    (idle_right world c.args.self.now.settings kept c.args.self.now.job c.requires.idle.none c.requires.right.settings
+    (subst (λ (w : World). IsKept stored_by w kept) world_is c.ask_tenant.ensures.asked.kept))
