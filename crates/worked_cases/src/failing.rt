@@ -1,7 +1,10 @@
 //! Requests over files that fail.
-ghost use Rattle.std.specs.Prelude.{◌≡◌};
+ghost use Rattle.std.specs.Prelude.{◌≡◌, IfOk};
 ghost use Rattle.mk_paths.specs.FilesView.{world_of};
+ghost use Rattle.mk_paths.specs.World as worlds;
 ghost use Rattle.ports_index.specs.Spending.{no_spending};
+ghost use Rattle.index_store.specs.PortTable.{stored_by};
+ghost use Rattle.index_keep.specs.Keeping.{begun_in, refresh_of, IsKept};
 ghost use Rattle.index_keep.specs.Turns.{RefreshView};
 ghost use Rattle.kept_ports.specs.Pending.{IsPending};
 
@@ -117,10 +120,35 @@ fn first_turn<F: Listing>(
         → IsPending (world_of (F.view files.old) settings.now) refresh under_way }
 {
     let mut cache = EvalCache::new(alloc, 16, 16)?;
-    let mut keeper = Keeper::new(alloc, IndexStore::open_in_memory(alloc)?);
-    keeper.stop(alloc); // no path is under evaluation
-    match under_way.turn(alloc, &mut cache, files, settings, &mut keeper)? {
+    let mut keeper = new_keeper(alloc)?;
+    turn_over(alloc, files, settings, under_way, &mut cache, &mut keeper)
+}
+
+/// The same over this cache and this keeper.
+fn turn_over<F: Listing>(
+    alloc: Global,
+    files: &mut F,
+    settings: &Settings,
+    under_way: UnderWay,
+    cache: &mut EvalCache,
+    keeper: &mut Keeper<IndexStore>,
+) -> Result<Answer, FilesFault>
+    requires kept { IsKept stored_by (world_of (F.view files.old) settings.now) keeper.old }
+    requires pending { IsPending (world_of (F.view files.old) settings.now)
+        (refresh_of stored_by keeper.old) under_way }
+{
+    match under_way.turn(alloc, cache, files, settings, keeper)? {
         Turned::Done(reply, _spent) => Ok(reply_answer(alloc, &reply)),
         Turned::More(_) => Ok(Answer::of_word(alloc, "more")),
     }
+}
+
+/// A keeper of an index that has no rows yet.
+fn new_keeper(alloc: Global) -> Result<Keeper<IndexStore>, FilesFault>
+    ensures kept { IfOk result (λ keeper. (world : worlds.World) → IsKept stored_by world keeper) }
+    ensures begun { IfOk result (λ keeper. begun_in keeper.progress ≡ no_spending) }
+{
+    let mut keeper = Keeper::new(alloc, IndexStore::open_in_memory(alloc)?);
+    keeper.stop(alloc); // no path is under evaluation
+    Ok(keeper)
 }

@@ -1,8 +1,8 @@
--- A keeper that keeps nothing yet is right about every world, and no path is under evaluation once it is stopped.
+-- A new keeper is right about every world, and no path is under evaluation.
 use Rattle.worked_cases.proofs.failing.first_turn.Goals as goal
 
-pub turn-requires-clause-kept : goal.turn-requires-clause-kept
-turn-requires-clause-kept g c = c.stop.ensures.kept _ (c.new-keeper.ensures _)
+pub turn_over-requires-clause-kept : goal.turn_over-requires-clause-kept
+turn_over-requires-clause-kept g c = c.in_ok-keeper.ensures.kept _
 
-pub turn-requires-clause-pending : goal.turn-requires-clause-pending
-turn-requires-clause-pending g c = c.requires _ c.stop.ensures.begun
+pub turn_over-requires-clause-pending : goal.turn_over-requires-clause-pending
+turn_over-requires-clause-pending g c = c.requires _ c.in_ok-keeper.ensures.begun
