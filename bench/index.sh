@@ -9,6 +9,7 @@
 set -euo pipefail
 top=$(cd "$(dirname "$0")/.." && pwd)
 source "$top/bench/ports_tree.sh"
+source "$top/bench/tree_scripts.sh"
 sizes=${SIZES:-500 1000 2000}
 times=${TIMES:-100}
 uploads=${UPLOADS:-200}
@@ -23,39 +24,6 @@ source "$top/bench/programs.sh" && find_portsd
 rustc -O -o "$work/plain_tree" "$top/bench/plain_tree.rs"
 rustc -O -o "$work/plain_index" "$top/bench/plain_index.rs"
 
-put() { # put NAME FILE: what stores this file under the name
-    echo "piece 0 PUT /v1/file?name=$1 HTTP/1.1\\r\\nHost: x\\r\\nX-Ports-Key: alpha\\r\\nContent-Length: $(wc -c <"$2")\\r\\n\\r\\n$(awk '{ printf "%s\\n", $0 }' "$2")"
-    echo "turn 0"
-    echo "wrote 0 all"
-}
-
-get() { # get TARGET TURNS: what asks for it, and has it answered in so many turns
-    echo "piece 0 GET $1 HTTP/1.1\\r\\nHost: x\\r\\nX-Ports-Key: alpha\\r\\n\\r\\n"
-    awk -v turns="$2" 'BEGIN { for (turn = 0; turn < turns; turn++) print "turn 0" }'
-    echo "wrote 0 all"
-}
-
-puts() { # puts TREE: a script that stores a tree
-    echo "open 0"
-    (cd "$1" && find . -type f | sort) | while read -r name; do
-        put "${name#.}" "$1/$name"
-    done
-}
-
-# new_version NUMBER PORTS: what stores a port of the tree again, with a version that it hadn't
-new_version() {
-    local number=$(($1 * 7 % $2))
-    port "$number" "$2" "2.$1" >"$work/makefile"
-    put "/ports/$(path "$number")/Makefile" "$work/makefile"
-}
-
-repeat() { # repeat TIMES COMMAND..: what the command prints, so many times; each time the number is its last word
-    local number many=$1
-    shift
-    for number in $(seq "$many"); do
-        "$@" "$number"
-    done
-}
 # new_item NUMBER PORTS: what stores a port of the tree again, which depends on one more port than it did
 new_item() {
     local number=$(($1 * 7 % $2))
@@ -79,29 +47,10 @@ remove() { # remove NAME: what removes the file of this name
     echo "wrote 0 all"
 }
 
-asks() { get "$1" 1; }
 uploads_and_asks() { new_version "$2" "$1" && get "$matching" 2; }
 adds_an_item() { new_item "$2" "$1" && get "$matching" 2; }
 adds_a_port() { new_port "$2" "$1" && get "$matching" 2; }
 removes_a_port() { remove "/ports/$(path $(($2 * 7 % $1)))/Makefile" && get "$matching" 1; }
-uploads_one() { new_version "$2" "$1"; }
-
-run() { # run SCRIPT: runs it once, and prints the microseconds or the instructions that this took
-    local from to
-    if [ "$count" = instructions ]; then
-        valgrind --tool=callgrind --callgrind-out-file=/dev/null "$portsd" replay alpha <"$1" 2>"$work/counted" >"$work/out"
-        awk '/Collected/ { print $NF }' "$work/counted"
-    else
-        from=$(date +%s%N)
-        "$portsd" replay alpha <"$1" >"$work/out"
-        to=$(date +%s%N)
-        echo $(((to - from) / 1000))
-    fi
-    if [ "$(grep -c '^piece' "$1")" != "$(grep -c ' told 0 0 200$' "$work/out")" ]; then
-        echo "a request of $1 wasn't answered by 200" >&2
-        return 1
-    fi
-}
 
 # measure SCRIPT..: runs these scripts one after another, in three rounds, and keeps the best of each
 measure() {

@@ -104,4 +104,5 @@ def main():
     print(f"memory after rdeps: {resident(pid)}")
 
 
-main()
+if __name__ == "__main__":
+    main()

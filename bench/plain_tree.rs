@@ -14,10 +14,14 @@ use std::time::Instant;
 
 pub type Files = HashMap<String, String>;
 
+/// The variables of a makefile, as they are written.
+#[derive(Default)]
+pub struct Variables(HashMap<String, String>);
+
 pub struct Make<'a> {
     files: &'a Files,
     makefile: &'a str,
-    variables: HashMap<String, String>,
+    pub variables: Variables,
     shared_asked: bool,
 }
 
@@ -137,22 +141,22 @@ impl Make<'_> {
         match &name[word.len()..] {
             ":" => {
                 let expanded = self.expand(value);
-                self.variables.insert(key, expanded);
+                self.variables.0.insert(key, expanded);
             }
-            "+" => match self.variables.get_mut(&key) {
+            "+" => match self.variables.0.get_mut(&key) {
                 Some(text) => {
                     text.push(' ');
                     text.push_str(value);
                 }
                 None => {
-                    self.variables.insert(key, value.to_string());
+                    self.variables.0.insert(key, value.to_string());
                 }
             },
             "?" => {
-                self.variables.entry(key).or_insert_with(|| value.to_string());
+                self.variables.0.entry(key).or_insert_with(|| value.to_string());
             }
             _ => {
-                self.variables.insert(key, value.to_string());
+                self.variables.0.insert(key, value.to_string());
             }
         }
     }
@@ -166,7 +170,7 @@ impl Make<'_> {
             return !self.term(term.trim());
         }
         if let Some(name) = term.strip_prefix("defined(").and_then(|t| t.strip_suffix(')')) {
-            return self.variables.contains_key(&self.expand(name));
+            return self.variables.0.contains_key(&self.expand(name));
         }
         if let Some(inside) = term.strip_prefix("empty(").and_then(|t| t.strip_suffix(')')) {
             return self.expand(&format!("${{{inside}}}")).trim().is_empty();
@@ -178,6 +182,16 @@ impl Make<'_> {
             Some((left, right)) => self.expand(left.trim()) == self.expand(right.trim()),
             None => !self.expand(term).is_empty(),
         }
+    }
+
+    fn expand(&self, text: &str) -> String {
+        self.variables.expand(text)
+    }
+}
+
+impl Variables {
+    pub fn value(&self, name: &str) -> Option<String> {
+        self.0.get(name).map(|value| self.expand(value))
     }
 
     fn expand(&self, text: &str) -> String {
@@ -196,7 +210,7 @@ impl Make<'_> {
                 rest = behind;
             } else if let Some((inside, behind)) = rest.strip_prefix('{').and_then(|r| r.split_once('}')) {
                 let (name, modifiers) = inside.split_once(':').unwrap_or((inside, ""));
-                let value = self.variables.get(name).map(|value| self.expand(value)).unwrap_or_default();
+                let value = self.value(name).unwrap_or_default();
                 joined.push_str(&modified(value, modifiers));
                 rest = behind;
             } else {
@@ -260,8 +274,8 @@ pub fn load(top: &Path, at: &Path, files: &mut Files) -> io::Result<()> {
 }
 
 pub fn evaluated<'a>(files: &'a Files, makefile: &'a str) -> Make<'a> {
-    let mut make = Make { files, makefile, variables: HashMap::new(), shared_asked: false };
-    make.variables.insert(".CURDIR".to_string(), directory(makefile).to_string());
+    let mut make = Make { files, makefile, variables: Variables::default(), shared_asked: false };
+    make.variables.0.insert(".CURDIR".to_string(), directory(makefile).to_string());
     make.file(makefile);
     make
 }
@@ -282,7 +296,9 @@ pub struct Record {
     pub path: String,
     pub maintainer: String,
     pub categories: Vec<String>,
+    pub chosen: Vec<String>,
     pub flavors: Vec<String>,
+    pub pseudo: Vec<String>,
     pub packages: Vec<Package>,
     pub depends: Vec<Depend>,
 }
@@ -303,7 +319,7 @@ pub struct Depend {
 
 impl Make<'_> {
     fn value(&self, name: &str) -> Option<String> {
-        self.variables.get(name).map(|value| self.expand(value))
+        self.variables.value(name)
     }
 
     fn words(&self, name: &str) -> Vec<String> {
@@ -337,7 +353,7 @@ impl Make<'_> {
         }
         self.depend("test", "TEST_DEPENDS", "", &mut depends);
         let path = directory(self.makefile).trim_start_matches("/ports/").to_string();
-        Some(Record { path, maintainer, categories, flavors, packages, depends })
+        Some(Record { path, maintainer, categories, chosen, flavors, pseudo, packages, depends })
     }
 
     /// A variable of one package, or else of all.
@@ -359,7 +375,8 @@ impl Make<'_> {
             None if ending.is_empty() || ending == "-main" => base?,
             None => format!("{}{ending}", base?),
         };
-        let end = version_end(&name)?;
+        let (stem, version) = split_name(&name)?;
+        let end = stem.len() + 1 + version.len();
         let epoch = self.own("EPOCH", subpackage).map_or(String::new(), |epoch| format!("v{epoch}"));
         let revision = self.own("REVISION", subpackage).map_or(String::new(), |revision| format!("p{revision}"));
         name.insert_str(end, &format!("{revision}{epoch}"));
@@ -385,23 +402,23 @@ fn lowered(words: Vec<String>) -> Vec<String> {
     words.iter().map(|word| word.to_ascii_lowercase()).collect()
 }
 
-/// Where the version of a package's name ends.
-fn version_end(name: &str) -> Option<usize> {
-    let start = name.as_bytes().windows(2).position(|pair| pair[0] == b'-' && pair[1].is_ascii_digit())? + 1;
-    Some(name[start..].find('-').map_or(name.len(), |length| start + length))
+/// The stem and the version of a package's name.
+pub fn split_name(name: &str) -> Option<(&str, &str)> {
+    let stem = name.as_bytes().windows(2).position(|pair| pair[0] == b'-' && pair[1].is_ascii_digit())?;
+    let rest = &name[stem + 1..];
+    Some((&name[..stem], &rest[..rest.find('-').unwrap_or(rest.len())]))
 }
 
 /// Whether a text is a package's name: a stem, a version, flavors.
 fn is_name(name: &str) -> bool {
-    let Some(end) = version_end(name) else {
+    let Some((stem, version)) = split_name(name) else {
         return false;
     };
     let is_plain = |text: &str| !text.is_empty() && !text.contains(|c| " \t/,|<>=*!".contains(c));
-    let version = name[..end].rsplit('-').next().unwrap_or("");
-    let stem = &name[..end - version.len() - 1];
     let digits = version.split(|c: char| !c.is_ascii_digit()).all(|run| run.len() <= 18);
     let known = version.bytes().all(|byte| byte.is_ascii_alphanumeric() || b"._+".contains(&byte));
-    is_plain(stem) && digits && known && name[end..].split('-').skip(1).all(is_plain)
+    let flavors = &name[stem.len() + 1 + version.len()..];
+    is_plain(stem) && digits && known && flavors.split('-').skip(1).all(is_plain)
 }
 
 /// The packages of all ports, as `GET /v1/list` has them.

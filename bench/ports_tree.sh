@@ -1,4 +1,4 @@
-# What index.sh, many.sh and porters.sh share: a tree of ports that depend on each other. It is read by `source`.
+# What index.sh, serve.sh, many.sh and porters.sh share: a tree of ports that depend on each other. It is read by `source`.
 
 path() { # path NUMBER: of a port, 40 in a category
     echo "category$(($1 / 40))/port$1"
