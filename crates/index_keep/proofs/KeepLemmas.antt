@@ -15,13 +15,15 @@ use Rattle.mk_eval.specs.Sharing.{Agrees}
 use Rattle.ports_index.specs.Efforts.{lacking}
 use Rattle.ports_index.specs.declared.spending.Spent.{Spent}
 use Rattle.ports_index.specs.Filling.{is_one_of, Fills}
-use Rattle.ports_index.specs.Index.{needed_paths}
+use Rattle.ports_index.specs.Index.{needed_among, needed_paths}
 use Rattle.ports_index.specs.Known.{IsIndexOf}
 use Rattle.ports_index.specs.declared.known_index.KnownIndex.{KnownIndex}
 use Rattle.ports_index.specs.PathLaws.{PathIsTheSameWhereAnswered}
 use Rattle.ports_index.specs.PathOutcomes.{PathOutcome, Finding, finding_at, outcome_at}
 use Rattle.ports_index.specs.PathQuestions.{questions_at}
-use Rattle.ports_index.specs.RowLaws.{OneRowMoreLeavesLess}
+use Rattle.ports_index.specs.RowLaws.{KnownRowsAreEnough, OneRowMoreLeavesLess}
+use Rattle.ports_index.specs.Naming.{listed_from}
+use Rattle.ports_index.specs.Seen.{entries_in, known_in}
 use Rattle.row_text.specs.Rows.{RowValue, row_of}
 use Rattle.index_store.specs.Entries.{StoredValue, Entries}
 use Rattle.index_keep.specs.declared.keeper.Progress.{Progress}
@@ -34,6 +36,7 @@ use Rattle.index_keep.specs.Turns.{DropsTurn, refresh_at}
 use Rattle.index_keep.specs.Keeping.{changed_in, begun_in, last_in, DropsTo, IsKept, IsProgress, HasForgotten, Halts, Stops}
 use Rattle.index_keep.specs.declared.keeper.Keeper.{Keeper}
 use Rattle.index_keep.proofs.ShownLemmas.{shown-test}
+use Rattle.index_keep.proofs.WalkLemmas.{listed-has, needed-has}
 
 -- ---- another world, which differs at one name
 
@@ -222,6 +225,7 @@ module _ (name : List ℕ) (one more : List ℕ → Bool) (is : (other : List �
     pub IsLast-noted : IsLast more new index
     IsLast-noted = record {
       says = λ path. last.says path ∙ sym (ap (option_map said_in_row) (noted path) ∙ shown_said (old path));
+      lists = last.lists;
       paths = λ path. ap is_some (noted path) ∙ still_there (old path) ∙ last.paths path;
       stale = λ path row is. stale_at path (old path) refl row (sym (noted path) ∙ is);
     }
@@ -232,7 +236,7 @@ asked_nobody : (names : List (List ℕ)) → list_any no_name names ≡ false
 asked_nobody [] = refl
 asked_nobody (name ∷ names) = asked_nobody names
 
-module _ (world : World) (rows : ShownRows) (index : KnownIndex) (current : AreCurrent world rows) (is : IsIndexOf world index) (says : SaysAll rows index.rows) where
+module _ (enough : KnownRowsAreEnough) (world : World) (rows : ShownRows) (index : KnownIndex) (current : AreCurrent world rows) (is : IsIndexOf world index) (says : SaysAll rows index.rows) where
   there_if : (path : List ℕ) (needed : Bool) → is_some (if needed then Some (fresh_row world path) else None) ≡ needed
   there_if path true = refl
   there_if path false = refl
@@ -246,11 +250,19 @@ module _ (world : World) (rows : ShownRows) (index : KnownIndex) (current : AreC
   pub IsLast-current : IsLast no_name rows index
   IsLast-current = record {
     says = says;
+    lists = record {
+      listed = is.paths.listed
+          ∙ sym (ap (listed_from (known_in (entries_in index.rows))) is.paths.directories
+          ∙ enough.listed world (entries_in index.rows) (λ path one. is.rows path (needed-has world path (listed-has world path one))));
+      needed = is.paths.needed
+          ∙ sym (ap (needed_among (known_in (entries_in index.rows))) is.paths.listed
+          ∙ enough.needed world (entries_in index.rows) (λ path one. is.rows path (needed-has world path one)));
+    };
     paths = λ path. ap is_some (current.each path) ∙ there_if path (is_one_of path (needed_paths world)) ∙ ap (is_one_of path) (sym is.paths.needed);
     stale = λ path row there. fresh_if path (is_one_of path (needed_paths world)) row (sym (current.each path) ∙ there);
   }
 
-module _ (name : List ℕ) (world other : World) (rows noted : ShownRows) (notes : (path : List ℕ) → noted path ≡ option_map (stale_if_asked name) (rows path)) where
+module _ (enough : KnownRowsAreEnough) (name : List ℕ) (world other : World) (rows noted : ShownRows) (notes : (path : List ℕ) → noted path ≡ option_map (stale_if_asked name) (rows path)) where
   last_of : (old : Progress) → IsProgress world rows old → (more : List ℕ → Bool) → ((file : List ℕ) → more file ≡ (bytes_eq name file || changed_in old file))
       → IfSome (last_in old) (IsLast more noted)
   last_of (Changed names (Some index)) is more adds = IsLast-noted name (contains_text names) more adds rows noted index notes is
@@ -258,7 +270,7 @@ module _ (name : List ℕ) (world other : World) (rows noted : ShownRows) (notes
   last_of (Walking walk) is more adds = tt
   last_of (Asking walk ask) is more adds = tt
   last_of (Current paths) is more adds = tt
-  last_of (AtHand index) is more adds = IsLast-noted name no_name more adds rows noted index notes (IsLast-current world rows index is.0 is.1 is.2)
+  last_of (AtHand index) is more adds = IsLast-noted name no_name more adds rows noted index notes (IsLast-current enough world rows index is.0 is.1 is.2)
 
   -- the file of a name has changed, or is about to
   pub IsProgress-noted : (old new : Progress) → IsProgress world rows old → DropsTo old new → ((file : List ℕ) → changed_in new file ≡ (bytes_eq name file || changed_in old file))

@@ -1,16 +1,30 @@
 -- The index of before names changed, and the rows that are left of it.
-use Rattle.std.proofs.Common.{◌≡◌, ◌∙◌, ap, sym, refl, ℕ, Bool, false, ◌&&◌, if◌then◌else◌, List, map, Option, Some, None, is_some, option_map, option_and_then, string_bytes}
+use Rattle.std.proofs.Common.{◌≡◌, ◌∙◌, ap, subst, sym, refl, ℕ, Bool, true, false, ◌&&◌, ◌||◌, if◌then◌else◌, List, map, Option, Some, None, is_some, option_map, option_and_then, string_bytes}
+use Rattle.std.proofs.lemmas.Bool.{false≢true}
+use Rattle.std.proofs.lemmas.Slice.Eq.{bytes_eq-Decides}
+use Rattle.std.specs.Option.{option_or}
+use Rattle.std.specs.Str.{bytes_eq}
+use Rattle.mk_paths.specs.World.{World}
+use Rattle.ports_index.specs.Alike.{AlikeRowsListTheSame, AreAlikeAt, NameAlike}
+use Rattle.ports_index.specs.Depending.{targets_in}
 use Rattle.ports_index.specs.Filling.{is_one_of}
-use Rattle.ports_index.specs.Seen.{Said, names_in, said_in}
+use Rattle.ports_index.specs.Known.{FollowFrom}
+use Rattle.ports_index.specs.Naming.{named_in}
+use Rattle.ports_index.specs.PathOutcomes.{PathOutcome}
+use Rattle.ports_index.specs.Seen.{Said, entries_in, known_in, known_row, names_in, said_in}
+use Rattle.ports_index.specs.declared.keeping.MemoryRows.{MemoryRows}
 use Rattle.ports_index.specs.declared.known_index.KnownIndex.{KnownIndex}
 use Rattle.row_text.specs.Rows.{RowValue, row_of}
 use Rattle.index_store.specs.Entries.{StoredValue, Entries}
-use Rattle.index_keep.specs.Last.{IsLast}
+use Rattle.index_keep.specs.Last.{IsLast, NamesAsBefore, Recalls, led_to, needed_in}
+use Rattle.index_keep.specs.declared.last_index.LastIndex.{LastIndex}
+use Rattle.index_keep.specs.Walking.{HasRowMore}
+use Rattle.index_keep.proofs.ShownLemmas.{entries-fresh}
 use Rattle.index_keep.specs.Shown.{ShownRow, ShownRows, shown, show_row, show_stored, asked_one, fresh_said, has_asked_for, said_if_fresh, said_in_row}
 
 module _ (test : List ℕ → Bool) (rows : ShownRows) (index : KnownIndex) (last : IsLast test rows index) where
   abbrev pub needed : List (List ℕ)
-  needed = map string_bytes index.paths.needed.items
+  needed = needed_in index.paths
 
   -- whether a path's row asked for a name that has changed
   abbrev pub asked : List ℕ → Bool
@@ -37,6 +51,142 @@ module _ (test : List ℕ → Bool) (rows : ShownRows) (index : KnownIndex) (las
   -- without the rows that asked for such a name, the rows say what is fresh
   pub left-fresh : (path : List ℕ) → (if asked path then None else said_in index.rows path) ≡ fresh_said rows path
   left-fresh path = left_at path (rows path) refl
+
+  -- ---- what is kept of it as a refresh begins
+
+  module _ (begun : LastIndex) (left : MemoryRows) (paths : begun.paths ≡ index.paths)
+      (leaves : (path : List ℕ) → said_in left path ≡ (if asked path then None else said_in index.rows path))
+      (takes : (path : List ℕ) → said_in begun.outdated path ≡ (if asked path then said_in index.rows path else None)) where
+    abbrev outcome_of : Option Said → Option PathOutcome
+    outcome_of = option_map (λ (said : Said). said.outcome)
+
+    or_none : (row : Option PathOutcome) → option_or row None ≡ row
+    or_none None = refl
+    or_none (Some row) = refl
+
+    either_part : (said : Option Said) (b : Bool) → option_or (outcome_of (if b then None else said)) (outcome_of (if b then said else None)) ≡ outcome_of said
+    either_part said true = refl
+    either_part said false = or_none (outcome_of said)
+
+    led_as_before : (path : List ℕ) → led_to left begun.outdated path ≡ known_in (entries_in index.rows) path
+    led_as_before path =
+        ap (λ said. known_row (option_or (outcome_of said) (entries_in begun.outdated path))) (leaves path)
+        ∙ ap (λ said. known_row (option_or (outcome_of (if asked path then None else said_in index.rows path)) (outcome_of said))) (takes path)
+        ∙ ap known_row (either_part (said_in index.rows path) (asked path))
+
+    among_needed : (path : List ℕ) (b : Bool) → asked path ≡ b → is_some (outcome_of (if b then said_in index.rows path else None)) ≡ true → is_one_of path needed ≡ true
+    among_needed path true is some = both (is_one_of path needed) (has_asked_for test (names_in index.rows path)) is
+      where
+        both : (a b : Bool) → (a && b) ≡ true → a ≡ true
+        both true b e = refl
+        both false b e = absurd (false≢true e)
+    among_needed path false is some = absurd (false≢true some)
+
+    follow_from : FollowFrom (led_to left begun.outdated) index.paths
+    follow_from = subst (λ outcomes. FollowFrom outcomes index.paths) (λ i path. sym (led_as_before path) i) last.lists
+
+    pub recalls-begun : Recalls rows left begun
+    recalls-begun = record {
+      lists = subst (FollowFrom (led_to left begun.outdated)) (sym paths) follow_from;
+      alone = λ path some. ap (λ p. is_one_of path (needed_in p)) paths ∙ sym (last.paths path) ∙ some;
+      outdated = λ path some. ap (λ p. is_one_of path (needed_in p)) paths
+          ∙ among_needed path (asked path) refl (ap (λ said. is_some (outcome_of said)) (sym (takes path)) ∙ some);
+    }
+
+-- ---- lists that are kept
+
+alike-same : (path : List ℕ) (old new : PathOutcome) → new ≡ old → NameAlike path old new
+alike-same path old new same = record { words = ap (named_in path) same; items = ap targets_in same }
+
+-- rows of these paths that are fresh say what they lead to
+pub alike-fresh : (known outdated : MemoryRows) (paths : List (List ℕ)) → ((path : List ℕ) → is_one_of path paths ≡ true → is_some (entries_in known path) ≡ true)
+    → AreAlikeAt (led_to known outdated) (known_in (entries_in known)) paths
+alike-fresh known outdated paths have path is =
+    alike-same path (led_to known outdated path) (known_in (entries_in known) path) (by (entries_in known path) (have path is))
+  where
+    by : (row : Option PathOutcome) → is_some row ≡ true → known_row row ≡ known_row (option_or row (entries_in outdated path))
+    by None some = absurd (false≢true some)
+    by (Some row) some = refl
+
+module _ (law : AlikeRowsListTheSame) (world : World) (path : List ℕ) (said : Said) (old new : ShownRows) (more : HasRowMore world path said old new)
+    (known after : MemoryRows) (knows : (other : List ℕ) → said_in known other ≡ fresh_said old other)
+    (puts : (other : List ℕ) → said_in after other ≡ (if bytes_eq path other then Some said else said_in known other))
+    (last : LastIndex) (names : NamesAsBefore path said.outcome last) (recalls : Recalls old known last) where
+  lacked : entries_in known path ≡ None
+  lacked = entries-fresh old known knows path ∙ more.lacking.lacking
+
+  put_at : (other : List ℕ) (same : Bool) → bytes_eq path other ≡ same → NameAlike other (led_to known last.outdated other) (led_to after last.outdated other)
+  put_at other true same =
+      subst (λ at. NameAlike at (led_to known last.outdated at) (led_to after last.outdated at)) ((bytes_eq-Decides path other).0 same)
+      (subst (λ found. NameAlike path found (led_to after last.outdated path))
+      (sym (ap (λ row. known_row (option_or row (entries_in last.outdated path))) lacked ∙ ap known_row names.was))
+      (subst (λ found. NameAlike path names.before found)
+      (sym (ap (λ row. known_row (option_or (option_map (λ (one : Said). one.outcome) row) (entries_in last.outdated path)))
+      (puts path ∙ ap (λ (b : Bool). if b then Some said else said_in known path) ((bytes_eq-Decides path path).1 refl)))) names.alike))
+  put_at other false same =
+      alike-same other (led_to known last.outdated other) (led_to after last.outdated other)
+      (ap (λ row. known_row (option_or (option_map (λ (one : Said). one.outcome) row) (entries_in last.outdated other)))
+      (puts other ∙ ap (λ (b : Bool). if b then Some said else said_in known other) same))
+
+  alike : (paths : List (List ℕ)) → AreAlikeAt (led_to known last.outdated) (led_to after last.outdated) paths
+  alike paths other is = put_at other (bytes_eq path other) refl
+
+  alone_at : (other : List ℕ) (same : Bool) → bytes_eq path other ≡ same → (same || is_some (old other)) ≡ true → is_one_of other (needed_in last.paths) ≡ true
+  alone_at other true same some = ap (λ at. is_one_of at (needed_in last.paths)) (sym ((bytes_eq-Decides path other).0 same)) ∙ recalls.outdated path (ap is_some names.was)
+  alone_at other false same some = recalls.alone other some
+
+  -- the row of a path that names the same paths as the outdated one
+  pub recalls-more : Recalls new after last
+  recalls-more = record {
+    lists = record {
+      listed = recalls.lists.listed ∙ sym (law.listed (led_to known last.outdated) (led_to after last.outdated) (map string_bytes last.paths.directories.items) (alike (map string_bytes last.paths.directories.items)));
+      needed = recalls.lists.needed ∙ sym (law.needed (led_to known last.outdated) (led_to after last.outdated) (map string_bytes last.paths.listed.items) (alike (map string_bytes last.paths.listed.items)));
+    };
+    alone = λ other some. alone_at other (bytes_eq path other) refl (sym (more.there other) ∙ some);
+    outdated = recalls.outdated;
+  }
+
+-- ---- rows of which some are taken
+
+module _ (known left taken : List ℕ → Option Said) (before : List ℕ → Bool) (lefts : (path : List ℕ) → left path ≡ (if before path then None else known path))
+    (takes : (path : List ℕ) → taken path ≡ (if before path then known path else None)) (item : List ℕ) where
+  or_false : (b : Bool) → b ≡ (b || false)
+  or_false true = refl
+  or_false false = refl
+
+  or_true : (b : Bool) → (b || true) ≡ true
+  or_true true = refl
+  or_true false = refl
+
+  as_before : (path : List ℕ) → taken path ≡ (if before path || false then known path else None)
+  as_before path = takes path ∙ ap (λ (b : Bool). if b then known path else None) (or_false (before path))
+
+  left_is : (b : Bool) → before item ≡ b → left item ≡ (if b then None else known item)
+  left_is b is = lefts item ∙ ap (λ (b : Bool). if b then None else known item) is
+
+  there : (row : Said) → left item ≡ Some row → (b : Bool) → before item ≡ b → known item ≡ Some row
+  there row is true e = let none : left item ≡ None = left_is true e in absurd cc
+  there row is false e = sym (left_is false e) ∙ is
+
+  -- the row of an item is taken, which was left so far
+  pub taken-put : (row : Said) → left item ≡ Some row → (path : List ℕ) (same : Bool) → bytes_eq item path ≡ same
+      → (if same then Some row else taken path) ≡ (if before path || same then known path else None)
+  taken-put row is path true e =
+      sym (ap (λ (b : Bool). if b then known path else None) (or_true (before path))
+      ∙ ap known (sym ((bytes_eq-Decides item path).0 e)) ∙ there row is (before item) refl)
+  taken-put row is path false e = as_before path
+
+  none_there : left item ≡ None → (b : Bool) → before item ≡ b → taken item ≡ known item
+  none_there is true e = takes item ∙ ap (λ (b : Bool). if b then known item else None) e
+  none_there is false e = takes item ∙ ap (λ (b : Bool). if b then known item else None) e ∙ sym (sym (left_is false e) ∙ is)
+
+  -- an item whose row isn't left has none, or it was taken
+  pub taken-none : left item ≡ None → (path : List ℕ) (same : Bool) → bytes_eq item path ≡ same
+      → taken path ≡ (if before path || same then known path else None)
+  taken-none is path true e =
+      ap taken (sym ((bytes_eq-Decides item path).0 e)) ∙ none_there is (before item) refl ∙ ap known ((bytes_eq-Decides item path).0 e)
+      ∙ sym (ap (λ (b : Bool). if b then known path else None) (or_true (before path)))
+  taken-none is path false e = as_before path
 
 -- the stored rows that asked for such a name
 pub stored-asked : (test : List ℕ → Bool) (entries : Entries) (index : KnownIndex) (last : IsLast test (shown test entries) index) (path : List ℕ) (one : StoredValue) (row : RowValue)

@@ -8,3 +8,4 @@ pub mod KeepLemmas
 pub mod Props
 pub mod MadeLemmas
 pub mod LeftLemmas
+pub mod MoreLemmas

@@ -27,8 +27,8 @@ AreCurrent-prop : (world : World) (rows : ShownRows) → IsProp (AreCurrent worl
 AreCurrent-prop world rows = hlevel props
 
 IsWalk-prop : (world : World) (rows : ShownRows) (walk : Walk) → IsProp (IsWalk world rows walk)
-IsWalk-prop world rows (Directories stage) = hlevel props
-IsWalk-prop world rows (Listed stage) = hlevel props
+IsWalk-prop world rows (Directories stage last) = hlevel props
+IsWalk-prop world rows (Listed listed) = hlevel props
 IsWalk-prop world rows (Needed last) = hlevel props
 
 IsPathAsk-prop : (world : World) (path : List ℕ) (ask : PathAsk) → IsProp (IsPathAsk world path ask)

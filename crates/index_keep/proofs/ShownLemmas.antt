@@ -1,5 +1,5 @@
 -- What is shown of stored rows, and what is fresh of them.
-use Rattle.std.proofs.Common.{◌≡◌, ◌∙◌, sym, ap, refl, ℕ, Bool, true, false, ◌||◌, if◌then◌else◌, List, [], ◌∷◌, Option, Some, None, is_some, option_map, option_and_then}
+use Rattle.std.proofs.Common.{◌≡◌, ◌∙◌, sym, ap, refl, ℕ, Bool, true, false, ◌||◌, if◌then◌else◌, List, [], ◌∷◌, Option, Some, None, option_map, option_and_then}
 use Rattle.std.specs.List.{list_any}
 use Rattle.ports_index.specs.Filling.{is_one_of}
 use Rattle.ports_index.specs.Seen.{Said, entries_in, said_in}
@@ -85,15 +85,6 @@ shown-same test old new same path = ap (option_and_then (show_stored test)) (sam
 pub shown-test : (one other : List ℕ → Bool) (entries : Entries) → ((name : List ℕ) → one name ≡ other name) → ShowsSame (shown other entries) (shown one entries)
 shown-test one other entries same path = ap (λ (test : List ℕ → Bool). shown test entries path) (λ i name. same name i)
 
--- rows that are left of others are shown as before
-pub shown-left : (test : List ℕ → Bool) (needed : List (List ℕ)) (old new : Entries) → ((path : List ℕ) → new path ≡ (if is_one_of path needed then old path else None))
-    → (path : List ℕ) → shown test new path ≡ (if is_one_of path needed then shown test old path else None)
-shown-left test needed old new left path = ap (option_and_then (show_stored test)) (left path) ∙ by (is_one_of path needed)
-  where
-    by : (is : Bool) → option_and_then (show_stored test) (if is then old path else None) ≡ (if is then shown test old path else None)
-    by true = refl
-    by false = refl
-
 fresh_by_said : (row : ShownRow) (stale : Bool) → option_map (λ (said : Said). said.outcome) (if stale then None else Some (said_by row.row)) ≡ (if stale then None else Some row.row.outcome)
 fresh_by_said row true = refl
 fresh_by_said row false = refl
@@ -136,11 +127,3 @@ module _ (test : List ℕ → Bool) where
       → Marks paths old new → ShowsSame (shown test old) (shown no_name new)
   shown-asked paths old new asked marks path =
       ap (option_and_then (show_stored no_name)) (marks path) ∙ entry_asked (old path) (is_one_of path paths) (asked path)
-
--- a path for which nothing is stored shows no row
-pub not-stored : (test : List ℕ → Bool) (entries : Entries) (path : List ℕ) → is_some (entries path) ≡ false → shown test entries path ≡ None
-not-stored test entries path none = by (entries path) none
-  where
-    by : (stored : Option StoredValue) → is_some stored ≡ false → option_and_then (show_stored test) stored ≡ None
-    by None e = refl
-    by (Some stored) e = absurd cc

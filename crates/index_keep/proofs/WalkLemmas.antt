@@ -1,8 +1,9 @@
 -- A refresh that goes through paths.
-use Rattle.std.proofs.Common.{string_bytes, ◌≡◌, ◌∙◌, sym, ap, subst, refl, ℕ, zero, suc, Bool, true, false, ◌||◌, ◌&&◌, not, if◌then◌else◌, List, [], ◌∷◌, ◌++◌, take, Option, Some, None, is_some, option_and_then, option_map, slice_get}
+use Rattle.std.proofs.Common.{Global, String, string_bytes, map, ◌≡◌, ◌∙◌, sym, ap, subst, refl, ℕ, zero, suc, Bool, true, false, ◌||◌, if◌then◌else◌, List, [], ◌∷◌, ◌++◌, take, Option, Some, None, is_some, option_and_then, option_map, slice_get}
 use Rattle.std.proofs.lemmas.Bool.{false≢true, or_right}
 use Rattle.std.proofs.lemmas.Slice.Eq.{bytes_eq-Decides}
 use Rattle.std.specs.List.{filter_map, flat_map}
+use Rattle.std.specs.Prelude.{Vec}
 use Rattle.std.specs.Str.{bytes_eq}
 use Rattle.text_parts.specs.Ordered.{among-in_order}
 use Rattle.mk_paths.specs.World.{World, files_in}
@@ -18,7 +19,8 @@ use Rattle.row_text.specs.Rows.{RowValue}
 use Rattle.ports_index.specs.RowLaws.{HaveRows, KnownRowsAreEnough}
 use Rattle.ports_index.specs.Seen.{Said, entries_in, known_in, said_in}
 use Rattle.ports_index.specs.declared.keeping.MemoryRows.{MemoryRows}
-use Rattle.index_keep.specs.Last.{SaysAll}
+use Rattle.index_keep.specs.Last.{LeavesNeeded, SaysAll}
+use Rattle.index_keep.specs.declared.walking.ListedStage.{ListedStage}
 use Rattle.index_keep.specs.declared.walking.Stage.{Stage}
 use Rattle.index_keep.specs.declared.walking.LastStage.{LastStage}
 use Rattle.index_keep.specs.Shown.{ShownRow, ShownRows, ShowsSame, fresh, fresh_outcome, fresh_said, said_by, said_if_fresh, said_in_row}
@@ -27,7 +29,7 @@ use Rattle.index_keep.specs.Keeping.{IsReadyFor}
 use Rattle.eval_ask.specs.Asking.{IsShort, MakesInTime}
 use Rattle.index_keep.specs.Paths.{IsMade}
 use Rattle.index_keep.specs.Turns.{Evaluates, refresh_at, spent_in_all}
-use Rattle.index_keep.specs.Walking.{IsStage, IsLacking, HasRowMore, paths_of, LacksNone, IsLackingAt, ListsPaths, NeedsPaths}
+use Rattle.index_keep.specs.Walking.{IsStage, IsListedStage, IsLastStage, IsLacking, HasRowMore, paths_of, LacksNone, IsLackingAt, ListsPaths, NeedsPaths}
 use Rattle.index_keep.specs.declared.evaluating.MadeRow.{MadeRow}
 use Rattle.index_keep.specs.declared.walking.Walk.{Walk}
 use Rattle.row_text.specs.Seen.{row_seen}
@@ -116,7 +118,7 @@ module _ (world : World) (rows : ShownRows) (kept : AreKept world rows) where
 
   -- ---- one stage after another
 
-  module _ (enough : KnownRowsAreEnough) (before stage : Stage) (none : LacksNone before)
+  module _ (enough : KnownRowsAreEnough) (before : Stage) (none : LacksNone before)
       (says : (path : List ℕ) → said_in before.known path ≡ fresh_said rows path) where
     knows : (path : List ℕ) → entries_in before.known path ≡ fresh rows path
     knows = entries-fresh rows before.known says
@@ -130,20 +132,37 @@ module _ (world : World) (rows : ShownRows) (kept : AreKept world rows) where
     all_known : (paths : List (List ℕ)) → paths_of before ≡ paths → (path : List ℕ) → is_one_of path paths ≡ true → is_some (fresh rows path) ≡ true
     all_known paths are path is = ap is_some (sym (knows path)) ∙ none path (ap (is_one_of path) are ∙ is)
 
-    pub IsStage-listed : paths_of before ≡ directories (files_in world) → ListsPaths before stage → IsStage rows (listed_paths world) stage
-    IsStage-listed are lists = record {
-      through = lists.paths ∙ ap (λ known. listed_from (known_in known) (paths_of before)) same_known ∙ ap (listed_from (known_in (fresh rows))) are
-          ∙ enough.listed world (fresh rows) (have-fresh (directories (files_in world)) (all_known (directories (files_in world)) are));
-      knows = λ path. lists.known path ∙ says path;
-      passed = nothing_passed (listed_paths world) stage.place lists.place;
+    pub IsListedStage-after : (listed : ListedStage) → paths_of before ≡ directories (files_in world) → ListsPaths rows before listed → IsListedStage world rows listed
+    IsListedStage-after listed are lists = record {
+      stage = record {
+        through = lists.paths ∙ ap (λ known. listed_from (known_in known) (paths_of before)) same_known ∙ ap (listed_from (known_in (fresh rows))) are
+            ∙ enough.listed world (fresh rows) (have-fresh (directories (files_in world)) (all_known (directories (files_in world)) are));
+        knows = λ path. lists.known path ∙ says path;
+        passed = nothing_passed (listed_paths world) listed.stage.place lists.place;
+      };
+      directories = lists.directories ∙ are;
+      last = lists.last;
     }
 
-    pub IsStage-needed : (last : LastStage) → paths_of before ≡ listed_paths world → NeedsPaths before last → IsStage rows (needed_paths world) last.stage
-    IsStage-needed last are needs = record {
-      through = needs.paths ∙ ap (λ known. needed_among (known_in known) (paths_of before)) same_known ∙ ap (needed_among (known_in (fresh rows))) are
-          ∙ enough.needed world (fresh rows) (have-fresh (listed_paths world) (all_known (listed_paths world) are));
-      knows = λ path. needs.known path ∙ says path;
-      passed = nothing_passed (needed_paths world) last.stage.place needs.place;
+    pub IsStage-needed : (needed : List (List ℕ)) → paths_of before ≡ listed_paths world → needed ≡ needed_among (known_in (entries_in before.known)) (paths_of before) → needed ≡ needed_paths world
+    IsStage-needed needed are is =
+        is ∙ ap (λ known. needed_among (known_in known) (paths_of before)) same_known ∙ ap (needed_among (known_in (fresh rows))) are
+        ∙ enough.needed world (fresh rows) (have-fresh (listed_paths world) (all_known (listed_paths world) are))
+
+-- the last stage comes after that of the listed paths
+pub IsLastStage-after : (world : World) (rows : ShownRows) → AreKept world rows → KnownRowsAreEnough → (before : ListedStage) (last : LastStage) → LacksNone before.stage
+    → IsListedStage world rows before → NeedsPaths rows before last → IsLastStage world rows last
+IsLastStage-after world rows kept enough before last none is needs =
+    let through = IsStage-needed world rows kept enough before.stage none is.stage.knows (paths_of last.stage) is.stage.through needs.paths in
+    record {
+      stage = record {
+        through = through;
+        knows = λ path. needs.known path ∙ is.stage.knows path;
+        passed = λ path one. absurd (false≢true (sym (ap (λ n. is_one_of path (take n (needed_paths world))) needs.place) ∙ one));
+      };
+      directories = ap (λ (names : Vec (String Global) Global). map string_bytes names.items) needs.directories ∙ is.directories;
+      listed = needs.listed ∙ is.stage.through;
+      alone = λ alone path some. ap (is_one_of path) (sym through) ∙ needs.alone alone path some;
     }
 
 -- ---- rows that are current
@@ -173,23 +192,28 @@ module _ (world : World) (rows : ShownRows) (current : AreCurrent world rows) wh
 
 -- ---- rows of which those are left that are needed
 
-module _ (old new : ShownRows) (known left : MemoryRows) (needed others : List (List ℕ)) (stored : List ℕ → Bool)
+module _ (old new : ShownRows) (known left : MemoryRows) (needed : List (List ℕ)) (others : Vec (String Global) Global) (leaves : LeavesNeeded needed old new others)
     (says : (path : List ℕ) → said_in known path ≡ fresh_said old path)
-    (nothing : (path : List ℕ) → stored path ≡ false → old path ≡ None)
-    (are : (path : List ℕ) → is_one_of path others ≡ (stored path && not (is_one_of path needed)))
-    (leaves : (path : List ℕ) → new path ≡ (if is_one_of path needed then old path else None))
-    (keeps : (path : List ℕ) → said_in left path ≡ (if is_one_of path others then None else said_in known path)) where
-  left_by : (path : List ℕ) (there need : Bool) → stored path ≡ there → is_one_of path needed ≡ need
-      → (if there && not need then None else said_in known path) ≡ option_and_then said_if_fresh (if need then old path else None)
-  left_by path true true e f = says path
-  left_by path true false e f = refl
-  left_by path false true e f = says path
-  left_by path false false e f = says path ∙ ap (option_and_then said_if_fresh) (nothing path e)
+    (keeps : (path : List ℕ) → said_in left path ≡ (if is_one_of path (map string_bytes others.items) then None else said_in known path)) where
+  nothing_there : (row : Option ShownRow) → is_some row ≡ false → option_and_then said_if_fresh row ≡ None
+  nothing_there None is = refl
+  nothing_there (Some row) is = absurd (false≢true (sym is))
+
+  not_there : (path : List ℕ) → is_one_of path needed ≡ false → is_one_of path (map string_bytes others.items) ≡ false → (there : Bool) → is_some (old path) ≡ there → fresh_said old path ≡ None
+  not_there path apart other true is = absurd (false≢true (sym other ∙ leaves.all path apart is))
+  not_there path apart other false is = nothing_there (old path) is
+
+  left_by : (path : List ℕ) (need other : Bool) → is_one_of path needed ≡ need → is_one_of path (map string_bytes others.items) ≡ other
+      → (if other then None else said_in known path) ≡ option_and_then said_if_fresh (if need then old path else None)
+  left_by path true true e f = absurd (false≢true (sym (leaves.apart path e) ∙ f))
+  left_by path true false e f = says path
+  left_by path false true e f = refl
+  left_by path false false e f = says path ∙ not_there path e f (is_some (old path)) refl
 
   pub said-left : (path : List ℕ) → said_in left path ≡ fresh_said new path
   said-left path =
-      keeps path ∙ ap (λ (b : Bool). if b then None else said_in known path) (are path)
-      ∙ left_by path (stored path) (is_one_of path needed) refl refl ∙ sym (ap (option_and_then said_if_fresh) (leaves path))
+      keeps path ∙ left_by path (is_one_of path needed) (is_one_of path (map string_bytes others.items)) refl refl
+      ∙ sym (ap (option_and_then said_if_fresh) (leaves.left path))
 
 -- ---- the next path of a stage
 
@@ -225,11 +249,18 @@ module _ (world : World) (old new : ShownRows) (walk : Walk) (path : List ℕ) (
   pub kept-made : AreKept world new
   kept-made = AreKept-put world old ready.kept path itself new put_fresh
 
-  pub more-made : HasRowMore (string_bytes made.path) (said_by (row_seen made.row)) old new
-  more-made other =
-      said-put world old ready.kept path itself new put_fresh other
-      ∙ ap (λ (r : RowValue). if bytes_eq path other then Some (said_by r) else fresh_said old other) (sym is.row.same)
-      ∙ ap (λ at. if bytes_eq at other then Some (said_by (row_seen made.row)) else fresh_said old other) (sym is.at)
+  there_by : (other : List ℕ) (same : Bool) → is_some (if same then Some (fresh_row world path) else old other) ≡ (same || is_some (old other))
+  there_by other true = refl
+  there_by other false = refl
+
+  pub more-made : HasRowMore world (string_bytes made.path) (said_by (row_seen made.row)) old new
+  more-made = record {
+    lacking = subst (IsLacking world old) (sym is.at) ready.lacking;
+    says = λ other. said-put world old ready.kept path itself new put_fresh other
+        ∙ ap (λ (r : RowValue). if bytes_eq path other then Some (said_by r) else fresh_said old other) (sym is.row.same)
+        ∙ ap (λ at. if bytes_eq at other then Some (said_by (row_seen made.row)) else fresh_said old other) (sym is.at);
+    there = λ other. ap is_some (put_fresh other) ∙ there_by other (bytes_eq path other) ∙ ap (λ at. bytes_eq at other || is_some (old other)) (sym is.at);
+  }
 
   renews-made : (spent : Spent) → spent ≡ made.spent → RenewsRow world old new spent
   renews-made spent same = record {

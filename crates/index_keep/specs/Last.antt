@@ -1,18 +1,62 @@
 -- The index that was at hand before files changed.
-use Rattle.std.specs.Prelude.{◌≡◌, ℕ, Bool, List, map, Some, is_some, option_map, string_bytes}
+use Rattle.std.specs.Global.{Global}
+use Rattle.std.specs.Prelude.{◌≡◌, ℕ, Bool, true, false, if◌then◌else◌, List, map, Some, None, is_some, option_map}
+use Rattle.std.specs.Prelude.{string_bytes, String, Vec}
+use Rattle.std.specs.Option.{option_or}
+use Rattle.ports_index.specs.Alike.{NameAlike}
 use Rattle.ports_index.specs.Filling.{is_one_of}
-use Rattle.ports_index.specs.Seen.{said_in}
+use Rattle.ports_index.specs.Known.{FollowFrom}
+use Rattle.ports_index.specs.PathOutcomes.{PathOutcome}
+use Rattle.ports_index.specs.Seen.{entries_in, known_in, known_row, said_in}
 use Rattle.ports_index.specs.declared.keeping.MemoryRows.{MemoryRows}
+use Rattle.ports_index.specs.declared.known_index.IndexPaths.{IndexPaths}
 use Rattle.ports_index.specs.declared.known_index.KnownIndex.{KnownIndex}
+use Rattle.index_keep.specs.declared.last_index.LastIndex.{LastIndex}
 use Rattle.index_keep.specs.Shown.{ShownRow, ShownRows, asked_one, said_in_row}
 
 -- rows in memory say what the rows that are shown say, stale ones too
 abbrev pub SaysAll : ShownRows → MemoryRows → Type 0
 SaysAll rows known = (path : List ℕ) → said_in known path ≡ option_map said_in_row (rows path)
 
--- After the names that pass this test have changed, it is the index of before. It says what the rows say, each of its
--- paths has a row, and no row is stale but those that asked for such a name.
+-- the needed paths of an index
+abbrev pub needed_in : IndexPaths → List (List ℕ)
+needed_in paths = map string_bytes paths.needed.items
+
+-- After the names that pass this test have changed, it is the index of before. It says what the rows say, its lists
+-- follow from that, each of its needed paths has a row, and no row is stale but those that asked for such a name.
 pub record IsLast (test : List ℕ → Bool) (rows : ShownRows) (index : KnownIndex) : Type 0 where
   pub says : SaysAll rows index.rows
-  pub paths : (path : List ℕ) → is_some (rows path) ≡ is_one_of path (map string_bytes index.paths.needed.items)
+  pub lists : FollowFrom (known_in (entries_in index.rows)) index.paths
+  pub paths : (path : List ℕ) → is_some (rows path) ≡ is_one_of path (needed_in index.paths)
   pub stale : (path : List ℕ) (row : ShownRow) → rows path ≡ Some row → row.stale ≡ asked_one test row.row
+
+-- what each path leads to by its row, or else by the outdated one
+abbrev pub led_to : MemoryRows → MemoryRows → List ℕ → PathOutcome
+led_to known outdated path = known_row (option_or (entries_in known path) (entries_in outdated path))
+
+-- no path has a row but these
+abbrev pub HaveRowsAlone : List (List ℕ) → ShownRows → Type 0
+HaveRowsAlone paths rows = (path : List ℕ) → is_some (rows path) ≡ true → is_one_of path paths ≡ true
+
+-- A refresh knows these fresh rows, and the index of before may be kept: its lists follow from these rows and from the
+-- outdated ones, and no path has a row but its needed ones.
+pub record Recalls (rows : ShownRows) (known : MemoryRows) (last : LastIndex) : Type 0 where
+  pub lists : FollowFrom (led_to known last.outdated) last.paths
+  pub alone : HaveRowsAlone (needed_in last.paths) rows
+  pub outdated : (path : List ℕ) → is_some (entries_in last.outdated path) ≡ true → is_one_of path (needed_in last.paths) ≡ true
+
+-- the path has an outdated row, which names the same paths as this one
+pub record NamesAsBefore (path : List ℕ) (row : PathOutcome) (last : LastIndex) : Type 0 where
+  pub before : PathOutcome
+  pub was : entries_in last.outdated path ≡ Some before
+  pub alike : NameAlike path before row
+
+-- one of these paths
+abbrev pub is_one_in : List ℕ → Vec (String Global) Global → Bool
+is_one_in path paths = is_one_of path (map string_bytes paths.items)
+
+-- The rows of these paths are left. The others are those that had rows and aren't needed.
+pub record LeavesNeeded (needed : List (List ℕ)) (old new : ShownRows) (others : Vec (String Global) Global) : Type 0 where
+  pub left : (path : List ℕ) → new path ≡ (if is_one_of path needed then old path else None)
+  pub apart : (path : List ℕ) → is_one_of path needed ≡ true → is_one_in path others ≡ false
+  pub all : (path : List ℕ) → is_one_of path needed ≡ false → is_some (old path) ≡ true → is_one_in path others ≡ true

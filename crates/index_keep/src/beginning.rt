@@ -10,9 +10,10 @@ ghost use Rattle.index_store.specs.Entries.{Entries, SameRows, AreRowsOf, stored
 ghost use Rattle.index_store.specs.Entries.{SameProfiles};
 ghost use Rattle.row_text.specs.Seen.{row_seen};
 ghost use Rattle.index_keep.specs.Shown.{shown, no_name, ShowsSame, asked_one, fresh_said, has_asked_for, said_by};
-ghost use Rattle.index_keep.specs.Last.{IsLast};
+ghost use Rattle.index_keep.specs.Last.{IsLast, Recalls};
 ghost use Rattle.index_keep.specs.Judging as judging;
 
+use crate::last_index::LastIndex;
 use index_store::{PathRows, StoredRow};
 use mk_paths::FilesFault;
 use ports_index::{KnownIndex, KnownRow, MemoryRows};
@@ -51,45 +52,83 @@ pub(crate) fn begin<R: PathRows>(
     Ok(known)
 }
 
+/// The rows that are fresh as a refresh begins over the index of before, and what is kept of that.
+pub(crate) struct Begun {
+    pub(crate) known: MemoryRows,
+    pub(crate) last: LastIndex,
+}
+
 /// The same, by what all rows said before these files changed.
 pub(crate) fn begin_over<R: PathRows>(
     alloc: Global,
     rows: &mut R,
     last: KnownIndex,
     changed: &BTreeSet<String>,
-) -> Result<MemoryRows, FilesFault>
+) -> Result<Begun, FilesFault>
     requires { IsLast (contains_text changed.now) (shown (contains_text changed.now) (R.entries rows.old)) last }
-    ensures known { IfOk result (λ known. (path : List ℕ)
-        → said_in known path ≡ fresh_said (shown (contains_text changed.now) (R.entries rows.old)) path) }
+    ensures known { IfOk result (λ begun. (path : List ℕ)
+        → said_in begun.known path ≡ fresh_said (shown (contains_text changed.now) (R.entries rows.old)) path) }
+    ensures recalls { IfOk result (λ begun. Recalls
+        (shown (contains_text changed.now) (R.entries rows.old)) begun.known begun.last) }
     ensures marked { OnOk result (ShowsSame
         (shown (contains_text changed.now) (R.entries rows.old)) (shown no_name (R.entries rows.new))) }
     ensures err { OnErr result (SameRows (R.entries rows.old) (R.entries rows.new)) }
     ensures profiles { SameProfiles (R.profiles rows.old) (R.profiles rows.new) }
 {
     let KnownIndex { paths, rows: known } = last;
-    let outdated = outdated_among(alloc, paths.needed, &known, changed)?;
-    rows.mark(&outdated)?;
-    Ok(without(known, &outdated))
+    let marked = outdated_among(alloc, &paths.needed, &known, changed)?;
+    let Parted { left, taken } = part(alloc, known, &marked)?;
+    rows.mark(&marked)?;
+    Ok(Begun {
+        known: left,
+        last: LastIndex {
+            paths,
+            outdated: taken,
+        },
+    })
 }
 
 // Those of these paths whose rows asked for a name that has changed.
 fn outdated_among(
     alloc: Global,
-    paths: Vec<String>,
+    paths: &[String],
     known: &MemoryRows,
     changed: &BTreeSet<String>,
 ) -> Result<Vec<String>, AllocError>
     ensures { IfOk result (λ outdated. (path : List ℕ) → is_one_of path (map string_bytes outdated.items)
-        ≡ (is_one_of path (map string_bytes paths.items)
+        ≡ (is_one_of path (map string_bytes paths.now)
         && has_asked_for (contains_text changed.now) (names_in known.now path))) }
 {
     let mut outdated = Vec::new(alloc);
     for path in paths {
         if is_outdated(known.names(path.as_str()), changed) {
-            outdated.push(path)?;
+            outdated.push(String::from_str(alloc, path.as_str())?)?;
         }
     }
     Ok(outdated)
+}
+
+// Rows in two parts.
+struct Parted {
+    left: MemoryRows,
+    taken: MemoryRows,
+}
+
+// The rows that are left without those of these paths, and those of them.
+fn part(alloc: Global, known: MemoryRows, paths: &[String]) -> Result<Parted, AllocError>
+    ensures left { IfOk result (λ parted. (path : List ℕ) → said_in parted.left path
+        ≡ (if is_one_of path (map string_bytes paths.now) then None else said_in known path)) }
+    ensures taken { IfOk result (λ parted. (path : List ℕ) → said_in parted.taken path
+        ≡ (if is_one_of path (map string_bytes paths.now) then said_in known path else None)) }
+{
+    let mut left = known;
+    let mut taken = MemoryRows::new(alloc);
+    for path in paths {
+        if let Some(row) = left.take_out(path.as_str()) {
+            taken.put(String::from_str(alloc, path.as_str())?, row)?;
+        }
+    }
+    Ok(Parted { left, taken })
 }
 
 // Whether one of these names has changed, if there are any.
@@ -110,7 +149,7 @@ pub(crate) fn without(known: MemoryRows, paths: &[String]) -> MemoryRows
 {
     let mut known = known;
     for path in paths {
-        known.take_out(path.as_str());
+        let _taken = known.take_out(path.as_str());
     }
     known
 }

@@ -18,7 +18,9 @@ use crate::names::insert_name;
 use crate::walking::Walk;
 use index_store::PathRows;
 use mk_paths::{FilesFault, Name};
-use ports_index::{IndexPaths, KnownIndex, Spent, path_is_the_same_where_answered};
+use ports_index::{
+    IndexPaths, KnownIndex, Spent, known_rows_are_enough, path_is_the_same_where_answered,
+};
 use std::alloc::{AllocError, Global};
 use std::collections::BTreeSet;
 use std::mem;
@@ -88,6 +90,7 @@ impl<R: PathRows + Drop> Keeper<R> {
         ensures profiles { SameProfiles (profiles_of R.profiles self.old) (profiles_of R.profiles self.new) }
     {
         path_is_the_same_where_answered();
+        known_rows_are_enough();
         if self.is_full() {
             self.write_marks(alloc)?;
         }

@@ -6,6 +6,7 @@ mod beginning;
 mod ending;
 mod evaluating;
 mod keeper;
+mod last_index;
 mod laws;
 mod names;
 mod turning;

@@ -25,7 +25,7 @@ ghost use Rattle.index_keep.specs.Keeping.{rows_of, refresh_of, begun_in, IsKept
 ghost use Rattle.index_keep.specs.Keeping.{IsAskOnTheWay, IsReadyFor, IsAtEnd, TurnsKeeper};
 
 use crate::beginning::{fresh_rows, known_row, without};
-use crate::ending::take_out_others;
+use crate::ending::leave_needed;
 use crate::evaluating::{MadeRow, PathAsk, PathTurned};
 use crate::keeper::{Keeper, Progress, Refreshed};
 use crate::walking::{LastStage, Next, Stage, Walk, begin_walk};
@@ -222,15 +222,24 @@ impl<R: PathRows + Drop> Keeper<R> {
         ensures profiles { (profile : kinds.Profile)
             → WritesIn profile (profiles_of R.profiles self.old) (profiles_of R.profiles self.new) }
     {
-        let LastStage { stage, listed } = last;
+        let LastStage {
+            stage,
+            directories,
+            listed,
+            are_alone,
+        } = last;
         let Stage {
             paths: needed,
             known,
             ..
         } = stage;
-        let others = take_out_others(alloc, &mut self.rows, &needed)?;
+        let others = leave_needed(alloc, &mut self.rows, &needed, are_alone)?;
         self.progress = Progress::AtHand(KnownIndex {
-            paths: IndexPaths { listed, needed },
+            paths: IndexPaths {
+                directories,
+                listed,
+                needed,
+            },
             rows: without(known, &others),
         });
         Ok(())
@@ -303,7 +312,7 @@ fn put_row<R: PathRows>(
         then Some (record { row = row_seen row; stale = false })
         else shown no_name (R.entries rows.old) other)) }
     ensures walk { (world : World) (old new : ShownRows) → IsWalk world old walk
-        → HasRowMore (string_bytes path) (said_by (row_seen row)) old new
+        → HasRowMore world (string_bytes path) (said_by (row_seen row)) old new
         → IfOk result (IsWalk world new) }
     ensures err { OnErr result (SameRows (R.entries rows.old) (R.entries rows.new)) }
     ensures profiles { WritesIn profile (R.profiles rows.old) (R.profiles rows.new) }

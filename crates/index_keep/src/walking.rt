@@ -13,20 +13,23 @@ ghost use Rattle.std.specs.BTreeSet.{contains_text};
 ghost use Rattle.index_store.specs.Entries.{SameRows, SameProfiles};
 ghost use Rattle.index_keep.specs.Shown.{ShownRows, shown, no_name, ShowsSame};
 ghost use Rattle.index_keep.specs.Right.{LeavesFiles};
-ghost use Rattle.index_keep.specs.Last.{IsLast};
+ghost use Rattle.index_keep.specs.Last.{IsLast, Recalls};
 ghost use Rattle.index_keep.specs.Walking as walking;
 ghost use Rattle.index_keep.specs.declared.walking.Walk.TheVariants.{Directories, Listed, Needed};
 
-use crate::beginning::{begin, begin_over};
+use crate::beginning::{Begun, begin, begin_over};
+use crate::last_index::{LastIndex, if_alike, if_below};
 use index_store::PathRows;
 use mk_files::Listing;
 use mk_paths::FilesFault;
 use ports_index::{
-    KnownIndex, KnownRow, MemoryRows, directories, known_rows_are_enough, listed, needed_among,
+    KnownIndex, KnownRow, MemoryRows, alike_rows_list_the_same, directories, known_rows_are_enough,
+    listed, needed_among,
 };
 use read_trace::Recorder;
 use std::alloc::{AllocError, Global};
 use std::collections::BTreeSet;
+use text_parts::clones_of;
 
 /// The paths of a stage, how many of them have been passed, and what the fresh rows say.
 #[derive(Debug, Drop)]
@@ -48,22 +51,16 @@ impl Stage {
         }
     }
 
-    /// Goes on to the next path that has no fresh row, if there is one. It fails only if memory runs out.
-    fn pass(self, alloc: Global) -> Result<Passed, AllocError>
-        requires { walking.HasPassed self }
-        ensures { IfOk result (walking.PassesStage self) }
+    /// Goes on to the next path that has no fresh row, if there is one, and gives it. It fails only if memory runs out.
+    fn pass(&mut self, alloc: Global) -> Result<Option<String>, AllocError>
+        requires { walking.HasPassed self.old }
+        ensures { IfOk result (walking.PassesStage self.old self.new) }
     {
         let Some(place) = self.lacking() else {
-            return Ok(Passed::All(self));
+            return Ok(None);
         };
-        let path = String::from_str(alloc, self.paths[place].as_str())?;
-        let Stage { paths, known, .. } = self;
-        let stage = Stage {
-            paths,
-            place,
-            known,
-        };
-        Ok(Passed::Lacks(stage, path))
+        self.place = place;
+        Ok(Some(String::from_str(alloc, self.paths[place].as_str())?))
     }
 
     /// The place of the next path that has no fresh row, if there is one.
@@ -80,49 +77,43 @@ impl Stage {
         None
     }
 
-    /// The same stage, which knows of one more fresh row.
-    fn with_row(self, path: String, row: KnownRow) -> Result<Stage, AllocError>
-        ensures { IfOk result (walking.KnowsRow (string_bytes path) (seen.known_seen row) self) }
+    /// Knows of one more fresh row from now on. If memory runs out, nothing changes.
+    fn know(&mut self, path: String, row: KnownRow) -> Result<(), AllocError>
+        ensures { OnOk result (walking.KnowsRow (string_bytes path) (seen.known_seen row) self.old self.new) }
     {
-        let Stage {
-            paths,
-            place,
-            mut known,
-        } = self;
-        known.put(path, row)?;
-        Ok(Stage {
-            paths,
-            place,
-            known,
-        })
+        self.known.put(path, row)
     }
 }
 
-/// The last stage, that of all paths on which the index depends, and the listed paths, which are kept for the
-/// end.
+/// The stage of the listed paths, the directories, which are kept for the end, and the index of before, if it may still
+/// have the same lists.
+#[derive(Debug, Drop)]
+pub(crate) struct ListedStage {
+    pub(crate) stage: Stage,
+    pub(crate) directories: Vec<String>,
+    pub(crate) last: Option<LastIndex>,
+}
+
+/// The last stage, that of all paths on which the index depends, and the directories and the listed paths, which are
+/// kept for the end.
 #[derive(Debug, Drop)]
 pub(crate) struct LastStage {
     pub(crate) stage: Stage,
+    pub(crate) directories: Vec<String>,
     pub(crate) listed: Vec<String>,
+    /// Whether it is known that no other path has a row.
+    pub(crate) are_alone: bool,
 }
 
 /// A refresh that is under way.
 #[derive(Debug, Drop)]
 pub(crate) enum Walk {
-    /// It goes through the directories.
-    Directories(Stage),
+    /// It goes through the directories. The index of before may still have the same lists.
+    Directories(Stage, Option<LastIndex>),
     /// It goes through the listed paths: directories, and what lists among them name.
-    Listed(Stage),
+    Listed(ListedStage),
     /// It goes through all paths on which the index depends.
     Needed(LastStage),
-}
-
-/// What a stage came to.
-enum Passed {
-    /// This path has no fresh row.
-    Lacks(Stage, String),
-    /// Each path of the stage has a fresh row.
-    All(Stage),
 }
 
 /// What a walk comes to next.
@@ -154,11 +145,16 @@ pub(crate) fn begin_walk<F: Listing + Drop, R: PathRows>(
     ensures leaves { LeavesFiles (result_err result) (view_of F.view files.old) (view_of F.view files.new) }
 {
     let paths = directories(alloc, files)?;
-    let known = match last {
-        Some(last) => begin_over(alloc, rows, last, changed)?,
-        None => begin(alloc, rows, changed)?,
-    };
-    Ok(Walk::Directories(Stage::new(paths, known)))
+    match last {
+        Some(last) => {
+            let Begun { known, last } = begin_over(alloc, rows, last, changed)?;
+            Ok(Walk::Directories(Stage::new(paths, known), Some(last)))
+        }
+        None => {
+            let known = begin(alloc, rows, changed)?;
+            Ok(Walk::Directories(Stage::new(paths, known), None))
+        }
+    }
 }
 
 impl Walk {
@@ -169,8 +165,8 @@ impl Walk {
             → IfOk result (walking.IsNext world rows) }
     {
         match self {
-            Walk::Directories(stage) => next_directory(alloc, stage),
-            Walk::Listed(stage) => next_listed(alloc, stage),
+            Walk::Directories(stage, last) => next_directory(alloc, stage, last),
+            Walk::Listed(listed) => next_listed(alloc, listed),
             Walk::Needed(last) => next_needed(alloc, last),
         }
     }
@@ -178,64 +174,130 @@ impl Walk {
     /// The same walk, which knows of one more fresh row. It fails only if memory runs out.
     pub(crate) fn with_row(self, path: String, row: KnownRow) -> Result<Walk, AllocError>
         ensures { (world : World) (old new : ShownRows) → walking.IsWalk world old self
-            → walking.HasRowMore (string_bytes path) (seen.known_seen row) old new
+            → walking.HasRowMore world (string_bytes path) (seen.known_seen row) old new
             → IfOk result (walking.IsWalk world new) }
     {
+        alike_rows_list_the_same();
         match self {
-            Walk::Directories(stage) => Ok(Walk::Directories(stage.with_row(path, row)?)),
-            Walk::Listed(stage) => Ok(Walk::Listed(stage.with_row(path, row)?)),
+            Walk::Directories(stage, last) => {
+                let mut stage = stage;
+                let last = if_alike(last, path.as_str(), &row.row);
+                stage.know(path, row)?;
+                Ok(Walk::Directories(stage, last))
+            }
+            Walk::Listed(listed) => {
+                let ListedStage {
+                    mut stage,
+                    directories,
+                    last,
+                } = listed;
+                let last = if_alike(last, path.as_str(), &row.row);
+                stage.know(path, row)?;
+                Ok(Walk::Listed(ListedStage {
+                    stage,
+                    directories,
+                    last,
+                }))
+            }
             Walk::Needed(last) => {
-                let LastStage { stage, listed } = last;
-                let stage = stage.with_row(path, row)?;
-                Ok(Walk::Needed(LastStage { stage, listed }))
+                let mut last = last;
+                last.stage.know(path, row)?;
+                Ok(Walk::Needed(last))
             }
         }
     }
 }
 
-fn next_directory(alloc: Global, stage: Stage) -> Result<Next, AllocError>
+fn next_directory(alloc: Global, stage: Stage, last: Option<LastIndex>) -> Result<Next, AllocError>
     requires { walking.HasPassed stage }
-    ensures { (world : World) (rows : ShownRows) → walking.IsOnTheWay world rows (Directories stage)
+    ensures { (world : World) (rows : ShownRows) → walking.IsOnTheWay world rows (Directories stage last)
         → IfOk result (walking.IsNext world rows) }
 {
     known_rows_are_enough();
+    let mut stage = stage;
     match stage.pass(alloc)? {
-        Passed::Lacks(stage, path) => Ok(Next::Lacks(Walk::Directories(stage), path)),
-        Passed::All(stage) => next_listed(alloc, listed_stage(alloc, stage)?),
+        Some(path) => Ok(Next::Lacks(Walk::Directories(stage, last), path)),
+        None => next_listed(alloc, listed_stage(alloc, stage, last)?),
     }
 }
 
-// The stage of the listed paths, after that of the directories.
-fn listed_stage(alloc: Global, stage: Stage) -> Result<Stage, AllocError>
-    ensures { IfOk result (walking.ListsPaths stage) }
+// The stage of the listed paths, after that of the directories. If these are those of the index of before, its list is
+// kept.
+fn listed_stage(
+    alloc: Global,
+    stage: Stage,
+    last: Option<LastIndex>,
+) -> Result<ListedStage, AllocError>
+    ensures begins { IfOk result (λ listed. listed.stage.place ≡ 0) }
+    ensures lists { (rows : ShownRows) → walking.LacksNone stage → IfSome last (Recalls rows stage.known)
+        → IfOk result (walking.ListsPaths rows stage) }
 {
-    let Stage { paths, known, .. } = stage;
-    let paths = listed(alloc, paths, &known)?;
-    Ok(Stage::new(paths, known))
-}
-
-fn next_listed(alloc: Global, stage: Stage) -> Result<Next, AllocError>
-    requires { walking.HasPassed stage }
-    ensures { (world : World) (rows : ShownRows) → walking.IsOnTheWay world rows (Listed stage)
-        → IfOk result (walking.IsNext world rows) }
-{
-    known_rows_are_enough();
-    match stage.pass(alloc)? {
-        Passed::Lacks(stage, path) => Ok(Next::Lacks(Walk::Listed(stage), path)),
-        Passed::All(stage) => next_needed(alloc, last_stage(alloc, stage)?),
-    }
-}
-
-// The stage of the needed paths, after that of the listed ones.
-fn last_stage(alloc: Global, stage: Stage) -> Result<LastStage, AllocError>
-    ensures { IfOk result (walking.NeedsPaths stage) }
-{
-    let Stage { paths, known, .. } = stage;
-    let needed = needed_among(alloc, &paths, &known)?;
-    Ok(LastStage {
-        stage: Stage::new(needed, known),
-        listed: paths,
+    alike_rows_list_the_same();
+    let Stage {
+        paths: directories,
+        known,
+        ..
+    } = stage;
+    let last = if_below(last, &directories);
+    let paths = match &last {
+        Some(last) => clones_of(alloc, &last.paths.listed)?,
+        None => listed(alloc, &directories, &known)?,
+    };
+    Ok(ListedStage {
+        stage: Stage::new(paths, known),
+        directories,
+        last,
     })
+}
+
+fn next_listed(alloc: Global, listed: ListedStage) -> Result<Next, AllocError>
+    requires { walking.HasPassed listed.stage }
+    ensures { (world : World) (rows : ShownRows) → walking.IsOnTheWay world rows (Listed listed)
+        → IfOk result (walking.IsNext world rows) }
+{
+    known_rows_are_enough();
+    let mut listed = listed;
+    match listed.stage.pass(alloc)? {
+        Some(path) => Ok(Next::Lacks(Walk::Listed(listed), path)),
+        None => next_needed(alloc, last_stage(alloc, listed)?),
+    }
+}
+
+// The stage of the needed paths, after that of the listed ones. If these are those of the index of before, its list is
+// kept.
+fn last_stage(alloc: Global, listed: ListedStage) -> Result<LastStage, AllocError>
+    ensures begins { IfOk result (λ last. last.stage.place ≡ 0) }
+    ensures lists { (rows : ShownRows) → walking.LacksNone listed.stage → walking.MayBeKept rows listed
+        → IfOk result (walking.NeedsPaths rows listed) }
+{
+    alike_rows_list_the_same();
+    let ListedStage {
+        stage,
+        directories,
+        last,
+    } = listed;
+    let Stage {
+        paths: listed,
+        known,
+        ..
+    } = stage;
+    match last {
+        Some(last) => Ok(LastStage {
+            stage: Stage::new(last.paths.needed, known),
+            directories,
+            listed,
+            are_alone: true,
+        }),
+        None => {
+            let needed = needed_among(alloc, &listed, &known)?;
+            Ok(LastStage {
+                stage: Stage::new(needed, known),
+                directories,
+                listed,
+                are_alone: false,
+            })
+        }
+    }
 }
 
 fn next_needed(alloc: Global, last: LastStage) -> Result<Next, AllocError>
@@ -243,11 +305,9 @@ fn next_needed(alloc: Global, last: LastStage) -> Result<Next, AllocError>
     ensures { (world : World) (rows : ShownRows) → walking.IsOnTheWay world rows (Needed last)
         → IfOk result (walking.IsNext world rows) }
 {
-    let LastStage { stage, listed } = last;
-    match stage.pass(alloc)? {
-        Passed::Lacks(stage, path) => {
-            Ok(Next::Lacks(Walk::Needed(LastStage { stage, listed }), path))
-        }
-        Passed::All(stage) => Ok(Next::All(LastStage { stage, listed })),
+    let mut last = last;
+    match last.stage.pass(alloc)? {
+        Some(path) => Ok(Next::Lacks(Walk::Needed(last), path)),
+        None => Ok(Next::All(last)),
     }
 }

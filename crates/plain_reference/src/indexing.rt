@@ -9,6 +9,7 @@ ghost use Rattle.ports_index.specs.Filling.{Fills};
 ghost use Rattle.ports_index.specs.Index as indexed;
 ghost use Rattle.ports_index.specs.Keeping.{Keeps};
 ghost use Rattle.ports_index.specs.Known.{IsIndexOf};
+ghost use Rattle.ports_index.specs.Naming as naming;
 ghost use Rattle.ports_index.specs.Seen.{entries_in};
 
 use crate::effort::Effort;
@@ -53,13 +54,18 @@ pub fn index_files<F: Listing>(
     ensures keeps { Keeps (result_err result) (F.view files.old) (F.view files.new) }
 {
     let mut rows = MemoryRows::new(alloc);
-    let Listed { paths, effort } = list(alloc, files, settings, &mut rows)?;
+    let Listed {
+        directories,
+        paths,
+        effort,
+    } = list(alloc, files, settings, &mut rows)?;
     known_rows_are_enough();
     let needed = needed_among(alloc, &paths, &rows)?;
     let more = fill(alloc, files, settings, &needed, &mut rows)?;
     Ok(Index {
         known: KnownIndex {
             paths: IndexPaths {
+                directories,
                 listed: paths,
                 needed,
             },
@@ -69,9 +75,10 @@ pub fn index_files<F: Listing>(
     })
 }
 
-// The listed paths, and the work that it took to learn what they lead to.
+// The directories, the listed paths, and the work that it took to learn what they lead to.
 #[derive(Drop)]
 struct Listed {
+    directories: Vec<String>,
     paths: Vec<String>,
     effort: Effort,
 }
@@ -93,6 +100,8 @@ fn list<F: Listing>(
         ≡ effort_over (world_of (F.view files.old) settings.now)
         (lacking (entries_in rows.old)
         (indexed.listed_paths (world_of (F.view files.old) settings.now)))) }
+    ensures directories { IfOk result (λ listed. map string_bytes listed.directories.items
+        ≡ naming.directories (F.view files.old).files) }
     ensures listed { IfOk result (λ listed. map string_bytes listed.paths.items
         ≡ indexed.listed_paths (world_of (F.view files.old) settings.now)) }
     ensures keeps { Keeps (result_err result) (F.view files.old) (F.view files.new) }
@@ -100,9 +109,10 @@ fn list<F: Listing>(
     known_rows_are_enough();
     let directories = directories(alloc, files)?;
     let first = fill(alloc, files, settings, &directories, rows)?;
-    let paths = listed(alloc, directories, rows)?;
+    let paths = listed(alloc, &directories, rows)?;
     let more = fill(alloc, files, settings, &paths, rows)?;
     Ok(Listed {
+        directories,
         paths,
         effort: first.and(more),
     })

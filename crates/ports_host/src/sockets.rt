@@ -4,6 +4,7 @@ ghost use Rattle.std.specs.IoError.{error_kind};
 ghost use Rattle.ports_serve.specs.declared.wire.Outcome.TheVariants as outcomes;
 ghost use Rattle.ports_host.specs.Hosts.{IsLocalAddress, IsLater, FailsAs, heard};
 
+use mio::event::Event;
 use mio::net::{TcpListener, TcpStream};
 use mio::{Events, Interest, Poll, Token};
 use ports_serve::{Listen, ListenFault, Outcome, Wire};
@@ -20,6 +21,12 @@ const MOST_EVENTS: usize = 18;
 
 /// How many milliseconds an idle wire waits for something to come.
 const IDLE: u64 = 50;
+
+/// The most accepts of a busy caller, one after another, that don't ask which sockets are ready.
+const MOST_UNASKED: u32 = 3;
+
+/// What the listener is called where sockets are said to be ready. A client is called by its connection, from 1.
+const LISTENER: usize = 0;
 
 /// What listens on 127.0.0.1.
 #[derive(Clone, Copy)]
@@ -48,6 +55,8 @@ impl<R: Net> Listen for Loopback<'_, R> {
             events,
             listener,
             clients,
+            may_accept: true,
+            unasked: 0,
         })
     }
 }
@@ -57,7 +66,7 @@ fn begin(net: &impl Net, port: u16) -> io::Result<(Poll, TcpListener)> {
     let poll = Poll::new(net)?;
     let mut listener = TcpListener::bind(net, address_of(port))?;
     poll.registry()
-        .register(&mut listener, Token(0), Interest::READABLE)?;
+        .register(&mut listener, Token(LISTENER), Interest::READABLE)?;
     Ok((poll, listener))
 }
 
@@ -68,20 +77,54 @@ fn address_of(port: u16) -> SocketAddr
     SocketAddr::new(IpAddr::V4(Ipv4Addr::new(127, 0, 0, 1)), port)
 }
 
-/// A client, under the number of its connection.
+/// A client, under the number of its connection, and what is known of its socket.
 #[derive(Drop)]
 struct Client {
     conn: u64,
     stream: TcpStream,
+    /// Whether a read may bring something.
+    may_read: bool,
+    /// Whether the client has ended its stream, so that the end follows its last bytes.
+    has_ended: bool,
+    /// Whether a write may take something.
+    may_write: bool,
 }
 
-/// Clients over TCP sockets. None of their calls waits, except an accept of an idle caller.
+impl Client {
+    /// A client of whose socket nothing is known.
+    fn new(conn: u64, stream: TcpStream) -> Client {
+        Client {
+            conn,
+            stream,
+            may_read: true,
+            has_ended: false,
+            may_write: true,
+        }
+    }
+
+    /// Its socket is said to be ready.
+    fn note(&mut self, event: &Event) {
+        self.may_read |= event.is_readable() || event.is_read_closed() || event.is_error();
+        self.has_ended |= event.is_read_closed();
+        self.may_write |= event.is_writable() || event.is_write_closed();
+    }
+}
+
+/// What a client's socket is called where it is said to be ready.
+fn token_of(conn: u64) -> Token {
+    Token(conn.saturating_add(1) as usize)
+}
+
+/// Clients over TCP sockets. None of their calls waits, except an accept of an idle caller. Once a socket had nothing
+/// more, it isn't asked until the host says that it is ready again.
 #[derive(Drop)]
 pub struct Sockets {
     poll: Poll,
     events: Events,
     listener: TcpListener,
     clients: Vec<Client>,
+    may_accept: bool,
+    unasked: u32,
 }
 
 impl Sockets {
@@ -102,11 +145,33 @@ impl Sockets {
         stream.set_nodelay(true)?;
         self.poll.registry().register(
             &mut stream,
-            Token(1),
+            token_of(conn),
             Interest::READABLE | Interest::WRITABLE,
         )?;
-        self.clients.push(Client { conn, stream })?;
+        self.clients.push(Client::new(conn, stream))?;
         Ok(())
+    }
+
+    /// Asks the host which sockets are ready. For an idle caller it waits a while until one is; for a busy one it asks
+    /// only now and then.
+    fn look(&mut self, idle: bool) {
+        if !idle && self.unasked < MOST_UNASKED {
+            self.unasked += 1;
+            return;
+        }
+        self.unasked = 0;
+        let wait = Duration::from_millis(if idle { IDLE } else { 0 });
+        let _ = self.poll.poll(&mut self.events, Some(wait));
+        for event in self.events.iter() {
+            if event.token() == Token(LISTENER) {
+                self.may_accept = true;
+            }
+            for client in self.clients.iter_mut() {
+                if token_of(client.conn) == event.token() {
+                    client.note(event);
+                }
+            }
+        }
     }
 }
 
@@ -114,12 +179,13 @@ impl Wire for Sockets {
     ghost after = { λ old call new. Unit {0} };
 
     fn accept(&mut self, conn: u64, idle: bool) -> Outcome<()> {
-        if idle {
-            let _ = self
-                .poll
-                .poll(&mut self.events, Some(Duration::from_millis(IDLE)));
+        self.look(idle);
+        if !self.may_accept {
+            return Outcome::Nothing;
         }
-        match outcome_of(self.listener.accept()) {
+        let accepted = self.listener.accept();
+        self.may_accept = !would_wait(&accepted);
+        match outcome_of(accepted) {
             Outcome::Got((stream, _)) => match self.take(conn, stream) {
                 Ok(()) => Outcome::Got(()),
                 Err(_) => Outcome::Nothing,
@@ -134,18 +200,45 @@ impl Wire for Sockets {
         let Some(client) = self.client(conn) else {
             return Outcome::Fault;
         };
-        outcome_of_read(client.stream.read(buffer))
+        if !client.may_read {
+            return Outcome::Nothing;
+        }
+        let read = client.stream.read(buffer);
+        client.may_read = client.has_ended || may_bring_more(&read, buffer.len());
+        outcome_of_read(read)
     }
 
     fn write(&mut self, conn: u64, bytes: &[u8]) -> Outcome<usize> {
         let Some(client) = self.client(conn) else {
             return Outcome::Fault;
         };
-        outcome_of(client.stream.write(bytes))
+        if !client.may_write {
+            return Outcome::Nothing;
+        }
+        let written = client.stream.write(bytes);
+        client.may_write = !would_wait(&written);
+        outcome_of(written)
     }
 
     fn shut(&mut self, conn: u64) {
         self.clients.retain(|client| client.conn != conn);
+    }
+}
+
+/// Whether a call would have to wait. If so, the host says when that is no longer so.
+fn would_wait<T>(answer: &io::Result<T>) -> bool {
+    match answer {
+        Ok(_) => false,
+        Err(error) => error.kind() == ErrorKind::WouldBlock,
+    }
+}
+
+/// Whether the next read may bring something, though the host says nothing. If a read that could have brought so many
+/// bytes brought fewer, there are no more; the host says when others come.
+fn may_bring_more(read: &io::Result<usize>, room: usize) -> bool {
+    match read {
+        Ok(count) => *count >= room,
+        Err(error) => error.kind() != ErrorKind::WouldBlock,
     }
 }
 

@@ -10,3 +10,4 @@ pub mod Names
 pub mod SamePaths
 pub mod RowLemmas
 pub mod TargetLemmas
+pub mod AlikeLemmas

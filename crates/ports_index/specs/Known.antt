@@ -1,7 +1,9 @@
 -- An index whose rows are known.
-use Rattle.std.specs.Prelude.{◌≡◌, map, string_bytes}
-use Rattle.mk_paths.specs.World.{World}
-use Rattle.ports_index.specs.Index.{listed_paths, needed_paths}
+use Rattle.std.specs.Prelude.{◌≡◌, ℕ, List, map, string_bytes}
+use Rattle.mk_paths.specs.World.{World, files_in}
+use Rattle.ports_index.specs.PathOutcomes.{PathOutcome}
+use Rattle.ports_index.specs.Naming.{directories, listed_from}
+use Rattle.ports_index.specs.Index.{listed_paths, needed_among, needed_paths}
 use Rattle.ports_index.specs.RowLaws.{HaveRows}
 use Rattle.ports_index.specs.Seen.{entries_in}
 use Rattle.ports_index.specs.declared.known_index.IndexPaths.{IndexPaths}
@@ -9,6 +11,7 @@ use Rattle.ports_index.specs.declared.known_index.KnownIndex.{KnownIndex}
 
 -- they are the paths of the index of a world
 pub record ArePathsOf (world : World) (paths : IndexPaths) : Type 0 where
+  pub directories : map string_bytes paths.directories.items ≡ directories (files_in world)
   pub listed : map string_bytes paths.listed.items ≡ listed_paths world
   pub needed : map string_bytes paths.needed.items ≡ needed_paths world
 
@@ -16,3 +19,8 @@ pub record ArePathsOf (world : World) (paths : IndexPaths) : Type 0 where
 pub record IsIndexOf (world : World) (index : KnownIndex) : Type 0 where
   pub paths : ArePathsOf world index.paths
   pub rows : HaveRows world (entries_in index.rows) (needed_paths world)
+
+-- they are the paths that follow from their directories, by what each path leads to
+pub record FollowFrom (outcomes : List ℕ → PathOutcome) (paths : IndexPaths) : Type 0 where
+  pub listed : map string_bytes paths.listed.items ≡ listed_from outcomes (map string_bytes paths.directories.items)
+  pub needed : map string_bytes paths.needed.items ≡ needed_among outcomes (map string_bytes paths.listed.items)

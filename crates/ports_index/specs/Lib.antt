@@ -14,3 +14,4 @@ pub mod RowLaws
 pub mod Spending
 pub mod NamedPaths
 pub mod Known
+pub mod Alike

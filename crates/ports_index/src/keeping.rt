@@ -75,6 +75,7 @@ impl MemoryRows {
             ≡ (if bytes_eq (string_bytes path) other then Some (row_seen known.row) else entries_in self.old other)) }
         ensures size { OnOk result (size_of self.new ≡ counted (size_of self.old + known.size)) }
         ensures err { OnErr result ((other : List ℕ) → said_in self.new other ≡ said_in self.old other) }
+        ensures err_size { OnErr result (size_of self.new ≡ size_of self.old) }
     {
         let size = known.size;
         match self.rows.insert(path, known) {
@@ -86,11 +87,13 @@ impl MemoryRows {
         }
     }
 
-    /// Takes out the row of this path, if it has one.
-    pub fn take_out(&mut self, path: &str)
-        ensures { (other : List ℕ) → said_in self.new other
+    /// Takes out the row of this path, if it has one, and gives it.
+    pub fn take_out(&mut self, path: &str) -> Option<KnownRow>
+        ensures taken { option_map known_seen result ≡ said_in self.old path.now }
+        ensures others { (other : List ℕ) → said_in self.new other
             ≡ (if bytes_eq path.now other then None else said_in self.old other) }
+        ensures size { size_of self.new ≡ size_of self.old }
     {
-        let _taken = self.rows.remove(path);
+        self.rows.remove(path)
     }
 }

@@ -1,9 +1,10 @@
 //! An index whose rows are known.
-ghost use Rattle.std.specs.Prelude.{◌≡◌, IfOk};
+ghost use Rattle.std.specs.Prelude.{◌≡◌, true, map, string_bytes, IfOk};
 ghost use Rattle.mk_paths.specs.World.{World};
 ghost use Rattle.ports_index.specs.Index as indexed;
 ghost use Rattle.ports_index.specs.Known.{IsIndexOf};
 
+use crate::alike::are_same;
 use crate::depending::{edges_among, roots_among};
 use crate::keeping::MemoryRows;
 use crate::laws::known_rows_are_enough;
@@ -13,10 +14,22 @@ use std::alloc::{AllocError, Global};
 /// The paths of an index.
 #[derive(Debug, Drop)]
 pub struct IndexPaths {
+    /// The directories in which a makefile may be.
+    pub directories: Vec<String>,
     /// Those that are listed.
     pub listed: Vec<String>,
     /// Those on which the index depends.
     pub needed: Vec<String>,
+}
+
+impl IndexPaths {
+    /// Whether its directories are these, in the same order.
+    pub fn are_below(&self, directories: &[String]) -> bool
+        ensures { result ≡ true
+            → map string_bytes self.now.directories.items ≡ map string_bytes directories.now }
+    {
+        are_same(directories, &self.directories)
+    }
 }
 
 /// The index of a ports tree, with what each path leads to on which it depends.

@@ -1,4 +1,5 @@
 //! What holds of all paths. The functions do nothing else: their clauses are the laws.
+ghost use Rattle.ports_index.specs.Alike.{AlikeRowsListTheSame};
 ghost use Rattle.ports_index.specs.PathLaws.{PathIsTheSameWhereAnswered, ListedPathsCostNoMore, MakefilesAreEvaluated};
 ghost use Rattle.ports_index.specs.RowLaws.{KnownRowsAreEnough, OneRowMoreLeavesLess};
 
@@ -32,4 +33,10 @@ pub fn known_rows_are_enough()
 /// If a path that is needed gets its row, then less is left to be done, by as much as that path takes.
 pub fn one_row_more_leaves_less()
     ensures { OneRowMoreLeavesLess }
+{}
+
+/// Where the rows of directories name the same paths as before, the same paths are listed. Where those of listed paths
+/// do, the same ones are needed.
+pub fn alike_rows_list_the_same()
+    ensures { AlikeRowsListTheSame }
 {}

@@ -2,6 +2,7 @@
 //! their statuses.
 #![tactic(auto)]
 
+mod alike;
 mod depending;
 mod evaluating;
 mod keeping;
@@ -10,13 +11,14 @@ mod laws;
 mod naming;
 mod spending;
 
+pub use alike::name_alike;
 pub use depending::needed_among;
 pub use evaluating::{Finding, Row, finding_of};
 pub use keeping::{KnownRow, MemoryRows};
 pub use known_index::{IndexPaths, KnownIndex};
 pub use laws::{
-    known_rows_are_enough, listed_paths_cost_no_more, makefiles_are_evaluated,
-    one_row_more_leaves_less, path_is_the_same_where_answered,
+    alike_rows_list_the_same, known_rows_are_enough, listed_paths_cost_no_more,
+    makefiles_are_evaluated, one_row_more_leaves_less, path_is_the_same_where_answered,
 };
 pub use naming::{directories, listed};
 pub use spending::Spent;

@@ -13,7 +13,7 @@ use mk_files::Listing;
 use mk_paths::FilesFault;
 use pkg_path::PkgPath;
 use std::alloc::{AllocError, Global};
-use text_parts::put_in_order;
+use text_parts::{clones_of, put_in_order};
 
 /// The directories in which a makefile may be, by the names of the files: in the order of their bytes, each
 /// once. It fails if the files fail, or if memory runs out.
@@ -106,14 +106,14 @@ fn names_directory(path: &PkgPath) -> bool
 /// bytes, each once. It fails only if memory runs out.
 pub fn listed(
     alloc: Global,
-    directories: Vec<String>,
+    directories: &[String],
     rows: &MemoryRows,
 ) -> Result<Vec<String>, AllocError>
     ensures { IfOk result (λ found. map string_bytes found.items
-        ≡ naming.listed_from (known_in (entries_in rows.now)) (map string_bytes directories.items)) }
+        ≡ naming.listed_from (known_in (entries_in rows.now)) (map string_bytes directories.now)) }
 {
-    let mut paths = named_by_all(alloc, &directories, rows)?;
-    append(&mut paths, directories)?;
+    let mut paths = named_by_all(alloc, directories, rows)?;
+    append(&mut paths, clones_of(alloc, directories)?)?;
     put_in_order(&mut paths);
     Ok(paths)
 }

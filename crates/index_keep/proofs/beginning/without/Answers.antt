@@ -15,7 +15,7 @@ either false false said now is = is
 pub loop-path-preserved : goal.loop-path-preserved
 loop-path-preserved c = λ path.
     let before = is_one_of path (map string_bytes (take c.loop-path.path-index c.args.paths.now)) in
-    c.take_out.ensures path
+    c.take_out-taken.ensures.others path
     ∙ ap (λ (bytes : _). if bytes_eq bytes path then None else said_in c.loop-path.known path) c.as_str.ensures.value
     ∙ either (bytes_eq (string_bytes c.path-item.result) path) before (said_in c.args.known path) (said_in c.loop-path.known path) (c.loop-path.invariant path)
     ∙ sym (ap (λ (b : Bool). if b then None else said_in c.args.known path) (one_of-more c.args.paths.now c.loop-path.path-index c.path-item.result path c.loop-path-test.true c.path-item.is))

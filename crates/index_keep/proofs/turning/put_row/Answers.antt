@@ -17,5 +17,5 @@ returns-clause-rows g c =
 pub returns-clause-walk : goal.returns-clause-walk
 returns-clause-walk g c = λ world old new far more.
     c.in_ok-walk.ensures world old new far
-    (subst (λ said. HasRowMore (string_bytes c.in_ok-key.key) said old new) (sym c.known_row.ensures)
-    (subst (λ path. HasRowMore path (said_by (row_seen c.args.row)) old new) (sym (c.in_ok-key.ensures.ok ∙ c.as_str.ensures.value)) more))
+    (subst (λ said. HasRowMore world (string_bytes c.in_ok-key.key) said old new) (sym c.known_row.ensures)
+    (subst (λ path. HasRowMore world path (said_by (row_seen c.args.row)) old new) (sym (c.in_ok-key.ensures.ok ∙ c.as_str.ensures.value)) more))

@@ -1,23 +1,32 @@
-use Rattle.std.proofs.Common.{◌∙◌, subst}
+use Rattle.std.proofs.Common.{◌≡◌, ap, subst, sym}
 use Rattle.ports_index.specs.Index.{listed_paths}
-use Rattle.index_keep.specs.Walking.{PassesStage, NeedsPaths}
+use Rattle.index_keep.specs.Walking.{PassesStage, IsListedStage, IsStage, LacksNone, MayBeKept, NeedsPaths}
+use Rattle.index_keep.specs.declared.walking.ListedStage.{ListedStage}
 use Rattle.index_keep.specs.declared.walking.Stage.{Stage}
-use Rattle.index_keep.proofs.WalkLemmas.{stage-at, lacking-at, needed-has, IsStage-needed}
+use Rattle.index_keep.proofs.WalkLemmas.{stage-at, lacking-at, needed-has, IsLastStage-after}
 use Rattle.index_keep.proofs.walking.next_listed.Goals as goal
 
-pub returns-in-Lacks : goal.returns-in-Lacks
-returns-in-Lacks c = λ world rows way.
-    let passes = subst (PassesStage c.args.stage) c.in-Lacks.is c.in_ok-stage.ensures in
-    let stage = stage-at rows (listed_paths world) c.args.stage way.far c.in-Lacks.stage.place passes.1 c.in-Lacks.stage passes.0 in
-    let lacking = lacking-at rows (listed_paths world) c.args.stage way.far c.in-Lacks.stage.place passes.1 world (needed-has world) _ passes.2 in
-    (stage, lacking)
+pub returns-in-Some : goal.returns-in-Some
+returns-in-Some c = λ world rows way.
+    let passes = subst (PassesStage c.args.listed.stage c.pass.new.self) c.in-Some.is c.in_ok-path.ensures in
+    let stage = stage-at rows (listed_paths world) c.args.listed.stage way.far.stage c.pass.new.self.place passes.1 c.pass.new.self passes.0 in
+    let lacking = lacking-at rows (listed_paths world) c.args.listed.stage way.far.stage c.pass.new.self.place passes.1 world (needed-has world) _ passes.2 in (
+      subst (λ (s : Stage). IsListedStage world rows (record c.args.listed { stage = s })) (sym passes.0) (record {
+        stage = subst (λ (s : Stage). IsStage rows (listed_paths world) s) passes.0 stage;
+        directories = way.far.directories;
+        last = way.far.last;
+      }),
+      lacking,
+    )
 
-pub returns-in_ok-last_stage-in-All : goal.returns-in_ok-last_stage-in-All
-returns-in_ok-last_stage-in-All c = λ world rows way.
-    let passes = subst (PassesStage c.args.stage) c.in-All.is c.in_ok-stage.ensures in
-    let last = c.in_ok-last_stage-in-All.field-0 in
-    let needs = subst (λ (stage : Stage). NeedsPaths stage last) passes.0 c.in_ok-last_stage-in-All.ensures in
+pub returns-in_ok-last_stage-in-None : goal.returns-in_ok-last_stage-in-None
+returns-in_ok-last_stage-in-None c = λ world rows way.
+    let passes = subst (PassesStage c.args.listed.stage c.pass.new.self) c.in-None.is c.in_ok-path.ensures in
+    let last = c.in_ok-last_stage-in-None.field-0 in
+    let same : record c.args.listed { stage = c.pass.new.self } ≡ c.args.listed = ap (λ (s : Stage). record c.args.listed { stage = s }) passes.0 in
+    let needs = subst (λ (before : ListedStage). NeedsPaths rows before last) same
+    (c.in_ok-last_stage-in-None.ensures.lists rows (subst (λ (s : Stage). LacksNone s) (sym passes.0) passes.1) (subst (λ (l : ListedStage). MayBeKept rows l) (sym same) way.far.last)) in
     c.next_needed.ensures world rows (record {
       kept = way.kept;
-      far = (IsStage-needed world rows way.kept c.known_rows_are_enough.ensures c.args.stage last.stage passes.1 way.far.knows last way.far.through needs, needs.kept ∙ way.far.through);
+      far = IsLastStage-after world rows way.kept c.known_rows_are_enough.ensures c.args.listed last passes.1 way.far needs;
     })

@@ -4,9 +4,9 @@ use Rattle.index_keep.specs.Walking.{PassesStage}
 use Rattle.index_keep.proofs.WalkLemmas.{stage-at, lacking-at}
 use Rattle.index_keep.proofs.walking.next_needed.Goals as goal
 
-pub returns-in-Lacks : goal.returns-in-Lacks
-returns-in-Lacks c = λ world rows way.
-    let passes = subst (PassesStage c.args.last.stage) c.in-Lacks.is c.in_ok-stage.ensures in
-    let stage = stage-at rows (needed_paths world) c.args.last.stage way.far.0 c.in-Lacks.stage.place passes.1 c.in-Lacks.stage passes.0 in
-    let lacking = lacking-at rows (needed_paths world) c.args.last.stage way.far.0 c.in-Lacks.stage.place passes.1 world (λ path is. is) _ passes.2 in
-    ((stage, way.far.1), lacking)
+pub returns-in-Some : goal.returns-in-Some
+returns-in-Some c = λ world rows way.
+    let passes = subst (PassesStage c.args.last.stage c.pass.new.self) c.in-Some.is c.in_ok-path.ensures in
+    let stage = stage-at rows (needed_paths world) c.args.last.stage way.far.stage c.pass.new.self.place passes.1 c.pass.new.self passes.0 in
+    let lacking = lacking-at rows (needed_paths world) c.args.last.stage way.far.stage c.pass.new.self.place passes.1 world (λ path is. is) _ passes.2 in
+    (record { stage = stage; directories = way.far.directories; listed = way.far.listed; alone = way.far.alone }, lacking)

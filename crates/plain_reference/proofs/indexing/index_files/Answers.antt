@@ -32,16 +32,16 @@ returns-clause-known g c =
     let end = entries_in c.fill.new.rows in
     let needed_are : map string_bytes c.deref-2.result.now ≡ needed_paths world =
     ap (map string_bytes) c.deref-2.ensures.value ∙ c.in_ok-needed.ensures ∙ ap (λ paths. needed_among (known_in middle) (map string_bytes paths)) c.deref.ensures.value
-    ∙ ap (needed_among (known_in middle)) c.in_ok-paths.ensures.listed
-    ∙ c.known_rows_are_enough.ensures.needed world middle (have-filled world (listed_paths world) start middle c.in_ok-paths.ensures.fills) in
+    ∙ ap (needed_among (known_in middle)) c.in_ok-directories.ensures.listed
+    ∙ c.known_rows_are_enough.ensures.needed world middle (have-filled world (listed_paths world) start middle c.in_ok-directories.ensures.fills) in
     let filled : Fills world (needed_paths world) middle end =
     subst (λ paths. Fills world paths middle end) needed_are
-    (subst (λ files. Fills (files, settings) (map string_bytes c.deref-2.result.now) middle end) c.in_ok-paths.ensures.keeps.files c.in_ok-more.ensures.fills) in
+    (subst (λ files. Fills (files, settings) (map string_bytes c.deref-2.result.now) middle end) c.in_ok-directories.ensures.keeps.files c.in_ok-more.ensures.fills) in
     let needed = c.in_ok-needed.ensures ∙ ap (λ paths. needed_among (known_in middle) (map string_bytes paths)) c.deref.ensures.value
-    ∙ ap (needed_among (known_in middle)) c.in_ok-paths.ensures.listed
-    ∙ c.known_rows_are_enough.ensures.needed world middle (have-filled world (listed_paths world) start middle c.in_ok-paths.ensures.fills) in
+    ∙ ap (needed_among (known_in middle)) c.in_ok-directories.ensures.listed
+    ∙ c.known_rows_are_enough.ensures.needed world middle (have-filled world (listed_paths world) start middle c.in_ok-directories.ensures.fills) in
     record {
-      paths = record { listed = c.in_ok-paths.ensures.listed; needed = needed };
+      paths = record { directories = c.in_ok-directories.ensures.directories; listed = c.in_ok-directories.ensures.listed; needed = needed };
       rows = have-filled world (needed_paths world) middle end filled;
     }
 
@@ -54,10 +54,10 @@ returns-clause-effort g c =
     let middle = entries_in c.list.new.rows in
     let needed_are : map string_bytes c.deref-2.result.now ≡ needed_paths world =
     ap (map string_bytes) c.deref-2.ensures.value ∙ c.in_ok-needed.ensures ∙ ap (λ paths. needed_among (known_in middle) (map string_bytes paths)) c.deref.ensures.value
-    ∙ ap (needed_among (known_in middle)) c.in_ok-paths.ensures.listed
-    ∙ c.known_rows_are_enough.ensures.needed world middle (have-filled world (listed_paths world) start middle c.in_ok-paths.ensures.fills) in
+    ∙ ap (needed_among (known_in middle)) c.in_ok-directories.ensures.listed
+    ∙ c.known_rows_are_enough.ensures.needed world middle (have-filled world (listed_paths world) start middle c.in_ok-directories.ensures.fills) in
     let more = λ (files : FileMap) (paths : List (List ℕ)). effort_over (files, settings) (lacking middle paths) in
     c.and.ensures
-    ∙ ap₂ both c.in_ok-paths.ensures.effort (c.in_ok-more.ensures.effort ∙ ap₂ more c.in_ok-paths.ensures.keeps.files needed_are)
-    ∙ Effort-on world (listed_paths world) (needed_paths world) start middle c.in_ok-paths.ensures.fills
+    ∙ ap₂ both c.in_ok-directories.ensures.effort (c.in_ok-more.ensures.effort ∙ ap₂ more c.in_ok-directories.ensures.keeps.files needed_are)
+    ∙ Effort-on world (listed_paths world) (needed_paths world) start middle c.in_ok-directories.ensures.fills
     ∙ ap (effort_over world) (lacking-absorbed start (listed_paths world) (needed_paths world) (listed-needed world) ∙ lacking-all start (λ path. ap (option_map (λ (said : Said). said.outcome)) (c.new-rows.ensures.none path)) (listed_paths world ++ targets world))

@@ -34,7 +34,7 @@ returns-clause-listed g c =
     let first : Fills world found before entries =
     subst (λ paths. Fills world paths before entries) directories_are
     (subst (λ files. Fills (files, settings) (map string_bytes c.deref.result.now) before entries) c.in_ok-directories.ensures.keeps.files c.in_ok-first.ensures.fills) in
-    c.in_ok-paths.ensures ∙ ap (listed_from (known_in entries)) c.in_ok-directories.ensures.ok
+    c.in_ok-paths.ensures ∙ ap (listed_from (known_in entries)) (ap (map string_bytes) c.deref-2.ensures.value ∙ c.in_ok-directories.ensures.ok)
     ∙ c.known_rows_are_enough.ensures.listed world entries (have-filled world found before entries first)
 
 pub returns-clause-fills : goal.returns-clause-fills
@@ -47,14 +47,14 @@ returns-clause-fills g c =
     let middle = entries_in c.fill.new.rows in
     let end = entries_in c.fill-2.new.rows in
     let directories_are : map string_bytes c.deref.result.now ≡ found = ap (map string_bytes) c.deref.ensures.value ∙ c.in_ok-directories.ensures.ok in
-    let paths_are : map string_bytes c.deref-2.result.now ≡ listed_paths world = ap (map string_bytes) c.deref-2.ensures.value ∙ returns-clause-listed g c in
+    let paths_are : map string_bytes c.deref-3.result.now ≡ listed_paths world = ap (map string_bytes) c.deref-3.ensures.value ∙ returns-clause-listed g c in
     let same : (view c.fill.new.files).files ≡ (view c.args.files.now).files = c.in_ok-first.ensures.keeps.files ∙ c.in_ok-directories.ensures.keeps.files in
     let first : Fills world found start middle =
     subst (λ paths. Fills world paths start middle) directories_are
     (subst (λ files. Fills (files, settings) (map string_bytes c.deref.result.now) start middle) c.in_ok-directories.ensures.keeps.files c.in_ok-first.ensures.fills) in
     let second : Fills world (listed_paths world) middle end =
     subst (λ paths. Fills world paths middle end) paths_are
-    (subst (λ files. Fills (files, settings) (map string_bytes c.deref-2.result.now) middle end) same c.in_ok-more.ensures.fills) in
+    (subst (λ files. Fills (files, settings) (map string_bytes c.deref-3.result.now) middle end) same c.in_ok-more.ensures.fills) in
     Fills-same world (found ++ listed_paths world) (listed_paths world) start end
     (λ path. one_of-absorbed path found (listed_paths world) (directories-listed world path))
     (Fills-on world found (listed_paths world) start middle end first second)
@@ -69,7 +69,7 @@ returns-clause-effort g c =
     let middle = entries_in c.fill.new.rows in
     let work = λ (files : FileMap) (rows : List ℕ → Option PathOutcome) (paths : List (List ℕ)). effort_over (files, settings) (lacking rows paths) in
     let directories_are : map string_bytes c.deref.result.now ≡ found = ap (map string_bytes) c.deref.ensures.value ∙ c.in_ok-directories.ensures.ok in
-    let paths_are : map string_bytes c.deref-2.result.now ≡ listed_paths world = ap (map string_bytes) c.deref-2.ensures.value ∙ returns-clause-listed g c in
+    let paths_are : map string_bytes c.deref-3.result.now ≡ listed_paths world = ap (map string_bytes) c.deref-3.ensures.value ∙ returns-clause-listed g c in
     let same : (view c.fill.new.files).files ≡ (view c.args.files.now).files = c.in_ok-first.ensures.keeps.files ∙ c.in_ok-directories.ensures.keeps.files in
     let first : Fills world found start middle =
     subst (λ paths. Fills world paths start middle) directories_are

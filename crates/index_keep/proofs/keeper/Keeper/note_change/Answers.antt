@@ -32,7 +32,7 @@ returns-clause-kept g c = λ world kept.
     ] in
     record {
       rows = AreKept-noted c.args.name.now world world (DifferAt-itself c.args.name.now world) c.path_is_the_same_where_answered.ensures (rows_of entries c.args.self.now) _ (returns-clause-rows g c) kept.rows;
-      progress = IsProgress-noted c.args.name.now world world (rows_of entries before) _ (shown-more c.args.name.now (changed_in before.progress) (changed_in c.add_change.new.self) adds (entries before.rows))
+      progress = IsProgress-noted c.known_rows_are_enough.ensures c.args.name.now world world (rows_of entries before) _ (shown-more c.args.name.now (changed_in before.progress) (changed_in c.add_change.new.self) adds (entries before.rows))
           before.progress c.add_change.new.self is c.in_ok-add_change.ensures.dropped adds;
     }
 
@@ -48,6 +48,6 @@ returns-clause-other g c = λ world other differ kept.
     ] in
     record {
       rows = AreKept-noted c.args.name.now world other differ c.path_is_the_same_where_answered.ensures (rows_of entries c.args.self.now) _ (returns-clause-rows g c) kept.rows;
-      progress = IsProgress-noted c.args.name.now world other (rows_of entries before) _ (shown-more c.args.name.now (changed_in before.progress) (changed_in c.add_change.new.self) adds (entries before.rows))
+      progress = IsProgress-noted c.known_rows_are_enough.ensures c.args.name.now world other (rows_of entries before) _ (shown-more c.args.name.now (changed_in before.progress) (changed_in c.add_change.new.self) adds (entries before.rows))
           before.progress c.add_change.new.self is c.in_ok-add_change.ensures.dropped adds;
     }

@@ -6,7 +6,7 @@ use Rattle.ports_index.specs.Seen.{known_seen}
 use Rattle.ports_index.proofs.Lookups.{known-cases}
 use Rattle.ports_index.proofs.keeping.MemoryRows.take_out.Goals as goal
 
-pub returns : goal.returns
-returns c = λ other.
-    ap (option_map known_seen) (btree_map_updates_text c.args.path.now c.args.self.now.rows c.remove-taken.new.self None c.remove-taken.ensures.updates other)
+pub returns-clause-others : goal.returns-clause-others
+returns-clause-others c = λ other.
+    ap (option_map known_seen) (btree_map_updates_text c.args.path.now c.args.self.now.rows c.remove.new.self None c.remove.ensures.updates other)
     ∙ known-cases (bytes_eq c.args.path.now other) None (get_by_text c.args.self.now.rows other)

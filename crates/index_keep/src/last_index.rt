@@ -1,0 +1,50 @@
+//! The index before files changed, whose lists are kept while no row names other paths.
+ghost use Rattle.std.specs.Prelude.{◌≡◌, true, map, string_bytes, Some, IfSome};
+ghost use Rattle.ports_index.specs.Seen.{row_seen};
+ghost use Rattle.index_keep.specs.Last.{NamesAsBefore};
+
+use ports_index::{IndexPaths, MemoryRows, Row, name_alike};
+
+/// The paths of the index before files changed, and its outdated rows.
+#[derive(Debug, Drop)]
+pub(crate) struct LastIndex {
+    pub(crate) paths: IndexPaths,
+    pub(crate) outdated: MemoryRows,
+}
+
+impl LastIndex {
+    // Whether this path has an outdated row, which names the same paths as this row.
+    fn names_alike(&self, path: &str, row: &Row) -> bool
+        ensures { result ≡ true → NamesAsBefore path.now (row_seen row.now) self.now }
+    {
+        match self.outdated.get(path) {
+            Some(old) => name_alike(old, row),
+            None => false,
+        }
+    }
+}
+
+/// The index of before, if the outdated row of this path names the same paths as this row.
+pub(crate) fn if_alike(last: Option<LastIndex>, path: &str, row: &Row) -> Option<LastIndex>
+    ensures { IfSome result (λ kept. (last ≡ Some kept) × NamesAsBefore path.now (row_seen row.now) kept) }
+{
+    let last = last?;
+    if last.names_alike(path, row) {
+        Some(last)
+    } else {
+        None
+    }
+}
+
+/// The index of before, if its directories are these.
+pub(crate) fn if_below(last: Option<LastIndex>, directories: &[String]) -> Option<LastIndex>
+    ensures { IfSome result (λ kept. (last ≡ Some kept)
+        × (map string_bytes kept.paths.directories.items ≡ map string_bytes directories.now)) }
+{
+    let last = last?;
+    if last.paths.are_below(directories) {
+        Some(last)
+    } else {
+        None
+    }
+}

@@ -1,0 +1,33 @@
+-- Rows that name the same paths.
+use Rattle.std.specs.Prelude.{◌≡◌, ℕ, true, List, [], map}
+use Rattle.port_rules.specs.Depends.{DependValue}
+use Rattle.ports_index.specs.PathOutcomes.{PathOutcome}
+use Rattle.ports_index.specs.Naming.{listed_from, named_in}
+use Rattle.ports_index.specs.Depending.{targets_in}
+use Rattle.ports_index.specs.Filling.{is_one_of}
+use Rattle.ports_index.specs.Index.{needed_among}
+
+-- the items of dependencies
+abbrev pub items_of : List DependValue → List (List ℕ)
+items_of depends = map (λ (depend : DependValue). depend.item) depends
+
+-- At this path, two rows name the same paths, as a list of directories and as a port.
+pub record NameAlike (path : List ℕ) (old new : PathOutcome) : Type 0 where
+  pub words : named_in path new ≡ named_in path old
+  pub items : targets_in new ≡ targets_in old
+
+-- At this path, a row names no path.
+pub record NamesNone (path : List ℕ) (row : PathOutcome) : Type 0 where
+  pub words : named_in path row ≡ []
+  pub items : targets_in row ≡ []
+
+-- what each of these paths leads to names the same, before and now
+abbrev pub AreAlikeAt : (List ℕ → PathOutcome) → (List ℕ → PathOutcome) → List (List ℕ) → Type 0
+AreAlikeAt old new paths = (path : List ℕ) → is_one_of path paths ≡ true → NameAlike path (old path) (new path)
+
+-- where rows name the same paths, the same paths are listed and needed
+pub record AlikeRowsListTheSame : Type 0 where
+  pub listed : (old new : List ℕ → PathOutcome) (directories : List (List ℕ)) → AreAlikeAt old new directories
+      → listed_from new directories ≡ listed_from old directories
+  pub needed : (old new : List ℕ → PathOutcome) (listed : List (List ℕ)) → AreAlikeAt old new listed
+      → needed_among new listed ≡ needed_among old listed
