@@ -89,7 +89,9 @@ fn portsd_command<'a>(alloc: Global) -> Result<Command<'a>, AllocError>
     ensures { IfOk result (λ command. app_of command ≡ portsd) }
 {
     Command::new(alloc, "portsd")
-        .about("Keeps ports trees for several tenants and answers what their ports are")
+        .about(
+            "portsd 0.1.0 keeps ports trees for several tenants and answers what their ports are",
+        )
         .subcommand_required(true)
         .subcommand(serve_command(alloc)?)?
         .subcommand(replay_command(alloc)?)
