@@ -10,6 +10,7 @@ use mio::{Events, Interest, Poll, Token};
 use ports_serve::{Listen, ListenFault, Outcome, Wire};
 use std::alloc::Global;
 use std::io::{self, ErrorKind, Read, Write};
+use std::mem;
 use std::net::{IpAddr, Ipv4Addr, Net, SocketAddr};
 use std::time::Duration;
 
@@ -23,7 +24,7 @@ const MOST_EVENTS: usize = 18;
 const IDLE: u64 = 50;
 
 /// The most accepts of a busy caller, one after another, that don't ask which sockets are ready.
-const MOST_UNASKED: u32 = 3;
+const MOST_UNASKED: u32 = 2;
 
 /// What the listener is called where sockets are said to be ready. A client is called by its connection, from 1.
 const LISTENER: usize = 0;
@@ -56,6 +57,7 @@ impl<R: Net> Listen for Loopback<'_, R> {
             listener,
             clients,
             may_accept: true,
+            has_moved: false,
             unasked: 0,
         })
     }
@@ -124,6 +126,8 @@ pub struct Sockets {
     listener: TcpListener,
     clients: Vec<Client>,
     may_accept: bool,
+    /// Whether bytes were read or written since the last accept.
+    has_moved: bool,
     unasked: u32,
 }
 
@@ -152,10 +156,11 @@ impl Sockets {
         Ok(())
     }
 
-    /// Asks the host which sockets are ready. For an idle caller it waits a while until one is; for a busy one it asks
-    /// only now and then.
+    /// Asks the host which sockets are ready. For an idle caller it waits a while until one is. A busy one that has just
+    /// read or written goes on with what is known, a few times at most.
     fn look(&mut self, idle: bool) {
-        if !idle && self.unasked < MOST_UNASKED {
+        let has_moved = mem::replace(&mut self.has_moved, false);
+        if !idle && has_moved && self.unasked < MOST_UNASKED {
             self.unasked += 1;
             return;
         }
@@ -205,6 +210,7 @@ impl Wire for Sockets {
         }
         let read = client.stream.read(buffer);
         client.may_read = client.has_ended || may_bring_more(&read, buffer.len());
+        self.has_moved |= read.is_ok();
         outcome_of_read(read)
     }
 
@@ -217,6 +223,7 @@ impl Wire for Sockets {
         }
         let written = client.stream.write(bytes);
         client.may_write = !would_wait(&written);
+        self.has_moved |= written.is_ok();
         outcome_of(written)
     }
 
