@@ -11,3 +11,5 @@ pub mod SamePaths
 pub mod RowLemmas
 pub mod TargetLemmas
 pub mod AlikeLemmas
+pub mod MakefileLemmas
+pub mod AskingLemmas

@@ -15,3 +15,4 @@ pub mod Spending
 pub mod NamedPaths
 pub mod Known
 pub mod Alike
+pub mod Makefiles

@@ -1,5 +1,6 @@
 -- What the types of the code are seen as.
-use Rattle.std.specs.Prelude.{ℕ, List, map, Option, Some, None, option_map, String, string_bytes}
+use Rattle.std.specs.Prelude.{ℕ, Bool, false, List, map, Option, Some, None, option_map, String, string_bytes}
+use Rattle.std.specs.List.{list_any}
 use Rattle.std.specs.Global.{Global}
 use Rattle.std.specs.BTreeMap.{get_by_text}
 use Rattle.ports_index.specs.PathOutcomes.{PathOutcome}
@@ -51,6 +52,11 @@ entries_in rows path = option_map (λ (said : Said). said.outcome) (said_in rows
 -- the names of the files that were asked for to learn that
 abbrev pub names_in : MemoryRows → List ℕ → Option (List (List ℕ))
 names_in rows path = option_map (λ (said : Said). said.names) (said_in rows path)
+
+-- whether one of these names passes a test
+abbrev pub has_asked_for : (List ℕ → Bool) → Option (List (List ℕ)) → Bool
+has_asked_for test None = false
+has_asked_for test (Some names) = list_any test names
 
 -- how many bytes all rows have that were put
 abbrev pub size_of : MemoryRows → ℕ

@@ -1,13 +1,17 @@
 //! A map of rows in memory: what paths lead to, as far as that is known.
-ghost use Rattle.std.specs.Prelude.{◌≡◌, ◌+◌, ℕ, List, Option, Some, None, option_map, if◌then◌else◌, string_bytes, OnOk, OnErr};
+ghost use Rattle.std.specs.Prelude.{◌≡◌, ◌+◌, ℕ, List, Option, Some, None, map, option_map, if◌then◌else◌, string_bytes};
+ghost use Rattle.std.specs.Prelude.{IfOk, OnOk, OnErr};
 ghost use Rattle.std.specs.Str.{bytes_eq};
 ghost use Rattle.std.specs.BTreeMap.{get_by_text};
+ghost use Rattle.std.specs.BTreeSet.{contains_text};
+ghost use Rattle.std.specs.List.{list_any};
+ghost use Rattle.ports_index.specs.Filling.{is_one_of};
 ghost use Rattle.ports_index.specs.PathOutcomes.{PathOutcome, counted};
-ghost use Rattle.ports_index.specs.Seen.{entries_in, known_seen, names_in, names_seen, row_seen, said_in, size_of};
+ghost use Rattle.ports_index.specs.Seen.{entries_in, has_asked_for, known_seen, names_in, names_seen, row_seen, said_in, size_of};
 
 use crate::evaluating::Row;
 use std::alloc::{AllocError, Global};
-use std::collections::BTreeMap;
+use std::collections::{BTreeMap, BTreeSet};
 
 /// A row that is known.
 #[derive(Debug, Drop)]
@@ -50,14 +54,22 @@ impl MemoryRows {
         }
     }
 
-    /// The names of the files that were asked for to learn what this path leads to, if it has a row.
-    pub fn names(&self, path: &str) -> Option<&[String]>
-        ensures { option_map (λ names. names_seen names.now) result ≡ names_in self.now path.now }
+    /// The paths of the rows for which a file of one of these names was asked. It fails only if memory runs out.
+    pub fn paths_asking(
+        &self,
+        alloc: Global,
+        names: &BTreeSet<String>,
+    ) -> Result<Vec<String>, AllocError>
+        ensures { IfOk result (λ paths. (path : List ℕ) → is_one_of path (map string_bytes paths.items)
+            ≡ has_asked_for (contains_text names.now) (names_in self.now path)) }
     {
-        match self.rows.get(path) {
-            Some(known) => Some(known.names.as_slice()),
-            None => None,
+        let mut paths = Vec::new(alloc);
+        for (path, known) in &self.rows {
+            if is_one_among(&known.names, names) {
+                paths.push(String::from_str(alloc, path.as_str())?)?;
+            }
         }
+        Ok(paths)
     }
 
     /// How many bytes all rows have that were put.
@@ -96,4 +108,11 @@ impl MemoryRows {
     {
         self.rows.remove(path)
     }
+}
+
+/// Whether one of these names is among the others.
+pub fn is_one_among(names: &[String], others: &BTreeSet<String>) -> bool
+    ensures { result ≡ list_any (λ name. contains_text others.now (string_bytes name)) names.now }
+{
+    names.iter().any(|name| others.contains(name.as_str()))
 }

@@ -1,5 +1,6 @@
 //! What holds of all paths. The functions do nothing else: their clauses are the laws.
 ghost use Rattle.ports_index.specs.Alike.{AlikeRowsListTheSame};
+ghost use Rattle.ports_index.specs.Makefiles.{DirectoriesAreFollowed};
 ghost use Rattle.ports_index.specs.PathLaws.{PathIsTheSameWhereAnswered, ListedPathsCostNoMore, MakefilesAreEvaluated};
 ghost use Rattle.ports_index.specs.RowLaws.{KnownRowsAreEnough, OneRowMoreLeavesLess};
 
@@ -39,4 +40,9 @@ pub fn one_row_more_leaves_less()
 /// do, the same ones are needed.
 pub fn alike_rows_list_the_same()
     ensures { AlikeRowsListTheSame }
+{}
+
+/// The directories of files are known while files change, but for those of which a changed file is a makefile.
+pub fn directories_are_followed()
+    ensures { DirectoriesAreFollowed }
 {}

@@ -51,9 +51,9 @@ pub(crate) fn add_found(paths: &mut Vec<String>, path: Option<String>) -> Result
     Ok(())
 }
 
-// The directory of which a name is the makefile, if a path can name that.
+/// The directory of which a name is the makefile, if a path can name that.
 #[tactic(auto, unfolding(crate::specs::Naming::directory_of))]
-fn directory_of(alloc: Global, name: &str) -> Result<Option<String>, AllocError>
+pub(crate) fn directory_of(alloc: Global, name: &str) -> Result<Option<String>, AllocError>
     ensures { IfOk result (λ found. option_map string_bytes found ≡ naming.directory_of name.now) }
 {
     let Some(directory) = makefile_directory(name) else {

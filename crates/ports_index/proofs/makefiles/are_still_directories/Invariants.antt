@@ -1,0 +1,15 @@
+-- The names up to here stay below the directories, and the files are as they were.
+use Rattle.std.proofs.Common.{◌≡◌, ℕ, List, None, true, false, map, string_bytes}
+use Rattle.std.specs.BTreeSet.{keys}
+use Rattle.ports_index.specs.Filling.{is_one_of}
+use Rattle.ports_index.specs.Keeping.{Keeps}
+use Rattle.ports_index.specs.Makefiles.{StaysBelow}
+use Rattle.ports_index.proofs.makefiles.are_still_directories.Given as goal
+
+abbrev pub invariant-loop-name : goal.invariant-loop-name
+invariant-loop-name g l =
+    (goal.iterator-loop-name g).can_next l.name-iterator ×
+    (goal.iterator-loop-name g).is_finite l.name-iterator ×
+    Keeps None (g.F.Names.view l.initial.files) (g.F.Names.view l.files) ×
+    ((name : List ℕ) → is_one_of name (map string_bytes (keys l.changed)) ≡ true → is_one_of name (map string_bytes l.name-iterator) ≡ false
+    → StaysBelow (g.F.Names.view l.initial.files).files (map string_bytes l.directories) name)
