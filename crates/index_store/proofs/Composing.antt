@@ -1,5 +1,5 @@
 -- One statement after another, in a transaction.
-use Rattle.std.proofs.Common.{◌≡◌, ◌∙◌, ap, sym, refl, ℕ, true, false, List, [], ◌∷◌, ◌++◌, find, Option, is_some}
+use Rattle.std.proofs.Common.{◌≡◌, ◌∙◌, ap, sym, refl, ℕ, true, false, List, [], ◌∷◌, ◌++◌, find, Option, is_some, None}
 use Rattle.std.specs.Prelude.{if◌then◌else◌}
 use Rattle.sqlite.specs.State.{State}
 use Rattle.index_store.specs.declared.port_table.Part.{Part}
@@ -25,6 +25,10 @@ module _ (path : List ℕ) (profile : Option ℕ) (text : List ℕ) (was : Rows)
   pub was_replaced : is_some (find (is_at path) (was Current)) ≡ true → HoldsInside s (with_rows Current (replaced_at path profile text (was Current)) was) → HoldsInside s (with_rows Current (with_row path profile text (was Current)) was)
   was_replaced there h =
       holds_as s _ _ (λ part. ap (λ b. with_rows Current (if b then replaced_at path profile text (was Current) else was Current ++ fresh_entry path profile text ∷ []) was part) (sym there)) h
+
+  pub was_new : find (is_at path) (was Current) ≡ None → HoldsInside s (with_rows Current (was Current ++ fresh_entry path profile text ∷ []) was) → HoldsInside s (with_rows Current (with_row path profile text (was Current)) was)
+  was_new none h =
+      holds_as s _ _ (λ part. ap (λ b. with_rows Current (if b then replaced_at path profile text (was Current) else was Current ++ fresh_entry path profile text ∷ []) was part) (sym (ap is_some none))) h
 
   -- where there is none to replace, nothing was
   pub same_rows : (mid : Rows) → is_some (find (is_at path) (was Current)) ≡ false → ((part : Part) → mid part ≡ with_rows Current (replaced_at path profile text (was Current)) was part) → mid Current ≡ was Current

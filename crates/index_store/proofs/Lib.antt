@@ -5,3 +5,4 @@ pub mod Settling
 pub mod Composing
 pub mod Answering
 pub mod Keeping
+pub mod NotedLemmas

@@ -10,10 +10,10 @@ use Rattle.mk_text.specs.declared.profile.Profile.{Profile}
 use Rattle.mk_text.specs.Profiles.{profile_number, numbered_profile, profile-numbered}
 use Rattle.index_store.specs.declared.port_table.Part.TheVariants.{Earlier, Current}
 use Rattle.index_store.specs.declared.writing.Change.{Change}
-use Rattle.index_store.specs.declared.writing.Change.TheVariants.{Put, PutEarlier, Mark, MarkAll, TakeOut}
+use Rattle.index_store.specs.declared.writing.Change.TheVariants.{Add, Put, PutEarlier, Mark, MarkAll, TakeOut}
 use Rattle.index_store.specs.Entries.{Entries, Profiles, is_one_of, fresh, marked, PutsRow, Marks, MarksAll, TakesOut, PutsProfile, SameProfiles, TakesProfilesOut}
 use Rattle.index_store.specs.PortTable.{Entry, Rows, AreSettled, is_at, is_staying, value_of, stored_by, profile_of, profiles_by, all_of, with_mark, fresh_entry, marked_at, marked_among, staying_of, stale_mark, leaving_mark, without, with_row}
-use Rattle.index_store.specs.Marking.{rows_after}
+use Rattle.index_store.specs.Marking.{put_rows, rows_after}
 use Rattle.index_store.proofs.Changing.{each_part}
 use Rattle.index_store.proofs.Finding.{found_marked, found_marked_each, found_left, found_without, found_with_row, found_last, staying_pushed, staying_with_row, staying_marked, staying_marked_among, staying_left, put_found, put_earlier_found, marked_found, marked_each_found, left_found}
 
@@ -37,16 +37,20 @@ none_left : (b : Bool) (o : Option Entry) → o ≡ None → cond b None o ≡ N
 none_left true o none = refl
 none_left false o none = none
 
-pub after_settled : (change : Change) (rows : Rows) → AreSettled rows → AreSettled (rows_after change rows)
-after_settled (Put path profile text) rows settled = record {
-  staying = each_part (λ part. list_all is_staying (rows_after (Put path profile text) rows part) ≡ true) (staying_left (marked_at leaving_mark path.now (rows Earlier))) (staying_with_row path.now (Some (profile_number profile)) text.now (rows Current) (settled.staying Current));
-  apart = λ q there. elim (cases_Bool (bytes_eq path.now q)) [
-    | inl own ↦ absurd (true≢false (sym there ∙ ap is_some (found_without path.now q (rows Earlier) (settled.staying Earlier) ∙ ap (λ b. cond b None (find (is_at q) (rows Earlier))) own)))
+put_settled : (path : List ℕ) (profile : Profile) (text : List ℕ) (rows : Rows) → AreSettled rows → AreSettled (put_rows path profile text rows)
+put_settled path profile text rows settled = record {
+  staying = each_part (λ part. list_all is_staying (put_rows path profile text rows part) ≡ true) (staying_left (marked_at leaving_mark path (rows Earlier))) (staying_with_row path (Some (profile_number profile)) text (rows Current) (settled.staying Current));
+  apart = λ q there. elim (cases_Bool (bytes_eq path q)) [
+    | inl own ↦ absurd (true≢false (sym there ∙ ap is_some (found_without path q (rows Earlier) (settled.staying Earlier) ∙ ap (λ b. cond b None (find (is_at q) (rows Earlier))) own)))
     | inr other ↦
-        found_with_row path.now (Some (profile_number profile)) text.now q (rows Current) ∙ ap (λ b. cond b (Some (fresh_entry path.now (Some (profile_number profile)) text.now)) (find (is_at q) (rows Current))) other
-        ∙ settled.apart q (some_left (bytes_eq path.now q) (find (is_at q) (rows Earlier)) (sym (ap is_some (found_without path.now q (rows Earlier) (settled.staying Earlier))) ∙ there))
+        found_with_row path (Some (profile_number profile)) text q (rows Current) ∙ ap (λ b. cond b (Some (fresh_entry path (Some (profile_number profile)) text)) (find (is_at q) (rows Current))) other
+        ∙ settled.apart q (some_left (bytes_eq path q) (find (is_at q) (rows Earlier)) (sym (ap is_some (found_without path q (rows Earlier) (settled.staying Earlier))) ∙ there))
   ];
 }
+
+pub after_settled : (change : Change) (rows : Rows) → AreSettled rows → AreSettled (rows_after change rows)
+after_settled (Put path profile text) rows settled = put_settled path.now profile text.now rows settled
+after_settled (Add path profile text) rows settled = put_settled path.now profile text.now rows settled
 after_settled (PutEarlier path text) rows settled = record {
   staying = each_part (λ part. list_all is_staying (rows_after (PutEarlier path text) rows part) ≡ true) (staying_pushed path.now None text.now (without path.now (rows Earlier)) (staying_left (marked_at leaving_mark path.now (rows Earlier)))) (staying_left (marked_at leaving_mark path.now (rows Current)));
   apart = λ q there. found_without path.now q (rows Current) (settled.staying Current) ∙ elim (cases_Bool (bytes_eq path.now q)) [

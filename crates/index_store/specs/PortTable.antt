@@ -1,6 +1,8 @@
 -- The two tables of the rows, and what their rows mean.
 use Rattle.std.specs.Prelude.{◌≡◌, ℕ, ℤ, pos, ◌==◌, not, if◌then◌else◌, Bool, true, false, codes}
-use Rattle.std.specs.Prelude.{List, [], ◌∷◌, ◌++◌, map, filter, find, Option, None, Some, is_some, option_map, unwrap_or, refl}
+use Rattle.std.specs.Prelude.{List, [], ◌∷◌, ◌++◌, map, filter, find, Option, None, Some, String, is_some, option_map, unwrap_or, refl}
+use Rattle.std.specs.BTreeSet.{BTreeSet, contains_text}
+use Rattle.std.specs.Global.{Global}
 use Rattle.std.specs.List.{list_all}
 use Rattle.std.specs.Str.{bytes_eq}
 use Rattle.std.specs.Ordering.{int_eq}
@@ -175,6 +177,10 @@ stored_by entries path = option_map value_of (find (is_at path) entries)
 -- what a connection's database stores for each path
 abbrev pub stored_in : Held MemStore → Entries
 stored_in connection = stored_by (entries_of connection)
+
+-- each path that has a row is one of these
+abbrev pub AreNoted : BTreeSet (String Global) → Entries → Type 0
+AreNoted paths entries = (path : List ℕ) → is_some (entries path) ≡ true → contains_text paths path ≡ true
 
 -- the profile with which a row was written
 abbrev pub profile_of : Option Entry → Option Profile

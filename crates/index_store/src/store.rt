@@ -1,6 +1,8 @@
 // The rows of one tenant's index, as its callers see them.
-ghost use Rattle.std.specs.Prelude.{IfOk, OnOk, OnErr, None};
-ghost use Rattle.index_store.specs.Entries.{HasNoRow, PutsRow, PutsProfile, SameRows, SameProfiles};
+ghost use Rattle.std.specs.Prelude.{◌≡◌, ◌||◌, if◌then◌else◌, not, false, ℕ, List, map, string_bytes, IfOk, OnOk, OnErr, None};
+ghost use Rattle.std.specs.BTreeSet.{contains_text};
+ghost use Rattle.std.specs.Str.{bytes_eq};
+ghost use Rattle.index_store.specs.Entries.{HasNoRow, PutsRow, PutsProfile, SameRows, SameProfiles, is_one_of};
 ghost use Rattle.index_store.specs.PortTable.{stored_by, profiles_by};
 
 use crate::path_rows::{PathRows, StoredRow};
@@ -9,7 +11,8 @@ use crate::writing::{mark_paths, mark_rows, open, put_earlier_row, put_row, take
 use mk_paths::FilesFault;
 use mk_text::Profile;
 use sqlite::{Connection, MemStore};
-use std::alloc::Global;
+use std::alloc::{AllocError, Global};
+use std::collections::BTreeSet;
 use std::marker::Model;
 use table_facts::Sqlite;
 
@@ -20,13 +23,16 @@ pub struct IndexStore {
     conn: Connection<MemStore>,
     // Whether the table of the release before may have a row.
     has_earlier: bool,
+    alloc: Global,
+    // Paths, among which each is that has a row.
+    paths: BTreeSet<String>,
 }
 
 impl Model for IndexStore {
     ghost use Rattle.std.specs.Prelude.{List};
     ghost use Rattle.sqlite.specs.Held.{state};
     ghost use Rattle.sqlite.specs.Steps.{over_memory};
-    ghost use Rattle.index_store.specs.PortTable.{Entry, entries_code, entries_of, IsKeptWith};
+    ghost use Rattle.index_store.specs.PortTable.{AreNoted, Entry, entries_code, entries_of, stored_in, IsKeptWith};
 
     ghost Value = { List Entry };
 
@@ -34,7 +40,8 @@ impl Model for IndexStore {
 
     ghost view = { λ store. entries_of store.conn };
 
-    ghost invariant = { λ store. IsKeptWith store.has_earlier (state over_memory store.conn) };
+    ghost invariant = { λ store. IsKeptWith store.has_earlier (state over_memory store.conn)
+        × AreNoted store.paths (stored_in store.conn) };
 }
 
 impl IndexStore {
@@ -48,6 +55,8 @@ impl IndexStore {
             Ok(conn) => Ok(IndexStore {
                 conn,
                 has_earlier: false,
+                alloc,
+                paths: BTreeSet::new(alloc),
             }),
             Err(error) => Err(FilesFault::of_statement::<Sqlite>(&error)),
         }
@@ -68,6 +77,7 @@ impl IndexStore {
         ensures err_profiles { OnErr result
             (SameProfiles (profiles_by self.old) (profiles_by self.new)) }
     {
+        let _is_new = note(self.alloc, &mut self.paths, path)?;
         self.has_earlier = true;
         match put_earlier_row(&mut self.conn, path, text) {
             Ok(()) => Ok(()),
@@ -96,7 +106,15 @@ impl PathRows for IndexStore {
     }
 
     fn put(&mut self, path: &str, profile: Profile, text: &[u8]) -> Result<(), FilesFault> {
-        match put_row(&mut self.conn, self.has_earlier, path, profile, text) {
+        let is_new = note(self.alloc, &mut self.paths, path)?;
+        match put_row(
+            &mut self.conn,
+            self.has_earlier,
+            is_new,
+            path,
+            profile,
+            text,
+        ) {
             Ok(()) => Ok(()),
             Err(error) => Err(FilesFault::of_statement::<Sqlite>(&error)),
         }
@@ -117,13 +135,41 @@ impl PathRows for IndexStore {
     }
 
     fn take_out(&mut self, paths: &[String]) -> Result<(), FilesFault> {
-        match take_paths(&mut self.conn, self.has_earlier, paths) {
-            Ok(()) => Ok(()),
-            Err(error) => Err(FilesFault::of_statement::<Sqlite>(&error)),
+        if let Err(error) = take_paths(&mut self.conn, self.has_earlier, paths) {
+            return Err(FilesFault::of_statement::<Sqlite>(&error));
         }
+        forget(&mut self.paths, paths);
+        Ok(())
     }
 
     fn limit_steps(&mut self, limit: Option<u64>) {
         self.conn.set_step_limit(limit);
+    }
+}
+
+// Notes that a path may have a row, and says whether it was noted for the first time. If memory runs out, nothing
+// changes.
+fn note(alloc: Global, paths: &mut BTreeSet<String>, path: &str) -> Result<bool, AllocError>
+    ensures is_new { IfOk result (λ is_new. is_new ≡ not (contains_text paths.old path.now)) }
+    ensures noted { OnOk result ((other : List ℕ) → contains_text paths.new other
+        ≡ (bytes_eq path.now other || contains_text paths.old other)) }
+    ensures err { OnErr result (paths.new ≡ paths.old) }
+{
+    if paths.contains(path) {
+        return Ok(false);
+    }
+    match paths.insert(String::from_str(alloc, path)?) {
+        Ok(_is_new) => Ok(true),
+        Err(failed) => Err(failed.into()),
+    }
+}
+
+// Takes these paths out of those that are noted.
+fn forget(noted: &mut BTreeSet<String>, paths: &[String])
+    ensures { (other : List ℕ) → contains_text noted.new other
+        ≡ (if is_one_of other (map string_bytes paths.now) then false else contains_text noted.old other) }
+{
+    for path in paths {
+        let _was_there = noted.remove(path.as_str());
     }
 }

@@ -1,6 +1,6 @@
 // The calls that write, each in one transaction. With `has_earlier` the table of the release before may have a
 // row; without it that table has none, and no statement runs on it.
-ghost use Rattle.std.specs.Prelude.{map, string_bytes, OnOk, OnErr, IfOk, None, Some, true};
+ghost use Rattle.std.specs.Prelude.{◌≡◌, find, map, string_bytes, OnOk, OnErr, IfOk, None, Some, true};
 ghost use Rattle.mk_text.specs.Profiles.{profile_number};
 ghost use Rattle.table_facts.specs.States.{IsOpen, KeepsCommit, Stays, state_of};
 ghost use Rattle.index_store.specs.Entries.{PutsRow, SameRows, Marks, MarksAll, TakesOut};
@@ -8,7 +8,8 @@ ghost use Rattle.index_store.specs.Entries.{PutsProfile, SameProfiles, TakesProf
 ghost use Rattle.index_store.specs.PortTable.{IsKept, IsKeptWith, AllowsFor, IsFormed, Holds, HoldsInside};
 ghost use Rattle.index_store.specs.PortTable.{rows_of, stored_in, profiles_in, no_rows};
 ghost use Rattle.index_store.specs.PortTable.{marked_at, marked_among, staying_of, without, with_row, with_rows};
-ghost use Rattle.index_store.specs.Marking.{mark_number, rows_after};
+ghost use Rattle.index_store.specs.PortTable.{is_at};
+ghost use Rattle.index_store.specs.Marking.{IsFree, mark_number, rows_after};
 
 use crate::port_table::{
     Mark, Part, create_current, create_earlier, delete_leaving, insert_current, insert_earlier,
@@ -23,6 +24,8 @@ use std::alloc::Global;
 pub(crate) enum Change<'a> {
     /// A path has this row, which isn't stale, and which is written with this profile.
     Put(&'a str, Profile, &'a [u8]),
+    /// The same of a path that has no row before.
+    Add(&'a str, Profile, &'a [u8]),
     /// A path has this row, which isn't stale, as the release before wrote it.
     PutEarlier(&'a str, &'a [u8]),
     /// The rows of these paths are stale.
@@ -90,14 +93,16 @@ fn take_earlier(tx: &mut Transaction<'_, MemStore>, path: &str) -> Result<(), Er
     delete_leaving(tx, Part::Earlier)
 }
 
-// Gives a path this row in the table of today, in place of the one there or as the last.
+// Gives a path this row in the table of today, in place of the one there or as the last. A path that is new has none.
 fn put_current<'x>(
     tx: &mut Transaction<'_, MemStore>,
+    is_new: bool,
     path: &'x str,
     profile: Profile,
     text: &'x [u8],
 ) -> Result<(), Error>
-    requires { IsOpen IsFormed (state_of tx.old.conn.now) }
+    requires open { IsOpen IsFormed (state_of tx.old.conn.now) }
+    requires free { is_new ≡ true → find (is_at path.now) (rows_of tx.old.conn.now Part.Current) ≡ None }
     ensures kept { KeepsCommit tx.old.conn tx.new.conn }
     ensures made { OnOk result (HoldsInside (state_of tx.new.conn.now)
         (with_rows Part.Current
@@ -105,27 +110,33 @@ fn put_current<'x>(
         (rows_of tx.old.conn.now Part.Current))
         (rows_of tx.old.conn.now))) }
 {
+    if is_new {
+        return insert_current(tx, path, profile, text);
+    }
     if replace_current(tx, path, profile, text)? {
         return Ok(());
     }
     insert_current(tx, path, profile, text)
 }
 
-// Gives a path this row in the table of today, and takes out the one that the release before wrote.
+// Gives a path this row in the table of today, and takes out the one that the release before wrote. A path that is new
+// has none in the table of today.
 fn put<'x>(
     tx: &mut Transaction<'_, MemStore>,
     has_earlier: bool,
+    is_new: bool,
     path: &'x str,
     profile: Profile,
     text: &'x [u8],
 ) -> Result<(), Error>
     requires open { IsOpen IsFormed (state_of tx.old.conn.now) }
     requires earlier { AllowsFor has_earlier (rows_of tx.old.conn.now) }
+    requires free { is_new ≡ true → find (is_at path.now) (rows_of tx.old.conn.now Part.Current) ≡ None }
     ensures kept { KeepsCommit tx.old.conn tx.new.conn }
     ensures made { OnOk result (HoldsInside (state_of tx.new.conn.now)
         (rows_after (Change.Put path.entry profile text.entry) (rows_of tx.old.conn.now))) }
 {
-    put_current(tx, path, profile, text)?;
+    put_current(tx, is_new, path, profile, text)?;
     if !has_earlier {
         return Ok(());
     }
@@ -209,12 +220,14 @@ fn make(
 ) -> Result<(), Error>
     requires open { IsOpen IsFormed (state_of tx.old.conn.now) }
     requires earlier { AllowsFor has_earlier (rows_of tx.old.conn.now) }
+    requires free { IsFree change (rows_of tx.old.conn.now) }
     ensures kept { KeepsCommit tx.old.conn tx.new.conn }
     ensures made { OnOk result (HoldsInside (state_of tx.new.conn.now)
         (rows_after change.entry (rows_of tx.old.conn.now))) }
 {
     match change {
-        Change::Put(path, profile, text) => put(tx, has_earlier, path, profile, text),
+        Change::Put(path, profile, text) => put(tx, has_earlier, false, path, profile, text),
+        Change::Add(path, profile, text) => put(tx, has_earlier, true, path, profile, text),
         Change::PutEarlier(path, text) => put_earlier(tx, has_earlier, path, text),
         Change::Mark(paths) => set_marks(tx, has_earlier, paths, Mark::Stale),
         Change::MarkAll => mark_tables(tx, has_earlier),
@@ -228,7 +241,8 @@ fn write(
     has_earlier: bool,
     change: Change<'_>,
 ) -> Result<(), Error>
-    requires { IsKeptWith has_earlier (state_of conn.old) }
+    requires kept { IsKeptWith has_earlier (state_of conn.old) }
+    requires free { IsFree change (rows_of conn.old) }
     ensures ok { OnOk result (Holds (state_of conn.new) (rows_after change.entry (rows_of conn.old))) }
     ensures err { OnErr result (Stays (state_of conn.old) (state_of conn.new)) }
 {
@@ -237,15 +251,17 @@ fn write(
     tx.commit()
 }
 
-/// Gives a path this row, which isn't stale, whether or not it had one.
+/// Gives a path this row, which isn't stale, whether or not it had one. A path that is new had none.
 pub(crate) fn put_row<'x>(
     conn: &mut Connection<MemStore>,
     has_earlier: bool,
+    is_new: bool,
     path: &'x str,
     profile: Profile,
     text: &'x [u8],
 ) -> Result<(), Error>
-    requires { IsKeptWith has_earlier (state_of conn.old) }
+    requires kept { IsKeptWith has_earlier (state_of conn.old) }
+    requires free { is_new ≡ true → stored_in conn.old path.now ≡ None }
     ensures kept { IsKeptWith has_earlier (state_of conn.new) }
     ensures ok { OnOk result (PutsRow path.now text.now (stored_in conn.old) (stored_in conn.new)) }
     ensures profile { OnOk result (PutsProfile path.now (Some profile)
@@ -253,7 +269,12 @@ pub(crate) fn put_row<'x>(
     ensures err { OnErr result (SameRows (stored_in conn.old) (stored_in conn.new)) }
     ensures err_profiles { OnErr result (SameProfiles (profiles_in conn.old) (profiles_in conn.new)) }
 {
-    write(conn, has_earlier, Change::Put(path, profile, text))
+    let change = if is_new {
+        Change::Add(path, profile, text)
+    } else {
+        Change::Put(path, profile, text)
+    };
+    write(conn, has_earlier, change)
 }
 
 /// Gives a path this row, which isn't stale, as the release before wrote it.

@@ -1,7 +1,12 @@
 -- What the call makes of the rows, or nothing has changed.
-use Rattle.std.proofs.Common.{subst}
+use Rattle.std.proofs.Common.{◌≡◌, ◌∙◌, subst, sym, refl, not, Bool, true, false}
+use Rattle.std.proofs.lemmas.Bool.{false≢true}
+use Rattle.std.specs.BTreeSet.{contains_text}
 use Rattle.index_store.specs.Entries.{SameProfiles, SameRows}
-use Rattle.index_store.specs.PortTable.{entries_of, profiles_by, stored_by}
+use Rattle.index_store.specs.PortTable.{AreNoted, entries_of, profiles_by, stored_by, stored_in}
+use Rattle.table_facts.proofs.Ending.{err_then, ok_then}
+use Rattle.index_store.proofs.Keeping.{at_end}
+use Rattle.index_store.proofs.NotedLemmas.{not-noted, noted-more, noted-put, noted-same}
 use Rattle.index_store.proofs.store.IndexStorePathRows.put.Goals as goal
 use Rattle.index_store.proofs.store.IndexStorePathRows.put.Goals.{in-Ok, in-Err}
 
@@ -12,3 +17,23 @@ returns-clause-err c =
 pub returns-clause-err_profiles : goal.returns-clause-err_profiles
 returns-clause-err_profiles c =
     elim c.match-put_row.branch [ in-Ok w ↦ rw w.result-is tt | in-Err w ↦ rw w.result-is (subst (λ es. SameProfiles (profiles_by es) (profiles_by (entries_of c.put_row.new.conn))) c.self.view_is w.in-Err.ensures.err_profiles) ]
+
+pub put_row-requires-clause-free : goal.put_row-requires-clause-free
+put_row-requires-clause-free c is =
+    not-noted c.self.inside.paths (stored_in c.self.inside.conn) c.self.invariant.1 c.args.path.now (is_noted (contains_text c.self.inside.paths c.args.path.now) (sym c.in_ok-is_new.ensures.is_new ∙ is))
+  where
+    is_noted : (b : Bool) → not b ≡ true → b ≡ false
+    is_noted true e = absurd (false≢true e)
+    is_noted false e = refl
+
+pub invariant_of-self-2 : goal.invariant_of-self-2
+invariant_of-self-2 c =
+    let old = stored_in c.self.inside.conn in
+    let new = stored_in c.put_row.new.conn in
+    let more = c.note.new.paths in
+    let noted = c.in_ok-is_new.ensures.noted in (
+      c.put_row.ensures.kept,
+      at_end (AreNoted more new) c.put_row.result
+          (ok_then c.put_row.result (noted-put c.self.inside.paths old new c.self.invariant.1 more c.args.path.now noted c.args.text.now) c.put_row.ensures.ok)
+          (err_then c.put_row.result (noted-same more old new (noted-more c.self.inside.paths old new c.self.invariant.1 more c.args.path.now noted)) c.put_row.ensures.err),
+    )

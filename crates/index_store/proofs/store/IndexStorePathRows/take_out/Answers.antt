@@ -1,14 +1,11 @@
--- What the call makes of the rows, or nothing has changed.
-use Rattle.std.proofs.Common.{subst}
-use Rattle.index_store.specs.Entries.{SameProfiles, SameRows}
-use Rattle.index_store.specs.PortTable.{entries_of, profiles_by, stored_by}
+-- The paths whose rows are taken out are no longer noted, or nothing has changed.
+use Rattle.std.proofs.Common.{map, string_bytes}
+use Rattle.index_store.specs.PortTable.{stored_in}
+use Rattle.index_store.proofs.NotedLemmas.{noted-taken}
 use Rattle.index_store.proofs.store.IndexStorePathRows.take_out.Goals as goal
-use Rattle.index_store.proofs.store.IndexStorePathRows.take_out.Goals.{in-Ok, in-Err}
 
-pub returns-clause-err : goal.returns-clause-err
-returns-clause-err c =
-    elim c.match-take_paths.branch [ in-Ok w ↦ rw w.result-is tt | in-Err w ↦ rw w.result-is (subst (λ es. SameRows (stored_by es) (stored_by (entries_of c.take_paths.new.conn))) c.self.view_is w.in-Err.ensures.err) ]
-
-pub returns-clause-err_profiles : goal.returns-clause-err_profiles
-returns-clause-err_profiles c =
-    elim c.match-take_paths.branch [ in-Ok w ↦ rw w.result-is tt | in-Err w ↦ rw w.result-is (subst (λ es. SameProfiles (profiles_by es) (profiles_by (entries_of c.take_paths.new.conn))) c.self.view_is w.in-Err.ensures.err_profiles) ]
+pub invariant_of-self-2 : goal.invariant_of-self-2
+invariant_of-self-2 c = (
+  c.take_paths.ensures.kept,
+  noted-taken c.self.inside.paths (stored_in c.self.inside.conn) (stored_in c.take_paths.new.conn) c.self.invariant.1 c.forget.new.noted (map string_bytes c.args.paths.now) c.forget.ensures c.in_default.ensures.ok,
+)
