@@ -1,5 +1,5 @@
 -- What a change of a file, and what is known of changes, makes of rows; and what is left of a refresh.
-use Rattle.std.proofs.Common.{◌≡◌, ◌⊎◌, inl, inr, ◌∙◌, sym, ap, subst, refl, ℕ, ◌+◌, Bool, true, false, ◌||◌, if◌then◌else◌, List, [], ◌∷◌, Result, Ok, Err, OnOk, OnErr, Option, Some, None, IfSome, is_some, is_none, option_map, option_and_then, String, Global, string_bytes}
+use Rattle.std.proofs.Common.{◌≡◌, ◌⊎◌, inl, inr, ◌∙◌, sym, ap, subst, refl, ℕ, ◌+◌, Bool, true, false, ◌||◌, if◌then◌else◌, List, [], ◌∷◌, map, Result, Ok, Err, OnOk, OnErr, Option, Some, None, IfSome, is_some, is_none, option_map, option_and_then, String, Global, string_bytes}
 use Rattle.std.proofs.lemmas.Bool.{false≢true, or_right}
 use Rattle.std.proofs.lemmas.Slice.Eq.{bytes_eq-Decides}
 use Rattle.std.specs.BTreeSet.{BTreeSet, contains_text, keys}
@@ -17,6 +17,7 @@ use Rattle.ports_index.specs.declared.spending.Spent.{Spent}
 use Rattle.ports_index.specs.Filling.{is_one_of, Fills}
 use Rattle.ports_index.specs.Index.{needed_among, needed_paths}
 use Rattle.ports_index.specs.Known.{IsIndexOf}
+use Rattle.ports_index.specs.Makefiles.{DirectoriesAreFollowed, WereDirectories}
 use Rattle.ports_index.specs.declared.known_index.KnownIndex.{KnownIndex}
 use Rattle.ports_index.specs.PathLaws.{PathIsTheSameWhereAnswered}
 use Rattle.ports_index.specs.PathOutcomes.{PathOutcome, Finding, finding_at, outcome_at}
@@ -29,7 +30,7 @@ use Rattle.index_store.specs.Entries.{StoredValue, Entries}
 use Rattle.index_keep.specs.declared.keeper.Progress.{Progress}
 use Rattle.index_keep.specs.declared.keeper.Progress.TheVariants.{Changed, Walking, Asking, Current, AtHand}
 use Rattle.index_keep.specs.Shown.{ShownRow, ShownRows, shown, show_row, show_stored, asked_one, no_name, fresh, fresh_outcome, said_in_row, stale_if_asked, ShowsSame}
-use Rattle.index_keep.specs.Last.{IsLast, SaysAll}
+use Rattle.index_keep.specs.Last.{IsLast, IsLastOf, SaysAll}
 use Rattle.index_keep.specs.Right.{names_in, row_with, IsRightRow, AreKept, AreCurrent, HaveFresh, DifferAt, RenewsOneOf, fresh_row}
 use Rattle.ports_index.specs.Spending.{no_spending}
 use Rattle.index_keep.specs.Turns.{DropsTurn, refresh_at}
@@ -139,7 +140,7 @@ shown-halted entries (Current paths) new is path = ap (λ (p : Progress). shown 
 shown-halted entries (AtHand index) new is path = ap (λ (p : Progress). shown (changed_in p) entries path) is
 
 pub IsProgress-forgotten : (world : World) (rows : ShownRows) (progress : Progress) → HasForgotten progress → IsProgress world rows progress
-IsProgress-forgotten world rows (Changed names last) none = subst (λ (l : Option KnownIndex). IfSome l (IsLast (contains_text names) rows)) (sym none.1) tt
+IsProgress-forgotten world rows (Changed names last) none = subst (λ (l : Option KnownIndex). IfSome l (IsLastOf (contains_text names) (files_in world) rows)) (sym none.1) tt
 IsProgress-forgotten world rows (Walking walk) none = absurd none
 IsProgress-forgotten world rows (Asking walk ask) none = absurd none
 IsProgress-forgotten world rows (Current paths) none = absurd none
@@ -262,21 +263,29 @@ module _ (enough : KnownRowsAreEnough) (world : World) (rows : ShownRows) (index
     stale = λ path row there. fresh_if path (is_one_of path (needed_paths world)) row (sym (current.each path) ∙ there);
   }
 
-module _ (enough : KnownRowsAreEnough) (name : List ℕ) (world other : World) (rows noted : ShownRows) (notes : (path : List ℕ) → noted path ≡ option_map (stale_if_asked name) (rows path)) where
+module _ (enough : KnownRowsAreEnough) (followed : DirectoriesAreFollowed) (name : List ℕ) (world other : World) (differ : DifferAt name world other)
+    (rows noted : ShownRows) (notes : (path : List ℕ) → noted path ≡ option_map (stale_if_asked name) (rows path)) where
   last_of : (old : Progress) → IsProgress world rows old → (more : List ℕ → Bool) → ((file : List ℕ) → more file ≡ (bytes_eq name file || changed_in old file))
-      → IfSome (last_in old) (IsLast more noted)
-  last_of (Changed names (Some index)) is more adds = IsLast-noted name (contains_text names) more adds rows noted index notes is
+      → IfSome (last_in old) (IsLastOf more (files_in other) noted)
+  last_of (Changed names (Some index)) is more adds = record {
+    last = IsLast-noted name (contains_text names) more adds rows noted index notes is.last;
+    directories = followed.more name (contains_text names) more (files_in world) (files_in other) (map string_bytes index.paths.directories.items) adds differ.files is.directories;
+  }
   last_of (Changed names None) is more adds = tt
   last_of (Walking walk) is more adds = tt
   last_of (Asking walk ask) is more adds = tt
   last_of (Current paths) is more adds = tt
-  last_of (AtHand index) is more adds = IsLast-noted name no_name more adds rows noted index notes (IsLast-current enough world rows index is.0 is.1 is.2)
+  last_of (AtHand index) is more adds = record {
+    last = IsLast-noted name no_name more adds rows noted index notes (IsLast-current enough world rows index is.0 is.1 is.2);
+    directories = followed.more name no_name more (files_in world) (files_in other) (map string_bytes index.paths.directories.items) adds differ.files
+        (subst (WereDirectories no_name (files_in world)) (sym is.1.paths.directories) (followed.none (files_in world)));
+  }
 
   -- the file of a name has changed, or is about to
   pub IsProgress-noted : (old new : Progress) → IsProgress world rows old → DropsTo old new → ((file : List ℕ) → changed_in new file ≡ (bytes_eq name file || changed_in old file))
       → IsProgress other noted new
   IsProgress-noted old (Changed names last) is drops adds =
-      subst (λ (l : Option KnownIndex). IfSome l (IsLast (contains_text names) noted)) (sym drops) (last_of old is (contains_text names) adds)
+      subst (λ (l : Option KnownIndex). IfSome l (IsLastOf (contains_text names) (files_in other) noted)) (sym drops) (last_of old is (contains_text names) adds)
   IsProgress-noted old (Walking walk) is drops adds = absurd drops
   IsProgress-noted old (Asking walk ask) is drops adds = absurd drops
   IsProgress-noted old (Current paths) is drops adds = absurd drops

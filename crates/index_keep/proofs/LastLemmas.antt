@@ -1,5 +1,5 @@
 -- The index of before names changed, and the rows that are left of it.
-use Rattle.std.proofs.Common.{◌≡◌, ◌∙◌, ap, subst, sym, refl, ℕ, Bool, true, false, ◌&&◌, ◌||◌, if◌then◌else◌, List, map, Option, Some, None, is_some, option_map, option_and_then, string_bytes}
+use Rattle.std.proofs.Common.{◌≡◌, ◌∙◌, ap, subst, sym, refl, ℕ, Bool, true, false, ◌||◌, if◌then◌else◌, List, map, Option, Some, None, is_some, option_map, option_and_then, string_bytes}
 use Rattle.std.proofs.lemmas.Bool.{false≢true}
 use Rattle.std.proofs.lemmas.Slice.Eq.{bytes_eq-Decides}
 use Rattle.std.specs.Option.{option_or}
@@ -11,7 +11,7 @@ use Rattle.ports_index.specs.Filling.{is_one_of}
 use Rattle.ports_index.specs.Known.{FollowFrom}
 use Rattle.ports_index.specs.Naming.{named_in}
 use Rattle.ports_index.specs.PathOutcomes.{PathOutcome}
-use Rattle.ports_index.specs.Seen.{Said, entries_in, known_in, known_row, names_in, said_in}
+use Rattle.ports_index.specs.Seen.{Said, entries_in, has_asked_for, known_in, known_row, names_in, said_in}
 use Rattle.ports_index.specs.declared.keeping.MemoryRows.{MemoryRows}
 use Rattle.ports_index.specs.declared.known_index.KnownIndex.{KnownIndex}
 use Rattle.row_text.specs.Rows.{RowValue, row_of}
@@ -20,26 +20,21 @@ use Rattle.index_keep.specs.Last.{IsLast, NamesAsBefore, Recalls, led_to, needed
 use Rattle.index_keep.specs.declared.last_index.LastIndex.{LastIndex}
 use Rattle.index_keep.specs.Walking.{HasRowMore}
 use Rattle.index_keep.proofs.ShownLemmas.{entries-fresh}
-use Rattle.index_keep.specs.Shown.{ShownRow, ShownRows, shown, show_row, show_stored, asked_one, fresh_said, has_asked_for, said_if_fresh, said_in_row}
+use Rattle.index_keep.specs.Shown.{ShownRow, ShownRows, shown, show_row, show_stored, asked_one, fresh_said, said_if_fresh, said_in_row}
 
 module _ (test : List ℕ → Bool) (rows : ShownRows) (index : KnownIndex) (last : IsLast test rows index) where
-  abbrev pub needed : List (List ℕ)
-  needed = needed_in index.paths
-
   -- whether a path's row asked for a name that has changed
   abbrev pub asked : List ℕ → Bool
-  asked path = is_one_of path needed && has_asked_for test (names_in index.rows path)
+  asked path = has_asked_for test (names_in index.rows path)
 
   names_at : (path : List ℕ) (row : Option ShownRow) → rows path ≡ row → names_in index.rows path ≡ option_map (λ (said : Said). said.names) (option_map said_in_row row)
   names_at path row is = ap (option_map (λ (said : Said). said.names)) (last.says path ∙ ap (option_map said_in_row) is)
 
   pub asked-there : (path : List ℕ) (row : ShownRow) → rows path ≡ Some row → asked path ≡ asked_one test row.row
-  asked-there path row is =
-      ap (λ b. b && has_asked_for test (names_in index.rows path)) (sym (last.paths path) ∙ ap is_some is)
-      ∙ ap (has_asked_for test) (names_at path (Some row) is)
+  asked-there path row is = ap (has_asked_for test) (names_at path (Some row) is)
 
   asked_not_there : (path : List ℕ) → rows path ≡ None → asked path ≡ false
-  asked_not_there path is = ap (λ b. b && has_asked_for test (names_in index.rows path)) (sym (last.paths path) ∙ ap is_some is)
+  asked_not_there path is = ap (has_asked_for test) (names_at path None is)
 
   left_at : (path : List ℕ) (row : Option ShownRow) → rows path ≡ row → (if asked path then None else said_in index.rows path) ≡ option_and_then said_if_fresh row
   left_at path None is =
@@ -74,13 +69,22 @@ module _ (test : List ℕ → Bool) (rows : ShownRows) (index : KnownIndex) (las
         ∙ ap (λ said. known_row (option_or (outcome_of (if asked path then None else said_in index.rows path)) (outcome_of said))) (takes path)
         ∙ ap known_row (either_part (said_in index.rows path) (asked path))
 
-    among_needed : (path : List ℕ) (b : Bool) → asked path ≡ b → is_some (outcome_of (if b then said_in index.rows path else None)) ≡ true → is_one_of path needed ≡ true
-    among_needed path true is some = both (is_one_of path needed) (has_asked_for test (names_in index.rows path)) is
-      where
-        both : (a b : Bool) → (a && b) ≡ true → a ≡ true
-        both true b e = refl
-        both false b e = absurd (false≢true e)
-    among_needed path false is some = absurd (false≢true some)
+    said_there : (path : List ℕ) (row : Option ShownRow) → rows path ≡ row → is_some (outcome_of (said_in index.rows path)) ≡ is_some row
+    said_there path None is = ap (λ said. is_some (outcome_of said)) (last.says path ∙ ap (option_map said_in_row) is)
+    said_there path (Some row) is = ap (λ said. is_some (outcome_of said)) (last.says path ∙ ap (option_map said_in_row) is)
+
+    -- a path has a row if it is needed
+    said_needed : (path : List ℕ) → is_some (outcome_of (said_in index.rows path)) ≡ is_one_of path (needed_in index.paths)
+    said_needed path = said_there path (rows path) refl ∙ last.paths path
+
+    among_needed : (path : List ℕ) (b : Bool) → is_some (outcome_of (if b then said_in index.rows path else None)) ≡ true → is_one_of path (needed_in index.paths) ≡ true
+    among_needed path true some = sym (said_needed path) ∙ some
+    among_needed path false some = absurd (false≢true some)
+
+    either_of : (path : List ℕ) (b : Bool) → is_some (outcome_of (said_in index.rows path)) ≡ true → outcome_of (if b then said_in index.rows path else None) ≡ None
+        → is_some (outcome_of (if b then None else said_in index.rows path)) ≡ true
+    either_of path true some none = absurd (false≢true (sym (ap is_some none) ∙ some))
+    either_of path false some none = some
 
     follow_from : FollowFrom (led_to left begun.outdated) index.paths
     follow_from = subst (λ outcomes. FollowFrom outcomes index.paths) (λ i path. sym (led_as_before path) i) last.lists
@@ -90,7 +94,9 @@ module _ (test : List ℕ → Bool) (rows : ShownRows) (index : KnownIndex) (las
       lists = subst (FollowFrom (led_to left begun.outdated)) (sym paths) follow_from;
       alone = λ path some. ap (λ p. is_one_of path (needed_in p)) paths ∙ sym (last.paths path) ∙ some;
       outdated = λ path some. ap (λ p. is_one_of path (needed_in p)) paths
-          ∙ among_needed path (asked path) refl (ap (λ said. is_some (outcome_of said)) (sym (takes path)) ∙ some);
+          ∙ among_needed path (asked path) (ap (λ said. is_some (outcome_of said)) (sym (takes path)) ∙ some);
+      others = λ path one none. ap (λ said. is_some (outcome_of said)) (leaves path)
+          ∙ either_of path (asked path) (said_needed path ∙ ap (λ p. is_one_of path (needed_in p)) (sym paths) ∙ one) (ap outcome_of (sym (takes path)) ∙ none);
     }
 
 -- ---- lists that are kept
@@ -135,6 +141,11 @@ module _ (law : AlikeRowsListTheSame) (world : World) (path : List ℕ) (said : 
   alone_at other true same some = ap (λ at. is_one_of at (needed_in last.paths)) (sym ((bytes_eq-Decides path other).0 same)) ∙ recalls.outdated path (ap is_some names.was)
   alone_at other false same some = recalls.alone other some
 
+  still_there : (other : List ℕ) (same : Bool) → is_some (entries_in known other) ≡ true
+      → is_some (option_map (λ (one : Said). one.outcome) (if same then Some said else said_in known other)) ≡ true
+  still_there other true some = refl
+  still_there other false some = some
+
   -- the row of a path that names the same paths as the outdated one
   pub recalls-more : Recalls new after last
   recalls-more = record {
@@ -144,6 +155,8 @@ module _ (law : AlikeRowsListTheSame) (world : World) (path : List ℕ) (said : 
     };
     alone = λ other some. alone_at other (bytes_eq path other) refl (sym (more.there other) ∙ some);
     outdated = recalls.outdated;
+    others = λ other one none. ap (λ row. is_some (option_map (λ (one : Said). one.outcome) row)) (puts other)
+        ∙ still_there other (bytes_eq path other) (recalls.others other one none);
   }
 
 -- ---- rows of which some are taken

@@ -1,7 +1,8 @@
 -- Lists of names and paths.
-use Rattle.std.proofs.Common.{◌≡◌, ◌∙◌, sym, ap, refl, ℕ, ◌+◌, ◌<◌, Bool, true, false, cond, ◌||◌, ◌&&◌, if◌then◌else◌, List, [], ◌∷◌, ◌++◌, map, take, length, get_or, Option, Some, None, is_some, option_map, String, string_bytes, Global}
+use Rattle.std.proofs.Common.{◌≡◌, ◌∙◌, sym, ap, refl, ℕ, ◌+◌, ◌<◌, Bool, true, false, cond, ◌||◌, ◌&&◌, if◌then◌else◌, List, [], ◌∷◌, ◌++◌, map, take, length, get_or, Option, Some, None, is_none, is_some, String, string_bytes, Global}
 use Rattle.std.proofs.lemmas.Bool.{false≢true}
 use Rattle.std.proofs.lemmas.List.{take_more, take-map}
+use Rattle.std.proofs.lemmas.List.Folds.{list_any_at}
 use Rattle.ports_index.specs.PathOutcomes.{PathOutcome}
 use Rattle.std.proofs.lemmas.Slice.Eq.{bytes_eq-Decides}
 use Rattle.std.specs.List.{list_any}
@@ -75,22 +76,27 @@ chosen-more chosen passed test p added is were path =
     (λ same. ap test (sym ((bytes_eq-Decides p path).0 same)) ∙ is)
     ∙ ap (λ b. b && test path) (sym (one_of-end path p passed))
 
-some_known : {X Y : Type 0} (f : X → Y) (found : Option X) (known : Option Y) → option_map f found ≡ known → is_some found ≡ true → is_some known ≡ true
-some_known f None known e some = absurd (false≢true some)
-some_known f (Some x) known e some = ap is_some (sym e)
+-- the text at a place is one of the texts
+pub one_of-place : (texts : List (String Global)) (place : ℕ) (text : String Global) → place < length texts → text ≡ get_or texts place text → is_one_of (string_bytes text) (map string_bytes texts) ≡ true
+one_of-place texts place text inside is =
+    list_any-map (λ one. bytes_eq one (string_bytes text)) string_bytes texts
+    ∙ list_any_at (λ one. bytes_eq (string_bytes one) (string_bytes text)) texts place text inside ((bytes_eq-Decides _ (string_bytes text)).1 (ap string_bytes (sym is)))
+
+pub some-of : {X : Type 0} (row : Option X) → is_none row ≡ false → is_some row ≡ true
+some-of None is = absurd (false≢true (sym is))
+some-of (Some row) is = refl
 
 -- the path at the next place is known too
-pub known-more : {X : Type 0} (seen : X → PathOutcome) (known : List ℕ → Option PathOutcome) (texts : List (String Global)) (place : ℕ) (text : String Global) (at : List ℕ) (found : Option X)
-    → place < length texts → text ≡ get_or texts place text → at ≡ string_bytes text → option_map seen found ≡ known at → is_some found ≡ true
+pub known-more : (known : List ℕ → Option PathOutcome) (texts : List (String Global)) (place : ℕ) (text : String Global)
+    → place < length texts → text ≡ get_or texts place text → is_some (known (string_bytes text)) ≡ true
     → ((path : List ℕ) → is_one_of path (take place (map string_bytes texts)) ≡ true → is_some (known path) ≡ true)
     → (path : List ℕ) → is_one_of path (take (place + 1) (map string_bytes texts)) ≡ true → is_some (known path) ≡ true
-known-more seen known texts place text at found inside is e finds some passed path one =
+known-more known texts place text inside is some passed path one =
     by (is_one_of path (map string_bytes (take place texts))) (bytes_eq (string_bytes text) path) refl refl
     (sym (one_of-more texts place text path inside is) ∙ ap (is_one_of path) (sym (take-map string_bytes (place + 1) texts)) ∙ one)
   where
     by : (before same : Bool) → is_one_of path (map string_bytes (take place texts)) ≡ before → bytes_eq (string_bytes text) path ≡ same
         → (is_one_of path (map string_bytes (take place texts)) || bytes_eq (string_bytes text) path) ≡ true → is_some (known path) ≡ true
     by true same e1 e2 either = passed path (ap (is_one_of path) (take-map string_bytes place texts) ∙ e1)
-    by false true e1 e2 either =
-        ap (λ p. is_some (known p)) (sym ((bytes_eq-Decides (string_bytes text) path).0 e2)) ∙ ap (λ p. is_some (known p)) (sym e) ∙ some_known seen found (known at) finds some
+    by false true e1 e2 either = ap (λ p. is_some (known p)) (sym ((bytes_eq-Decides (string_bytes text) path).0 e2)) ∙ some
     by false false e1 e2 either = absurd (false≢true (sym (ap (λ b. b || bytes_eq (string_bytes text) path) e1 ∙ e2) ∙ either))

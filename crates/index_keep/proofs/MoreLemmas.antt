@@ -1,13 +1,16 @@
 -- A walk that knows of one more fresh row.
-use Rattle.std.proofs.Common.{◌≡◌, ◌∙◌, ap, subst, sym, refl, ℕ, Bool, true, false, if◌then◌else◌, List, map, take, Option, Some, None, IfSome, is_some, option_map, string_bytes}
+use Rattle.std.proofs.Common.{◌≡◌, ◌∙◌, ap, subst, sym, refl, ℕ, Bool, true, false, ◌||◌, if◌then◌else◌, List, map, take, Option, Some, None, IfSome, is_some, option_map, string_bytes}
+use Rattle.std.proofs.lemmas.Slice.Eq.{bytes_eq-Decides}
 use Rattle.std.specs.Str.{bytes_eq}
 use Rattle.mk_paths.specs.World.{World}
 use Rattle.ports_index.specs.Alike.{AlikeRowsListTheSame}
 use Rattle.ports_index.specs.Filling.{is_one_of}
-use Rattle.ports_index.specs.Seen.{Said}
-use Rattle.index_keep.specs.Last.{NamesAsBefore, Recalls}
+use Rattle.ports_index.specs.Index.{needed_paths}
+use Rattle.ports_index.specs.Seen.{Said, entries_in, said_in}
+use Rattle.ports_index.specs.declared.keeping.MemoryRows.{MemoryRows}
+use Rattle.index_keep.specs.Last.{HaveRowsAlone, NamesAsBefore, Recalls}
 use Rattle.index_keep.specs.Shown.{ShownRows, fresh_said}
-use Rattle.index_keep.specs.Walking.{HasRowMore, IsListed, IsStage, KnowsRow}
+use Rattle.index_keep.specs.Walking.{HasRowMore, HasAllRows, IsStage, KnowsRow, paths_of}
 use Rattle.index_keep.specs.declared.last_index.LastIndex.{LastIndex}
 use Rattle.index_keep.specs.declared.walking.Stage.{Stage}
 use Rattle.index_keep.proofs.LastLemmas.{recalls-more}
@@ -31,18 +34,36 @@ module _ (world : World) (path : List ℕ) (said : Said) (old new : ShownRows) (
 
   module _ (law : AlikeRowsListTheSame) (paths : List (List ℕ)) (is : IsStage old paths stage) (last : Option LastIndex) where
     -- an index of before is still recalled, if the row names the same paths as the outdated one
-    pub recalled-more : (kept : Option LastIndex) → IfSome kept (λ (one : LastIndex). (last ≡ Some one) × NamesAsBefore path said.outcome one)
-        → IfSome last (Recalls old stage.known) → IfSome kept (Recalls new after.known)
-    recalled-more None alike recalls = tt
-    recalled-more (Some one) alike recalls =
-        recalls-more law world path said old new more stage.known after.known is.knows knows.known one alike.1
-        (subst (λ (l : Option LastIndex). IfSome l (Recalls old stage.known)) alike.0 recalls)
-
-    pub listed-more : (kept : Option LastIndex) → IfSome kept (λ (one : LastIndex). (last ≡ Some one) × NamesAsBefore path said.outcome one)
-        → IfSome last (IsListed old stage) → IfSome kept (IsListed new after)
-    listed-more None alike recalls = tt
-    listed-more (Some one) alike recalls =
-        let before : IsListed old stage one = subst (λ (l : Option LastIndex). IfSome l (IsListed old stage)) alike.0 recalls in (
+    pub kept-more : (list_of : LastIndex → List (List ℕ)) (kept : Option LastIndex) → IfSome kept (λ (one : LastIndex). (last ≡ Some one) × NamesAsBefore path said.outcome one)
+        → IfSome last (λ (one : LastIndex). Recalls old stage.known one × (list_of one ≡ paths_of stage))
+        → IfSome kept (λ (one : LastIndex). Recalls new after.known one × (list_of one ≡ paths_of after))
+    kept-more list_of None alike recalls = tt
+    kept-more list_of (Some one) alike recalls =
+        let before : Recalls old stage.known one × (list_of one ≡ paths_of stage) =
+        subst (λ (l : Option LastIndex). IfSome l (λ (one : LastIndex). Recalls old stage.known one × (list_of one ≡ paths_of stage))) alike.0 recalls in (
           recalls-more law world path said old new more stage.known after.known is.knows knows.known one alike.1 before.0,
           before.1 ∙ sym (ap (λ names. map string_bytes names.items) knows.paths),
         )
+
+  -- the paths of the last stage are still alone
+  module _ (is : IsStage old (needed_paths world) stage) where
+    same_paths : paths_of after ≡ paths_of stage
+    same_paths = ap (λ names. map string_bytes names.items) knows.paths
+
+    alone_at : HaveRowsAlone (paths_of stage) old → (other : List ℕ) (same : Bool) → bytes_eq path other ≡ same → (same || is_some (old other)) ≡ true → is_one_of other (paths_of stage) ≡ true
+    alone_at alone other true e some =
+        ap (λ at. is_one_of at (paths_of stage)) (sym ((bytes_eq-Decides path other).0 e)) ∙ ap (is_one_of path) is.through ∙ more.lacking.needed
+    alone_at alone other false e some = alone other some
+
+    still_known : (other : List ℕ) (same : Bool) → is_some (entries_in stage.known other) ≡ true
+        → is_some (option_map (λ (one : Said). one.outcome) (if same then Some said else said_in stage.known other)) ≡ true
+    still_known other true some = refl
+    still_known other false some = some
+
+    pub alone-more : (outdated : Option MemoryRows) → IfSome outdated (HasAllRows old stage) → IfSome outdated (HasAllRows new after)
+    alone-more None alone = tt
+    alone-more (Some outdated) alone = (
+      λ other some. ap (is_one_of other) same_paths ∙ alone_at alone.0 other (bytes_eq path other) refl (sym (more.there other) ∙ some),
+      λ other one none. ap (λ row. is_some (option_map (λ (one : Said). one.outcome) row)) (knows.known other)
+          ∙ still_known other (bytes_eq path other) (alone.1 other (ap (is_one_of other) (sym same_paths) ∙ one) none),
+    )

@@ -1,8 +1,9 @@
 -- A refresh that goes through paths.
-use Rattle.std.proofs.Common.{Global, String, string_bytes, map, ◌≡◌, ◌∙◌, sym, ap, subst, refl, ℕ, zero, suc, Bool, true, false, ◌||◌, if◌then◌else◌, List, [], ◌∷◌, ◌++◌, take, Option, Some, None, is_some, option_and_then, option_map, slice_get}
+use Rattle.std.proofs.Common.{Bor, Global, String, string_bytes, map, ◌≡◌, ◌∙◌, sym, ap, subst, refl, ℕ, zero, suc, Bool, true, false, ◌||◌, if◌then◌else◌, List, [], ◌∷◌, ◌++◌, take, Option, Some, None, IfSome, is_some, option_and_then, option_map, slice_get}
 use Rattle.std.proofs.lemmas.Bool.{false≢true, or_right}
 use Rattle.std.proofs.lemmas.Slice.Eq.{bytes_eq-Decides}
 use Rattle.std.specs.List.{filter_map, flat_map}
+use Rattle.std.specs.Option.{option_copied}
 use Rattle.std.specs.Prelude.{Vec}
 use Rattle.std.specs.Str.{bytes_eq}
 use Rattle.text_parts.specs.Ordered.{among-in_order}
@@ -12,14 +13,15 @@ use Rattle.ports_index.specs.Filling.{is_one_of}
 use Rattle.ports_index.specs.Index.{listed_paths, needed_among, needed_paths}
 use Rattle.ports_index.specs.Naming.{directories, listed_from, named_at}
 use Rattle.ports_index.specs.Pairs.{pair_at}
-use Rattle.ports_index.specs.PathOutcomes.{cost_at, outcome_at}
+use Rattle.ports_index.specs.PathOutcomes.{PathOutcome, cost_at, outcome_at}
 use Rattle.ports_index.specs.Spending.{SpendsOnPath, no_spending}
 use Rattle.ports_index.specs.declared.spending.Spent.{Spent}
 use Rattle.row_text.specs.Rows.{RowValue}
 use Rattle.ports_index.specs.RowLaws.{HaveRows, KnownRowsAreEnough}
 use Rattle.ports_index.specs.Seen.{Said, entries_in, known_in, said_in}
 use Rattle.ports_index.specs.declared.keeping.MemoryRows.{MemoryRows}
-use Rattle.index_keep.specs.Last.{LeavesNeeded, SaysAll}
+use Rattle.index_keep.specs.Last.{HasEither, HaveRowsAlone, LeavesNeeded, Recalls, SaysAll, led_to}
+use Rattle.index_keep.specs.declared.last_index.LastIndex.{LastIndex}
 use Rattle.index_keep.specs.declared.walking.ListedStage.{ListedStage}
 use Rattle.index_keep.specs.declared.walking.Stage.{Stage}
 use Rattle.index_keep.specs.declared.walking.LastStage.{LastStage}
@@ -29,7 +31,7 @@ use Rattle.index_keep.specs.Keeping.{IsReadyFor}
 use Rattle.eval_ask.specs.Asking.{IsShort, MakesInTime}
 use Rattle.index_keep.specs.Paths.{IsMade}
 use Rattle.index_keep.specs.Turns.{Evaluates, refresh_at, spent_in_all}
-use Rattle.index_keep.specs.Walking.{IsStage, IsListedStage, IsLastStage, IsLacking, HasRowMore, paths_of, LacksNone, IsLackingAt, ListsPaths, NeedsPaths}
+use Rattle.index_keep.specs.Walking.{HasFreshOthers, HasRowMore, HasAllRows, IsBelow, IsLacking, IsLackingAt, IsLastStage, IsListed, IsListedStage, IsStage, LacksNone, ListsPaths, NeedsPaths, paths_of}
 use Rattle.index_keep.specs.declared.evaluating.MadeRow.{MadeRow}
 use Rattle.index_keep.specs.declared.walking.Walk.{Walk}
 use Rattle.row_text.specs.Seen.{row_seen}
@@ -38,17 +40,23 @@ use Rattle.index_keep.proofs.SortLemmas.{one_of-append}
 
 -- ---- which paths are among which
 
+pub listed-from : (outcomes : List ℕ → PathOutcome) (directories : List (List ℕ)) (path : List ℕ) → is_one_of path directories ≡ true → is_one_of path (listed_from outcomes directories) ≡ true
+listed-from outcomes directories path is =
+    let named = flat_map (named_at outcomes) directories in
+    among-in_order (λ one. bytes_eq one path) (named ++ directories)
+    ∙ one_of-append path named directories ∙ or_right (is_one_of path named) (is_one_of path directories) is
+
+pub needed-among : (outcomes : List ℕ → PathOutcome) (listed : List (List ℕ)) (path : List ℕ) → is_one_of path listed ≡ true → is_one_of path (needed_among outcomes listed) ≡ true
+needed-among outcomes listed path is =
+    let targets = filter_map target_of (items_among outcomes listed) in
+    among-in_order (λ one. bytes_eq one path) (listed ++ targets)
+    ∙ one_of-append path listed targets ∙ ap (λ b. b || is_one_of path targets) is
+
 pub listed-has : (world : World) (path : List ℕ) → is_one_of path (directories (files_in world)) ≡ true → is_one_of path (listed_paths world) ≡ true
-listed-has world path is =
-    let named = flat_map (named_at (outcome_at world)) (directories (files_in world)) in
-    among-in_order (λ one. bytes_eq one path) (named ++ directories (files_in world))
-    ∙ one_of-append path named (directories (files_in world)) ∙ or_right (is_one_of path named) (is_one_of path (directories (files_in world))) is
+listed-has world = listed-from (outcome_at world) (directories (files_in world))
 
 pub needed-has : (world : World) (path : List ℕ) → is_one_of path (listed_paths world) ≡ true → is_one_of path (needed_paths world) ≡ true
-needed-has world path is =
-    let targets = filter_map target_of (items_among (outcome_at world) (listed_paths world)) in
-    among-in_order (λ one. bytes_eq one path) (listed_paths world ++ targets)
-    ∙ one_of-append path (listed_paths world) targets ∙ ap (λ b. b || is_one_of path targets) is
+needed-has world = needed-among (outcome_at world) (listed_paths world)
 
 pub one_of-at : (paths : List (List ℕ)) (place : ℕ) (path : List ℕ) → slice_get paths place ≡ Some path → is_one_of path paths ≡ true
 one_of-at [] place path is = absurd cc
@@ -162,7 +170,7 @@ IsLastStage-after world rows kept enough before last none is needs =
       };
       directories = ap (λ (names : Vec (String Global) Global). map string_bytes names.items) needs.directories ∙ is.directories;
       listed = needs.listed ∙ is.stage.through;
-      alone = λ alone path some. ap (is_one_of path) (sym through) ∙ needs.alone alone path some;
+      alone = needs.alone;
     }
 
 -- ---- rows that are current
@@ -233,6 +241,60 @@ module _ (rows : ShownRows) (paths : List (List ℕ)) (stage : Stage) (is : IsSt
       needed = needed path (ap (is_one_of path) (sym is.through) ∙ one_of-at (paths_of stage) place path at);
       lacking = sym (entries-fresh rows stage.known is.knows path) ∙ found.lacking path at;
     }
+
+-- ---- the paths of a stage, if the index of before may be kept
+
+module _ (rows : ShownRows) (stage : Stage) (last : LastIndex) (recalls : Recalls rows stage.known last) where
+  listed_others : (path : List ℕ) → is_one_of path (map string_bytes last.paths.listed.items) ≡ true → HasEither stage.known last.outdated path
+  listed_others path is =
+      recalls.others path (ap (is_one_of path) recalls.lists.needed
+      ∙ needed-among (led_to stage.known last.outdated) (map string_bytes last.paths.listed.items) path is)
+
+  directory_others : (path : List ℕ) → is_one_of path (map string_bytes last.paths.directories.items) ≡ true → HasEither stage.known last.outdated path
+  directory_others path is =
+      listed_others path (ap (is_one_of path) recalls.lists.listed
+      ∙ listed-from (led_to stage.known last.outdated) (map string_bytes last.paths.directories.items) path is)
+
+pub either-at : {X : Type 0} (stage : Stage) (rows_of : X → MemoryRows) (outdated : Option X) (path : List ℕ) → is_one_of path (paths_of stage) ≡ true
+    → IfSome outdated (λ one. HasFreshOthers stage (rows_of one)) → IfSome outdated (λ one. HasEither stage.known (rows_of one) path)
+either-at stage rows_of None path is others = tt
+either-at stage rows_of (Some outdated) path is others = others path is
+
+-- what holds of rows holds of them as they are lent
+pub lent-of : (P : MemoryRows → Type 0) (lent : Option (Bor MemoryRows)) (rows : Option MemoryRows) → option_copied lent ≡ rows → IfSome rows P
+    → IfSome lent (λ (one : Bor MemoryRows). P one.now)
+lent-of P lent rows same is = of_copied lent (subst (λ (found : Option MemoryRows). IfSome found P) (sym same) is)
+  where
+    of_copied : (found : Option (Bor MemoryRows)) → IfSome (option_copied found) P → IfSome found (λ (one : Bor MemoryRows). P one.now)
+    of_copied None holds = tt
+    of_copied (Some one) holds = holds
+
+module _ (rows : ShownRows) (stage : Stage) where
+  pub below-others : (last : Option LastIndex) → IfSome last (IsBelow rows stage) → IfSome (option_map (λ (one : LastIndex). one.outdated) last) (HasFreshOthers stage)
+  below-others None is = tt
+  below-others (Some last) is = λ path one. directory_others rows stage last is.0 path (ap (is_one_of path) is.1 ∙ one)
+
+  pub listed-others : (last : Option LastIndex) → IfSome last (IsListed rows stage) → IfSome (option_map (λ (one : LastIndex). one.outdated) last) (HasFreshOthers stage)
+  listed-others None is = tt
+  listed-others (Some last) is = λ path one. listed_others rows stage last is.0 path (ap (is_one_of path) is.1 ∙ one)
+
+  pub alone-others : (outdated : Option MemoryRows) → IfSome outdated (HasAllRows rows stage) → IfSome outdated (HasFreshOthers stage)
+  alone-others None is = tt
+  alone-others (Some outdated) is = is.1
+
+  pub alone-rows : (outdated : Option MemoryRows) → IfSome outdated (HasAllRows rows stage) → is_some outdated ≡ true → HaveRowsAlone (paths_of stage) rows
+  alone-rows None is some = absurd (false≢true some)
+  alone-rows (Some outdated) is some = is.0
+
+-- at the end of the last stage, the rows of its paths are left
+pub leaves-last : (world : World) (old new : ShownRows) (last : LastStage) (needed : List (String Global)) (others : Vec (String Global) Global) (are_alone : Bool)
+    → needed ≡ last.stage.paths.items → are_alone ≡ is_some last.outdated → IsLastStage world old last
+    → ((are_alone ≡ true → HaveRowsAlone (map string_bytes needed) old) → LeavesNeeded (map string_bytes needed) old new others)
+    → LeavesNeeded (needed_paths world) old new others
+leaves-last world old new last needed others are_alone same alone is leaves =
+    subst (λ paths. LeavesNeeded paths old new others) (ap (map string_bytes) same ∙ is.stage.through)
+    (leaves (λ are. subst (λ paths. HaveRowsAlone paths old) (sym (ap (map string_bytes) same))
+    (alone-rows old last.stage last.outdated is.alone (sym alone ∙ are))))
 
 -- ---- the row of a path is made, and written
 

@@ -1,7 +1,7 @@
 -- What a keeper of rows has, and when it is right about a world.
 use Rattle.std.specs.Prelude.{◌≡◌, ◌⊎◌, ℕ, Bool, List, [], Option, Some, None, IfSome, string_bytes}
 use Rattle.std.specs.BTreeSet.{contains_text, keys}
-use Rattle.mk_paths.specs.World.{World}
+use Rattle.mk_paths.specs.World.{World, files_in}
 use Rattle.ports_index.specs.Known.{ArePathsOf, IsIndexOf}
 use Rattle.ports_index.specs.Seen.{size_of}
 use Rattle.index_store.specs.Entries.{Entries}
@@ -11,7 +11,7 @@ use Rattle.index_keep.specs.declared.keeper.Keeper.{Keeper}
 use Rattle.index_keep.specs.declared.keeper.Refreshed.{Refreshed}
 use Rattle.index_keep.specs.declared.keeper.Refreshed.TheVariants.{Done}
 use Rattle.index_keep.specs.Shown.{ShownRows, shown, no_name}
-use Rattle.index_keep.specs.Last.{IsLast, SaysAll}
+use Rattle.index_keep.specs.Last.{IsLastOf, SaysAll}
 use Rattle.ports_index.specs.Spending.{no_spending}
 use Rattle.ports_index.specs.declared.known_index.KnownIndex.{KnownIndex}
 use Rattle.ports_index.specs.declared.spending.Spent.{Spent}
@@ -32,7 +32,7 @@ path_in ask = string_bytes ask.found.path
 -- The index that was at hand before files changed is so still. Or a refresh goes on where it stopped. Or the rows are
 -- current, and the paths of the index are known, or the whole index.
 abbrev pub IsProgress : World → ShownRows → Progress → Type 0
-IsProgress world rows (Changed names last) = IfSome last (IsLast (contains_text names) rows)
+IsProgress world rows (Changed names last) = IfSome last (IsLastOf (contains_text names) (files_in world) rows)
 IsProgress world rows (Walking walk) = IsWalk world rows walk
 IsProgress world rows (Asking walk ask) =
     IsWalk world rows walk × IsLacking world rows (path_in ask) × IsPathAsk world (path_in ask) ask

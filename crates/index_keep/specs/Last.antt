@@ -3,9 +3,11 @@ use Rattle.std.specs.Global.{Global}
 use Rattle.std.specs.Prelude.{◌≡◌, ℕ, Bool, true, false, if◌then◌else◌, List, map, Some, None, is_some, option_map}
 use Rattle.std.specs.Prelude.{string_bytes, String, Vec}
 use Rattle.std.specs.Option.{option_or}
+use Rattle.mk_paths.specs.World.{FileMap}
 use Rattle.ports_index.specs.Alike.{NameAlike}
 use Rattle.ports_index.specs.Filling.{is_one_of}
 use Rattle.ports_index.specs.Known.{FollowFrom}
+use Rattle.ports_index.specs.Makefiles.{WereDirectories}
 use Rattle.ports_index.specs.PathOutcomes.{PathOutcome}
 use Rattle.ports_index.specs.Seen.{entries_in, known_in, known_row, said_in}
 use Rattle.ports_index.specs.declared.keeping.MemoryRows.{MemoryRows}
@@ -30,6 +32,11 @@ pub record IsLast (test : List ℕ → Bool) (rows : ShownRows) (index : KnownIn
   pub paths : (path : List ℕ) → is_some (rows path) ≡ is_one_of path (needed_in index.paths)
   pub stale : (path : List ℕ) (row : ShownRow) → rows path ≡ Some row → row.stale ≡ asked_one test row.row
 
+-- the same, and its directories were those of the files
+pub record IsLastOf (test : List ℕ → Bool) (files : FileMap) (rows : ShownRows) (index : KnownIndex) : Type 0 where
+  pub last : IsLast test rows index
+  pub directories : WereDirectories test files (map string_bytes index.paths.directories.items)
+
 -- what each path leads to by its row, or else by the outdated one
 abbrev pub led_to : MemoryRows → MemoryRows → List ℕ → PathOutcome
 led_to known outdated path = known_row (option_or (entries_in known path) (entries_in outdated path))
@@ -38,12 +45,21 @@ led_to known outdated path = known_row (option_or (entries_in known path) (entri
 abbrev pub HaveRowsAlone : List (List ℕ) → ShownRows → Type 0
 HaveRowsAlone paths rows = (path : List ℕ) → is_some (rows path) ≡ true → is_one_of path paths ≡ true
 
+-- a path that has no outdated row has a fresh one
+abbrev pub HasEither : MemoryRows → MemoryRows → List ℕ → Type 0
+HasEither known outdated path = entries_in outdated path ≡ None → is_some (entries_in known path) ≡ true
+
+-- each of these paths does
+abbrev pub HaveEither : List (List ℕ) → MemoryRows → MemoryRows → Type 0
+HaveEither paths known outdated = (path : List ℕ) → is_one_of path paths ≡ true → HasEither known outdated path
+
 -- A refresh knows these fresh rows, and the index of before may be kept: its lists follow from these rows and from the
--- outdated ones, and no path has a row but its needed ones.
+-- outdated ones, no path has a row but its needed ones, and each of these has one.
 pub record Recalls (rows : ShownRows) (known : MemoryRows) (last : LastIndex) : Type 0 where
   pub lists : FollowFrom (led_to known last.outdated) last.paths
   pub alone : HaveRowsAlone (needed_in last.paths) rows
   pub outdated : (path : List ℕ) → is_some (entries_in last.outdated path) ≡ true → is_one_of path (needed_in last.paths) ≡ true
+  pub others : HaveEither (needed_in last.paths) known last.outdated
 
 -- the path has an outdated row, which names the same paths as this one
 pub record NamesAsBefore (path : List ℕ) (row : PathOutcome) (last : LastIndex) : Type 0 where

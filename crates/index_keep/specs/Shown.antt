@@ -71,8 +71,3 @@ said_if_fresh row = if row.stale then None else Some (said_in_row row)
 -- what rows that aren't stale say of each path, and which names they asked for
 abbrev pub fresh_said : ShownRows → List ℕ → Option Said
 fresh_said rows path = option_and_then said_if_fresh (rows path)
-
--- whether one of these names passes a test
-abbrev pub has_asked_for : (List ℕ → Bool) → Option (List (List ℕ)) → Bool
-has_asked_for test None = false
-has_asked_for test (Some names) = list_any test names

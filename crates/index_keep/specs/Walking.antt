@@ -8,6 +8,7 @@ use Rattle.ports_index.specs.Filling.{is_one_of}
 use Rattle.ports_index.specs.Index.{listed_paths, needed_among, needed_paths}
 use Rattle.ports_index.specs.Naming.{directories, listed_from}
 use Rattle.ports_index.specs.Seen.{Said, entries_in, known_in, said_in}
+use Rattle.ports_index.specs.declared.keeping.MemoryRows.{MemoryRows}
 use Rattle.index_keep.specs.declared.walking.Stage.{Stage}
 use Rattle.index_keep.specs.declared.last_index.LastIndex.{LastIndex}
 use Rattle.index_keep.specs.declared.walking.ListedStage.{ListedStage}
@@ -17,7 +18,7 @@ use Rattle.index_keep.specs.declared.walking.Next.TheVariants as next
 use Rattle.index_keep.specs.declared.walking.Walk.{Walk}
 use Rattle.index_keep.specs.declared.walking.Walk.TheVariants.{Directories, Listed, Needed}
 use Rattle.index_keep.specs.Shown.{ShownRows, fresh, fresh_said}
-use Rattle.index_keep.specs.Last.{HaveRowsAlone, Recalls}
+use Rattle.index_keep.specs.Last.{HaveEither, HaveRowsAlone, Recalls}
 use Rattle.index_keep.specs.Right.{AreKept, HaveFresh}
 
 -- A stage of a refresh goes through these paths. Those that it has passed have fresh rows, and it knows what
@@ -30,6 +31,10 @@ pub record IsStage (rows : ShownRows) (paths : List (List ℕ)) (stage : Stage) 
 -- the paths of a stage
 abbrev pub paths_of : Stage → List (List ℕ)
 paths_of stage = map string_bytes stage.paths.items
+
+-- the index of before may be kept, and its directories are the paths of this stage
+abbrev pub IsBelow : ShownRows → Stage → LastIndex → Type 0
+IsBelow rows stage last = Recalls rows stage.known last × (map string_bytes last.paths.directories.items ≡ paths_of stage)
 
 -- the index of before may be kept, and its listed paths are those of this stage
 abbrev pub IsListed : ShownRows → Stage → LastIndex → Type 0
@@ -45,17 +50,25 @@ pub record IsListedStage (world : World) (rows : ShownRows) (listed : ListedStag
   pub directories : map string_bytes listed.directories.items ≡ directories (files_in world)
   pub last : MayBeKept rows listed
 
--- The last stage, with the directories and the listed paths. If its paths are known to be alone, no other has a row.
+-- each path of a stage that has no outdated row has a fresh one
+abbrev pub HasFreshOthers : Stage → MemoryRows → Type 0
+HasFreshOthers stage outdated = HaveEither (paths_of stage) stage.known outdated
+
+-- no path has a row but those of this stage, and each of these that has no outdated row has a fresh one
+abbrev pub HasAllRows : ShownRows → Stage → MemoryRows → Type 0
+HasAllRows rows stage outdated = HaveRowsAlone (paths_of stage) rows × HasFreshOthers stage outdated
+
+-- the last stage, with the directories and the listed paths
 pub record IsLastStage (world : World) (rows : ShownRows) (last : LastStage) : Type 0 where
   pub stage : IsStage rows (needed_paths world) last.stage
   pub directories : map string_bytes last.directories.items ≡ directories (files_in world)
   pub listed : map string_bytes last.listed.items ≡ listed_paths world
-  pub alone : last.are_alone ≡ true → HaveRowsAlone (needed_paths world) rows
+  pub alone : IfSome last.outdated (HasAllRows rows last.stage)
 
 -- A refresh that is under way goes through directories first, then through listed paths, then through all paths on which
 -- the index depends. In the first two, it may recall the index of before.
 abbrev pub IsWalk : World → ShownRows → Walk → Type 0
-IsWalk world rows (Directories stage last) = IsStage rows (directories (files_in world)) stage × IfSome last (Recalls rows stage.known)
+IsWalk world rows (Directories stage last) = IsStage rows (directories (files_in world)) stage × IfSome last (IsBelow rows stage)
 IsWalk world rows (Listed listed) = IsListedStage world rows listed
 IsWalk world rows (Needed last) = IsLastStage world rows last
 
@@ -129,4 +142,4 @@ pub record NeedsPaths (rows : ShownRows) (before : ListedStage) (last : LastStag
   pub known : (path : List ℕ) → said_in last.stage.known path ≡ said_in before.stage.known path
   pub directories : last.directories ≡ before.directories
   pub listed : map string_bytes last.listed.items ≡ paths_of before.stage
-  pub alone : last.are_alone ≡ true → HaveRowsAlone (paths_of last.stage) rows
+  pub alone : IfSome last.outdated (HasAllRows rows last.stage)

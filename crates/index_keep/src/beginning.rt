@@ -2,21 +2,20 @@
 ghost use Rattle.std.specs.Prelude.{◌≡◌, ◌&&◌, ◌++◌, ◌∷◌, [], ℕ, List, if◌then◌else◌, map};
 ghost use Rattle.std.specs.Prelude.{option_map, string_bytes, IfOk, OnOk, OnErr, Some, None};
 ghost use Rattle.std.specs.BTreeSet.{contains_text};
-ghost use Rattle.std.specs.List.{list_any};
 ghost use Rattle.std.specs.Str.{bytes_eq};
 ghost use Rattle.ports_index.specs.Filling.{is_one_of};
-ghost use Rattle.ports_index.specs.Seen.{known_seen, names_in, names_seen, said_in};
+ghost use Rattle.ports_index.specs.Seen.{known_seen, said_in};
 ghost use Rattle.index_store.specs.Entries.{Entries, SameRows, AreRowsOf, stored_seen, value_in};
 ghost use Rattle.index_store.specs.Entries.{SameProfiles};
 ghost use Rattle.row_text.specs.Seen.{row_seen};
-ghost use Rattle.index_keep.specs.Shown.{shown, no_name, ShowsSame, asked_one, fresh_said, has_asked_for, said_by};
+ghost use Rattle.index_keep.specs.Shown.{shown, no_name, ShowsSame, asked_one, fresh_said, said_by};
 ghost use Rattle.index_keep.specs.Last.{IsLast, Recalls};
 ghost use Rattle.index_keep.specs.Judging as judging;
 
 use crate::last_index::LastIndex;
 use index_store::{PathRows, StoredRow};
 use mk_paths::FilesFault;
-use ports_index::{KnownIndex, KnownRow, MemoryRows};
+use ports_index::{KnownIndex, KnownRow, MemoryRows, is_one_among};
 use row_text::{KeptRow, read_row};
 use std::alloc::{AllocError, Global};
 use std::collections::BTreeSet;
@@ -76,7 +75,7 @@ pub(crate) fn begin_over<R: PathRows>(
     ensures profiles { SameProfiles (R.profiles rows.old) (R.profiles rows.new) }
 {
     let KnownIndex { paths, rows: known } = last;
-    let marked = outdated_among(alloc, &paths.needed, &known, changed)?;
+    let marked = known.paths_asking(alloc, changed)?;
     let Parted { left, taken } = part(alloc, known, &marked)?;
     rows.mark(&marked)?;
     Ok(Begun {
@@ -86,26 +85,6 @@ pub(crate) fn begin_over<R: PathRows>(
             outdated: taken,
         },
     })
-}
-
-// Those of these paths whose rows asked for a name that has changed.
-fn outdated_among(
-    alloc: Global,
-    paths: &[String],
-    known: &MemoryRows,
-    changed: &BTreeSet<String>,
-) -> Result<Vec<String>, AllocError>
-    ensures { IfOk result (λ outdated. (path : List ℕ) → is_one_of path (map string_bytes outdated.items)
-        ≡ (is_one_of path (map string_bytes paths.now)
-        && has_asked_for (contains_text changed.now) (names_in known.now path))) }
-{
-    let mut outdated = Vec::new(alloc);
-    for path in paths {
-        if is_outdated(known.names(path.as_str()), changed) {
-            outdated.push(String::from_str(alloc, path.as_str())?)?;
-        }
-    }
-    Ok(outdated)
 }
 
 // Rows in two parts.
@@ -129,17 +108,6 @@ fn part(alloc: Global, known: MemoryRows, paths: &[String]) -> Result<Parted, Al
         }
     }
     Ok(Parted { left, taken })
-}
-
-// Whether one of these names has changed, if there are any.
-fn is_outdated(names: Option<&[String]>, changed: &BTreeSet<String>) -> bool
-    ensures { result ≡ has_asked_for (contains_text changed.now)
-        (option_map (λ names. names_seen names.now) names.entry) }
-{
-    match names {
-        Some(names) => has_asked(names, changed),
-        None => false,
-    }
 }
 
 /// Rows without those of these paths.
@@ -241,17 +209,10 @@ fn judge_row(row: KeptRow, size: u64, changed: &BTreeSet<String>) -> Judged
     ensures { judging.judged_seen result
         ≡ judging.judge_row (contains_text changed.now) (Some (row_seen row)) }
 {
-    if has_asked(&row.names, changed) {
+    if is_one_among(&row.names, changed) {
         return Judged::Outdated;
     }
     Judged::Fresh(known_row(row, size))
-}
-
-// Whether one of these names has changed.
-fn has_asked(names: &[String], changed: &BTreeSet<String>) -> bool
-    ensures { result ≡ list_any (λ name. contains_text changed.now (string_bytes name)) names.now }
-{
-    names.iter().any(|name| changed.contains(name.as_str()))
 }
 
 /// What is kept in memory of a row of so many bytes.

@@ -19,7 +19,8 @@ use crate::walking::Walk;
 use index_store::PathRows;
 use mk_paths::{FilesFault, Name};
 use ports_index::{
-    IndexPaths, KnownIndex, Spent, known_rows_are_enough, path_is_the_same_where_answered,
+    IndexPaths, KnownIndex, Spent, directories_are_followed, known_rows_are_enough,
+    path_is_the_same_where_answered,
 };
 use std::alloc::{AllocError, Global};
 use std::collections::BTreeSet;
@@ -91,6 +92,7 @@ impl<R: PathRows + Drop> Keeper<R> {
     {
         path_is_the_same_where_answered();
         known_rows_are_enough();
+        directories_are_followed();
         if self.is_full() {
             self.write_marks(alloc)?;
         }

@@ -1,5 +1,5 @@
 //! The index before files changed, whose lists are kept while no row names other paths.
-ghost use Rattle.std.specs.Prelude.{◌≡◌, true, map, string_bytes, Some, IfSome};
+ghost use Rattle.std.specs.Prelude.{◌≡◌, true, map, string_bytes, Some, IfSome, option_map};
 ghost use Rattle.ports_index.specs.Seen.{row_seen};
 ghost use Rattle.index_keep.specs.Last.{NamesAsBefore};
 
@@ -37,14 +37,23 @@ pub(crate) fn if_alike(last: Option<LastIndex>, path: &str, row: &Row) -> Option
 }
 
 /// The index of before, if its directories are these.
-pub(crate) fn if_below(last: Option<LastIndex>, directories: &[String]) -> Option<LastIndex>
-    ensures { IfSome result (λ kept. (last ≡ Some kept)
+pub(crate) fn if_below(last: LastIndex, directories: &[String]) -> Option<LastIndex>
+    ensures { IfSome result (λ kept. (last ≡ kept)
         × (map string_bytes kept.paths.directories.items ≡ map string_bytes directories.now)) }
 {
-    let last = last?;
     if last.paths.are_below(directories) {
         Some(last)
     } else {
         None
+    }
+}
+
+/// The outdated rows of the index of before, if it may be kept.
+pub(crate) fn outdated_in(last: &Option<LastIndex>) -> Option<&MemoryRows>
+    ensures { option_map (λ outdated. outdated.now) result ≡ option_map (λ last. last.outdated) last.now }
+{
+    match last {
+        Some(last) => Some(&last.outdated),
+        None => None,
     }
 }

@@ -15,7 +15,7 @@ ghost use Rattle.ports_index.specs.Spending.{no_spending};
 ghost use Rattle.row_text.specs.Seen.{row_seen};
 ghost use Rattle.eval_ask.specs.Asking.{HasBegun, spent_in};
 ghost use Rattle.index_keep.specs.Shown.{ShownRows, shown, no_name, said_by, ShowsSame};
-ghost use Rattle.index_keep.specs.Last.{IsLast};
+ghost use Rattle.index_keep.specs.Last.{IsLastOf};
 ghost use Rattle.index_keep.specs.Profiles.{WritesIn, profiles_of};
 ghost use Rattle.index_keep.specs.Right.{LeavesFiles};
 ghost use Rattle.index_keep.specs.Paths.{IsUpTo, TurnsPath};
@@ -226,14 +226,14 @@ impl<R: PathRows + Drop> Keeper<R> {
             stage,
             directories,
             listed,
-            are_alone,
+            outdated,
         } = last;
         let Stage {
             paths: needed,
             known,
             ..
         } = stage;
-        let others = leave_needed(alloc, &mut self.rows, &needed, are_alone)?;
+        let others = leave_needed(alloc, &mut self.rows, &needed, outdated.is_some())?;
         self.progress = Progress::AtHand(KnownIndex {
             paths: IndexPaths {
                 directories,
@@ -276,7 +276,7 @@ impl<R: PathRows + Drop> Keeper<R> {
         last: Option<KnownIndex>,
         names: BTreeSet<String>,
     ) -> Result<Walk, FilesFault>
-        requires { IfSome last (IsLast (contains_text names)
+        requires { IfSome last (IsLastOf (contains_text names) (view_of F.view files.old).files
             (shown (contains_text names) (R.entries self.old.rows))) }
         ensures walk { IfOk result (λ walk. (settings : Settings) → IsWalk
             (world_of (view_of F.view files.old) settings) (shown no_name (R.entries self.new.rows)) walk) }

@@ -1,11 +1,13 @@
 //! A refresh: the paths on which the index depends, one after another, until each has its row.
-ghost use Rattle.std.specs.Prelude.{◌≡◌, ◌<◌, ℕ, List, if◌then◌else◌, Some, string_bytes, slice_get};
+ghost use Rattle.std.specs.Prelude.{◌≡◌, ◌<◌, ℕ, List, if◌then◌else◌, Some, is_none, length, map, string_bytes, slice_get};
 ghost use Rattle.std.specs.Prelude.{IfOk, IfSome, IfNone, OnOk, OnErr};
 ghost use Rattle.std.specs.Result.{result_err};
 ghost use Rattle.std.specs.Str.{bytes_eq};
 ghost use Rattle.mk_paths.specs.FilesView.{world_of};
 ghost use Rattle.mk_paths.specs.World.{World};
 ghost use Rattle.mk_paths.specs.declared.search_path.Settings.{Settings};
+ghost use Rattle.ports_index.specs.Makefiles.{WereDirectories};
+ghost use Rattle.ports_index.specs.Naming as naming;
 ghost use Rattle.ports_index.specs.Seen.{entries_in};
 ghost use Rattle.ports_index.specs.Seen as seen;
 ghost use Rattle.read_trace.specs.Recording.{view_of};
@@ -13,18 +15,18 @@ ghost use Rattle.std.specs.BTreeSet.{contains_text};
 ghost use Rattle.index_store.specs.Entries.{SameRows, SameProfiles};
 ghost use Rattle.index_keep.specs.Shown.{ShownRows, shown, no_name, ShowsSame};
 ghost use Rattle.index_keep.specs.Right.{LeavesFiles};
-ghost use Rattle.index_keep.specs.Last.{IsLast, Recalls};
+ghost use Rattle.index_keep.specs.Last.{HasEither, IsLastOf};
 ghost use Rattle.index_keep.specs.Walking as walking;
 ghost use Rattle.index_keep.specs.declared.walking.Walk.TheVariants.{Directories, Listed, Needed};
 
 use crate::beginning::{Begun, begin, begin_over};
-use crate::last_index::{LastIndex, if_alike, if_below};
+use crate::last_index::{LastIndex, if_alike, if_below, outdated_in};
 use index_store::PathRows;
 use mk_files::Listing;
 use mk_paths::FilesFault;
 use ports_index::{
-    KnownIndex, KnownRow, MemoryRows, alike_rows_list_the_same, directories, known_rows_are_enough,
-    listed, needed_among,
+    KnownIndex, KnownRow, MemoryRows, alike_rows_list_the_same, are_still_directories, directories,
+    known_rows_are_enough, listed, needed_among,
 };
 use read_trace::Recorder;
 use std::alloc::{AllocError, Global};
@@ -51,26 +53,35 @@ impl Stage {
         }
     }
 
-    /// Goes on to the next path that has no fresh row, if there is one, and gives it. It fails only if memory runs out.
-    fn pass(&mut self, alloc: Global) -> Result<Option<String>, AllocError>
+    /// Goes on to the next path that has no fresh row, if there is one, and gives it. If outdated rows are given, each path
+    /// that has none of them has a fresh row. It fails only if memory runs out.
+    fn pass(
+        &mut self,
+        alloc: Global,
+        outdated: Option<&MemoryRows>,
+    ) -> Result<Option<String>, AllocError>
         requires { walking.HasPassed self.old }
-        ensures { IfOk result (walking.PassesStage self.old self.new) }
+        ensures { IfSome outdated.entry (λ outdated. walking.HasFreshOthers self.old outdated.now)
+            → IfOk result (walking.PassesStage self.old self.new) }
     {
-        let Some(place) = self.lacking() else {
+        let Some(place) = self.lacking(outdated) else {
             return Ok(None);
         };
         self.place = place;
         Ok(Some(String::from_str(alloc, self.paths[place].as_str())?))
     }
 
-    /// The place of the next path that has no fresh row, if there is one.
-    fn lacking(&self) -> Option<usize>
+    /// The place of the next path that has no fresh row, if there is one, by the same outdated rows.
+    fn lacking(&self, outdated: Option<&MemoryRows>) -> Option<usize>
         requires { walking.HasPassed self.now }
-        ensures found { IfSome result (λ place. walking.IsLackingAt self.now place) }
-        ensures none { IfNone result (walking.LacksNone self.now) }
+        ensures inside { IfSome result (λ place. place < length self.now.paths.items) }
+        ensures found { IfSome outdated.entry (λ outdated. walking.HasFreshOthers self.now outdated.now)
+            → IfSome result (walking.IsLackingAt self.now) }
+        ensures none { IfSome outdated.entry (λ outdated. walking.HasFreshOthers self.now outdated.now)
+            → IfNone result (walking.LacksNone self.now) }
     {
         for place in self.place..self.paths.len() {
-            if self.known.get(self.paths[place].as_str()).is_none() {
+            if lacks(&self.known, outdated, self.paths[place].as_str()) {
                 return Some(place);
             }
         }
@@ -82,6 +93,17 @@ impl Stage {
         ensures { OnOk result (walking.KnowsRow (string_bytes path) (seen.known_seen row) self.old self.new) }
     {
         self.known.put(path, row)
+    }
+}
+
+/// Whether a path isn't known to have a row. If outdated rows are given, it has a row, or one of them.
+fn lacks(known: &MemoryRows, outdated: Option<&MemoryRows>, path: &str) -> bool
+    ensures { IfSome outdated.entry (λ outdated. HasEither known.now outdated.now path.now)
+        → result ≡ is_none (entries_in known.now path.now) }
+{
+    match outdated {
+        Some(outdated) if outdated.get(path).is_none() => false,
+        _ => known.get(path).is_none(),
     }
 }
 
@@ -101,8 +123,8 @@ pub(crate) struct LastStage {
     pub(crate) stage: Stage,
     pub(crate) directories: Vec<String>,
     pub(crate) listed: Vec<String>,
-    /// Whether it is known that no other path has a row.
-    pub(crate) are_alone: bool,
+    /// The outdated rows of the index of before, if its lists are kept. Then no other path has a row.
+    pub(crate) outdated: Option<MemoryRows>,
 }
 
 /// A refresh that is under way.
@@ -134,7 +156,7 @@ pub(crate) fn begin_walk<F: Listing + Drop, R: PathRows>(
     last: Option<KnownIndex>,
     changed: &BTreeSet<String>,
 ) -> Result<Walk, FilesFault>
-    requires { IfSome last (IsLast (contains_text changed.now)
+    requires { IfSome last (IsLastOf (contains_text changed.now) (view_of F.view files.old).files
         (shown (contains_text changed.now) (R.entries rows.old))) }
     ensures walk { IfOk result (λ walk. (settings : Settings) → walking.IsWalk
         (world_of (view_of F.view files.old) settings) (shown no_name (R.entries rows.new)) walk) }
@@ -144,17 +166,38 @@ pub(crate) fn begin_walk<F: Listing + Drop, R: PathRows>(
     ensures profiles { SameProfiles (R.profiles rows.old) (R.profiles rows.new) }
     ensures leaves { LeavesFiles (result_err result) (view_of F.view files.old) (view_of F.view files.new) }
 {
-    let paths = directories(alloc, files)?;
     match last {
         Some(last) => {
+            let paths = directories_after(alloc, files, &last.paths.directories, changed)?;
             let Begun { known, last } = begin_over(alloc, rows, last, changed)?;
-            Ok(Walk::Directories(Stage::new(paths, known), Some(last)))
+            let last = if_below(last, &paths);
+            Ok(Walk::Directories(Stage::new(paths, known), last))
         }
         None => {
+            let paths = directories(alloc, files)?;
             let known = begin(alloc, rows, changed)?;
             Ok(Walk::Directories(Stage::new(paths, known), None))
         }
     }
+}
+
+// The directories in which a makefile may be, by those before files of these names changed. They are looked for only if
+// they may be others.
+fn directories_after<F: Listing + Drop>(
+    alloc: Global,
+    files: &mut Recorder<F>,
+    before: &[String],
+    changed: &BTreeSet<String>,
+) -> Result<Vec<String>, FilesFault>
+    ensures ok { WereDirectories (contains_text changed.now) (view_of F.view files.old).files (map string_bytes before.now)
+        → IfOk result (λ found. map string_bytes found.items
+        ≡ naming.directories (view_of F.view files.old).files) }
+    ensures leaves { LeavesFiles (result_err result) (view_of F.view files.old) (view_of F.view files.new) }
+{
+    if are_still_directories(alloc, files, before, changed)? {
+        return Ok(clones_of(alloc, before)?);
+    }
+    directories(alloc, files)
 }
 
 impl Walk {
@@ -215,21 +258,20 @@ fn next_directory(alloc: Global, stage: Stage, last: Option<LastIndex>) -> Resul
 {
     known_rows_are_enough();
     let mut stage = stage;
-    match stage.pass(alloc)? {
+    match stage.pass(alloc, outdated_in(&last))? {
         Some(path) => Ok(Next::Lacks(Walk::Directories(stage, last), path)),
         None => next_listed(alloc, listed_stage(alloc, stage, last)?),
     }
 }
 
-// The stage of the listed paths, after that of the directories. If these are those of the index of before, its list is
-// kept.
+// The stage of the listed paths, after that of the directories. The list of the index of before is kept, if it may be.
 fn listed_stage(
     alloc: Global,
     stage: Stage,
     last: Option<LastIndex>,
 ) -> Result<ListedStage, AllocError>
     ensures begins { IfOk result (λ listed. listed.stage.place ≡ 0) }
-    ensures lists { (rows : ShownRows) → walking.LacksNone stage → IfSome last (Recalls rows stage.known)
+    ensures lists { (rows : ShownRows) → walking.LacksNone stage → IfSome last (walking.IsBelow rows stage)
         → IfOk result (walking.ListsPaths rows stage) }
 {
     alike_rows_list_the_same();
@@ -238,7 +280,6 @@ fn listed_stage(
         known,
         ..
     } = stage;
-    let last = if_below(last, &directories);
     let paths = match &last {
         Some(last) => clones_of(alloc, &last.paths.listed)?,
         None => listed(alloc, &directories, &known)?,
@@ -257,14 +298,13 @@ fn next_listed(alloc: Global, listed: ListedStage) -> Result<Next, AllocError>
 {
     known_rows_are_enough();
     let mut listed = listed;
-    match listed.stage.pass(alloc)? {
+    match listed.stage.pass(alloc, outdated_in(&listed.last))? {
         Some(path) => Ok(Next::Lacks(Walk::Listed(listed), path)),
         None => next_needed(alloc, last_stage(alloc, listed)?),
     }
 }
 
-// The stage of the needed paths, after that of the listed ones. If these are those of the index of before, its list is
-// kept.
+// The stage of the needed paths, after that of the listed ones. The list of the index of before is kept, if it may be.
 fn last_stage(alloc: Global, listed: ListedStage) -> Result<LastStage, AllocError>
     ensures begins { IfOk result (λ last. last.stage.place ≡ 0) }
     ensures lists { (rows : ShownRows) → walking.LacksNone listed.stage → walking.MayBeKept rows listed
@@ -282,19 +322,22 @@ fn last_stage(alloc: Global, listed: ListedStage) -> Result<LastStage, AllocErro
         ..
     } = stage;
     match last {
-        Some(last) => Ok(LastStage {
-            stage: Stage::new(last.paths.needed, known),
-            directories,
-            listed,
-            are_alone: true,
-        }),
+        Some(last) => {
+            let LastIndex { paths, outdated } = last;
+            Ok(LastStage {
+                stage: Stage::new(paths.needed, known),
+                directories,
+                listed,
+                outdated: Some(outdated),
+            })
+        }
         None => {
             let needed = needed_among(alloc, &listed, &known)?;
             Ok(LastStage {
                 stage: Stage::new(needed, known),
                 directories,
                 listed,
-                are_alone: false,
+                outdated: None,
             })
         }
     }
@@ -306,7 +349,7 @@ fn next_needed(alloc: Global, last: LastStage) -> Result<Next, AllocError>
         → IfOk result (walking.IsNext world rows) }
 {
     let mut last = last;
-    match last.stage.pass(alloc)? {
+    match last.stage.pass(alloc, last.outdated.as_ref())? {
         Some(path) => Ok(Next::Lacks(Walk::Needed(last), path)),
         None => Ok(Next::All(last)),
     }

@@ -8,14 +8,14 @@ use Rattle.index_keep.specs.Judging.{Fresh, Outdated}
 use Rattle.index_keep.proofs.ListLemmas.{list_any-map}
 use Rattle.index_keep.proofs.beginning.judge_row.Goals as goal
 
-pub returns-then-has_asked : goal.returns-then-has_asked
-returns-then-has_asked c =
+pub returns-then-is_one_among : goal.returns-then-is_one_among
+returns-then-is_one_among c =
     let test = contains_text c.args.changed.now in
-    let asked = list_any-map test string_bytes c.args.row.names.items ∙ sym (c.has_asked.ensures ∙ ap (list_any (λ name. test (string_bytes name))) c.deref.ensures.value) ∙ c.if-has_asked.true in
+    let asked = list_any-map test string_bytes c.args.row.names.items ∙ sym (c.is_one_among.ensures ∙ ap (list_any (λ name. test (string_bytes name))) c.deref.ensures.value) ∙ c.if-is_one_among.true in
     sym (ap (λ (b : Bool). if b then Outdated else Fresh (said_by (row_seen c.args.row))) asked)
 
 pub returns : goal.returns
 returns c =
     let test = contains_text c.args.changed.now in
-    let asked = list_any-map test string_bytes c.args.row.names.items ∙ sym (c.has_asked.ensures ∙ ap (list_any (λ name. test (string_bytes name))) c.deref.ensures.value) ∙ c.if-has_asked.false in
+    let asked = list_any-map test string_bytes c.args.row.names.items ∙ sym (c.is_one_among.ensures ∙ ap (list_any (λ name. test (string_bytes name))) c.deref.ensures.value) ∙ c.if-is_one_among.false in
     ap Fresh c.known_row.ensures ∙ sym (ap (λ (b : Bool). if b then Outdated else Fresh (said_by (row_seen c.args.row))) asked)

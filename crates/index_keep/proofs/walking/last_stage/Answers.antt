@@ -1,5 +1,5 @@
 -- The needed paths of before are those that the rows say.
-use Rattle.std.proofs.Common.{◌∙◌, ap, refl, subst, sym, IfSome}
+use Rattle.std.proofs.Common.{◌∙◌, ap, refl, subst, sym, IfSome, is_some}
 use Rattle.ports_index.specs.Filling.{is_one_of}
 use Rattle.ports_index.specs.Index.{needed_among}
 use Rattle.ports_index.specs.Seen.{entries_in, known_in, said_in}
@@ -24,5 +24,8 @@ returns-in-Some-clause-lists c = λ rows none may.
       known = λ path. ap (λ (s : Stage). said_in s.known path) c.new.ensures;
       directories = refl;
       listed = refl;
-      alone = λ alone path some. ap (is_one_of path) paths ∙ is.0.alone path some;
+      alone = (
+        λ path some. ap (is_one_of path) paths ∙ is.0.alone path some,
+        λ path one none. ap (λ (s : Stage). is_some (entries_in s.known path)) c.new.ensures ∙ is.0.others path (ap (is_one_of path) (sym paths) ∙ one) none,
+      );
     }

@@ -20,22 +20,6 @@ returns-clause-rows g c = λ path.
     (entries c.if-is_full.self.rows) path
     ∙ ap (option_map (stale_if_asked c.args.name.now)) same
 
-pub returns-clause-kept : goal.returns-clause-kept
-returns-clause-kept g c = λ world kept.
-    let entries = g.R.PathRows.entries in
-    let before = c.if-is_full.self in
-    let name = c.in_ok-name.ensures.ok ∙ c.as_str.ensures.text in
-    let adds = λ (file : List ℕ). c.in_ok-add_change.ensures.changed file ∙ ap (λ bytes. bytes_eq bytes file || changed_in before.progress file) name in
-    let is : IsProgress world (rows_of entries before) before.progress = elim c.if-is_full.branch [
-      | then-is_full+in_ok-write_marks w ↦ rw w.self-is (IsProgress-stopped world (rows_of entries c.args.self.now) _ c.args.self.now.progress _ w.in_ok-write_marks.ensures.progress w.in_ok-write_marks.ensures.rows kept.progress)
-      | else-is_full w ↦ rw w.self-is kept.progress
-    ] in
-    record {
-      rows = AreKept-noted c.args.name.now world world (DifferAt-itself c.args.name.now world) c.path_is_the_same_where_answered.ensures (rows_of entries c.args.self.now) _ (returns-clause-rows g c) kept.rows;
-      progress = IsProgress-noted c.known_rows_are_enough.ensures c.args.name.now world world (rows_of entries before) _ (shown-more c.args.name.now (changed_in before.progress) (changed_in c.add_change.new.self) adds (entries before.rows))
-          before.progress c.add_change.new.self is c.in_ok-add_change.ensures.dropped adds;
-    }
-
 pub returns-clause-other : goal.returns-clause-other
 returns-clause-other g c = λ world other differ kept.
     let entries = g.R.PathRows.entries in
@@ -48,6 +32,10 @@ returns-clause-other g c = λ world other differ kept.
     ] in
     record {
       rows = AreKept-noted c.args.name.now world other differ c.path_is_the_same_where_answered.ensures (rows_of entries c.args.self.now) _ (returns-clause-rows g c) kept.rows;
-      progress = IsProgress-noted c.known_rows_are_enough.ensures c.args.name.now world other (rows_of entries before) _ (shown-more c.args.name.now (changed_in before.progress) (changed_in c.add_change.new.self) adds (entries before.rows))
+      progress = IsProgress-noted c.known_rows_are_enough.ensures c.directories_are_followed.ensures c.args.name.now world other differ (rows_of entries before) _ (shown-more c.args.name.now (changed_in before.progress) (changed_in c.add_change.new.self) adds (entries before.rows))
           before.progress c.add_change.new.self is c.in_ok-add_change.ensures.dropped adds;
     }
+
+-- the file may be as it was
+pub returns-clause-kept : goal.returns-clause-kept
+returns-clause-kept g c = λ world kept. returns-clause-other g c world world (DifferAt-itself c.args.name.now world) kept

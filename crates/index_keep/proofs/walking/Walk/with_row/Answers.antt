@@ -1,13 +1,13 @@
 -- The index of before is recalled as long as each row names the same paths as the outdated one.
-use Rattle.std.proofs.Common.{◌≡◌, subst, IfSome, List, ℕ, Some, string_bytes}
+use Rattle.std.proofs.Common.{◌≡◌, subst, IfSome, List, ℕ, Some, map, string_bytes}
 use Rattle.mk_paths.specs.World.{files_in}
-use Rattle.ports_index.specs.Index.{listed_paths}
+use Rattle.ports_index.specs.Index.{listed_paths, needed_paths}
 use Rattle.ports_index.specs.Naming.{directories}
 use Rattle.ports_index.specs.Seen.{known_seen, row_seen}
 use Rattle.index_keep.specs.Last.{NamesAsBefore}
 use Rattle.index_keep.specs.Walking.{IsWalk}
 use Rattle.index_keep.specs.declared.last_index.LastIndex.{LastIndex}
-use Rattle.index_keep.proofs.MoreLemmas.{listed-more, recalled-more, stage-more}
+use Rattle.index_keep.proofs.MoreLemmas.{alone-more, kept-more, stage-more}
 use Rattle.index_keep.proofs.walking.Walk.with_row.Goals as goal
 
 pub returns-in_ok-know-in-Directories : goal.returns-in_ok-know-in-Directories
@@ -22,7 +22,8 @@ returns-in_ok-know-in-Directories c = λ world old new walk more.
     let alike = subst (λ (at : List ℕ). IfSome c.if_alike-last.result (λ (kept : LastIndex). (c.in-Directories.last ≡ Some kept) × NamesAsBefore at (row_seen c.args.row.row) kept))
     c.as_str.ensures.value c.if_alike-last.ensures in (
       stage-more world path said old new more stage after knows paths far.0,
-      recalled-more world path said old new more stage after knows c.alike_rows_list_the_same.ensures paths far.0 c.in-Directories.last c.if_alike-last.result alike far.1,
+      kept-more world path said old new more stage after knows c.alike_rows_list_the_same.ensures paths far.0 c.in-Directories.last (λ (last : LastIndex). map string_bytes last.paths.directories.items)
+          c.if_alike-last.result alike far.1,
     )
 
 pub returns-in_ok-know-in-Listed : goal.returns-in_ok-know-in-Listed
@@ -39,5 +40,21 @@ returns-in_ok-know-in-Listed c = λ world old new walk more.
     record {
       stage = stage-more world path said old new more stage after knows (listed_paths world) far.stage;
       directories = far.directories;
-      last = listed-more world path said old new more stage after knows c.alike_rows_list_the_same.ensures (listed_paths world) far.stage last c.if_alike-last-in-Listed.result alike far.last;
+      last = kept-more world path said old new more stage after knows c.alike_rows_list_the_same.ensures (listed_paths world) far.stage last (λ (last : LastIndex). map string_bytes last.paths.listed.items)
+          c.if_alike-last-in-Listed.result alike far.last;
+    }
+
+pub returns-in_ok-know-in-Needed : goal.returns-in_ok-know-in-Needed
+returns-in_ok-know-in-Needed c = λ world old new walk more.
+    let far = subst (IsWalk world old) c.in-Needed.is walk in
+    let path = string_bytes c.args.path in
+    let said = known_seen c.args.row in
+    let stage = c.in-Needed.last.stage in
+    let after = c.know-in-Needed.new.self in
+    let knows = c.in_ok-know-in-Needed.ensures in
+    record {
+      stage = stage-more world path said old new more stage after knows (needed_paths world) far.stage;
+      directories = far.directories;
+      listed = far.listed;
+      alone = alone-more world path said old new more stage after knows far.stage c.in-Needed.last.outdated far.alone;
     }
