@@ -1,5 +1,5 @@
 -- The entries of the tables stay right.
-use Rattle.std.proofs.Common.{◌≡◌, ◌∙◌, ap, refl, sym, subst, cond, ◌||◌, Bool, true, false, List, [], ◌∷◌, map, Option, Some, None, option_map, is_some, unwrap_or, inl, inr, Result, Ok, Err, OnOk, OnErr, Global, arith}
+use Rattle.std.proofs.Common.{◌≡◌, ◌∙◌, ap, refl, sym, subst, cond, ◌||◌, Bool, true, false, List, [], ◌∷◌, map, Option, Some, None, option_map, is_some, unwrap_or, inl, inr, Result, Global, arith}
 use Rattle.std.specs.List.{list_any}
 use Rattle.std.specs.Option.{option_map_or}
 use Rattle.std.specs.Map.{lookup, lookup_entry, remove_entry, keys_of}
@@ -9,8 +9,11 @@ use Rattle.std.specs.Str.{bytes_eq}
 use Rattle.std.specs.declared.rc.Rc.{Rc}
 use Rattle.std.specs.declared.vec.Vec.{Vec}
 use Rattle.std.proofs.lemmas.Slice.Eq.{bytes_eq-Decides}
-use Rattle.lru.specs.LruCache.{LruCache, lru_cache, promoted, put_entries}
-use Rattle.lru.proofs.CallerLemmas.{Contains-lookup, Contains-lookup_entry, Contains-remove_entry, Contains-promoted, Contains-put_entries}
+use Rattle.lru.specs.LruCache.{LruCache, promoted}
+use Rattle.eval_cache.specs.declared.purpose.Purpose.{Purpose}
+use Rattle.eval_cache.specs.Keeping.{PutsNew}
+use Rattle.eval_cache.proofs.PlaceLemmas.{Contains-PutsNew}
+use Rattle.lru.proofs.CallerLemmas.{Contains-lookup, Contains-lookup_entry, Contains-remove_entry, Contains-promoted}
 use Rattle.mk_ast.specs.Parsing.{parsed}
 use Rattle.mk_ast.specs.declared.nodes.Makefile.{Makefile}
 use Rattle.mk_ast.specs.declared.parsing.ParseFault.{ParseFault}
@@ -58,32 +61,22 @@ AreKept-promoted evals key right other kept there = right other kept (Contains-p
 pub AreKept-removed : (evals : KeptEvaluations) (key : EvalKey) → AreKept evals → AreKept (remove_entry (key_eq key) evals)
 AreKept-removed evals key right other kept there = right other kept (Contains-remove_entry (key_eq key) evals (other, kept) there)
 
-AreKept-put : (evals : LruCache EvalKey (Vec (Rc Evaluation Global) Global)) (key : EvalKey) (kept : Vec (Rc Evaluation Global) Global)
-    → AreKept evals.entries → AreRight (key_of key) kept.items → AreShort kept.items → AreKept (put_entries key_eq evals key kept)
-AreKept-put evals key kept right here short other value there = elim (Contains-put_entries key_eq evals key kept (other, value) there) [
-  | inl old ↦ right other value old
-  | inr new ↦ subst (λ v. AreRight (key_of other) v.items × AreShort v.items) (sym new.0) (
-    subst (λ k. AreRight k kept.items) (elim new.1 [
-      | inl same ↦ sym (ap key_of same)
-      | inr was ↦ key_eq-≡ key other was.2
-    ]) here,
-    short,
-  )
-]
-
 -- the evaluations that are kept under a key, if any are, are right
 pub items-AreRight : (evals : KeptEvaluations) (key : EvalKey) (older : Option (Vec (Rc Evaluation Global) Global))
     → AreKept evals → older ≡ kept_at evals key → AreRight (key_of key) (items_of older) × AreShort (items_of older)
 items-AreRight evals key None right found = (tt, (tt, omega arith))
 items-AreRight evals key (Some kept) right found = kept_at-AreRight evals key kept right (sym found)
 
--- evaluations are put under a key, if there is memory for that
-pub AreKept-after-put : {A E : Type 0} (result : Result A E) (old new : LruCache EvalKey (Vec (Rc Evaluation Global) Global)) (key : EvalKey)
-    (kept : Vec (Rc Evaluation Global) Global) → AreKept old.entries → AreRight (key_of key) kept.items → AreShort kept.items
-    → OnOk result (new ≡ lru_cache (put_entries key_eq old key kept) old.cap) → OnErr result (new ≡ old) → AreKept new.entries
-AreKept-after-put (Ok value) old new key kept right here short ok err =
-    subst (λ cache. AreKept cache.entries) (sym ok) (AreKept-put old key kept right here short)
-AreKept-after-put (Err fault) old new key kept right here short ok err = subst (λ cache. AreKept cache.entries) (sym err) right
+-- evaluations are put under a key that has none, if there is memory for that
+pub AreKept-put : (purpose : Purpose) (old new : LruCache EvalKey (Vec (Rc Evaluation Global) Global)) (key : EvalKey) (kept : Vec (Rc Evaluation Global) Global)
+    → AreKept old.entries → AreRight (key_of key) kept.items → AreShort kept.items → PutsNew purpose (key, kept) old new → AreKept new.entries
+AreKept-put purpose old new key kept right here short puts other value there = elim (Contains-PutsNew purpose (key, kept) old new (other, value) puts there) [
+  | inl was ↦ right other value was
+  | inr is ↦ (
+    subst (λ (e : EvalKey × Vec (Rc Evaluation Global) Global). AreRight (key_of e.0) e.1.items) is here,
+    subst (λ (e : EvalKey × Vec (Rc Evaluation Global) Global). AreShort e.1.items) is short,
+  )
+]
 
 -- the traces that a cache shows are those of the evaluations under a key
 pub traces-of-kept : (evals : KeptEvaluations) (key : EvalKey) (kept : Option (Vec (Rc Evaluation Global) Global)) → kept ≡ kept_at evals key
@@ -167,20 +160,11 @@ lookup-AreTrees parses key parse trees found =
 pub AreTrees-promoted : (parses : KeptParses) (key : ContentKey) → AreTrees parses → AreTrees (promoted (content_eq key) parses)
 AreTrees-promoted parses key trees other parse there = trees other parse (Contains-promoted (content_eq key) parses (other, parse) there)
 
-AreTrees-put : (parses : LruCache ContentKey (Result (Rc Makefile Global) ParseFault)) (key : ContentKey) (parse : Result (Rc Makefile Global) ParseFault)
-    → AreTrees parses.entries → tree_in parse ≡ parsed key.content → AreTrees (put_entries content_eq parses key parse)
-AreTrees-put parses key parse trees here other value there = elim (Contains-put_entries content_eq parses key parse (other, value) there) [
-  | inl old ↦ trees other value old
-  | inr new ↦ ap tree_in new.0 ∙ here ∙ ap parsed (elim new.1 [
-    | inl same ↦ sym (ap (λ k. k.content) same)
-    | inr was ↦ (bytes_eq-Decides key.content other.content).0 was.2
-  ])
+-- a parse is put under its content, for which none is kept, if there is memory for that
+pub AreTrees-put : (purpose : Purpose) (old new : LruCache ContentKey (Result (Rc Makefile Global) ParseFault)) (key : ContentKey)
+    (parse : Result (Rc Makefile Global) ParseFault) → AreTrees old.entries → tree_in parse ≡ parsed key.content → PutsNew purpose (key, parse) old new
+    → AreTrees new.entries
+AreTrees-put purpose old new key parse trees here puts other value there = elim (Contains-PutsNew purpose (key, parse) old new (other, value) puts there) [
+  | inl was ↦ trees other value was
+  | inr is ↦ subst (λ (e : ContentKey × Result (Rc Makefile Global) ParseFault). tree_in e.1 ≡ parsed e.0.content) is here
 ]
-
--- a parse is put under its content, if there is memory for that
-pub AreTrees-after-put : {A E : Type 0} (result : Result A E) (old new : LruCache ContentKey (Result (Rc Makefile Global) ParseFault)) (key : ContentKey)
-    (parse : Result (Rc Makefile Global) ParseFault) → AreTrees old.entries → tree_in parse ≡ parsed key.content
-    → OnOk result (new ≡ lru_cache (put_entries content_eq old key parse) old.cap) → OnErr result (new ≡ old) → AreTrees new.entries
-AreTrees-after-put (Ok value) old new key parse trees here ok err =
-    subst (λ cache. AreTrees cache.entries) (sym ok) (AreTrees-put old key parse trees here)
-AreTrees-after-put (Err fault) old new key parse trees here ok err = subst (λ cache. AreTrees cache.entries) (sym err) trees

@@ -1,4 +1,5 @@
 pub mod KeyLemmas
+pub mod PlaceLemmas
 pub mod EntryLemmas
 pub mod LookLemmas
 pub mod OrderLemmas

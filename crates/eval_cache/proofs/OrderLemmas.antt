@@ -1,16 +1,15 @@
 -- What is seen of the tables has their order.
-use Rattle.std.proofs.Common.{◌≡◌, ◌∙◌, ap, refl, sym, cond, ℕ, ◌-◌, Bool, true, false, List, [], ◌∷◌, map, take, Option, Some, None, option_map, is_some, inl, inr, ◌⊎◌, Result, Ok, Err, OnOk, OnErr, Global}
+use Rattle.std.proofs.Common.{◌≡◌, ◌∙◌, ap, refl, sym, cond, ℕ, Bool, true, false, List, [], ◌∷◌, map, take, Option, Some, None, option_map, is_some, inl, inr, ◌⊎◌, Result, Global}
 use Rattle.turn_amounts.specs.declared.TheConstants.{MOST_EVALUATIONS}
 use Rattle.std.specs.List.{AllByRecursion, IsDistinct, list_any}
 use Rattle.std.specs.Map.{lookup, lookup_entry, remove_entry, keys_of}
 use Rattle.std.specs.Option.{option_map_or}
-use Rattle.std.proofs.lemmas.List.{take-map}
 use Rattle.std.proofs.lemmas.Bool.{true≢false}
 use Rattle.std.proofs.lemmas.Slice.Eq.{bytes_eq-Decides}
 use Rattle.std.specs.Str.{bytes_eq}
 use Rattle.std.specs.declared.rc.Rc.{Rc}
 use Rattle.std.specs.declared.vec.Vec.{Vec}
-use Rattle.lru.specs.LruCache.{LruCache, lru_cache, promoted, put_entries}
+use Rattle.lru.specs.LruCache.{LruCache, lru_cache, promoted}
 use Rattle.lru.proofs.CallerLemmas.{Contains-lookup_entry}
 use Rattle.mk_ast.specs.declared.nodes.Makefile.{Makefile}
 use Rattle.mk_ast.specs.declared.parsing.ParseFault.{ParseFault}
@@ -22,8 +21,10 @@ use Rattle.eval_cache.specs.declared.key.EvalKey.{EvalKey}
 use Rattle.eval_cache.specs.Keys.{Key, key_of, same_key}
 use Rattle.eval_cache.specs.Cache.{CacheValue, traces_at, one_more, count_parse}
 use Rattle.eval_cache.specs.Held.{KeptParses, KeptEvaluations, contents_of, traces_of, traces_by_key, items_of, HasFewAnswers, AreNewest}
-use Rattle.eval_cache.specs.Keeping.{without, Keeps, HandsOut}
+use Rattle.eval_cache.specs.declared.purpose.Purpose.{Purpose}
+use Rattle.eval_cache.specs.Keeping.{placed, PutsNew, without, Keeps, HandsOut}
 use Rattle.eval_cache.proofs.KeyLemmas.{key_eq, key_eq-same_key, key_eq-≡, ≡-key_eq}
+use Rattle.eval_cache.proofs.PlaceLemmas.{placed-shown}
 use Rattle.eval_cache.proofs.EntryLemmas.{content_eq, kept_at, traces-of-kept, is_some-parse}
 
 -- ---- entries that are seen through a function of keys and one of values
@@ -107,62 +108,58 @@ module _ {K X : Type 0} (eq : K → K → Bool) (test : K → Bool) (only : (one
 one_key : (key one other : EvalKey) → key_eq key one ≡ true → key_eq key other ≡ true → key_eq one other ≡ true
 one_key key one other is too = ≡-key_eq one other (sym (key_eq-≡ key one is) ∙ key_eq-≡ key other too)
 
-put-new : {K X : Type 0} (eq : K → K → Bool) (cache : LruCache K X) (key : K) (value : X) → lookup_entry (eq key) cache.entries ≡ None
-    → put_entries eq cache key value ≡ (key, value) ∷ take (cache.cap - 1) cache.entries
-put-new eq cache key value none =
-    ap (λ found. option_map_or (λ e. (e.0, value) ∷ remove_entry (eq key) cache.entries) found ((key, value) ∷ take (cache.cap - 1) cache.entries)) none
+-- so none of its evaluations are left after they were taken out
+pub none-left : (old middle : LruCache EvalKey (Vec (Rc Evaluation Global) Global)) (key : EvalKey) → IsDistinct key_eq (keys_of old.entries)
+    → middle ≡ lru_cache (remove_entry (key_eq key) old.entries) old.cap → lookup_entry (key_eq key) middle.entries ≡ None
+none-left old middle key distinct removed =
+    ap (λ (c : LruCache EvalKey (Vec (Rc Evaluation Global) Global)). lookup_entry (key_eq key) c.entries) removed
+    ∙ lookup_entry-removed key_eq (key_eq key) (one_key key) old.entries distinct
 
 -- The evaluations of a key were taken out, and others put there, if there is memory for that. What is seen is that the
--- traces of these stand first, or that those of the key are gone.
-pub traces-put : {A E : Type 0} (result : Result A E) (old middle new : LruCache EvalKey (Vec (Rc Evaluation Global) Global)) (key : EvalKey)
-    (kept : Vec (Rc Evaluation Global) Global) → IsDistinct key_eq (keys_of old.entries) → middle ≡ lru_cache (remove_entry (key_eq key) old.entries) old.cap
-    → OnOk result (new ≡ lru_cache (put_entries key_eq middle key kept) middle.cap) → OnErr result (new ≡ middle)
-    → (traces_by_key new.entries ≡ (key_of key, traces_of kept.items) ∷ take (old.cap - 1) (remove_entry (same_key (key_of key)) (traces_by_key old.entries)))
+-- traces of these are new, or that those of the key are gone.
+pub traces-put : (purpose : Purpose) (old middle new : LruCache EvalKey (Vec (Rc Evaluation Global) Global)) (key : EvalKey) (kept : Vec (Rc Evaluation Global) Global)
+    → middle ≡ lru_cache (remove_entry (key_eq key) old.entries) old.cap → PutsNew purpose (key, kept) middle new
+    → (traces_by_key new.entries ≡ placed purpose old.cap (key_of key, traces_of kept.items) (remove_entry (same_key (key_of key)) (traces_by_key old.entries)))
     ⊎ (traces_by_key new.entries ≡ remove_entry (same_key (key_of key)) (traces_by_key old.entries))
-traces-put (Ok value) old middle new key kept distinct removed ok err =
-    let none : lookup_entry (key_eq key) middle.entries ≡ None =
-    ap (λ (c : LruCache EvalKey (Vec (Rc Evaluation Global) Global)). lookup_entry (key_eq key) c.entries) removed
-    ∙ lookup_entry-removed key_eq (key_eq key) (one_key key) old.entries distinct in
+traces-put purpose old middle new key kept removed (inl put) =
     inl (
-    ap (λ (c : LruCache EvalKey (Vec (Rc Evaluation Global) Global)). traces_by_key c.entries) ok
-    ∙ ap traces_by_key (put-new key_eq middle key kept none)
-    ∙ ap (λ (c : LruCache EvalKey (Vec (Rc Evaluation Global) Global)). (key_of key, traces_of kept.items) ∷ traces_by_key (take (c.cap - 1) c.entries)) removed
-    ∙ ap (λ rest. (key_of key, traces_of kept.items) ∷ rest) (sym (take-map (λ (e : EvalKey × Vec (Rc Evaluation Global) Global). (key_of e.0, traces_of e.1.items)) (old.cap - 1) (remove_entry (key_eq key) old.entries)))
-    ∙ ap (λ rest. (key_of key, traces_of kept.items) ∷ take (old.cap - 1) rest) (traces-removed old.entries key)
+    ap (λ (c : LruCache EvalKey (Vec (Rc Evaluation Global) Global)). traces_by_key c.entries) put
+    ∙ ap (λ (c : LruCache EvalKey (Vec (Rc Evaluation Global) Global)). traces_by_key (placed purpose c.cap (key, kept) c.entries)) removed
+    ∙ placed-shown (λ (e : EvalKey × Vec (Rc Evaluation Global) Global). (key_of e.0, traces_of e.1.items)) purpose old.cap (key, kept) (remove_entry (key_eq key) old.entries)
+    ∙ ap (placed purpose old.cap (key_of key, traces_of kept.items)) (traces-removed old.entries key)
     )
-traces-put (Err fault) old middle new key kept distinct removed ok err =
-    inr (ap (λ (c : LruCache EvalKey (Vec (Rc Evaluation Global) Global)). traces_by_key c.entries) (err ∙ removed) ∙ traces-removed old.entries key)
+traces-put purpose old middle new key kept removed (inr same) =
+    inr (ap (λ (c : LruCache EvalKey (Vec (Rc Evaluation Global) Global)). traces_by_key c.entries) (same ∙ removed) ∙ traces-removed old.entries key)
 
-cap-put : {A E : Type 0} (result : Result A E) (old middle new : LruCache EvalKey (Vec (Rc Evaluation Global) Global)) (key : EvalKey)
-    (kept : Vec (Rc Evaluation Global) Global) → middle ≡ lru_cache (remove_entry (key_eq key) old.entries) old.cap
-    → OnOk result (new ≡ lru_cache (put_entries key_eq middle key kept) middle.cap) → OnErr result (new ≡ middle) → new.cap ≡ old.cap
-cap-put (Ok value) old middle new key kept removed ok err =
-    ap (λ (c : LruCache EvalKey (Vec (Rc Evaluation Global) Global)). c.cap) ok ∙ ap (λ (c : LruCache EvalKey (Vec (Rc Evaluation Global) Global)). c.cap) removed
-cap-put (Err fault) old middle new key kept removed ok err = ap (λ (c : LruCache EvalKey (Vec (Rc Evaluation Global) Global)). c.cap) (err ∙ removed)
+cap-put : (purpose : Purpose) (old middle new : LruCache EvalKey (Vec (Rc Evaluation Global) Global)) (key : EvalKey) (kept : Vec (Rc Evaluation Global) Global)
+    → middle ≡ lru_cache (remove_entry (key_eq key) old.entries) old.cap → PutsNew purpose (key, kept) middle new → new.cap ≡ old.cap
+cap-put purpose old middle new key kept removed (inl put) =
+    ap (λ (c : LruCache EvalKey (Vec (Rc Evaluation Global) Global)). c.cap) put ∙ ap (λ (c : LruCache EvalKey (Vec (Rc Evaluation Global) Global)). c.cap) removed
+cap-put purpose old middle new key kept removed (inr same) = ap (λ (c : LruCache EvalKey (Vec (Rc Evaluation Global) Global)). c.cap) (same ∙ removed)
 
 -- a cache whose evaluations are these
-abbrev pub with_evals : List (List ℕ) → ℕ → Counts → LruCache EvalKey (Vec (Rc Evaluation Global) Global) → CacheValue
-with_evals contents parses counts evals = record {
+abbrev pub with_evals : List (List ℕ) → ℕ → Counts → Purpose → LruCache EvalKey (Vec (Rc Evaluation Global) Global) → CacheValue
+with_evals contents parses counts purpose evals = record {
   contents = contents;
   traces = traces_by_key evals.entries;
   sizes = record { parses = parses; keys = evals.cap };
   counts = counts;
+  purpose = purpose;
 }
 
 -- the newest evaluations of a key were put in place of the older ones
-pub Keeps-put : {A E : Type 0} (result : Result A E) (contents : List (List ℕ)) (parses : ℕ) (counts : Counts)
+pub Keeps-put : (contents : List (List ℕ)) (parses : ℕ) (counts : Counts) (purpose : Purpose)
     (old middle new : LruCache EvalKey (Vec (Rc Evaluation Global) Global)) (key : EvalKey) (evaluation : Evaluation)
     (older : Option (Vec (Rc Evaluation Global) Global)) (kept : Vec (Rc Evaluation Global) Global)
     → HasFewAnswers evaluation.trace → older ≡ kept_at old.entries key → AreNewest evaluation (items_of older) kept.items
-    → IsDistinct key_eq (keys_of old.entries) → middle ≡ lru_cache (remove_entry (key_eq key) old.entries) old.cap
-    → OnOk result (new ≡ lru_cache (put_entries key_eq middle key kept) middle.cap) → OnErr result (new ≡ middle)
-    → Keeps (key_of key) evaluation.trace (with_evals contents parses counts old) (with_evals contents parses counts new)
-Keeps-put result contents parses counts old middle new key evaluation older kept few found newest distinct removed ok err =
+    → middle ≡ lru_cache (remove_entry (key_eq key) old.entries) old.cap → PutsNew purpose (key, kept) middle new
+    → Keeps (key_of key) evaluation.trace (with_evals contents parses counts purpose old) (with_evals contents parses counts purpose new)
+Keeps-put contents parses counts purpose old middle new key evaluation older kept few found newest removed puts =
     let first : List (List Question) → List (Key × List (List Question)) =
-    λ traces. (key_of key, traces) ∷ take (old.cap - 1) (remove_entry (same_key (key_of key)) (traces_by_key old.entries)) in
-    let before : traces_of (items_of older) ≡ traces_at (with_evals contents parses counts old) (key_of key) = traces-of-kept old.entries key older found in
+    λ traces. placed purpose old.cap (key_of key, traces) (remove_entry (same_key (key_of key)) (traces_by_key old.entries)) in
+    let before : traces_of (items_of older) ≡ traces_at (with_evals contents parses counts purpose old) (key_of key) = traces-of-kept old.entries key older found in
     record {
-      few = λ _. elim (traces-put result old middle new key kept distinct removed ok err) [
+      few = λ _. elim (traces-put purpose old middle new key kept removed puts) [
         | inl put ↦ elim newest.traces [
           | inl four ↦ inl (put ∙ ap first (four ∙ ap (λ traces. take MOST_EVALUATIONS (evaluation.trace ∷ traces)) before))
           | inr three ↦ inr (inl (put ∙ ap first (three ∙ ap (take 3) before)))
@@ -170,8 +167,8 @@ Keeps-put result contents parses counts old middle new key evaluation older kept
         | inr gone ↦ inr (inr gone)
       ];
       other = λ many. absurd (many few);
-      rest = ap (λ keys. record { contents = contents; traces = traces_by_key new.entries; sizes = record { parses = parses; keys = keys }; counts = counts })
-          (cap-put result old middle new key kept removed ok err);
+      rest = ap (λ keys. record { contents = contents; traces = traces_by_key new.entries; sizes = record { parses = parses; keys = keys }; counts = counts; purpose = purpose })
+          (cap-put purpose old middle new key kept removed puts);
     }
 
 -- ---- contents
@@ -215,35 +212,38 @@ is-none : {X : Type 0} (found : Option X) → is_some found ≡ false → found 
 is-none None isnt = refl
 is-none (Some value) isnt = absurd (true≢false isnt)
 
--- so does that of a new one, if there is memory to keep it
-pub contents-put : {A E : Type 0} (result : Result A E) (old new : LruCache ContentKey (Result (Rc Makefile Global) ParseFault)) (key : ContentKey)
-    (parse : Result (Rc Makefile Global) ParseFault) → is_some (lookup (content_eq key) old.entries) ≡ false
-    → OnOk result (new ≡ lru_cache (put_entries content_eq old key parse) old.cap) → OnErr result (new ≡ old)
-    → (contents_of new.entries ≡ key.content ∷ take (old.cap - 1) (contents_of old.entries)) ⊎ (contents_of new.entries ≡ contents_of old.entries)
-contents-put (Ok value) old new key parse none ok err =
+-- nothing is kept for a content that isn't among those seen
+pub no-parse : (parses : KeptParses) (key : ContentKey) → is_some (lookup (content_eq key) parses) ≡ false → lookup_entry (content_eq key) parses ≡ None
+no-parse parses key none = is-none _ (is_some-entry (content_eq key) parses ∙ none)
+
+-- the content of a new parse is new, if there is memory to keep it
+pub contents-put : (purpose : Purpose) (old new : LruCache ContentKey (Result (Rc Makefile Global) ParseFault)) (key : ContentKey)
+    (parse : Result (Rc Makefile Global) ParseFault) → PutsNew purpose (key, parse) old new
+    → (contents_of new.entries ≡ placed purpose old.cap key.content (contents_of old.entries)) ⊎ (contents_of new.entries ≡ contents_of old.entries)
+contents-put purpose old new key parse (inl put) =
     inl (
-    ap (λ (c : LruCache ContentKey (Result (Rc Makefile Global) ParseFault)). contents_of c.entries) ok
-    ∙ ap contents_of (put-new content_eq old key parse (is-none _ (is_some-entry (content_eq key) old.entries ∙ none)))
-    ∙ ap (λ rest. key.content ∷ rest) (sym (take-map (λ (e : ContentKey × Result (Rc Makefile Global) ParseFault). e.0.content) (old.cap - 1) old.entries))
+    ap (λ (c : LruCache ContentKey (Result (Rc Makefile Global) ParseFault)). contents_of c.entries) put
+    ∙ placed-shown (λ (e : ContentKey × Result (Rc Makefile Global) ParseFault). e.0.content) purpose old.cap (key, parse) old.entries
     )
-contents-put (Err fault) old new key parse none ok err =
-    inr (ap (λ (c : LruCache ContentKey (Result (Rc Makefile Global) ParseFault)). contents_of c.entries) err)
+contents-put purpose old new key parse (inr same) =
+    inr (ap (λ (c : LruCache ContentKey (Result (Rc Makefile Global) ParseFault)). contents_of c.entries) same)
 
 -- a cache whose parses are these
-abbrev pub with_parses : List (Key × List (List Question)) → ℕ → Counts → LruCache ContentKey (Result (Rc Makefile Global) ParseFault) → CacheValue
-with_parses traces keys counts parses = record {
+abbrev pub with_parses : List (Key × List (List Question)) → ℕ → Counts → Purpose → LruCache ContentKey (Result (Rc Makefile Global) ParseFault) → CacheValue
+with_parses traces keys counts purpose parses = record {
   contents = contents_of parses.entries;
   traces = traces;
   sizes = record { parses = parses.cap; keys = keys };
   counts = counts;
+  purpose = purpose;
 }
 
 -- a parse that was kept was used
-pub HandsOut-kept : (traces : List (Key × List (List Question))) (keys : ℕ) (counts more : Counts)
+pub HandsOut-kept : (traces : List (Key × List (List Question))) (keys : ℕ) (counts more : Counts) (purpose : Purpose)
     (old new : LruCache ContentKey (Result (Rc Makefile Global) ParseFault)) (key : ContentKey) → is_some (lookup (content_eq key) old.entries) ≡ true
     → new ≡ lru_cache (promoted (content_eq key) old.entries) old.cap → more ≡ record counts { parses = one_more counts.parses }
-    → HandsOut key.content (with_parses traces keys counts old) (with_parses traces keys more new)
-HandsOut-kept traces keys counts more old new key there first counted =
+    → HandsOut key.content (with_parses traces keys counts purpose old) (with_parses traces keys more purpose new)
+HandsOut-kept traces keys counts more purpose old new key there first counted =
     let held : list_any (bytes_eq key.content) (contents_of old.entries) ≡ true = sym (is_some-parse old.entries key) ∙ there in
     record {
       kept = λ _. ap (λ (c : LruCache ContentKey (Result (Rc Makefile Global) ParseFault)). contents_of c.entries) first ∙ contents-first old.entries key there;
@@ -251,4 +251,5 @@ HandsOut-kept traces keys counts more old new key there first counted =
       counts = counted ∙ ap (λ b. count_parse b counts) (sym held);
       traces = refl;
       sizes = ap (λ (c : LruCache ContentKey (Result (Rc Makefile Global) ParseFault)). record { parses = c.cap; keys = keys }) first;
+      purpose = refl;
     }

@@ -7,6 +7,8 @@ use Rattle.mk_paths.specs.FilesView.{Question}
 use Rattle.eval_cache.specs.declared.counting.Counts.{Counts}
 use Rattle.eval_cache.specs.declared.looking.Look.{Look}
 use Rattle.eval_cache.specs.declared.looking.Look.TheVariants.{Hit, Miss}
+use Rattle.eval_cache.specs.declared.purpose.Purpose.{Purpose}
+use Rattle.eval_cache.specs.declared.purpose.Purpose.TheVariants.{Asking}
 use Rattle.eval_cache.specs.Keys.{Key, same_key}
 
 -- how many parses may be kept, and under how many keys evaluations may be
@@ -15,25 +17,28 @@ pub record Sizes : Type 0 where
   pub keys : ℕ
 
 -- The contents whose parses are kept, and the traces of the evaluations that are kept under each key, with
--- the newest first. How many of each there may be, and how often something that was kept was handed out.
+-- the newest first. How many of each there may be, how often something that was kept was handed out, and what the
+-- cache is used for.
 pub record CacheValue : Type 0 where
   pub contents : List (List ℕ)
   pub traces : List (Key × List (List Question))
   pub sizes : Sizes
   pub counts : Counts
+  pub purpose : Purpose
 
 -- a size that is asked for, of which 0 counts as 1
 abbrev pub size_for : ℕ → ℕ
 size_for zero = 1
 size_for (suc size) = suc size
 
--- a cache of these sizes that holds nothing, and has handed out nothing
+-- a cache of these sizes that holds nothing, and has handed out nothing; it is used for asking
 abbrev pub empty_cache : ℕ → ℕ → CacheValue
 empty_cache parses keys = record {
   contents = [];
   traces = [];
   sizes = record { parses = size_for parses; keys = size_for keys };
   counts = record { parses = 0; evals = 0 };
+  purpose = Asking;
 }
 
 -- the parse of a content is kept

@@ -16,6 +16,7 @@ use crate::contents::ContentKey;
 use crate::counting::Counts;
 use crate::key::EvalKey;
 use crate::looking::{Look, first_agreeing};
+use crate::purpose::{Purpose, put_new};
 use lru::LruCache;
 use mk_ast::{Makefile, ParseError, ParseFault, parse};
 use mk_eval::Parses;
@@ -36,9 +37,13 @@ type Parse = Result<Rc<Makefile>, ParseFault>;
 /// A parse that is kept is the tree of its content, or its fault. An evaluation that is kept is right in
 /// every world with its key's settings that agrees with its trace: there the makefile means the same, at
 /// the same cost, and its evaluation asks the same.
+///
+/// If there are too many, what stands last is dropped. What is kept or used goes to the front, so what was used the
+/// longest time ago stands last. But if a walk fills the cache with something new, that stands last ([`Purpose`]).
 #[derive(Drop)]
 pub struct EvalCache {
     alloc: Global,
+    purpose: Purpose,
     parses: LruCache<ContentKey, Parse>,
     evals: LruCache<EvalKey, Vec<Rc<Evaluation>>>,
     counts: Counts,
@@ -55,6 +60,7 @@ impl Model for EvalCache {
       traces = traces_by_key cache.evals.entries;
       sizes = record { parses = cache.parses.cap; keys = cache.evals.cap };
       counts = cache.counts;
+      purpose = cache.purpose;
     } };
 
     ghost invariant = { λ cache. IsRightCache cache.parses.entries cache.evals.entries };
@@ -62,12 +68,13 @@ impl Model for EvalCache {
 
 impl EvalCache {
     /// A cache that holds nothing yet, and never more than so many parses and the evaluations of so many
-    /// keys. A size of 0 counts as 1. It fails only if memory runs out.
+    /// keys. A size of 0 counts as 1. It is used for asking at first. It fails only if memory runs out.
     pub fn new(alloc: Global, parses: usize, evals: usize) -> Result<EvalCache, AllocError>
         ensures { IfOk result (λ cache. cache ≡ empty_cache parses evals) }
     {
         Ok(EvalCache {
             alloc,
+            purpose: Purpose::Asking,
             parses: LruCache::sparse(alloc, capacity(parses))?,
             evals: LruCache::sparse(alloc, capacity(evals))?,
             counts: Counts {
@@ -75,6 +82,14 @@ impl EvalCache {
                 evals: 0,
             },
         })
+    }
+
+    /// Says what the cache is used for from now on. What is kept stays as it is.
+    pub fn serve(&mut self, purpose: Purpose)
+        ensures purpose { self.new ≡ record self.old { purpose = purpose } }
+        ensures uses { UsesCache self.old self.new }
+    {
+        self.purpose = purpose;
     }
 
     /// How many parses are kept.
@@ -127,6 +142,7 @@ impl EvalCache {
         ensures err { OnErr result (self.new ≡ self.old) }
         ensures traces { (other : Key) → traces_at self.new other ≡ traces_at self.old other }
         ensures parses { self.new.contents ≡ self.old.contents }
+        ensures purpose { self.new.purpose ≡ self.old.purpose }
         ensures uses { UsesCache self.old self.new }
     {
         let (found, checked) = self.kept_evaluation(key, files)?;
@@ -142,10 +158,13 @@ impl EvalCache {
     }
 
     /// Keeps an evaluation that is right for the key, as the newest one there. The oldest one goes if there
-    /// are more than four. The key is then the one that was used last, and the key that was used the longest time
-    /// ago goes if there are too many. If there is no memory to keep it, it isn't kept, and others of the key may
-    /// go. It isn't kept either if its trace has no answer, or more than a trace may have. Right for a key is what its makefile
-    /// means in some files, with each question that this evaluation asks there and its answer.
+    /// are more than four. If there are too many keys, the one that stands last is dropped. The key goes to the front,
+    /// as the one that was used last. But if a walk fills the cache with it, it goes to the end: it is dropped next,
+    /// unless it is used before.
+    ///
+    /// If there is no memory to keep it, it isn't kept, and others of the key may go. It isn't kept either if its
+    /// trace has no answer, or more than a trace may have. Right for a key is what its makefile means in some files,
+    /// with each question that this evaluation asks there and its answer.
     pub fn keep(&mut self, key: EvalKey, evaluation: Rc<Evaluation>)
         requires { IsRight (key_of key) evaluation.value }
         ensures keeps { Keeps (key_of key) evaluation.value.trace self.old self.new }
@@ -159,7 +178,7 @@ impl EvalCache {
         let _all = self.evals.len(); // no key is there twice
         let older = self.evals.pop(&key);
         let kept = with_newest(self.alloc, older, evaluation);
-        let _kept = self.evals.put(key, kept);
+        put_new(&mut self.evals, self.purpose, key, kept);
     }
 
     // The parse that is kept for this content, or else a new one, which is then kept if there is memory for
@@ -198,7 +217,7 @@ impl EvalCache {
         }
     }
 
-    // Keeps the parse of a content, if there is memory for that.
+    // Keeps the parse of a content, if there is memory for that. If a walk fills the cache with it, it stands last.
     fn keep_parse(&mut self, key: ContentKey, parse: &Parse)
         requires tree { tree_in parse.now ≡ parsed key.content }
         requires anew { holds_parse self.old key.content ≡ false }
@@ -206,11 +225,12 @@ impl EvalCache {
         ensures counts { self.new.counts ≡ self.old.counts }
         ensures traces { self.new.traces ≡ self.old.traces }
         ensures sizes { self.new.sizes ≡ self.old.sizes }
+        ensures purpose { self.new.purpose ≡ self.old.purpose }
     {
         let Ok(parse) = share(parse) else {
             return;
         };
-        let _kept = self.parses.put(key, parse);
+        put_new(&mut self.parses, self.purpose, key, parse);
     }
 
     // The first evaluation that is kept under the key and whose trace agrees with the files, and how many
@@ -247,8 +267,10 @@ impl Parses for EvalCache {
     ghost goes_on = { AsksParses-on };
 
     /// The tree of a file with this content, or its fault: the one that is kept, or else a new one, which
-    /// is then kept if there is memory for that. It fails only if memory for the tree runs out, or if no
-    /// more can share it.
+    /// is then kept if there is memory for that. If there are too many, the one that stands last is dropped. The one
+    /// that is handed out goes to the front. But if a walk fills the cache with a new one, it goes to the end: it is
+    /// dropped next, unless it is used before. It fails only if memory for the tree runs out, or if no more can share
+    /// it.
     fn parsed(&mut self, content: &Content) -> Result<Parse, AllocError>
         ensures tree { IfOk result (λ found. tree_in found ≡ parsed content.now) }
         ensures left { AsksParses self.old self.new }

@@ -1,5 +1,5 @@
 // Contents as keys of parses.
-ghost use Rattle.std.specs.Prelude.{nat_eq};
+ghost use Rattle.std.specs.Prelude.{◌≡◌, nat_eq};
 ghost use Rattle.std.proofs.Common.{rules};
 ghost use Rattle.std.specs.Cmp.Lexicographic.{pointwise};
 ghost use Rattle.std.specs.Cmp.Rules.{comparing, hashing};
@@ -7,12 +7,23 @@ ghost use Rattle.std.specs.Hash as fed;
 ghost use Rattle.std.specs.Ordering.{on};
 
 use mk_files::Content;
+use std::alloc::AllocError;
 use std::hash::{Hash, Hasher};
 
 /// A content by which its parse is kept. Contents with the same bytes are the same key.
 #[derive(Debug, Drop)]
 pub(crate) struct ContentKey {
     pub(crate) content: Content,
+}
+
+impl Clone for ContentKey {
+    ghost is_clone = { λ key clone. clone.content ≡ key.content };
+
+    fn clone(&self) -> Result<ContentKey, AllocError> {
+        Ok(ContentKey {
+            content: self.content.share()?,
+        })
+    }
 }
 
 impl PartialEq for ContentKey {

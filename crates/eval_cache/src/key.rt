@@ -39,6 +39,23 @@ impl EvalKey {
     }
 }
 
+impl Clone for EvalKey {
+    ghost is_clone = { λ key clone. key_of clone ≡ key_of key };
+
+    fn clone(&self) -> Result<EvalKey, AllocError> {
+        let alloc = *self.trees.allocator();
+        Ok(EvalKey {
+            profile: self.profile,
+            trees: clones_of(alloc, self.trees.as_slice())?,
+            name: self.name.clone()?,
+            flavors: match &self.flavors {
+                Some(flavors) => Some(clones_of(alloc, flavors.as_slice())?),
+                None => None,
+            },
+        })
+    }
+}
+
 // The same flavors, or none.
 fn copy_flavors(
     alloc: Global,

@@ -7,8 +7,10 @@ mod contents;
 mod counting;
 mod key;
 mod looking;
+mod purpose;
 
 pub use cache::EvalCache;
 pub use counting::Counts;
 pub use key::EvalKey;
 pub use looking::Look;
+pub use purpose::Purpose;
