@@ -15,7 +15,7 @@ ghost use Rattle.eval_ask.specs.Asking.{spent_in, AsksOn, CanGoOn, HasComeTo, Ha
 ghost use Rattle.kept_ports.specs.Evaluating.{IsPortAsk, BeginsPortAsk};
 
 use eval_ask::{Ask, AskTurned};
-use eval_cache::EvalCache;
+use eval_cache::{EvalCache, Purpose};
 use mk_files::Files;
 use mk_paths::{FilesFault, Name, Settings, find};
 use pkg_path::PkgPath;
@@ -50,6 +50,7 @@ impl PortAsk {
         let Some(makefile) = find(alloc, files, &settings.path, path.directory())? else {
             return Ok(None);
         };
+        cache.serve(Purpose::Asking);
         let came = Ask::begin(alloc, cache, files, settings, &makefile, path.flavors())?;
         Ok(Some(PortAsk { makefile, came }))
     }
@@ -72,6 +73,7 @@ impl PortAsk {
         ensures leaves { LeavesMap (result_err result) (view_of F.view files.old) (view_of F.view files.new) }
     {
         let PortAsk { makefile, came } = self;
+        cache.serve(Purpose::Asking);
         let came = came.turn(alloc, cache, files, units)?;
         Ok(PortAsk { makefile, came })
     }

@@ -18,6 +18,7 @@ use crate::evaluating::PortAsk;
 use crate::keeping::KeptPorts;
 use crate::under_way::{Stage, Turned, UnderWay};
 use eval_ask::{AskTurned, asking_spends, left_of};
+use eval_cache::Purpose;
 use index_keep::{Refreshed, refreshing_pays};
 use index_store::PathRows;
 use mk_eval::evaluations_cost_few;
@@ -146,12 +147,13 @@ impl<F: Listing + Drop, R: PathRows + Drop> KeptPorts<'_, F, R> {
         }
     }
 
-    // Takes a turn of the refresh of the index.
+    // Takes a turn of the refresh of the index, which is a walk through all its paths.
     fn refresh_once(&mut self, alloc: Global) -> Result<Refreshed, FilesFault>
         ensures turn { IfOk result (TurnsKeeper R.entries (world_at F.view self.old) TURN_UNITS
             (refresh_of R.entries self.old.keeper.now) self.new.keeper.now) }
         ensures leaves { LeavesPorts F.view R.entries self.old self.new }
     {
+        self.cache.serve(Purpose::Walking);
         self.keeper
             .refresh_turn(alloc, self.cache, self.files, self.settings, TURN_UNITS)
     }
