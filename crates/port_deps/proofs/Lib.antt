@@ -1,3 +1,4 @@
 mod AnyPackage
 mod Signs
 mod Colons
+mod PlainTargets

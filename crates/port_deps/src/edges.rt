@@ -72,13 +72,6 @@ impl Edge {
     {
         self.status
     }
-
-    /// The path that the item names, alone.
-    pub(crate) fn into_target(self) -> Option<PkgPath>
-        ensures { result ≡ self.target }
-    {
-        self.target
-    }
 }
 
 /// The dependency that an item is, by what is found at its path, with the flavors of that path.

@@ -3,7 +3,6 @@ ghost use Rattle.std.specs.Prelude.{◌≡◌, string_bytes};
 
 use crate::edges::Edge;
 use mk_base::Fault;
-use pkg_path::PkgPath;
 use port_rules::PortRecord;
 use std::marker::Model;
 
@@ -82,12 +81,5 @@ impl RootEdge {
         ensures { result.now ≡ self.now.edge }
     {
         &self.edge
-    }
-    /// The path of the port that depends, and the path that the item names, alone.
-    pub fn into_ends(self) -> (String, Option<PkgPath>)
-        ensures root { string_bytes result.0 ≡ self.root }
-        ensures target { result.1 ≡ self.edge.target }
-    {
-        (self.root, self.edge.into_target())
     }
 }

@@ -1,5 +1,5 @@
 //! How the text of an item is read.
-ghost use Rattle.std.specs.Prelude.{◌≡◌, ◌==◌, ◌++◌, ◌∷◌, ℕ, List, IfOk, codes, option_map, position};
+ghost use Rattle.std.specs.Prelude.{◌≡◌, ◌==◌, ◌++◌, ◌∷◌, ℕ, List, IfOk, IfSome, codes, option_map, position};
 ghost use Rattle.std.specs.List.{list_any};
 ghost use Rattle.std.specs.Option.{option_copied};
 ghost use Rattle.port_deps.specs.Reading as reading;
@@ -26,6 +26,17 @@ pub fn read_wanted(alloc: Global, text: &str) -> Result<Option<Wanted>, AllocErr
         Some(parts) => wanted_in(alloc, parts.spec, parts.path),
         None => Ok(None),
     }
+}
+
+/// The text of the path that an item names, if that has no comma and so chooses no flavors and names no subpackage. Whether
+/// the item can be read isn't looked at. It takes no memory.
+pub fn plain_target(item: &str) -> Option<&str>
+    ensures is { option_copied result ≡ reading.plain_target item.now }
+    ensures names { IfSome result (λ path. reading.NamesAtMost item.now path.now) }
+{
+    let parts = named_parts(behind_colons(item))?;
+    let (path, _versions) = cut_at_sign(parts.path);
+    if holds(path, b',') { None } else { Some(path) }
 }
 
 /// An item without the colons that come first.
