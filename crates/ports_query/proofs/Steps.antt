@@ -5,11 +5,6 @@ use Rattle.std.proofs.lemmas.List.Elements.{filter-append}
 use Rattle.std.specs.List.{filter, cons_option}
 use Rattle.std.specs.Option.{option_to_list}
 
--- what an element gives, with what the others give
-pub one_given : {X : Type 0} (before : List X) (given : Option X) (rest : List X) → (before ++ option_to_list given) ++ rest ≡ before ++ cons_option given rest
-one_given before None rest = ap (λ xs. xs ++ rest) (append-nil before)
-one_given before (Some x) rest = append_assoc before (x ∷ []) rest
-
 one_kept : {X Y : Type 0} (test : X → Bool) (f : X → Y) (x : X) (before : List Y) (passes : Bool) → test x ≡ passes
     → cond passes (before ++ f x ∷ []) before ≡ before ++ map f (filter test (x ∷ []))
 one_kept test f x before true is = ap (λ passes. before ++ map f (cond passes (x ∷ []) [])) (sym is)

@@ -1,5 +1,6 @@
 -- Which dependencies a port has, and which lead to one.
-use Rattle.std.specs.Prelude.{ℕ, ◌&&◌, ◌||◌, Bool, true, false, List, filter, Option, Some, None}
+use Rattle.std.specs.Prelude.{ℕ, ◌&&◌, ◌||◌, Bool, true, false, List, map, filter, Option, Some, None}
+use Rattle.std.specs.Borrow.{Bor}
 use Rattle.std.specs.Str.{bytes_eq}
 use Rattle.pkg_path.specs.Paths.{PathValue, port_path}
 use Rattle.port_rules.specs.declared.depends.DependKind.{DependKind}
@@ -47,3 +48,7 @@ is_target path target = is_at (port_path path) path.subpackage target
 -- the dependencies of these kinds, of whatever status, that lead to a path, in their order
 abbrev pub edges_to_of : Kinds → PathValue → List RootEdgeValue → List RootEdgeValue
 edges_to_of kinds path edges = filter (λ (edge : RootEdgeValue). has_kind kinds edge.edge.kind && is_target path edge.edge.target) edges
+
+-- the dependencies that references point to
+abbrev pub edges_lent : List (Bor RootEdgeValue) → List RootEdgeValue
+edges_lent edges = map (λ edge. edge.now) edges

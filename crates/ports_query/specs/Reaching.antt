@@ -1,7 +1,7 @@
 -- Which ports are reached over dependencies that are met. A way is a list of one or more of
 -- these, each of which begins where the one before it ended (`reached_list` and `reaching_list`
 -- of the arrows between texts).
-use Rattle.std.specs.Prelude.{ℕ, ◌&&◌, if◌then◌else◌, Bool, true, false, List, Option, None, option_map, string_bytes}
+use Rattle.std.specs.Prelude.{ℕ, ◌&&◌, if◌then◌else◌, Bool, true, false, List, Option, None, option_map}
 use Rattle.std.specs.List.{filter_map}
 use Rattle.pkg_path.specs.Paths.{PathValue, port_path}
 use Rattle.port_deps.specs.Roots.{RootEdgeValue}
@@ -11,10 +11,9 @@ use Rattle.text_graph.specs.Arrows.{ArrowValue}
 use Rattle.text_graph.specs.Listed.{reached_list, reaching_list}
 use Rattle.ports_query.specs.Kinds.{has_kind}
 use Rattle.ports_query.specs.Edges.{first_edges_of}
+use Rattle.ports_query.specs.Paths.{path_seen}
 use Rattle.ports_query.specs.declared.kinds.Kinds.{Kinds}
 use Rattle.ports_query.specs.declared.reach.Step.{Step}
-use Rattle.ports_query.specs.declared.reach.PortPath.{PortPath}
-use Rattle.ports_query.specs.declared.reach.PortPath.TheVariants.{Plain, Flavored}
 
 -- a dependency with this status is met
 abbrev pub is_met : Status → Bool
@@ -50,11 +49,6 @@ reached_from kinds path edges = reached_of kinds (first_edges_of kinds path edge
 abbrev pub reaching_of : Kinds → PathValue → List RootEdgeValue → List (List ℕ)
 reaching_of kinds path edges = reaching_list (arrows_of kinds edges) (port_path path)
 
--- the path of a port, as text
-abbrev pub path_seen : PortPath → List ℕ
-path_seen (Plain path) = path.directory
-path_seen (Flavored text) = string_bytes text
-
 -- a step of the code
 abbrev pub step_seen : Step → ArrowValue
-step_seen step = record { from = string_bytes step.from; to = path_seen step.to }
+step_seen step = record { from = step.from.now; to = path_seen step.to }

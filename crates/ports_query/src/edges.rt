@@ -1,14 +1,12 @@
 //! The dependencies of a port, and those that lead to one.
-ghost use Rattle.std.specs.Prelude.{◌≡◌, ◌&&◌, IfOk, IfErr};
+ghost use Rattle.std.specs.Prelude.{◌≡◌, ◌&&◌, IfOk};
 ghost use Rattle.std.specs.Option.{option_copied};
 ghost use Rattle.std.specs.Str.{bytes_eq};
-ghost use Rattle.ports_query.specs.Failing.{MayFail};
 ghost use Rattle.ports_query.specs.Edges as selection;
 ghost use Rattle.ports_query.specs.Kinds.{has_kind};
 
-use crate::cursor::Cursor;
 use crate::kinds::Kinds;
-use mk_paths::FilesFault;
+use crate::paths::PortPath;
 use pkg_path::PkgPath;
 use port_deps::{Edge, RootEdge};
 use port_rules::DependKind;
@@ -16,21 +14,20 @@ use std::alloc::{AllocError, Global};
 
 /// The dependencies of these kinds that the port at a path has, in their order. If the path names a
 /// subpackage, these are the subpackage's own and those of the port as a whole, to be built and tested. It
-/// fails if the rows do, or if memory runs out.
-pub fn first_edges<C: Cursor<RootEdge>>(
+/// fails only if memory runs out.
+pub fn first_edges<'a>(
     alloc: Global,
     kinds: Kinds,
     path: &PkgPath,
-    edges: &mut C,
-) -> Result<Vec<RootEdge>, FilesFault>
-    ensures found { IfOk result (λ found. found.items
-        ≡ selection.first_edges_of kinds path.now (C.left edges.old)) }
-    ensures kind { IfErr result (MayFail C.fails_with) }
+    edges: &'a [RootEdge],
+) -> Result<Vec<&'a RootEdge>, AllocError>
+    ensures { IfOk result (λ found. selection.edges_lent found.items
+        ≡ selection.first_edges_of kinds path.now edges.now) }
 {
     let root = path.port_path(alloc)?;
     let mut found = Vec::new(alloc);
-    while let Some(edge) = edges.next()? {
-        if is_first(kinds, root.as_str(), path.subpackage(), &edge) {
+    for edge in edges {
+        if is_first(kinds, root.as_str(), path.subpackage(), edge) {
             found.push(edge)?;
         }
     }
@@ -39,21 +36,20 @@ pub fn first_edges<C: Cursor<RootEdge>>(
 
 /// The dependencies of these kinds, of whatever status, that lead to the port that a path names, in
 /// their order. If the path names a subpackage, these are the ones whose item names it, too. It
-/// fails if the rows do, or if memory runs out.
-pub fn edges_to<C: Cursor<RootEdge>>(
+/// fails only if memory runs out.
+pub fn edges_to<'a>(
     alloc: Global,
     kinds: Kinds,
     path: &PkgPath,
-    edges: &mut C,
-) -> Result<Vec<RootEdge>, FilesFault>
-    ensures found { IfOk result (λ found. found.items
-        ≡ selection.edges_to_of kinds path.now (C.left edges.old)) }
-    ensures kind { IfErr result (MayFail C.fails_with) }
+    edges: &'a [RootEdge],
+) -> Result<Vec<&'a RootEdge>, AllocError>
+    ensures { IfOk result (λ found. selection.edges_lent found.items
+        ≡ selection.edges_to_of kinds path.now edges.now) }
 {
     let root = path.port_path(alloc)?;
     let mut found = Vec::new(alloc);
-    while let Some(edge) = edges.next()? {
-        if leads_to(alloc, kinds, root.as_str(), path.subpackage(), &edge)? {
+    for edge in edges {
+        if leads_to(alloc, kinds, root.as_str(), path.subpackage(), edge)? {
             found.push(edge)?;
         }
     }
@@ -61,7 +57,7 @@ pub fn edges_to<C: Cursor<RootEdge>>(
 }
 
 /// Whether a dependency is of these kinds and of a port, and of its subpackage if one is named.
-pub(crate) fn is_first(kinds: Kinds, root: &str, subpackage: Option<&str>, edge: &RootEdge) -> bool
+fn is_first(kinds: Kinds, root: &str, subpackage: Option<&str>, edge: &RootEdge) -> bool
     ensures { result
         ≡ (has_kind kinds edge.now.edge.kind
         && (bytes_eq edge.now.root root.now
@@ -105,8 +101,8 @@ fn leads_to(
     let Some(target) = edge.edge().target() else {
         return Ok(false);
     };
-    let target_root = target.port_path(alloc)?;
-    Ok(target_root.as_str() == root && names_it(subpackage, target.subpackage()))
+    let target_root = PortPath::of(alloc, target)?;
+    Ok(target_root.text() == root && names_it(subpackage, target.subpackage()))
 }
 
 /// Whether a target names the same subpackage, if one is named.

@@ -1,5 +1,5 @@
-//! Questions about the ports of a tree and their dependencies, which are taken row by row: which packages
-//! meet conditions or a spec, and which ports depend on which.
+//! Questions about the ports of a tree, which are taken row by row, and about their dependencies, which are
+//! lent: which packages meet conditions or a spec, and which ports depend on which.
 #![tactic(auto)]
 
 mod conditions;
@@ -10,6 +10,7 @@ mod kinds;
 mod listing;
 mod meeting;
 mod operators;
+mod paths;
 mod query;
 mod reach;
 

@@ -1,16 +1,13 @@
 //! The ports that are reached over dependencies that are met, and those that reach one.
-ghost use Rattle.std.specs.Prelude.{◌≡◌, ◌++◌, IfOk, IfErr, OnOk, map, string_bytes, option_map, option_to_list};
-ghost use Rattle.std.specs.Option.{option_copied};
-ghost use Rattle.pkg_path.specs.Paths.{port_path};
+ghost use Rattle.std.specs.Prelude.{◌≡◌, ◌++◌, IfOk, OnOk, map, string_bytes, option_map, option_to_list};
 ghost use Rattle.text_graph.specs.Arrows.{arrows_seen};
 ghost use Rattle.text_graph.specs.Listed.{reached_list, reaching_list};
-ghost use Rattle.ports_query.specs.Failing.{MayFail};
+ghost use Rattle.ports_query.specs.Edges.{edges_lent};
 ghost use Rattle.ports_query.specs.Reaching as reaching;
 
-use crate::cursor::Cursor;
-use crate::edges::is_first;
+use crate::edges::first_edges;
 use crate::kinds::Kinds;
-use mk_paths::FilesFault;
+use crate::paths::PortPath;
 use pkg_path::PkgPath;
 use port_deps::{RootEdge, Status};
 use std::alloc::{AllocError, Global};
@@ -22,34 +19,28 @@ use text_parts::copies_of;
 /// begins where the one before it ended.
 ///
 /// The ports are given by their canonical paths without subpackages, in the order of the paths' bytes, each
-/// once. It fails if the rows do, or if memory runs out.
-#[tactic(auto, using(crate::proofs::Steps::one_given))]
-pub fn reached<C: Cursor<RootEdge>>(
+/// once. It fails only if memory runs out.
+pub fn reached(
     alloc: Global,
     kinds: Kinds,
     path: &PkgPath,
-    edges: &mut C,
-) -> Result<Vec<String>, FilesFault>
-    ensures found { IfOk result (λ paths. map string_bytes paths.items
-        ≡ reaching.reached_from kinds path.now (C.left edges.old)) }
-    ensures kind { IfErr result (MayFail C.fails_with) }
+    edges: &[RootEdge],
+) -> Result<Vec<String>, AllocError>
+    ensures { IfOk result (λ paths. map string_bytes paths.items
+        ≡ reaching.reached_from kinds path.now edges.now) }
 {
-    let root = path.port_path(alloc)?;
-    let mut first = Vec::new(alloc);
-    let mut steps = Vec::new(alloc);
-    while let Some(edge) = edges.next()? {
-        let begins = is_first(kinds, root.as_str(), path.subpackage(), &edge);
-        let step = Step::over(alloc, kinds, edge)?;
-        if begins {
-            add_step(Step::copy_of(alloc, step.as_ref())?, &mut first)?;
-        }
-        add_step(step, &mut steps)?;
-    }
-    Ok(reached_over(alloc, &first, &steps)?)
+    let found = first_edges(alloc, kinds, path, edges)?;
+    let first = steps_over_some(alloc, kinds, &found)?;
+    let steps = steps_over(alloc, kinds, edges)?;
+    reached_over(alloc, &first, &steps)
 }
 
 /// The ends of the ways over these steps whose first step is one of `first`.
-fn reached_over(alloc: Global, first: &[Step], steps: &[Step]) -> Result<Vec<String>, AllocError>
+fn reached_over(
+    alloc: Global,
+    first: &[Step<'_>],
+    steps: &[Step<'_>],
+) -> Result<Vec<String>, AllocError>
     ensures { IfOk result (λ paths. map string_bytes paths.items
         ≡ reached_list (map reaching.step_seen first.now) (map reaching.step_seen steps.now)) }
 {
@@ -64,28 +55,23 @@ fn reached_over(alloc: Global, first: &[Step], steps: &[Step]) -> Result<Vec<Str
 /// subpackage of the path is ignored.
 ///
 /// The ports are given by their canonical paths without subpackages, in the order of the paths' bytes, each
-/// once. It fails if the rows do, or if memory runs out.
-#[tactic(auto, using(crate::proofs::Steps::one_given))]
-pub fn reaching<C: Cursor<RootEdge>>(
+/// once. It fails only if memory runs out.
+pub fn reaching(
     alloc: Global,
     kinds: Kinds,
     path: &PkgPath,
-    edges: &mut C,
-) -> Result<Vec<String>, FilesFault>
-    ensures found { IfOk result (λ paths. map string_bytes paths.items
-        ≡ reaching.reaching_of kinds path.now (C.left edges.old)) }
-    ensures kind { IfErr result (MayFail C.fails_with) }
+    edges: &[RootEdge],
+) -> Result<Vec<String>, AllocError>
+    ensures { IfOk result (λ paths. map string_bytes paths.items
+        ≡ reaching.reaching_of kinds path.now edges.now) }
 {
     let goal = path.port_path(alloc)?;
-    let mut steps = Vec::new(alloc);
-    while let Some(edge) = edges.next()? {
-        add_step(Step::over(alloc, kinds, edge)?, &mut steps)?;
-    }
-    Ok(reaching_over(alloc, &steps, goal.as_str())?)
+    let steps = steps_over(alloc, kinds, edges)?;
+    reaching_over(alloc, &steps, goal.as_str())
 }
 
 /// The starts of the ways over these steps that end at a path.
-fn reaching_over(alloc: Global, steps: &[Step], goal: &str) -> Result<Vec<String>, AllocError>
+fn reaching_over(alloc: Global, steps: &[Step<'_>], goal: &str) -> Result<Vec<String>, AllocError>
     ensures { IfOk result (λ paths. map string_bytes paths.items
         ≡ reaching_list (map reaching.step_seen steps.now) goal.now) }
 {
@@ -94,81 +80,72 @@ fn reaching_over(alloc: Global, steps: &[Step], goal: &str) -> Result<Vec<String
     copies_of(alloc, &paths)
 }
 
-/// A step from a port to one that it depends on.
+/// A step from a port to one that it depends on. The texts are those of the dependency, if its target has no
+/// flavors.
 #[derive(Drop)]
-struct Step {
+struct Step<'a> {
     /// The path of the port that depends.
-    from: String,
-    to: PortPath,
+    from: &'a str,
+    to: PortPath<'a>,
 }
 
-/// The path of a port. A path without flavors is the text of its directory, and needs no other.
-#[derive(Drop)]
-enum PortPath {
-    /// Without flavors.
-    Plain(PkgPath),
-    /// The text of one with flavors.
-    Flavored(String),
-}
-
-impl Step {
+impl<'a> Step<'a> {
     /// The step over a dependency, if that is of these kinds and met.
-    fn over(alloc: Global, kinds: Kinds, edge: RootEdge) -> Result<Option<Step>, AllocError>
+    fn over(alloc: Global, kinds: Kinds, edge: &'a RootEdge) -> Result<Option<Step<'a>>, AllocError>
         ensures { IfOk result (λ step. option_map reaching.step_seen step
-            ≡ reaching.arrow_of kinds edge) }
+            ≡ reaching.arrow_of kinds edge.now) }
     {
         if !kinds.have(edge.edge().kind()) || !is_met(edge.edge().status()) {
             return Ok(None);
         }
-        match edge.into_ends() {
-            (from, Some(target)) => {
+        match edge.edge().target() {
+            Some(target) => {
                 let to = PortPath::of(alloc, target)?;
+                let from = edge.root();
                 Ok(Some(Step { from, to }))
             }
-            (_from, None) => Ok(None),
+            None => Ok(None),
         }
-    }
-
-    /// Another step that is the same, if there is one.
-    fn copy_of(alloc: Global, step: Option<&Step>) -> Result<Option<Step>, AllocError>
-        ensures { IfOk result (λ copied. option_map reaching.step_seen copied
-            ≡ option_map reaching.step_seen (option_copied step.entry)) }
-    {
-        let Some(step) = step else {
-            return Ok(None);
-        };
-        let from = String::from_str(alloc, step.from.as_str())?;
-        let to = PortPath::Flavored(String::from_str(alloc, step.to.text())?);
-        Ok(Some(Step { from, to }))
     }
 }
 
-impl PortPath {
-    /// The path of the port that a path names.
-    fn of(alloc: Global, target: PkgPath) -> Result<PortPath, AllocError>
-        ensures { IfOk result (λ path. reaching.path_seen path ≡ port_path target) }
-    {
-        if target.flavors().is_none() {
-            return Ok(PortPath::Plain(target));
-        }
-        Ok(PortPath::Flavored(target.port_path(alloc)?))
+/// The steps over those of the dependencies that are of these kinds and met, in their order.
+fn steps_over<'a>(
+    alloc: Global,
+    kinds: Kinds,
+    edges: &'a [RootEdge],
+) -> Result<Vec<Step<'a>>, AllocError>
+    ensures { IfOk result (λ steps. map reaching.step_seen steps.items
+        ≡ reaching.arrows_of kinds edges.now) }
+{
+    let mut steps = Vec::with_capacity(alloc, edges.len())?;
+    for edge in edges {
+        add_step(Step::over(alloc, kinds, edge)?, &mut steps)?;
     }
+    Ok(steps)
+}
 
-    fn text(&self) -> &str
-        ensures { result.now ≡ reaching.path_seen self.now }
-    {
-        match self {
-            PortPath::Plain(path) => path.directory(),
-            PortPath::Flavored(text) => text.as_str(),
-        }
+/// The same over dependencies that are lent one by one.
+fn steps_over_some<'a>(
+    alloc: Global,
+    kinds: Kinds,
+    edges: &[&'a RootEdge],
+) -> Result<Vec<Step<'a>>, AllocError>
+    ensures { IfOk result (λ steps. map reaching.step_seen steps.items
+        ≡ reaching.arrows_of kinds (edges_lent edges.now)) }
+{
+    let mut steps = Vec::with_capacity(alloc, edges.len())?;
+    for edge in edges {
+        add_step(Step::over(alloc, kinds, edge)?, &mut steps)?;
     }
+    Ok(steps)
 }
 
 /// Adds a step, if there is one.
-fn add_step(step: Option<Step>, steps: &mut Vec<Step>) -> Result<(), AllocError>
+fn add_step<'a>(step: Option<Step<'a>>, steps: &mut Vec<Step<'a>>) -> Result<(), AllocError>
     ensures { OnOk result (map reaching.step_seen steps.new.items
         ≡ map reaching.step_seen steps.old.items
-        ++ option_to_list (option_map reaching.step_seen step)) }
+        ++ option_to_list (option_map reaching.step_seen step.entry)) }
 {
     if let Some(step) = step {
         steps.push(step)?;
@@ -184,13 +161,13 @@ fn is_met(status: Status) -> bool
 }
 
 /// The steps as arrows between texts.
-fn arrows_over<'a>(alloc: Global, steps: &'a [Step]) -> Result<Vec<Arrow<'a>>, AllocError>
+fn arrows_over<'a>(alloc: Global, steps: &'a [Step<'_>]) -> Result<Vec<Arrow<'a>>, AllocError>
     ensures { IfOk result (λ arrows. arrows_seen arrows.items ≡ map reaching.step_seen steps.now) }
 {
     let mut arrows = Vec::with_capacity(alloc, steps.len())?;
     for step in steps {
         arrows.push(Arrow {
-            from: step.from.as_str(),
+            from: step.from,
             to: step.to.text(),
         })?;
     }

@@ -7,4 +7,5 @@ mod Keeping
 mod Short
 mod Listed
 mod Numbered
+mod Slots
 mod NumberSearches

@@ -1,14 +1,10 @@
 -- Texts and their numbers.
-use Rattle.std.proofs.Common.{◌≡◌, ◌∙◌, sym, ap, refl, subst, ℕ, zero, suc, ◌<◌, Bool, true, false, cond, eqb, List, [], ◌∷◌, ◌++◌, ◌||◌, map, filter, drop, set, append-nil, length, get_or, Option, Some, None, option_map, arith, Bor, ◌⊎◌, inl, inr}
+use Rattle.std.proofs.Common.{◌≡◌, ◌∙◌, sym, ap, refl, subst, ℕ, zero, suc, ◌<◌, Bool, true, false, cond, eqb, List, [], ◌∷◌, ◌++◌, ◌||◌, map, filter, drop, set, append-nil, length, get_or, Option, Some, None, option_map, arith, ◌⊎◌, inl, inr}
 use Rattle.std.proofs.lemmas.Bool.{cases_lt, false≢true, eqb-true, eq-eqb}
 use Rattle.std.proofs.lemmas.List.{map-append, map_push, get_or-map, length-map, get_or-set_same, get_or-set_other, get_or_append_left, get_or_push, length_push}
 use Rattle.std.proofs.lemmas.List.Elements.{All-cons, All-nil, filter-append}
-use Rattle.std.proofs.lemmas.Map.Text.{btree_map_updates_str}
 use Rattle.std.proofs.lemmas.Option.{none-some, same_Some}
 use Rattle.std.specs.List.{All}
-use Rattle.std.specs.BTreeMap.{BTreeMap, UpdatesBy, get_by}
-use Rattle.std.specs.Cmp.Lexicographic.{slice_cmp}
-use Rattle.std.specs.Ordering.{nat_cmp}
 use Rattle.std.specs.Str.{bytes_eq}
 use Rattle.general_facts.specs.Texts.{bytes_eq-sym}
 use Rattle.text_graph.specs.Arrows.{ArrowValue}
@@ -221,20 +217,12 @@ module _ (met : List (List ℕ)) (more : List ℕ) (new : place_of met more ≡ 
             ap (place_of (met ++ more ∷ [])) (get_or_push met more [] place last) ∙ place-last ∙ ap Some last
       ]
 
-  place-more_by : (text : List ℕ) (same : Bool) → bytes_eq more text ≡ same → cond same (Some (length met)) (place_of met text) ≡ place_of (met ++ more ∷ []) text
+  pub place-more_by : (text : List ℕ) (same : Bool) → bytes_eq more text ≡ same → cond same (Some (length met)) (place_of met text) ≡ place_of (met ++ more ∷ []) text
   place-more_by text true is = sym (ap (place_of (met ++ more ∷ [])) (sym (equal_texts more text is)) ∙ place-last)
   place-more_by text false is = elim (place_cases met text) [
     | inl none ↦ none ∙ sym (place-new met more text none ∙ ap (λ same. cond same (Some (length met)) None) (bytes_eq-sym text more ∙ is))
     | inr some ↦ some.1 ∙ sym (place-stays met more text some.0 some.1)
   ]
-
-  pub knows-more : (old after : BTreeMap (Bor (List ℕ)) ℕ) → ((text : List ℕ) → get_by (λ key. slice_cmp nat_cmp text key.now) old ≡ place_of met text)
-      → UpdatesBy (λ x y. slice_cmp nat_cmp x.now y.now) (λ key. slice_cmp nat_cmp more key.now) old after (Some (length met))
-      → (text : List ℕ) → get_by (λ key. slice_cmp nat_cmp text key.now) after ≡ place_of (met ++ more ∷ []) text
-  knows-more old after knows updates text =
-      btree_map_updates_str more old after (Some (length met)) updates text
-      ∙ ap (λ found. cond (bytes_eq more text) (Some (length met)) found) (knows text)
-      ∙ place-more_by text (bytes_eq more text) refl
 
 -- one number more, of one text more, after maybe more texts were met
 pub numbers-next : (old new : List (List ℕ)) → ((text : List ℕ) (i : ℕ) → place_of old text ≡ Some i → place_of new text ≡ Some i)

@@ -1,14 +1,13 @@
 -- Texts and their numbers. A text's number is its place among the texts that were met.
 use Rattle.std.specs.Prelude.{◌≡◌, ◌<◌, ℕ, suc, nat_eq, if◌then◌else◌, Bool, false, Option, Some, None, option_map}
 use Rattle.std.specs.Prelude.{List, [], ◌∷◌, ◌++◌, map, filter, fold, length, get_or}
-use Rattle.std.specs.BTreeMap as tree
-use Rattle.std.specs.Cmp.Lexicographic.{slice_cmp}
 use Rattle.std.specs.List.{list_any}
-use Rattle.std.specs.Ordering.{nat_cmp}
 use Rattle.std.specs.Str.{bytes_eq}
 use Rattle.text_parts.specs.Cuts.{now_all}
+use Rattle.text_graph.specs.Slots.{first_in, other_of}
 use Rattle.text_graph.specs.declared.numbers.Numbers.{Numbers}
 use Rattle.text_graph.specs.declared.numbers.NumberedArrow.{NumberedArrow}
+use Rattle.text_graph.specs.declared.numbers.TheConstants.{SLOTS}
 use Rattle.text_graph.specs.declared.searching.Found.{Found}
 use Rattle.text_graph.specs.declared.steps.Steps.{Steps}
 
@@ -33,10 +32,25 @@ AreNumbers met numbers texts = map Some numbers ≡ map (place_of met) texts
 abbrev pub texts_met : Numbers → List (List ℕ)
 texts_met numbers = now_all numbers.texts.items
 
--- the map knows exactly the texts that were met, each by its place, and each is once among them
+-- the place of a text: that of the first of its slot, if that is this text, and else that among the others
+abbrev pub place_kept : List (List ℕ) → List ℕ → Option ℕ → Option ℕ → Option ℕ
+place_kept met text None other = other
+place_kept met text (Some first) other = if bytes_eq text (text_at met first) then Some first else other
+
+-- a text isn't the first of its slot
+pub record IsNoFirst (numbers : Numbers) (text : List ℕ) : Type 0 where
+  pub first : ℕ
+  pub kept : first_in numbers text ≡ Some first
+  pub differs : bytes_eq text (text_at (texts_met numbers) first) ≡ false
+
+-- the slots and the map know exactly the texts that were met, each by its place, and each is once among them
 pub record IsNumbering (numbers : Numbers) : Type 0 where
+  pub slots : length numbers.first.items ≡ SLOTS
+  pub inside : (text : List ℕ) (number : ℕ) → first_in numbers text ≡ Some number → number < length (texts_met numbers)
+  pub spare : (text : List ℕ) → first_in numbers text ≡ None → other_of numbers text ≡ None
   pub knows : (text : List ℕ)
-      → tree.get_by (λ key. slice_cmp nat_cmp text key.now) numbers.places ≡ place_of (texts_met numbers) text
+      → place_kept (texts_met numbers) text (first_in numbers text) (other_of numbers text)
+      ≡ place_of (texts_met numbers) text
   pub once : EachOnce (texts_met numbers)
 
 -- maybe more texts were met, and those that were met before have the numbers that they had

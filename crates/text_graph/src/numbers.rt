@@ -1,9 +1,11 @@
 //! Texts and their numbers.
-ghost use Rattle.std.specs.Prelude.{◌≡◌, ◌<◌, ℕ, Some, IfOk, OnOk, length, map, true};
+ghost use Rattle.std.specs.Prelude.{◌≡◌, ◌<◌, ℕ, fold, Some, None, IfOk, OnOk, length, map, true, false};
 ghost use Rattle.std.specs.List.{All};
+ghost use Rattle.std.specs.Str.{bytes_eq};
 ghost use Rattle.text_parts.specs.Cuts.{now_all};
 ghost use Rattle.text_graph.specs.Arrows.{ArrowValue, arrows_seen};
-ghost use Rattle.text_graph.specs.Numbering.{place_of, text_at, texts_met, AreNumbers, IsNumbering, MeetsMore};
+ghost use Rattle.text_graph.specs.Numbering.{place_of, text_at, texts_met, AreNumbers, IsNumbering, IsNoFirst, MeetsMore};
+ghost use Rattle.text_graph.specs.Slots.{slot_of, spread, first_in};
 ghost use Rattle.text_graph.specs.declared.numbers.NumberedArrow.{NumberedArrow};
 ghost use Rattle.text_graph.specs.declared.numbers.TheConstants.{SLOTS};
 
@@ -11,21 +13,22 @@ use crate::arrow::Arrow;
 use std::alloc::{AllocError, Global};
 use std::collections::BTreeMap;
 
-/// How many numbers are kept as likely ones.
+/// How many slots there are, each for a first text.
 const SLOTS: usize = 16384;
 
 /// What spreads the bytes of a text over the slots: an odd number whose bits follow no pattern.
 const FACTOR: u64 = 0x9E37_79B9_7F4A_7C15;
 
-/// Texts that were met. The number of each is its place among them. Looking one up takes time in
-/// proportion to the logarithm of how many there are, and mostly less.
+/// Texts that were met. The number of each is its place among them. Most texts are the first of their slots,
+/// and are looked up there. For any other, it takes time in proportion to the logarithm of how many others
+/// there are.
 #[derive(Drop)]
 pub(crate) struct Numbers<'a> {
     texts: Vec<&'a str>,
-    places: BTreeMap<&'a str, usize>,
-    /// For each slot, the number of a text of this slot that was looked up last. Other texts may have the
-    /// same slot.
-    likely: Vec<usize>,
+    /// For each slot, the number of its first text, if one was met.
+    first: Vec<Option<usize>>,
+    /// The numbers of the texts that weren't the first of their slots.
+    others: BTreeMap<&'a str, usize>,
 }
 
 /// An arrow between texts that were met, by their numbers.
@@ -44,8 +47,8 @@ impl<'a> Numbers<'a> {
     {
         Ok(Numbers {
             texts: Vec::new(alloc),
-            places: BTreeMap::new(alloc),
-            likely: vec![in alloc; 0usize; SLOTS]?,
+            first: vec![in alloc; None; SLOTS]?,
+            others: BTreeMap::new(alloc),
         })
     }
 
@@ -117,8 +120,8 @@ impl<'a> Numbers<'a> {
         Ok(NumberedArrow { from, to })
     }
 
-    /// The number of a text, which is met now if it wasn't before. If it is this number, or the likely one
-    /// of its slot, it isn't looked up.
+    /// The number of a text, which is met now if it wasn't before. If it is this number, the text isn't looked
+    /// up.
     fn of_text(&mut self, text: &'a str, before: usize) -> Result<usize, AllocError>
         requires { IsNumbering self.old }
         ensures number { IfOk result (λ number. place_of (texts_met self.new) text.now
@@ -129,37 +132,52 @@ impl<'a> Numbers<'a> {
             return Ok(before);
         }
         let slot = slot_of(text);
-        let likely = self.likely.get(slot).copied().unwrap_or(0);
-        if self.is_at(likely, text) {
-            return Ok(likely);
+        match self.first[slot] {
+            None => self.add_first(text, slot),
+            Some(first) if self.is_at(first, text) => Ok(first),
+            Some(_other) => self.of_other(text),
         }
-        let number = self.looked_up(text)?;
-        if slot < self.likely.len() {
-            self.likely[slot] = number;
-        }
-        Ok(number)
     }
 
     /// Whether this is the number of a text.
     fn is_at(&self, number: usize, text: &str) -> bool
         requires { IsNumbering self.now }
-        ensures { result ≡ true → place_of (texts_met self.now) text.now ≡ Some number }
+        ensures is { result ≡ true → place_of (texts_met self.now) text.now ≡ Some number }
+        ensures differs { result ≡ false → number < length (texts_met self.now)
+            → bytes_eq text.now (text_at (texts_met self.now) number) ≡ false }
     {
         number < self.texts.len() && self.texts[number] == text
     }
 
-    /// The number of a text, which is met now if it wasn't before.
-    fn looked_up(&mut self, text: &'a str) -> Result<usize, AllocError>
-        requires { IsNumbering self.old }
+    /// The number of the first text of its slot, which is met now.
+    fn add_first(&mut self, text: &'a str, slot: usize) -> Result<usize, AllocError>
+        requires numbering { IsNumbering self.old }
+        requires slot { slot ≡ slot_of text.now }
+        requires inside { slot < SLOTS }
+        requires none { first_in self.old text.now ≡ None }
         ensures number { IfOk result (λ number. place_of (texts_met self.new) text.now
             ≡ Some number) }
         ensures more { OnOk result (MeetsMore self.old self.new) }
     {
-        if let Some(number) = self.places.get(&text) {
+        let number = self.texts.len();
+        self.texts.push(text)?;
+        self.first[slot] = Some(number);
+        Ok(number)
+    }
+
+    /// The number of a text that isn't the first of its slot. It is met now if it wasn't before.
+    fn of_other(&mut self, text: &'a str) -> Result<usize, AllocError>
+        requires numbering { IsNumbering self.old }
+        requires other { IsNoFirst self.old text.now }
+        ensures number { IfOk result (λ number. place_of (texts_met self.new) text.now
+            ≡ Some number) }
+        ensures more { OnOk result (MeetsMore self.old self.new) }
+    {
+        if let Some(number) = self.others.get(&text) {
             return Ok(*number);
         }
         let number = self.texts.len();
-        self.places.insert(text, number)?;
+        self.others.insert(text, number)?;
         self.texts.push(text)?;
         Ok(number)
     }
@@ -184,11 +202,33 @@ impl<'a> Numbers<'a> {
 
 /// The slot of a text.
 fn slot_of(text: &str) -> usize
-    ensures { result < SLOTS }
+    ensures is { result ≡ slot_of text.now }
+    ensures inside { result < SLOTS }
 {
     let mut mark = 0u64;
-    for byte in text.as_bytes() {
-        mark = mark.wrapping_add(*byte as u64).wrapping_mul(FACTOR);
+    let mut rest = text.as_bytes();
+    while let [first, second, third, fourth, others @ ..] = rest {
+        let four = u32::from_le_bytes([*first, *second, *third, *fourth]);
+        mark = spread(mark, u64::from(four));
+        rest = others;
     }
-    (mark >> 48) as usize % SLOTS
+    (spread_bytes(mark, rest) >> 48) as usize % SLOTS
+}
+
+/// A mark, spread with each of these bytes.
+fn spread_bytes(mark: u64, bytes: &[u8]) -> u64
+    ensures { result ≡ fold spread mark bytes.now }
+{
+    let mut mark = mark;
+    for byte in bytes {
+        mark = spread(mark, u64::from(*byte));
+    }
+    mark
+}
+
+/// A mark, spread with one number more.
+fn spread(mark: u64, number: u64) -> u64
+    ensures { result ≡ spread mark number }
+{
+    mark.wrapping_add(number).wrapping_mul(FACTOR)
 }

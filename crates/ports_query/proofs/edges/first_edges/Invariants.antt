@@ -1,12 +1,7 @@
--- Those found so far, and those of the rows that are left, are those of all rows.
-use Rattle.std.proofs.Common.{◌≡◌, ◌++◌, length}
-use Rattle.ports_query.specs.Edges.{first_edges_of}
+-- Those found up to here.
+use Rattle.std.proofs.Common.{◌≡◌, take}
+use Rattle.ports_query.specs.Edges.{edges_lent, first_edges_of}
 use Rattle.ports_query.proofs.edges.first_edges.Given as goal
 
-abbrev pub invariant-loop-found : goal.invariant-loop-found
-invariant-loop-found g l =
-    let of_path = first_edges_of l.kinds l.path in
-    l.found.items ++ of_path (g.C.Cursor.left l.edges) ≡ of_path (g.C.Cursor.left l.fn.edges)
-
-abbrev pub decreases-loop-found : goal.decreases-loop-found
-decreases-loop-found g l = length (g.C.Cursor.left l.edges)
+abbrev pub invariant-loop-edge : goal.invariant-loop-edge
+invariant-loop-edge l = edges_lent l.found.items ≡ first_edges_of l.kinds l.path (take l.edge-index l.edges)

@@ -3,7 +3,7 @@ use Rattle.std.proofs.Common.{◌≡◌, ◌∙◌, ◌++◌, [], false, Option,
 use Rattle.std.proofs.lemmas.Bool.{false≢true}
 use Rattle.std.specs.Option.{option_map, is_some}
 use Rattle.pkg_path.specs.Paths.{PathValue, port_path, canonical, choices_text, flavor_choices}
-use Rattle.ports_query.proofs.reach.PortPath.of.Goals as goal
+use Rattle.ports_query.proofs.paths.PortPath.of.Goals as goal
 
 plain_path : (path : PathValue) → path.flavors ≡ None → path.directory ≡ port_path path
 unfolding canonical
@@ -15,4 +15,4 @@ none_chosen f (Some x) chosen is none = absurd (false≢true (sym none))
 
 pub returns-then-is_none : goal.returns-then-is_none
 returns-then-is_none c =
-    plain_path c.args.target (none_chosen (λ names. map string_bytes names.now) c.flavors.result c.args.target.flavors c.flavors.ensures c.if-is_none.ensures)
+    c.directory.ensures.directory ∙ plain_path c.args.target.now (none_chosen (λ names. map string_bytes names.now) c.flavors.result c.args.target.now.flavors c.flavors.ensures c.if-is_none.ensures)
