@@ -13,3 +13,4 @@ pub mod TargetLemmas
 pub mod AlikeLemmas
 pub mod MakefileLemmas
 pub mod AskingLemmas
+pub mod FindingLemmas

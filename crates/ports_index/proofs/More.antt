@@ -1,10 +1,10 @@
 -- One more item of a list that is read from the front.
-use Rattle.std.proofs.Common.{◌≡◌, ◌∙◌, ◌<◌, ◌+◌, sym, ap, refl, ℕ, List, [], ◌∷◌, ◌++◌, length, map, take, get_or, append_assoc, Option, Some, None}
+use Rattle.std.proofs.Common.{◌≡◌, ◌∙◌, ◌<◌, ◌+◌, sym, ap, refl, ℕ, List, [], ◌∷◌, ◌++◌, length, map, take, get_or, append_assoc, append-nil, Option, Some, None}
 use Rattle.std.proofs.lemmas.List.{map-append, take_more}
+use Rattle.std.proofs.lemmas.Grind.{flat_map-append}
 use Rattle.std.proofs.lemmas.List.Elements.{filter_map-append}
-use Rattle.std.specs.List.{filter_map, cons_option}
+use Rattle.std.specs.List.{filter_map, flat_map, cons_option}
 use Rattle.std.specs.Option.{option_to_list}
-use Rattle.general_facts.specs.Lists as general
 
 pub map-more : {X Y : Type 0} (view : X → Y) (items : List X) (i : ℕ) (item : X) → i < length items → item ≡ get_or items i item
     → map view (take (i + 1) items) ≡ map view (take i items) ++ view item ∷ []
@@ -31,10 +31,9 @@ filter-next f view items i item y front now next found below is same so_far here
     ∙ ap (λ o. front ++ (before ++ option_to_list o)) (here ∙ ap f same)
     ∙ ap (λ n. front ++ n) (sym (filter_map-more f view items i item below is))
 
--- a filter with one item more, of items that are seen as they are
-pub filter-on : {X Y : Type 0} (f : X → Option Y) (items : List X) (i : ℕ) (item : X) (front now next : List Y) (found : Option Y) → i < length items → item ≡ get_or items i item
-    → now ≡ front ++ filter_map f (take i items) → found ≡ f item → next ≡ now ++ option_to_list found → next ≡ front ++ filter_map f (take (i + 1) items)
-filter-on f items i item front now next found below is so_far here step =
-    let before = filter_map f (take i items) in
-    step ∙ ap (λ n. n ++ option_to_list found) so_far ∙ append_assoc front before (option_to_list found)
-    ∙ ap (λ n. front ++ n) (ap (λ o. before ++ option_to_list o) (here ∙ ap f is) ∙ general.filter_map-more f items i item before (before ++ option_to_list (f (get_or items i item))) below refl refl)
+-- what a list of lists has with one item more
+pub flat_map-more : {X Y Z : Type 0} (f : Y → List Z) (view : X → Y) (items : List X) (i : ℕ) (item : X) → i < length items → item ≡ get_or items i item
+    → flat_map f (map view (take (i + 1) items)) ≡ flat_map f (map view (take i items)) ++ f (view item)
+flat_map-more f view items i item below is =
+    ap (flat_map f) (map-more view items i item below is) ∙ flat_map-append f (map view (take i items)) (view item ∷ [])
+    ∙ ap (λ more. flat_map f (map view (take i items)) ++ more) (append-nil (f (view item)))

@@ -6,6 +6,7 @@ pub mod Naming
 pub mod Depending
 pub mod Index
 pub mod Filling
+pub mod Finding
 pub mod Adding
 pub mod Efforts
 pub mod Pairs

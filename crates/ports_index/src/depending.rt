@@ -1,18 +1,20 @@
 //! The ports of a ports tree, and what they depend on, by the rows of its paths.
-ghost use Rattle.std.specs.Prelude.{◌≡◌, ◌++◌, map, string_bytes, IfOk, OnOk, option_map, option_to_list};
+ghost use Rattle.std.specs.Prelude.{◌≡◌, ◌++◌, true, map, string_bytes, IfOk, IfSome, OnOk, option_map, option_to_list};
 ghost use Rattle.std.specs.List.{filter_map, flat_map};
 ghost use Rattle.std.specs.Option.{option_copied};
+ghost use Rattle.port_deps.specs.Reading.{wanted_of};
 ghost use Rattle.port_deps.specs.Seen.{found_seen};
 ghost use Rattle.ports_index.specs.Adding.{AddSame};
 ghost use Rattle.ports_index.specs.Depending as depending;
+ghost use Rattle.ports_index.specs.Filling.{is_one_of};
 ghost use Rattle.ports_index.specs.Index.{needed_among};
 ghost use Rattle.ports_index.specs.Seen.{row_seen, known_row, known_in, entries_in, item_seen};
 
 use crate::evaluating::{Row, copy_of};
 use crate::keeping::MemoryRows;
-use crate::naming::{add_found, append};
+use crate::naming::{add_found, append, is_found_in};
 use mk_base::Fault;
-use port_deps::{Found, Item, Root, RootEdge, Wanted, items, read_wanted, resolve};
+use port_deps::{Found, Item, Root, RootEdge, Wanted, items, plain_target, read_wanted, resolve};
 use port_rules::{Depend, PortRecord};
 use std::alloc::{AllocError, Global};
 use text_parts::{clones_of, put_in_order};
@@ -34,8 +36,9 @@ fn items_of_all(
         ≡ depending.items_among (known_in (entries_in rows.now)) (map string_bytes paths.now)) }
 {
     let mut found = Vec::new(alloc);
+    let mut finder = rows.finder();
     for path in paths {
-        add_items(alloc, &mut found, path, rows.get(path))?;
+        add_items(alloc, &mut found, path, finder.get(path))?;
     }
     Ok(found)
 }
@@ -87,45 +90,87 @@ fn target_of(alloc: Global, wanted: Option<&Wanted>) -> Result<Option<String>, A
     }
 }
 
-// The paths that the items of the ports at these paths name, without subpackages, in the order of the items.
-// An item that can't be read names none.
-fn targets_among(
+// The paths that the items of the ports at these paths name, without subpackages, but for items that are known to name
+// one of these paths. An item that can't be read names none.
+fn targets_beside(
     alloc: Global,
     paths: &[String],
     rows: &MemoryRows,
 ) -> Result<Vec<String>, AllocError>
-    ensures { IfOk result (λ found. map string_bytes found.items
-        ≡ flat_map (λ path. depending.targets_in (known_in (entries_in rows.now) path))
-        (map string_bytes paths.now)) }
+    ensures { IfOk result (λ found. AddSame (map string_bytes paths.now)
+        (flat_map (λ path. depending.targets_in (known_in (entries_in rows.now) path)) (map string_bytes paths.now))
+        (map string_bytes found.items)) }
 {
     let mut found = Vec::new(alloc);
+    let mut finder = rows.finder();
     for path in paths {
-        add_targets(alloc, &mut found, rows.get(path))?;
+        add_targets(alloc, &mut found, paths, finder.get(path))?;
     }
     Ok(found)
 }
 
-// Adds the paths that the items of the port in this row name. Without a row, or if the row is no port, it adds
-// none.
-fn add_targets(alloc: Global, found: &mut Vec<String>, row: Option<&Row>) -> Result<(), AllocError>
-    ensures { OnOk result (map string_bytes found.new.items ≡ map string_bytes found.old.items
-        ++ depending.targets_in (known_row (option_map (λ row. row_seen row.now) row.entry))) }
+// Adds the paths that the items of the port in this row name, but for items that are known to name one of these paths.
+// Without a row, or if the row is no port, it adds none.
+fn add_targets(
+    alloc: Global,
+    found: &mut Vec<String>,
+    paths: &[String],
+    row: Option<&Row>,
+) -> Result<(), AllocError>
+    ensures { OnOk result (AddSame (map string_bytes paths.now) (map string_bytes found.old.items
+        ++ depending.targets_in (known_row (option_map (λ row. row_seen row.now) row.entry)))
+        (map string_bytes found.new.items)) }
 {
     match row {
-        Some(Row::Port(port)) => put_targets(alloc, found, port.depends()),
+        Some(Row::Port(port)) => put_targets(alloc, found, paths, port.depends()),
         _ => Ok(()),
     }
 }
 
-// Adds the paths that the items of dependencies name.
-fn put_targets(alloc: Global, found: &mut Vec<String>, depends: &[Depend]) -> Result<(), AllocError>
-    ensures { OnOk result (map string_bytes found.new.items ≡ map string_bytes found.old.items
-        ++ filter_map depending.target_by depends.now) }
+// Adds the paths that the items of dependencies name, but for items that are known to name one of these paths.
+fn put_targets(
+    alloc: Global,
+    found: &mut Vec<String>,
+    paths: &[String],
+    depends: &[Depend],
+) -> Result<(), AllocError>
+    ensures { OnOk result (AddSame (map string_bytes paths.now)
+        (map string_bytes found.old.items ++ filter_map depending.target_by depends.now)
+        (map string_bytes found.new.items)) }
 {
     for depend in depends {
-        add_found(found, target_by(alloc, depend)?)?;
+        put_target(alloc, found, paths, depend)?;
     }
     Ok(())
+}
+
+// Adds the path that the item of a dependency names, unless it is known to be one of these.
+fn put_target(
+    alloc: Global,
+    found: &mut Vec<String>,
+    paths: &[String],
+    depend: &Depend,
+) -> Result<(), AllocError>
+    ensures { OnOk result (AddSame (map string_bytes paths.now)
+        (map string_bytes found.old.items ++ option_to_list (depending.target_by depend.now))
+        (map string_bytes found.new.items)) }
+{
+    if names_one_of(paths, depend.item()) {
+        return Ok(());
+    }
+    add_found(found, target_by(alloc, depend)?)
+}
+
+// Whether it is known of an item, by its text alone, that it names one of these paths if it can be read. They are searched
+// in the order of their bytes.
+fn names_one_of(paths: &[String], item: &str) -> bool
+    ensures { result ≡ true → IfSome (depending.target_in (wanted_of item.now))
+        (λ path. is_one_of path (map string_bytes paths.now) ≡ true) }
+{
+    match plain_target(item) {
+        Some(path) => is_found_in(paths, path),
+        None => false,
+    }
 }
 
 // The path that the item of a dependency names, without a subpackage, if the item can be read.
@@ -205,30 +250,11 @@ pub fn needed_among(
     ensures { IfOk result (λ found. map string_bytes found.items
         ≡ needed_among (known_in (entries_in rows.now)) (map string_bytes listed.now)) }
 {
-    let targets = targets_among(alloc, listed, rows)?;
+    let targets = targets_beside(alloc, listed, rows)?;
     let mut paths = clones_of(alloc, listed)?;
-    append(&mut paths, not_found_in(alloc, targets, listed)?)?;
+    append(&mut paths, targets)?;
     put_in_order(&mut paths);
     Ok(paths)
-}
-
-// Those of these targets that a search doesn't find among listed paths. Where these are in order, it finds each that is
-// there, so that few are left to be put in order.
-fn not_found_in(
-    alloc: Global,
-    targets: Vec<String>,
-    listed: &[String],
-) -> Result<Vec<String>, AllocError>
-    ensures { IfOk result (λ others. AddSame (map string_bytes listed.now)
-        (map string_bytes targets.items) (map string_bytes others.items)) }
-{
-    let mut others = Vec::new(alloc);
-    for target in targets {
-        if listed.binary_search(&target).is_err() {
-            others.push(target)?;
-        }
-    }
-    Ok(others)
 }
 
 /// The roots at these paths, in their order: the ports, and the faults there. The ports are shared with the rows.
@@ -242,8 +268,9 @@ pub(crate) fn roots_among(
         ≡ depending.roots_among (known_in (entries_in rows.now)) (map string_bytes paths.now)) }
 {
     let mut found = Vec::with_capacity(alloc, paths.len())?;
+    let mut finder = rows.finder();
     for path in paths {
-        add_root(alloc, &mut found, path, rows.get(path))?;
+        add_root(alloc, &mut found, path, finder.get(path))?;
     }
     Ok(found)
 }

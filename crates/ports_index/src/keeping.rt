@@ -6,11 +6,14 @@ ghost use Rattle.std.specs.BTreeMap.{get_by_text};
 ghost use Rattle.std.specs.BTreeSet.{contains_text};
 ghost use Rattle.std.specs.List.{list_any};
 ghost use Rattle.ports_index.specs.Filling.{is_one_of};
+ghost use Rattle.ports_index.specs.Finding.{IsFinderOf};
 ghost use Rattle.ports_index.specs.PathOutcomes.{PathOutcome, counted};
 ghost use Rattle.ports_index.specs.Seen.{entries_in, has_asked_for, known_seen, names_in, names_seen, row_seen, said_in, size_of};
 
 use crate::evaluating::Row;
 use std::alloc::{AllocError, Global};
+use std::cmp::Ordering;
+use std::collections::btree_map::Iter;
 use std::collections::{BTreeMap, BTreeSet};
 
 /// A row that is known.
@@ -51,6 +54,18 @@ impl MemoryRows {
         match self.rows.get(path) {
             Some(known) => Some(&known.row),
             None => None,
+        }
+    }
+
+    /// What finds rows by their paths.
+    pub(crate) fn finder(&self) -> RowFinder<'_>
+        ensures { IsFinderOf self.now result }
+    {
+        let mut left = self.rows.iter();
+        RowFinder {
+            rows: self,
+            ahead: left.next(),
+            left,
         }
     }
 
@@ -107,6 +122,33 @@ impl MemoryRows {
         ensures size { size_of self.new ≡ size_of self.old }
     {
         self.rows.remove(path)
+    }
+}
+
+/// Finds rows by their paths. For paths in the order of their bytes, all take one pass over the rows; any other path is
+/// looked up.
+#[derive(Drop)]
+pub(crate) struct RowFinder<'a> {
+    rows: &'a MemoryRows,
+    ahead: Option<(&'a String, &'a KnownRow)>,
+    left: Iter<'a, String, KnownRow>,
+}
+
+impl<'a> RowFinder<'a> {
+    /// The row of this path, if it has one.
+    pub(crate) fn get(&mut self, path: &str) -> Option<&'a Row>
+        ensures row { (rows : MemoryRows) → IsFinderOf rows self.old
+            → option_map (λ row. row_seen row.now) result ≡ entries_in rows path.now }
+        ensures finder { (rows : MemoryRows) → IsFinderOf rows self.old → IsFinderOf rows self.new }
+    {
+        while let Some((key, known)) = self.ahead {
+            match key.as_str().cmp(path) {
+                Ordering::Less => self.ahead = self.left.next(),
+                Ordering::Equal => return Some(&known.row),
+                Ordering::Greater => return self.rows.get(path),
+            }
+        }
+        self.rows.get(path)
     }
 }
 

@@ -1,8 +1,8 @@
 //! An index whose rows are known.
-ghost use Rattle.std.specs.Prelude.{◌≡◌, true, map, string_bytes, IfOk};
+ghost use Rattle.std.specs.Prelude.{◌≡◌, true, map, string_bytes, is_some, IfOk, OnOk};
 ghost use Rattle.mk_paths.specs.World.{World};
 ghost use Rattle.ports_index.specs.Index as indexed;
-ghost use Rattle.ports_index.specs.Known.{IsIndexOf};
+ghost use Rattle.ports_index.specs.Known.{IsIndexOf, IsSameIndex};
 
 use crate::alike::are_same;
 use crate::depending::{edges_among, roots_among};
@@ -39,6 +39,8 @@ pub struct KnownIndex {
     pub paths: IndexPaths,
     /// The rows of its paths.
     pub rows: MemoryRows,
+    /// The dependencies of all ports, if they were made.
+    pub edges: Option<Vec<RootEdge>>,
 }
 
 impl KnownIndex {
@@ -54,11 +56,23 @@ impl KnownIndex {
 
     /// The dependencies of all ports, in the order of the ports, and those of each port in the order of its items. It
     /// fails only if memory runs out.
-    pub fn edges(&self, alloc: Global) -> Result<Vec<RootEdge>, AllocError>
+    pub fn make_edges(&self, alloc: Global) -> Result<Vec<RootEdge>, AllocError>
         ensures { (world : World) → IsIndexOf world self.now
             → IfOk result (λ edges. edges.items ≡ indexed.edges world) }
     {
         known_rows_are_enough();
         edges_among(alloc, &self.paths.listed, &self.rows)
+    }
+
+    /// Makes the dependencies of all ports and keeps them, unless they are kept. If memory runs out, nothing changes.
+    pub fn keep_edges(&mut self, alloc: Global) -> Result<(), AllocError>
+        ensures kept { OnOk result (is_some self.new.edges ≡ true) }
+        ensures same { IsSameIndex self.old self.new }
+        ensures index { (world : World) → IsIndexOf world self.old → IsIndexOf world self.new }
+    {
+        if self.edges.is_none() {
+            self.edges = Some(self.make_edges(alloc)?);
+        }
+        Ok(())
     }
 }

@@ -7,7 +7,7 @@ ghost use Rattle.ports_index.specs.Keeping.{Keeps};
 ghost use Rattle.ports_index.specs.Makefiles.{StaysBelow, WereDirectories};
 ghost use Rattle.ports_index.specs.Naming as naming;
 
-use crate::naming::directory_of;
+use crate::naming::{directory_of, is_found_in};
 use mk_paths::{FilesFault, Name, NameFault, Names};
 use std::alloc::Global;
 use std::collections::BTreeSet;
@@ -49,7 +49,7 @@ fn stays_below<F: Names>(
     let Some(directory) = directory_of(alloc, name)? else {
         return Ok(true);
     };
-    if directories.binary_search(&directory).is_err() {
+    if !is_found_in(directories, directory.as_str()) {
         return Ok(false);
     }
     is_there(alloc, files, name)

@@ -1,8 +1,9 @@
 //! The paths of a ports tree: directories with a makefile, and what a list of directories names.
-ghost use Rattle.std.specs.Prelude.{◌≡◌, ◌==◌, ◌++◌, map, string_bytes, IfOk, OnOk, option_map, option_to_list};
+ghost use Rattle.std.specs.Prelude.{◌≡◌, ◌==◌, ◌++◌, true, map, string_bytes, IfOk, OnOk, option_map, option_to_list};
 ghost use Rattle.std.specs.List.{filter_map, flat_map, list_any};
 ghost use Rattle.std.specs.Option.{option_copied};
 ghost use Rattle.std.specs.Result.{result_err};
+ghost use Rattle.ports_index.specs.Filling.{is_one_of};
 ghost use Rattle.ports_index.specs.Keeping.{Keeps};
 ghost use Rattle.ports_index.specs.Naming as naming;
 ghost use Rattle.ports_index.specs.Seen.{row_seen, known_row, known_in, entries_in};
@@ -118,6 +119,16 @@ pub fn listed(
     Ok(paths)
 }
 
+/// Whether a search in the order of the bytes finds a path among these.
+pub(crate) fn is_found_in(paths: &[String], path: &str) -> bool
+    ensures { result ≡ true → is_one_of path.now (map string_bytes paths.now) ≡ true }
+{
+    match paths.binary_search_by(|one| one.as_str().cmp(path)) {
+        Ok(place) => paths[place].as_str() == path,
+        Err(_place) => false,
+    }
+}
+
 /// Adds more texts after these.
 pub(crate) fn append(texts: &mut Vec<String>, more: Vec<String>) -> Result<(), AllocError>
     ensures { OnOk result (texts.new.items ≡ texts.old.items ++ more.items) }
@@ -139,8 +150,9 @@ fn named_by_all(
         (map string_bytes directories.now)) }
 {
     let mut found = Vec::new(alloc);
+    let mut finder = rows.finder();
     for directory in directories {
-        add_named(alloc, &mut found, directory, rows.get(directory))?;
+        add_named(alloc, &mut found, directory, finder.get(directory))?;
     }
     Ok(found)
 }

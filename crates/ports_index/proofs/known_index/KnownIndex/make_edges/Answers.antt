@@ -3,7 +3,7 @@ use Rattle.std.proofs.Common.{◌∙◌, ap, map, string_bytes}
 use Rattle.std.proofs.lemmas.Result.{IfOk-weaker}
 use Rattle.ports_index.specs.Depending.{edges_among}
 use Rattle.ports_index.specs.Seen.{entries_in, known_in}
-use Rattle.ports_index.proofs.known_index.KnownIndex.edges.Goals as goal
+use Rattle.ports_index.proofs.known_index.KnownIndex.make_edges.Goals as goal
 
 pub returns : goal.returns
 returns c = λ world is.

@@ -1,0 +1,18 @@
+-- What finds rows by their paths.
+use Rattle.std.specs.Prelude.{◌≡◌, List, ◌++◌, Some, String, string_bytes, option_map}
+use Rattle.std.specs.BTreeMap.{get_by_text}
+use Rattle.std.specs.Global.{Global}
+use Rattle.std.specs.List.{All}
+use Rattle.std.specs.Option.{option_to_list}
+use Rattle.ports_index.specs.declared.keeping.KnownRow.{KnownRow}
+use Rattle.ports_index.specs.declared.keeping.MemoryRows.{MemoryRows}
+use Rattle.ports_index.specs.declared.keeping.RowFinder.{RowFinder}
+
+-- the rows that it hasn't passed, by their paths
+abbrev pub ahead_of : RowFinder → List (String Global × KnownRow)
+ahead_of finder = option_to_list (option_map (λ entry. (entry.0.now, entry.1.now)) finder.ahead) ++ finder.left
+
+-- It finds these rows, and what it hasn't passed is of them.
+pub record IsFinderOf (rows : MemoryRows) (finder : RowFinder) : Type 0 where
+  pub finds : finder.rows.now ≡ rows
+  pub ahead : All (λ (entry : String Global × KnownRow). get_by_text rows.rows (string_bytes entry.0) ≡ Some entry.1) (ahead_of finder)
