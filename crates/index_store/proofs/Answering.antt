@@ -24,13 +24,13 @@ use Rattle.table_facts.proofs.Finding.{find_is, not_found, found_is}
 use Rattle.table_facts.proofs.Statements.{AreSeen, seen as columns, shows, shown_stays, query_fails_stays}
 use Rattle.index_store.specs.declared.port_table.Part.{Part}
 use Rattle.index_store.specs.declared.port_table.Part.TheVariants.{Earlier, Current}
-use Rattle.index_store.specs.Entries.{StoredValue, SeenRow, AreRowsOf, ArePathsOf, is_one_of, path_of, value_in}
-use Rattle.index_store.specs.PortTable.{Entry, Rows, AreSettled, IsKept, IsRowOf, rows_at, all_of, tree_of, entry_in, port_key, port_schema, is_at, is_set, value_of, stored_by, row_shown, path_shown, select_rows, select_paths}
+use Rattle.index_store.specs.Entries.{StoredValue, SeenRow, AreRowsOf, is_one_of, path_of, value_in}
+use Rattle.index_store.specs.PortTable.{Entry, Rows, AreSettled, IsKept, IsRowOf, rows_at, all_of, tree_of, entry_in, port_key, port_schema, is_at, is_set, value_of, stored_by, row_shown, select_rows}
 use Rattle.std.proofs.lemmas.List.{map-append}
 use Rattle.std.proofs.lemmas.List.Folds.{list_any-append}
 use Rattle.index_store.proofs.Changing.{is_whole}
 use Rattle.index_store.proofs.Finding.{either_of, find-both}
-use Rattle.index_store.proofs.Fixed.{rows_text, paths_text}
+use Rattle.index_store.proofs.Fixed.{rows_text}
 
 abbrev all_columns : List Term
 all_columns = col 1 1 ∷ col 1 2 ∷ col 1 3 ∷ []
@@ -112,15 +112,6 @@ module _ (part : Part) (rows : List Row) (filled : AreFilled (IsRowOf part) port
           (λ r h. mapped_has path_of (map row_shown given) _ (mapped_has row_shown given _ (seen.complete r h refl))));
     }
 
-    pub paths_are : AreSeen [] (col 1 1 ∷ []) [] rows given → ArePathsOf (stored_by (map (entry_in part) rows)) (map path_shown given)
-    paths_are seen path =
-        has_row path (map path_shown given)
-        (λ p k.
-        let x = has_mapped path_shown given p k in
-        let r = seen.sound x.0 x.1 in
-        (r.0, r.1, x.2 ∙ ap path_shown r.3))
-        (λ r h. mapped_has path_shown given _ (seen.complete r h refl))
-
 -- ---- the rows of both tables
 
 -- what is stored by both, by what each stores
@@ -169,16 +160,9 @@ module _ (rows : Rows) (settled : AreSettled rows) where
         ∙ sym (ap (is_one_of path) (map-append path_of current earlier) ∙ list_any-append (λ one. bytes_eq one path) (map path_of current) (map path_of earlier));
   }
 
-  pub paths_together : (earlier current : List (List ℕ)) → ArePathsOf (stored_by (rows Earlier)) earlier → ArePathsOf (stored_by (rows Current)) current → ArePathsOf (stored_by (all_of rows)) (current ++ earlier)
-  paths_together earlier current a b path =
-      list_any-append (λ one. bytes_eq one path) current earlier ∙ swapped (is_one_of path current) (is_one_of path earlier) ∙ ap₂ (λ x y. x || y) (a path) (b path) ∙ sym (some-both path)
-
 -- where the release before has no row, the table of today has them all
 pub rows_alone : (rows : Rows) (current : List SeenRow) → rows Earlier ≡ [] → AreRowsOf (stored_by (rows Current)) current → AreRowsOf (stored_by (all_of rows)) current
 rows_alone rows current empty h = subst (λ es. AreRowsOf (stored_by (es ++ rows Current)) current) (sym empty) h
-
-pub paths_alone : (rows : Rows) (current : List (List ℕ)) → rows Earlier ≡ [] → ArePathsOf (stored_by (rows Current)) current → ArePathsOf (stored_by (all_of rows)) current
-paths_alone rows current empty h = subst (λ es. ArePathsOf (stored_by (es ++ rows Current)) current) (sym empty) h
 
 -- ---- however a query ends, what it shows is right, and it leaves all as it was
 
@@ -192,14 +176,3 @@ rows_end part old new (Ok rows) kept live ok err =
     )
 rows_end part old new (Err e) kept live ok err =
     (tt, query_fails_stays (select_rows part) [] old new e (subst (λ s. IsPlain (understood s (select_rows part))) (sym kept.formed.schema) (rows_text part).1) kept.settled live err)
-
-pub paths_end : (part : Part) (old new : State) (result : Result (Vec Row Global) Error) → IsKept old → IsTrue new.is_open → IfOk result (λ rows. Shown (select_paths part) [] old new rows.items) → IfErr result (FailsToQuery (select_paths part) [] old new)
-    → IfOk result (λ rows. ArePathsOf (stored_by (rows_at old.now.trees part)) (map path_shown rows.items)) × Stays old new
-paths_end part old new (Ok rows) kept live ok err =
-    let text = paths_text part in
-    let seen = shows (select_paths part) [] old new port_schema (tree_of part) [] (col 1 1 ∷ []) [] (codes "path" ∷ []) kept.formed.schema text.0 text.1 text.2 (is_whole part old.now.trees) rows.items ok in (
-      paths_are part (old.now.trees (tree_of part)) (kept.formed.rows part) rows.items seen,
-      shown_stays (select_paths part) [] old new rows.items (subst (λ s. IsPlain (understood s (select_paths part))) (sym kept.formed.schema) text.1) ok,
-    )
-paths_end part old new (Err e) kept live ok err =
-    (tt, query_fails_stays (select_paths part) [] old new e (subst (λ s. IsPlain (understood s (select_paths part))) (sym kept.formed.schema) (paths_text part).1) kept.settled live err)

@@ -21,7 +21,7 @@ use Rattle.table_facts.proofs.Statements.{over_table, program, passes}
 use Rattle.table_facts.proofs.Tests.{equals, same_number, same_text, alone}
 use Rattle.index_store.specs.declared.port_table.Part.{Part}
 use Rattle.index_store.specs.declared.port_table.Part.TheVariants.{Earlier, Current}
-use Rattle.index_store.specs.PortTable.{earlier_schema, port_schema, earlier_table, current_table, create_earlier, create_current, insert_earlier, insert_current, update_current, mark_row, mark_rows, delete_rows, select_rows, select_paths, tree_of, entry_in, IsRowOf, is_at, leaving_mark}
+use Rattle.index_store.specs.PortTable.{earlier_schema, port_schema, earlier_table, current_table, create_earlier, create_current, insert_earlier, insert_current, update_current, mark_row, mark_rows, delete_rows, select_rows, tree_of, entry_in, IsRowOf, is_at, leaving_mark}
 
 -- the row of a path
 abbrev pub of_path : List Term
@@ -54,12 +54,6 @@ pub rows_text : (part : Part)
 unfolding understood everything
 rows_text Earlier = (refl, (refl, refl), refl)
 rows_text Current = (refl, (refl, refl), refl)
-
-pub paths_text : (part : Part)
-    → (command_of (understood port_schema (select_paths part)) ≡ Select (program (over_table (tree_of part) [] (col 1 1 ∷ []) [])) (codes "path" ∷ [])) × IsPlain (understood port_schema (select_paths part)) × (reads_listing port_schema (select_paths part) ≡ false)
-unfolding understood everything
-paths_text Earlier = (refl, (refl, refl), refl)
-paths_text Current = (refl, (refl, refl), refl)
 
 pub insert_earlier_text : (command_of (understood port_schema insert_earlier) ≡ Insert 0 (Values (lit Null ∷ col 0 0 ∷ lit (Int (pos 0)) ∷ col 0 1 ∷ []) 4)) × IsPlain (understood port_schema insert_earlier)
 unfolding understood everything

@@ -113,10 +113,6 @@ abbrev pub select_rows : Part → List ℕ
 select_rows Earlier = codes "SELECT path, stale, row FROM port"
 select_rows Current = codes "SELECT path, stale, row FROM port2"
 
-abbrev pub select_paths : Part → List ℕ
-select_paths Earlier = codes "SELECT path FROM port"
-select_paths Current = codes "SELECT path FROM port2"
-
 -- ---- what the rows mean
 
 -- the tree of a table
@@ -178,9 +174,9 @@ stored_by entries path = option_map value_of (find (is_at path) entries)
 abbrev pub stored_in : Held MemStore → Entries
 stored_in connection = stored_by (entries_of connection)
 
--- each path that has a row is one of these
+-- these are the paths that have a row
 abbrev pub AreNoted : BTreeSet (String Global) → Entries → Type 0
-AreNoted paths entries = (path : List ℕ) → is_some (entries path) ≡ true → contains_text paths path ≡ true
+AreNoted paths entries = (path : List ℕ) → contains_text paths path ≡ is_some (entries path)
 
 -- the profile with which a row was written
 abbrev pub profile_of : Option Entry → Option Profile
@@ -203,10 +199,6 @@ is_set _ = false
 -- what is shown of a row that is asked for
 abbrev pub row_shown : Row → SeenRow
 row_shown row = record { path = bytes_in (column row 0); stale = is_set (column row 1); text = bytes_in (column row 2) }
-
--- the path that is shown
-abbrev pub path_shown : Row → List ℕ
-path_shown row = bytes_in (column row 0)
 
 -- the columns of an entry that one table has and the other lacks
 abbrev pub profile_cells : Part → Entry → Row

@@ -3,11 +3,11 @@ ghost use Rattle.std.specs.Prelude.{◌≡◌, ◌∷◌, [], ◌++◌, None, So
 ghost use Rattle.mk_text.specs.Profiles.{profile_number};
 ghost use Rattle.table_facts.specs.Tables.{no_schema};
 ghost use Rattle.table_facts.specs.States.{IsOpen, KeepsCommit, Stays, state_of};
-ghost use Rattle.index_store.specs.Entries.{AreRowsOf, ArePathsOf};
+ghost use Rattle.index_store.specs.Entries.{AreRowsOf};
 ghost use Rattle.index_store.specs.PortTable.{IsKept, IsFormed, Holds, HoldsInside, rows_of, stored_by, no_rows};
 ghost use Rattle.index_store.specs.PortTable.{is_at, fresh_entry, replaced_at, marked_at, with_mark, staying_of, with_rows};
-ghost use Rattle.index_store.specs.PortTable.{row_shown, path_shown, stale_mark, earlier_schema};
-ghost use Rattle.index_store.specs.PortTable.{select_rows, select_paths, mark_row, mark_rows, delete_rows};
+ghost use Rattle.index_store.specs.PortTable.{row_shown, stale_mark, earlier_schema};
+ghost use Rattle.index_store.specs.PortTable.{select_rows, mark_row, mark_rows, delete_rows};
 ghost use Rattle.index_store.specs.Marking.{mark_number};
 
 use mk_text::Profile;
@@ -31,16 +31,6 @@ impl Part {
         match self {
             Part::Earlier => "SELECT path, stale, row FROM port",
             Part::Current => "SELECT path, stale, row FROM port2",
-        }
-    }
-
-    // The query of all paths.
-    fn paths_query(self) -> &'static str
-        ensures { result.now ≡ select_paths self }
-    {
-        match self {
-            Part::Earlier => "SELECT path FROM port",
-            Part::Current => "SELECT path FROM port2",
         }
     }
 
@@ -133,16 +123,6 @@ pub(crate) fn all_rows(conn: &mut Connection<MemStore>, part: Part) -> Result<Ve
     ensures stays { Stays (state_of conn.old) (state_of conn.new) }
 {
     conn.query_all(part.rows_query(), &[])
-}
-
-/// The paths of all rows of a table.
-pub(crate) fn all_paths(conn: &mut Connection<MemStore>, part: Part) -> Result<Vec<Row>, Error>
-    requires { IsKept (state_of conn.old) }
-    ensures paths { IfOk result (λ rows. ArePathsOf (stored_by (rows_of conn.old part))
-        (map path_shown rows.items)) }
-    ensures stays { Stays (state_of conn.old) (state_of conn.new) }
-{
-    conn.query_all(part.paths_query(), &[])
 }
 
 /// Adds the row of a path that has none, as the release before wrote it.

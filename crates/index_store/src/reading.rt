@@ -1,11 +1,11 @@
 // Reading what the statements show.
-ghost use Rattle.std.specs.Prelude.{◌≡◌, ◌++◌, map, string_bytes, IfOk, OnOk};
+ghost use Rattle.std.specs.Prelude.{◌≡◌, ◌++◌, map, IfOk, OnOk};
 ghost use Rattle.table_facts.specs.States.{Stays, state_of};
-ghost use Rattle.index_store.specs.Entries.{AreRowsOf, ArePathsOf, stored_seen};
-ghost use Rattle.index_store.specs.PortTable.{IsKeptWith, stored_in, row_shown, path_shown};
+ghost use Rattle.index_store.specs.Entries.{AreRowsOf, stored_seen};
+ghost use Rattle.index_store.specs.PortTable.{IsKeptWith, stored_in, row_shown};
 
 use crate::path_rows::StoredRow;
-use crate::port_table::{Part, all_paths, all_rows};
+use crate::port_table::{Part, all_rows};
 use sqlite::{Connection, Error, MemStore, Row};
 use std::alloc::Global;
 
@@ -31,18 +31,6 @@ fn add_rows(stored: &mut Vec<StoredRow>, rows: Vec<Row>) -> Result<(), Error>
     Ok(())
 }
 
-// Adds the paths of these rows.
-fn add_paths(paths: &mut Vec<String>, rows: Vec<Row>) -> Result<(), Error>
-    ensures { OnOk result (map string_bytes paths.new.items
-        ≡ map string_bytes paths.old.items ++ map path_shown rows.items) }
-{
-    paths.reserve(rows.len())?;
-    for row in rows {
-        paths.push(row.get(0)?)?;
-    }
-    Ok(())
-}
-
 /// All rows of both tables. Without `has_earlier` that of the release before has none.
 pub(crate) fn read_rows(
     conn: &mut Connection<MemStore>,
@@ -63,26 +51,4 @@ pub(crate) fn read_rows(
     let earlier = all_rows(conn, Part::Earlier)?;
     add_rows(&mut stored, earlier)?;
     Ok(stored)
-}
-
-/// The paths of all rows of both tables. Without `has_earlier` that of the release before has none.
-pub(crate) fn read_paths(
-    conn: &mut Connection<MemStore>,
-    has_earlier: bool,
-    alloc: Global,
-) -> Result<Vec<String>, Error>
-    requires { IsKeptWith has_earlier (state_of conn.old) }
-    ensures paths { IfOk result (λ paths. ArePathsOf (stored_in conn.old)
-        (map string_bytes paths.items)) }
-    ensures stays { Stays (state_of conn.old) (state_of conn.new) }
-{
-    let mut paths = Vec::new(alloc);
-    let current = all_paths(conn, Part::Current)?;
-    add_paths(&mut paths, current)?;
-    if !has_earlier {
-        return Ok(paths);
-    }
-    let earlier = all_paths(conn, Part::Earlier)?;
-    add_paths(&mut paths, earlier)?;
-    Ok(paths)
 }

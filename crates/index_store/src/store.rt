@@ -1,12 +1,12 @@
 // The rows of one tenant's index, as its callers see them.
-ghost use Rattle.std.specs.Prelude.{◌≡◌, ◌||◌, if◌then◌else◌, not, false, ℕ, List, map, string_bytes, IfOk, OnOk, OnErr, None};
+ghost use Rattle.std.specs.Prelude.{◌≡◌, ◌&&◌, ◌||◌, if◌then◌else◌, not, false, ℕ, List, map, string_bytes, IfOk, OnOk, OnErr, None};
 ghost use Rattle.std.specs.BTreeSet.{contains_text};
 ghost use Rattle.std.specs.Str.{bytes_eq};
 ghost use Rattle.index_store.specs.Entries.{HasNoRow, PutsRow, PutsProfile, SameRows, SameProfiles, is_one_of};
 ghost use Rattle.index_store.specs.PortTable.{stored_by, profiles_by};
 
 use crate::path_rows::{PathRows, StoredRow};
-use crate::reading::{read_paths, read_rows};
+use crate::reading::read_rows;
 use crate::writing::{mark_paths, mark_rows, open, put_earlier_row, put_row, take_paths};
 use mk_paths::FilesFault;
 use mk_text::Profile;
@@ -24,7 +24,7 @@ pub struct IndexStore {
     // Whether the table of the release before may have a row.
     has_earlier: bool,
     alloc: Global,
-    // Paths, among which each is that has a row.
+    // The paths that have a row.
     paths: BTreeSet<String>,
 }
 
@@ -77,11 +77,14 @@ impl IndexStore {
         ensures err_profiles { OnErr result
             (SameProfiles (profiles_by self.old) (profiles_by self.new)) }
     {
-        let _is_new = note(self.alloc, &mut self.paths, path)?;
+        let is_new = note(self.alloc, &mut self.paths, path)?;
         self.has_earlier = true;
         match put_earlier_row(&mut self.conn, path, text) {
             Ok(()) => Ok(()),
-            Err(error) => Err(FilesFault::of_statement::<Sqlite>(&error)),
+            Err(error) => {
+                forget_if(is_new, &mut self.paths, path);
+                Err(FilesFault::of_statement::<Sqlite>(&error))
+            }
         }
     }
 }
@@ -99,10 +102,7 @@ impl PathRows for IndexStore {
     }
 
     fn paths(&mut self, alloc: Global) -> Result<Vec<String>, FilesFault> {
-        match read_paths(&mut self.conn, self.has_earlier, alloc) {
-            Ok(paths) => Ok(paths),
-            Err(error) => Err(FilesFault::of_statement::<Sqlite>(&error)),
-        }
+        Ok(list_of(alloc, &self.paths)?)
     }
 
     fn put(&mut self, path: &str, profile: Profile, text: &[u8]) -> Result<(), FilesFault> {
@@ -116,7 +116,10 @@ impl PathRows for IndexStore {
             text,
         ) {
             Ok(()) => Ok(()),
-            Err(error) => Err(FilesFault::of_statement::<Sqlite>(&error)),
+            Err(error) => {
+                forget_if(is_new, &mut self.paths, path);
+                Err(FilesFault::of_statement::<Sqlite>(&error))
+            }
         }
     }
 
@@ -147,8 +150,19 @@ impl PathRows for IndexStore {
     }
 }
 
-// Notes that a path may have a row, and says whether it was noted for the first time. If memory runs out, nothing
-// changes.
+// The paths that are noted, as a list.
+fn list_of(alloc: Global, noted: &BTreeSet<String>) -> Result<Vec<String>, AllocError>
+    ensures { IfOk result (λ listed. (path : List ℕ) → is_one_of path (map string_bytes listed.items)
+        ≡ contains_text noted.now path) }
+{
+    let mut listed = Vec::with_capacity(alloc, noted.len())?;
+    for path in noted {
+        listed.push(String::from_str(alloc, path.as_str())?)?;
+    }
+    Ok(listed)
+}
+
+// Notes a path, and says whether it wasn't noted before. If memory runs out, nothing changes.
 fn note(alloc: Global, paths: &mut BTreeSet<String>, path: &str) -> Result<bool, AllocError>
     ensures is_new { IfOk result (λ is_new. is_new ≡ not (contains_text paths.old path.now)) }
     ensures noted { OnOk result ((other : List ℕ) → contains_text paths.new other
@@ -161,6 +175,16 @@ fn note(alloc: Global, paths: &mut BTreeSet<String>, path: &str) -> Result<bool,
     match paths.insert(String::from_str(alloc, path)?) {
         Ok(_is_new) => Ok(true),
         Err(failed) => Err(failed.into()),
+    }
+}
+
+// Takes a path out of those that are noted, if it is new.
+fn forget_if(is_new: bool, noted: &mut BTreeSet<String>, path: &str)
+    ensures { (other : List ℕ) → contains_text noted.new other
+        ≡ (if is_new && bytes_eq path.now other then false else contains_text noted.old other) }
+{
+    if is_new {
+        let _was_there = noted.remove(path);
     }
 }
 

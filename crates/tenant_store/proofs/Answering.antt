@@ -1,21 +1,20 @@
 -- What the queries of the store find.
-use Rattle.std.proofs.Common.{◌≡◌, ◌≤◌, inl, inr, ℕ, pos, true, false, not, List, [], ◌∷◌, map, length, get_or, Option, None, Some, is_some, refl, sym, ap, subst, ◌∙◌, codes, IsTrue, Result, Ok, Err, IfOk, IfErr, arith}
-use Rattle.std.specs.Prelude.{Vec, ◌==◌, option_map}
+use Rattle.std.proofs.Common.{◌≡◌, ◌≤◌, inl, inr, ℕ, pos, true, false, List, [], ◌∷◌, map, length, get_or, Option, None, Some, refl, sym, ap, subst, ◌∙◌, codes, IsTrue, Result, Ok, Err, IfOk, IfErr, arith}
+use Rattle.std.specs.Prelude.{Vec, option_map}
 use Rattle.std.specs.declared.alloc.Global.{Global}
 use Rattle.std.specs.FinMap as finite
 use Rattle.std.proofs.lemmas.Bool.{cases_Bool}
-use Rattle.std.proofs.lemmas.Bool.Decides.{nat_tests}
 use Rattle.sqlite_value.specs.declared.value.Value.TheVariants.{Int, Text, Blob}
 use Rattle.sqlite_value.specs.Order.{Row, column}
 use Rattle.sqlite_sql.specs.declared.ops.UnaryOp.TheVariants.{Length}
 use Rattle.sqlite_sql.specs.Ops.{unary}
-use Rattle.sqlite_sql.specs.Term.{Term, lit, col, op1}
+use Rattle.sqlite_sql.specs.Term.{Term, col, op1}
 use Rattle.sqlite_schema.specs.declared.command.Command.TheVariants.{Select}
 use Rattle.sqlite_rules.specs.Lists.{Has}
 use Rattle.sqlite_rules.proofs.ProbeLemmas.{has_mapped, mapped_has}
 use Rattle.tenant_store.specs.Holdings.{File, map_of}
 use Rattle.table_facts.specs.Filled.{AreFilled, bytes_in, number_in}
-use Rattle.tenant_store.specs.Tables.{IsFileRow, IsOneAccount, file_of, account_of, file_key, is_named, held_in, store_schema, select_content, select_length, select_presence, select_account, Shows, ShowAccount, ShowWhether, IsContent, IsLength, IsFormed}
+use Rattle.tenant_store.specs.Tables.{IsFileRow, IsOneAccount, file_of, account_of, file_key, is_named, held_in, store_schema, select_content, select_length, select_account, Shows, ShowAccount, IsContent, IsLength, IsFormed}
 use Rattle.table_facts.specs.States.{IsSettled, Stays}
 use Rattle.sqlite.specs.declared.error.Error.{Error}
 use Rattle.sqlite.specs.Listing.{understood, reads_listing}
@@ -28,7 +27,7 @@ use Rattle.table_facts.proofs.Ending.{if_ok_then}
 use Rattle.table_facts.proofs.Finding.{find_is, find_none}
 use Rattle.tenant_store.proofs.Finding.{get-map_of}
 use Rattle.table_facts.proofs.Tests.{text_is}
-use Rattle.tenant_store.proofs.Fixed.{of_file, account_columns, passes_file, content_text, length_text, presence_text, account_text}
+use Rattle.tenant_store.proofs.Fixed.{of_file, account_columns, passes_file, content_text, length_text, account_text}
 
 -- the length of a content, as a query shows it
 length_is : (content : List ℕ) → unary Length (Blob content) ≡ Int (pos (length content))
@@ -69,13 +68,6 @@ module _ (name : List ℕ) (rows : List Row) (filled : AreFilled IsFileRow file_
         let r = seen.sound x h in
         let form = filled.formed r.0 r.1 in
         (r.0, form, r.3, get_file r.0 r.1 (sym (passes_file name [] r.0 form) ∙ r.2))
-
-    pub whether_shown : ShowWhether given (finite.contains_key (map_of (map file_of rows)) name)
-    whether_shown = go given refl
-      where
-        go : (l : List Row) → given ≡ l → ShowWhether l (is_some sought)
-        go [] is = ap is_some (none_shown is)
-        go (x ∷ l) is = let some : (length (x ∷ l) == 0) ≡ false = grind (arith, nat_tests) in ap is_some (file_shown x (subst (λ l. Has l x) (sym is) (inl refl))).3 ∙ sym (ap not some)
 
   pub content_shows : (given : List Row) → AreSeen of_file (col 1 2 ∷ []) (Text name ∷ []) rows given → Shows IsContent given sought
   content_shows given seen = record {
@@ -162,11 +154,6 @@ module _ (name : List ℕ) (old new : State) (result : Result (Vec Row Global) E
   pub length_ends : IfOk result (λ rows. Shown select_length (Text name ∷ []) old new rows.items) → IfErr result (FailsToQuery select_length (Text name ∷ []) old new) → IfOk result (λ rows. Shows IsLength rows.items (option_map length there)) × Stays old new
   length_ends ok err =
       let both = file_ends select_length (op1 Length (col 1 2) ∷ []) (codes "length(content)" ∷ []) length_text name old new formed result at live ok err in (if_ok_then result (λ rows seen. length_shows name (old.now.trees 0) formed.files rows.items seen) both.0, both.1)
-
-  pub presence_ends : IfOk result (λ rows. Shown select_presence (Text name ∷ []) old new rows.items) → IfErr result (FailsToQuery select_presence (Text name ∷ []) old new)
-      → IfOk result (λ rows. ShowWhether rows.items (finite.contains_key (map_of (held_in old).files) name)) × Stays old new
-  presence_ends ok err =
-      let both = file_ends select_presence (lit (Int (pos 1)) ∷ []) (codes "1" ∷ []) presence_text name old new formed result at live ok err in (if_ok_then result (λ rows seen. whether_shown name (old.now.trees 0) formed.files (lit (Int (pos 1)) ∷ []) rows.items seen) both.0, both.1)
 
 pub account_ends : (old new : State) (result : Result (Vec Row Global) Error) → IsFormed old.now → IsSettled old → IsTrue new.is_open
     → IfOk result (λ rows. Shown select_account [] old new rows.items) → IfErr result (FailsToQuery select_account [] old new)

@@ -10,7 +10,7 @@ use Rattle.sqlite_tied.specs.Compute.{everything}
 use Rattle.sqlite.specs.Compile.{table_defined_by}
 use Rattle.sqlite.specs.Listing.{understood, reads_listing}
 use Rattle.sqlite.proofs.Callers.{IsPlain, command_of, statement_of}
-use Rattle.tenant_store.specs.Tables.{store_schema, file_schema, file_table, account_table, create_file, create_account, insert_file, update_file, delete_file, select_content, select_length, select_presence, select_names, insert_account, update_account, select_account, file_of, IsFileRow, is_named}
+use Rattle.tenant_store.specs.Tables.{store_schema, file_schema, file_table, account_table, create_file, create_account, insert_file, update_file, delete_file, select_content, select_length, insert_account, update_account, select_account, file_of, IsFileRow, is_named}
 use Rattle.table_facts.specs.Tables.{no_schema}
 use Rattle.table_facts.proofs.Statements.{over_table, program, passes}
 use Rattle.table_facts.proofs.Tests.{equals, same_text, alone}
@@ -36,17 +36,9 @@ pub length_text : (command_of (understood store_schema select_length) ≡ Select
 unfolding understood everything
 length_text = (refl, (refl, refl), refl)
 
-pub presence_text : (command_of (understood store_schema select_presence) ≡ Select (program (over_table 0 of_file (lit (Int (pos 1)) ∷ []) [])) (codes "1" ∷ [])) × IsPlain (understood store_schema select_presence) × (reads_listing store_schema select_presence ≡ false)
-unfolding understood everything
-presence_text = (refl, (refl, refl), refl)
-
 pub account_text : (command_of (understood store_schema select_account) ≡ Select (program (over_table 2 [] account_columns [])) (codes "files" ∷ codes "bytes" ∷ codes "path" ∷ codes "profile" ∷ [])) × IsPlain (understood store_schema select_account) × (reads_listing store_schema select_account ≡ false)
 unfolding understood everything
 account_text = (refl, (refl, refl), refl)
-
-pub names_text : (command_of (understood store_schema select_names) ≡ Select (program (over_table 0 [] (col 1 1 ∷ []) [])) (codes "name" ∷ [])) × IsPlain (understood store_schema select_names) × (reads_listing store_schema select_names ≡ false)
-unfolding understood everything
-names_text = (refl, (refl, refl), refl)
 
 pub insert_file_text : (command_of (understood store_schema insert_file) ≡ Insert 0 (Values (lit Null ∷ col 0 0 ∷ col 0 1 ∷ []) 3)) × IsPlain (understood store_schema insert_file)
 unfolding understood everything

@@ -1,18 +1,20 @@
 -- What is so of the store between its calls goes on to be so.
-use Rattle.std.proofs.Common.{◌≡◌, ℕ, ◌+◌, ◌≤◌, Bool, true, false, Option, None, Some, List, length, is_some, string_bytes, Result, Ok, Err, IfOk, OnErr, OnOk, refl, sym, ap, ap₂, subst, ◌∙◌, arith}
+use Rattle.std.proofs.Common.{String, Global, ◌≡◌, ℕ, ◌+◌, ◌≤◌, false, Option, None, Some, List, length, is_some, string_bytes, Result, Ok, Err, OnErr, OnOk, refl, sym, ap, ap₂, subst, ◌∙◌, arith}
 use Rattle.std.specs.Prelude.{option_map, unwrap_or}
 use Rattle.std.specs.Option.{option_map_or}
 use Rattle.std.specs.FinMap as finite
 use Rattle.std.specs.Borrow.{Bor}
 use Rattle.mk_text.specs.declared.profile.Profile.{Profile}
 use Rattle.mk_paths.specs.World.{World, FileMap, files_in, with_file, without_file, with_search_path, with_profile, search_path_of, profile_of}
+use Rattle.mk_paths.specs.declared.search_path.Settings.{Settings}
+use Rattle.std.specs.BTreeSet.{BTreeSet}
 use Rattle.mk_paths.specs.SearchPath.{trees_of, IsSearchPath}
 use Rattle.mk_files.specs.Limits.{bytes_of, files_with, bytes_with, is_over, passes}
 use Rattle.sqlite.specs.Effect.{Database}
 use Rattle.sqlite.specs.State.{State}
 use Rattle.sqlite.specs.declared.error.Error.{Error}
 use Rattle.tenant_store.specs.Holdings.{File, Account, Holdings, map_of, world_in}
-use Rattle.tenant_store.specs.Tables.{IsKept, IsCounted, IsFormed, Holds, Makes, held_in, holdings_in, world_at, files_after, Suits}
+use Rattle.tenant_store.specs.Tables.{AreNoted, IsKept, IsCounted, IsFormed, Holds, Makes, held_in, holdings_in, world_at, files_after, Suits}
 use Rattle.table_facts.specs.States.{Stays}
 use Rattle.tenant_store.specs.Accounts.{shown_account, IsAccountOf}
 use Rattle.tenant_store.specs.declared.reading.Account.{Account as Kept}
@@ -149,11 +151,15 @@ module _ (old new : State) (account kept : Kept) (of : IsAccountOf (world_at old
 
 -- ---- however a call ends
 
-pub put_kept : (Q : Type 0) (r : Result Bool Error) (old new : State) (world : World) → IsKept old → IfOk r (λ fits. (fits ≡ true) → Holds new world) → IfOk r (λ fits. fits ≡ false → Q × Stays old new) → OnErr r (Stays old new) → IsKept new
-put_kept Q (Ok true) old new world kept done full err = (done refl).kept
-put_kept Q (Ok false) old new world kept done full err = still_kept old new kept (full refl).1
-put_kept Q (Err e) old new world kept done full err = still_kept old new kept err
-
 pub set_kept : {A : Type 0} (r : Result A Error) (old new : State) (world : World) → IsKept old → OnOk r (Holds new world) → OnErr r (Stays old new) → IsKept new
 set_kept (Ok a) old new world kept ok err = ok.kept
 set_kept (Err e) old new world kept ok err = still_kept old new kept err
+
+-- settings that are set leave the names
+module _ {A : Type 0} (r : Result A Error) (old new : State) (settings : Settings) (names : BTreeSet (String Global)) (noted : AreNoted names (files_in (world_at old))) where
+  pub set_noted : OnOk r (Holds new (files_in (world_at old), settings)) → OnErr r (Stays old new) → AreNoted names (files_in (world_at new))
+  set_noted = by r
+    where
+      by : (result : Result A Error) → OnOk result (Holds new (files_in (world_at old), settings)) → OnErr result (Stays old new) → AreNoted names (files_in (world_at new))
+      by (Ok a) ok err = subst (λ (world : World). AreNoted names (files_in world)) (sym ok.world_is) noted
+      by (Err e) ok err = subst (λ (world : World). AreNoted names (files_in world)) (sym (same_world old new err)) noted

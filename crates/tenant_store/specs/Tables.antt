@@ -1,8 +1,10 @@
 -- The tables of the store, and what their rows mean.
-use Rattle.std.specs.Prelude.{◌≡◌, ℕ, ℤ, pos, ◌≤◌, ◌==◌, not, if◌then◌else◌, Bool, codes, List, [], ◌∷◌}
-use Rattle.std.specs.Prelude.{◌++◌, length, map, filter, Option, None, Some, get_or}
+use Rattle.std.specs.Prelude.{◌≡◌, ℕ, ℤ, pos, ◌≤◌, not, if◌then◌else◌, Bool, codes, List, [], ◌∷◌}
+use Rattle.std.specs.Prelude.{◌++◌, length, map, filter, Option, None, Some, String, get_or}
+use Rattle.std.specs.Global.{Global}
 use Rattle.std.specs.Ordering.{is_eq, nat_cmp}
 use Rattle.std.specs.Cmp.Lexicographic.{slice_cmp}
+use Rattle.std.specs.BTreeSet.{BTreeSet, contains_text}
 use Rattle.std.specs.FinMap as finite
 use Rattle.sqlite_value.specs.declared.value.Value.TheVariants.{Int, Text, Blob}
 use Rattle.sqlite_value.specs.Order.{Row, column}
@@ -11,7 +13,6 @@ use Rattle.mk_text.specs.Profiles.{profile_number, numbered_profile}
 use Rattle.mk_paths.specs.SearchPath.{trees_of, IsSearchPath}
 use Rattle.mk_paths.specs.World.{FileMap, World}
 use Rattle.mk_files.specs.Limits.{bytes_of}
-use Rattle.text_parts.specs.Ordered.{among}
 use Rattle.sqlite_trees.specs.Tree.{Trees}
 use Rattle.sqlite_trees.specs.View.{IsShaped}
 use Rattle.sqlite_trees.specs.declared.store.Shape.TheVariants as Shapes
@@ -73,12 +74,6 @@ select_content = codes "SELECT content FROM file WHERE name = ?1"
 
 abbrev pub select_length : List ℕ
 select_length = codes "SELECT length(content) FROM file WHERE name = ?1"
-
-abbrev pub select_presence : List ℕ
-select_presence = codes "SELECT 1 FROM file WHERE name = ?1"
-
-abbrev pub select_names : List ℕ
-select_names = codes "SELECT name FROM file"
 
 abbrev pub insert_account : List ℕ
 insert_account = codes "INSERT INTO account (files, bytes, path, profile) VALUES (0, 0, '/ports:/mystuff', 1)"
@@ -146,17 +141,9 @@ IsContent row content = column row 0 ≡ Blob content
 abbrev pub IsLength : Row → ℕ → Type 0
 IsLength row bytes = column row 0 ≡ Int (pos bytes)
 
--- rows that say whether what was looked for is there: there is one where it is
-abbrev pub ShowWhether : List Row → Bool → Type 0
-ShowWhether rows there = there ≡ not (length rows == 0)
-
--- the name that a row shows
-abbrev pub name_in : Row → List ℕ
-name_in row = bytes_in (column row 0)
-
--- these are the names of the files, in any order
-abbrev pub AreNames : FileMap → List (List ℕ) → Type 0
-AreNames files names = (name : List ℕ) → among name names ≡ finite.contains_key files name
+-- these are the names of the files
+abbrev pub AreNoted : BTreeSet (String Global) → FileMap → Type 0
+AreNoted names files = (name : List ℕ) → contains_text names name ≡ finite.contains_key files name
 
 -- the row of the parts of an account
 abbrev pub IsAccount : Row → Account → Type 0

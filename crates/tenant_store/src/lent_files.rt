@@ -69,7 +69,7 @@ impl<L: Lent> Names for LentFiles<'_, L> {
     ghost fails_with = { IsAnyFault };
 
     fn has(&mut self, name: &Name) -> Result<bool, FilesFault> {
-        self.files.holds(name)
+        Ok(self.files.holds(name))
     }
 }
 

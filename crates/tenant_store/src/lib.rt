@@ -5,6 +5,7 @@ mod asking;
 mod changing;
 mod faults;
 mod lent_files;
+mod noting;
 mod opening;
 mod reading;
 mod store;

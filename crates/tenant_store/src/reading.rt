@@ -1,17 +1,15 @@
 // The statements that read.
-ghost use Rattle.std.specs.Prelude.{◌≡◌, ◌+◌, ◌≤◌, IfOk, length, map, option_map, string_bytes};
-ghost use Rattle.std.specs.FinMap.{get, contains_key, keys};
+ghost use Rattle.std.specs.Prelude.{◌≡◌, ◌+◌, ◌≤◌, IfOk, length, option_map};
+ghost use Rattle.std.specs.FinMap.{get};
 ghost use Rattle.mk_paths.specs.World.{files_in};
 ghost use Rattle.table_facts.specs.States.{IsSettled, Stays, state_of};
-ghost use Rattle.tenant_store.specs.Tables.{IsFormed, IsKept, Shows, ShowAccount, IsContent, IsAccount, AreNames, name_in};
-ghost use Rattle.tenant_store.specs.Tables.{IsLength, ShowWhether};
+ghost use Rattle.tenant_store.specs.Tables.{IsFormed, IsKept, Shows, ShowAccount, IsContent, IsAccount};
+ghost use Rattle.tenant_store.specs.Tables.{IsLength};
 ghost use Rattle.tenant_store.specs.Tables.{holdings_of, world_of};
 ghost use Rattle.tenant_store.specs.Accounts.{IsAccountOf, shown_account};
 
 use mk_text::Profile;
 use sqlite::{Connection, Error, MemStore, Row, params};
-use std::alloc::Global;
-use text_parts::put_in_order;
 
 /// What is kept besides the files: how many there are, the sum of their contents in bytes, the search path, and
 /// the profile.
@@ -128,28 +126,6 @@ pub(crate) fn length_of(conn: &mut Connection<MemStore>, name: &str) -> Result<O
     }
 }
 
-fn presence_rows(conn: &mut Connection<MemStore>, name: &str) -> Result<Vec<Row>, Error>
-    requires settled { IsSettled (state_of conn.old) }
-    requires formed { IsFormed (state_of conn.old).now }
-    ensures rows { IfOk result (λ rows. ShowWhether rows.items
-        (contains_key (files_in (world_of conn.old)) name.now)) }
-    ensures stays { Stays (state_of conn.old) (state_of conn.new) }
-{
-    conn.query_all("SELECT 1 FROM file WHERE name = ?1", params![name])
-}
-
-/// Whether a file of this name is there. No content is read for it.
-pub(crate) fn is_there(conn: &mut Connection<MemStore>, name: &str) -> Result<bool, Error>
-    requires settled { IsSettled (state_of conn.old) }
-    requires formed { IsFormed (state_of conn.old).now }
-    ensures there { IfOk result (λ there. there
-        ≡ contains_key (files_in (world_of conn.old)) name.now) }
-    ensures stays { Stays (state_of conn.old) (state_of conn.new) }
-{
-    let rows = presence_rows(conn, name)?;
-    Ok(!rows.is_empty())
-}
-
 fn account_rows(conn: &mut Connection<MemStore>) -> Result<Vec<Row>, Error>
     requires settled { IsSettled (state_of conn.old) }
     requires formed { IsFormed (state_of conn.old).now }
@@ -178,38 +154,4 @@ pub(crate) fn account_of(conn: &mut Connection<MemStore>) -> Result<Account, Err
 {
     let rows = account_rows(conn)?;
     account_from(&rows[0])
-}
-
-fn name_rows(conn: &mut Connection<MemStore>) -> Result<Vec<Row>, Error>
-    requires settled { IsSettled (state_of conn.old) }
-    requires formed { IsFormed (state_of conn.old).now }
-    ensures rows { IfOk result (λ rows. AreNames (files_in (world_of conn.old)) (map name_in rows.items)) }
-    ensures stays { Stays (state_of conn.old) (state_of conn.new) }
-{
-    conn.query_all("SELECT name FROM file", &[])
-}
-
-// The names that rows show.
-fn names_in(alloc: Global, rows: &[Row]) -> Result<Vec<String>, Error>
-    ensures { IfOk result (λ names. map string_bytes names.items ≡ map name_in rows.now) }
-{
-    let mut names = Vec::with_capacity(alloc, rows.len())?;
-    for row in rows {
-        names.push(row.get(0)?)?;
-    }
-    Ok(names)
-}
-
-/// The names of all files, in the order of their bytes.
-pub(crate) fn names_of(conn: &mut Connection<MemStore>, alloc: Global) -> Result<Vec<String>, Error>
-    requires settled { IsSettled (state_of conn.old) }
-    requires formed { IsFormed (state_of conn.old).now }
-    ensures names { IfOk result (λ names. map string_bytes names.items
-        ≡ keys (files_in (world_of conn.old))) }
-    ensures stays { Stays (state_of conn.old) (state_of conn.new) }
-{
-    let rows = name_rows(conn)?;
-    let mut names = names_in(alloc, &rows)?;
-    put_in_order(&mut names);
-    Ok(names)
 }

@@ -10,13 +10,15 @@ ghost use Rattle.table_facts.specs.States.{Stays, state_of};
 
 use crate::changing::{put, set_path, set_profile, take};
 use crate::faults::PutFault;
+use crate::noting::{forget_if, list_of, note};
 use crate::opening::open;
-use crate::reading::{account_of, content_of, is_there, names_of};
+use crate::reading::{account_of, content_of};
 use mk_files::Content;
 use mk_paths::{FilesFault, Name, PathFault, SearchPath, Settings};
 use mk_text::Profile;
 use sqlite::{Connection, MemStore};
 use std::alloc::{AllocError, Global};
+use std::collections::BTreeSet;
 use std::marker::Model;
 use table_facts::Sqlite;
 
@@ -25,13 +27,16 @@ use table_facts::Sqlite;
 #[derive(Drop)]
 pub struct TenantStore {
     conn: Connection<MemStore>,
+    alloc: Global,
+    // The names of the files.
+    names: BTreeSet<String>,
 }
 
 impl Model for TenantStore {
-    ghost use Rattle.mk_paths.specs.World.{World, world_code};
+    ghost use Rattle.mk_paths.specs.World.{World, files_in, world_code};
     ghost use Rattle.sqlite.specs.Held.{state};
     ghost use Rattle.sqlite.specs.Steps.{over_memory};
-    ghost use Rattle.tenant_store.specs.Tables.{world_at, IsKept};
+    ghost use Rattle.tenant_store.specs.Tables.{world_at, AreNoted, IsKept};
 
     ghost Value = { World };
 
@@ -39,7 +44,8 @@ impl Model for TenantStore {
 
     ghost view = { λ store. world_at (state over_memory store.conn) };
 
-    ghost invariant = { λ store. IsKept (state over_memory store.conn) };
+    ghost invariant = { λ store. IsKept (state over_memory store.conn)
+        × AreNoted store.names (files_in (world_at (state over_memory store.conn))) };
 }
 
 impl TenantStore {
@@ -50,7 +56,11 @@ impl TenantStore {
         ensures { IfOk result (λ store. store ≡ opening_world) }
     {
         match open(alloc) {
-            Ok(conn) => Ok(TenantStore { conn }),
+            Ok(conn) => Ok(TenantStore {
+                conn,
+                alloc,
+                names: BTreeSet::new(alloc),
+            }),
             Err(error) => Err(FilesFault::of_statement::<Sqlite>(&error)),
         }
     }
@@ -72,10 +82,18 @@ impl TenantStore {
             → IsTrue (is_over (files_in (with_file self.old name.now content.now))) }
         ensures err { OnErr result (self.new ≡ self.old) }
     {
-        match put(&mut self.conn, name.as_str(), content) {
+        let text = name.as_str();
+        let is_new = note(self.alloc, &mut self.names, text)?;
+        match put(&mut self.conn, text, content) {
             Ok(true) => Ok(()),
-            Ok(false) => Err(PutFault::Full),
-            Err(error) => Err(PutFault::from(FilesFault::of_statement::<Sqlite>(&error))),
+            Ok(false) => {
+                forget_if(is_new, &mut self.names, text);
+                Err(PutFault::Full)
+            }
+            Err(error) => {
+                forget_if(is_new, &mut self.names, text);
+                Err(PutFault::from(FilesFault::of_statement::<Sqlite>(&error)))
+            }
         }
     }
 
@@ -91,8 +109,12 @@ impl TenantStore {
         ensures removed { OnOk result (self.new ≡ without_file self.old name.now) }
         ensures err { OnErr result (self.new ≡ self.old) }
     {
-        match take(&mut self.conn, name.as_str()) {
-            Ok(there) => Ok(there),
+        let text = name.as_str();
+        match take(&mut self.conn, text) {
+            Ok(there) => {
+                forget_if(true, &mut self.names, text);
+                Ok(there)
+            }
             Err(error) => Err(FilesFault::of_statement::<Sqlite>(&error)),
         }
     }
@@ -109,35 +131,18 @@ impl TenantStore {
         shared_content(&mut self.conn, alloc, name.as_str())
     }
 
-    /// Whether a file of this name is there. Its content isn't read.
-    ///
-    /// # Errors
-    ///
-    /// `Store` if the database refuses a statement, and `Memory` if memory runs out.
-    pub fn has_file(&mut self, name: &Name) -> Result<bool, FilesFault>
-        ensures there { IfOk result (λ there. there ≡ contains_key (files_in self.old) name.now) }
-        ensures same { self.new ≡ self.old }
+    /// Whether a file of this name is there. The database isn't asked.
+    pub fn has_file(&self, name: &Name) -> bool
+        ensures { result ≡ contains_key (files_in self.now) name.now }
     {
-        match is_there(&mut self.conn, name.as_str()) {
-            Ok(there) => Ok(there),
-            Err(error) => Err(FilesFault::of_statement::<Sqlite>(&error)),
-        }
+        self.names.contains(name.as_str())
     }
 
-    /// The names of all files, in the order of their bytes.
-    ///
-    /// # Errors
-    ///
-    /// `Store` if the database refuses a statement, and `Memory` if memory runs out.
-    pub fn names(&mut self, alloc: Global) -> Result<Vec<String>, FilesFault>
-        ensures names { IfOk result (λ names. map string_bytes names.items
-            ≡ keys (files_in self.old)) }
-        ensures same { self.new ≡ self.old }
+    /// The names of all files, in the order of their bytes. The database isn't asked, so it fails only if memory runs out.
+    pub fn names(&self, alloc: Global) -> Result<Vec<String>, AllocError>
+        ensures { IfOk result (λ names. map string_bytes names.items ≡ keys (files_in self.now)) }
     {
-        match names_of(&mut self.conn, alloc) {
-            Ok(names) => Ok(names),
-            Err(error) => Err(FilesFault::of_statement::<Sqlite>(&error)),
-        }
+        list_of(alloc, &self.names)
     }
 
     /// Sets the search path.

@@ -1,7 +1,7 @@
 // The files of the store, as a world that can be read and listed.
 ghost use Rattle.std.specs.Prelude.{◌≡◌, map, string_bytes, IfOk, OnOk, OnErr};
 ghost use Rattle.std.specs.FinMap.{get, keys};
-ghost use Rattle.mk_paths.specs.FilesView.{Contents, Presence, Answers, Fails};
+ghost use Rattle.mk_paths.specs.FilesView.{Contents, Presence, Answers, Fails, IsReply};
 
 use crate::store::TenantStore;
 use mk_files::{Content, Files, Listing};
@@ -42,16 +42,10 @@ impl<'s> TenantFiles<'s> {
     }
 
     // Whether a file of this name is there.
-    pub(crate) fn holds(&mut self, name: &Name) -> Result<bool, FilesFault>
-        ensures there { IfOk result (λ there. Answers (view_of self.old)
-            (view_of self.new) name.now (Presence there)) }
-        ensures fault { OnErr result (Fails (view_of self.old) (view_of self.new)) }
-        ensures stays { StaysOver self.old self.new }
+    pub(crate) fn holds(&self, name: &Name) -> bool
+        ensures { IsReply (view_of self.now).files name.now (Presence result) }
     {
-        match self.store.has_file(name) {
-            Ok(there) => Ok(there),
-            Err(fault) => Err(self.failed(fault)),
-        }
+        self.store.has_file(name)
     }
 
     // The content of the file of this name; `None` if it isn't there.
@@ -77,7 +71,7 @@ impl<'s> TenantFiles<'s> {
     {
         match self.store.names(alloc) {
             Ok(names) => Ok(names),
-            Err(fault) => Err(self.failed(fault)),
+            Err(refused) => Err(self.failed(refused.into())),
         }
     }
 }
@@ -90,7 +84,7 @@ impl Names for TenantFiles<'_> {
     ghost fails_with = { IsAnyFault };
 
     fn has(&mut self, name: &Name) -> Result<bool, FilesFault> {
-        self.holds(name)
+        Ok(self.holds(name))
     }
 }
 

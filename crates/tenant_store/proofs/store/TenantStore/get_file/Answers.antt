@@ -1,12 +1,19 @@
 -- Nothing has changed.
-use Rattle.std.proofs.Common.{◌∙◌}
+use Rattle.std.proofs.Common.{◌∙◌, subst, sym}
+use Rattle.mk_paths.specs.World.{World, files_in}
 use Rattle.sqlite.specs.Held.{state}
 use Rattle.sqlite.specs.Steps.{over_memory}
+use Rattle.tenant_store.specs.Tables.{AreNoted}
 use Rattle.tenant_store.proofs.Keeping.{still_kept, same_world}
 use Rattle.tenant_store.proofs.store.TenantStore.get_file.Goals as goal
 
 pub invariant_of-self : goal.invariant_of-self
-invariant_of-self c = still_kept (state over_memory c.self.inside.conn) (state over_memory c.shared_content.new.conn) c.self.invariant c.shared_content.ensures.stays
+invariant_of-self c =
+    let old = state over_memory c.self.inside.conn in
+    let new = state over_memory c.shared_content.new.conn in (
+      still_kept old new c.self.invariant.0 c.shared_content.ensures.stays,
+      subst (λ (world : World). AreNoted c.self.inside.names (files_in world)) (sym (same_world old new c.shared_content.ensures.stays)) c.self.invariant.1,
+    )
 
 pub returns-clause-same : goal.returns-clause-same
 returns-clause-same c = same_world (state over_memory c.self.inside.conn) (state over_memory c.shared_content.new.conn) c.shared_content.ensures.stays ∙ c.self.view_is

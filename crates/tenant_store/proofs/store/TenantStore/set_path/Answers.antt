@@ -2,12 +2,17 @@
 use Rattle.std.proofs.Common.{◌∙◌}
 use Rattle.sqlite.specs.Held.{state}
 use Rattle.sqlite.specs.Steps.{over_memory}
-use Rattle.tenant_store.proofs.Keeping.{set_kept, same_world}
+use Rattle.tenant_store.proofs.Keeping.{set_kept, set_noted, same_world}
 use Rattle.tenant_store.proofs.store.TenantStore.set_path.Goals as goal
 use Rattle.tenant_store.proofs.store.TenantStore.set_path.Goals.{in-Ok, in-Err}
 
 pub invariant_of-self : goal.invariant_of-self
-invariant_of-self c = set_kept c.set_path.result (state over_memory c.self.inside.conn) (state over_memory c.set_path.new.conn) _ c.self.invariant c.set_path.ensures.path c.set_path.ensures.err
+invariant_of-self c =
+    let old = state over_memory c.self.inside.conn in
+    let new = state over_memory c.set_path.new.conn in (
+      set_kept c.set_path.result old new _ c.self.invariant.0 c.set_path.ensures.path c.set_path.ensures.err,
+      set_noted c.set_path.result old new _ c.self.inside.names c.self.invariant.1 c.set_path.ensures.path c.set_path.ensures.err,
+    )
 
 pub returns-clause-err : goal.returns-clause-err
 returns-clause-err c =
