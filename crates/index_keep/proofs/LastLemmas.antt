@@ -9,15 +9,16 @@ use Rattle.ports_index.specs.Alike.{AlikeRowsListTheSame, AreAlikeAt, NameAlike}
 use Rattle.ports_index.specs.Depending.{targets_in}
 use Rattle.ports_index.specs.Filling.{is_one_of}
 use Rattle.ports_index.specs.Known.{FollowFrom}
-use Rattle.ports_index.specs.Naming.{named_in}
+use Rattle.ports_index.specs.Naming.{listed_from, named_in}
 use Rattle.ports_index.specs.PathOutcomes.{PathOutcome}
 use Rattle.ports_index.specs.Seen.{Said, entries_in, has_asked_for, known_in, known_row, names_in, said_in}
 use Rattle.ports_index.specs.declared.keeping.MemoryRows.{MemoryRows}
 use Rattle.ports_index.specs.declared.known_index.KnownIndex.{KnownIndex}
 use Rattle.row_text.specs.Rows.{RowValue, row_of}
 use Rattle.index_store.specs.Entries.{StoredValue, Entries}
-use Rattle.index_keep.specs.Last.{IsLast, NamesAsBefore, Recalls, led_to, needed_in}
+use Rattle.index_keep.specs.Last.{IsLast, NamesAsBefore, Recalls, RecallsLists, led_to, needed_in, needed_of}
 use Rattle.index_keep.specs.declared.last_index.LastIndex.{LastIndex}
+use Rattle.index_keep.specs.declared.last_index.LastLists.{LastLists}
 use Rattle.index_keep.specs.Walking.{HasRowMore}
 use Rattle.index_keep.proofs.ShownLemmas.{entries-fresh}
 use Rattle.index_keep.specs.Shown.{ShownRow, ShownRows, shown, show_row, show_stored, asked_one, fresh_said, said_if_fresh, said_in_row}
@@ -49,9 +50,8 @@ module _ (test : List ℕ → Bool) (rows : ShownRows) (index : KnownIndex) (las
 
   -- ---- what is kept of it as a refresh begins
 
-  module _ (begun : LastIndex) (left : MemoryRows) (paths : begun.paths ≡ index.paths)
-      (leaves : (path : List ℕ) → said_in left path ≡ (if asked path then None else said_in index.rows path))
-      (takes : (path : List ℕ) → said_in begun.outdated path ≡ (if asked path then said_in index.rows path else None)) where
+  module _ (left taken : MemoryRows) (leaves : (path : List ℕ) → said_in left path ≡ (if asked path then None else said_in index.rows path))
+      (takes : (path : List ℕ) → said_in taken path ≡ (if asked path then said_in index.rows path else None)) where
     abbrev outcome_of : Option Said → Option PathOutcome
     outcome_of = option_map (λ (said : Said). said.outcome)
 
@@ -63,9 +63,9 @@ module _ (test : List ℕ → Bool) (rows : ShownRows) (index : KnownIndex) (las
     either_part said true = refl
     either_part said false = or_none (outcome_of said)
 
-    led_as_before : (path : List ℕ) → led_to left begun.outdated path ≡ known_in (entries_in index.rows) path
+    led_as_before : (path : List ℕ) → led_to left taken path ≡ known_in (entries_in index.rows) path
     led_as_before path =
-        ap (λ said. known_row (option_or (outcome_of said) (entries_in begun.outdated path))) (leaves path)
+        ap (λ said. known_row (option_or (outcome_of said) (entries_in taken path))) (leaves path)
         ∙ ap (λ said. known_row (option_or (outcome_of (if asked path then None else said_in index.rows path)) (outcome_of said))) (takes path)
         ∙ ap known_row (either_part (said_in index.rows path) (asked path))
 
@@ -86,17 +86,22 @@ module _ (test : List ℕ → Bool) (rows : ShownRows) (index : KnownIndex) (las
     either_of path true some none = absurd (false≢true (sym (ap is_some none) ∙ some))
     either_of path false some none = some
 
-    follow_from : FollowFrom (led_to left begun.outdated) index.paths
+    follow_from : FollowFrom (led_to left taken) index.paths
     follow_from = subst (λ outcomes. FollowFrom outcomes index.paths) (λ i path. sym (led_as_before path) i) last.lists
 
-    pub recalls-begun : Recalls rows left begun
+    abbrev begun : LastLists
+    begun = record { listed = index.paths.listed; last = record { needed = index.paths.needed; outdated = taken } }
+
+    pub recalls-begun : RecallsLists rows left (map string_bytes index.paths.directories.items) begun
     recalls-begun = record {
-      lists = subst (FollowFrom (led_to left begun.outdated)) (sym paths) follow_from;
-      alone = λ path some. ap (λ p. is_one_of path (needed_in p)) paths ∙ sym (last.paths path) ∙ some;
-      outdated = λ path some. ap (λ p. is_one_of path (needed_in p)) paths
-          ∙ among_needed path (asked path) (ap (λ said. is_some (outcome_of said)) (sym (takes path)) ∙ some);
-      others = λ path one none. ap (λ said. is_some (outcome_of said)) (leaves path)
-          ∙ either_of path (asked path) (said_needed path ∙ ap (λ p. is_one_of path (needed_in p)) (sym paths) ∙ one) (ap outcome_of (sym (takes path)) ∙ none);
+      listed = follow_from.listed;
+      last = record {
+        needed = follow_from.needed;
+        alone = λ path some. sym (last.paths path) ∙ some;
+        outdated = λ path some. among_needed path (asked path) (ap (λ said. is_some (outcome_of said)) (sym (takes path)) ∙ some);
+        others = λ path one none. ap (λ said. is_some (outcome_of said)) (leaves path)
+            ∙ either_of path (asked path) (said_needed path ∙ one) (ap outcome_of (sym (takes path)) ∙ none);
+      };
     }
 
 -- ---- lists that are kept
@@ -117,7 +122,7 @@ alike-fresh known outdated paths have path is =
 module _ (law : AlikeRowsListTheSame) (world : World) (path : List ℕ) (said : Said) (old new : ShownRows) (more : HasRowMore world path said old new)
     (known after : MemoryRows) (knows : (other : List ℕ) → said_in known other ≡ fresh_said old other)
     (puts : (other : List ℕ) → said_in after other ≡ (if bytes_eq path other then Some said else said_in known other))
-    (last : LastIndex) (names : NamesAsBefore path said.outcome last) (recalls : Recalls old known last) where
+    (last : LastIndex) (names : NamesAsBefore path said.outcome last) where
   lacked : entries_in known path ≡ None
   lacked = entries-fresh old known knows path ∙ more.lacking.lacking
 
@@ -137,27 +142,29 @@ module _ (law : AlikeRowsListTheSame) (world : World) (path : List ℕ) (said : 
   alike : (paths : List (List ℕ)) → AreAlikeAt (led_to known last.outdated) (led_to after last.outdated) paths
   alike paths other is = put_at other (bytes_eq path other) refl
 
-  alone_at : (other : List ℕ) (same : Bool) → bytes_eq path other ≡ same → (same || is_some (old other)) ≡ true → is_one_of other (needed_in last.paths) ≡ true
-  alone_at other true same some = ap (λ at. is_one_of at (needed_in last.paths)) (sym ((bytes_eq-Decides path other).0 same)) ∙ recalls.outdated path (ap is_some names.was)
-  alone_at other false same some = recalls.alone other some
+  module _ (listed : List (List ℕ)) (recalls : Recalls old known listed last) where
+    alone_at : (other : List ℕ) (same : Bool) → bytes_eq path other ≡ same → (same || is_some (old other)) ≡ true → is_one_of other (needed_of last) ≡ true
+    alone_at other true same some = ap (λ at. is_one_of at (needed_of last)) (sym ((bytes_eq-Decides path other).0 same)) ∙ recalls.outdated path (ap is_some names.was)
+    alone_at other false same some = recalls.alone other some
 
-  still_there : (other : List ℕ) (same : Bool) → is_some (entries_in known other) ≡ true
-      → is_some (option_map (λ (one : Said). one.outcome) (if same then Some said else said_in known other)) ≡ true
-  still_there other true some = refl
-  still_there other false some = some
+    still_there : (other : List ℕ) (same : Bool) → is_some (entries_in known other) ≡ true
+        → is_some (option_map (λ (one : Said). one.outcome) (if same then Some said else said_in known other)) ≡ true
+    still_there other true some = refl
+    still_there other false some = some
 
-  -- the row of a path that names the same paths as the outdated one
-  pub recalls-more : Recalls new after last
-  recalls-more = record {
-    lists = record {
-      listed = recalls.lists.listed ∙ sym (law.listed (led_to known last.outdated) (led_to after last.outdated) (map string_bytes last.paths.directories.items) (alike (map string_bytes last.paths.directories.items)));
-      needed = recalls.lists.needed ∙ sym (law.needed (led_to known last.outdated) (led_to after last.outdated) (map string_bytes last.paths.listed.items) (alike (map string_bytes last.paths.listed.items)));
-    };
-    alone = λ other some. alone_at other (bytes_eq path other) refl (sym (more.there other) ∙ some);
-    outdated = recalls.outdated;
-    others = λ other one none. ap (λ row. is_some (option_map (λ (one : Said). one.outcome) row)) (puts other)
-        ∙ still_there other (bytes_eq path other) (recalls.others other one none);
-  }
+    -- the row of a path that names the same paths as the outdated one
+    pub recalls-more : Recalls new after listed last
+    recalls-more = record {
+      needed = recalls.needed ∙ sym (law.needed (led_to known last.outdated) (led_to after last.outdated) listed (alike listed));
+      alone = λ other some. alone_at other (bytes_eq path other) refl (sym (more.there other) ∙ some);
+      outdated = recalls.outdated;
+      others = λ other one none. ap (λ row. is_some (option_map (λ (one : Said). one.outcome) row)) (puts other)
+          ∙ still_there other (bytes_eq path other) (recalls.others other one none);
+    }
+
+  -- then the same paths are listed below these directories
+  pub listed-more : (directories : List (List ℕ)) → listed_from (led_to after last.outdated) directories ≡ listed_from (led_to known last.outdated) directories
+  listed-more directories = law.listed (led_to known last.outdated) (led_to after last.outdated) directories (alike directories)
 
 -- ---- rows of which some are taken
 

@@ -6,14 +6,16 @@ use Rattle.mk_paths.specs.World.{World}
 use Rattle.ports_index.specs.Alike.{AlikeRowsListTheSame}
 use Rattle.ports_index.specs.Filling.{is_one_of}
 use Rattle.ports_index.specs.Index.{needed_paths}
+use Rattle.ports_index.specs.Naming.{listed_from}
 use Rattle.ports_index.specs.Seen.{Said, entries_in, said_in}
 use Rattle.ports_index.specs.declared.keeping.MemoryRows.{MemoryRows}
-use Rattle.index_keep.specs.Last.{HaveRowsAlone, NamesAsBefore, Recalls}
+use Rattle.index_keep.specs.Last.{HaveRowsAlone, NamesAsBefore, Recalls, led_to, listed_in}
 use Rattle.index_keep.specs.Shown.{ShownRows, fresh_said}
-use Rattle.index_keep.specs.Walking.{HasRowMore, HasAllRows, IsStage, KnowsRow, paths_of}
+use Rattle.index_keep.specs.Walking.{HasRowMore, HasAllRows, IsBelow, IsListed, IsStage, KnowsRow, paths_of}
 use Rattle.index_keep.specs.declared.last_index.LastIndex.{LastIndex}
+use Rattle.index_keep.specs.declared.last_index.LastLists.{LastLists}
 use Rattle.index_keep.specs.declared.walking.Stage.{Stage}
-use Rattle.index_keep.proofs.LastLemmas.{recalls-more}
+use Rattle.index_keep.proofs.LastLemmas.{listed-more, recalls-more}
 use Rattle.index_keep.proofs.ShownLemmas.{fresh-said}
 
 module _ (world : World) (path : List ℕ) (said : Said) (old new : ShownRows) (more : HasRowMore world path said old new)
@@ -32,24 +34,31 @@ module _ (world : World) (path : List ℕ) (said : Said) (old new : ShownRows) (
         (ap is_some (fresh-said old other) ∙ is.passed other (ap (λ place. is_one_of other (take place paths)) (sym knows.place) ∙ one));
   }
 
-  module _ (law : AlikeRowsListTheSame) (paths : List (List ℕ)) (is : IsStage old paths stage) (last : Option LastIndex) where
-    -- an index of before is still recalled, if the row names the same paths as the outdated one
-    pub kept-more : (list_of : LastIndex → List (List ℕ)) (kept : Option LastIndex) → IfSome kept (λ (one : LastIndex). (last ≡ Some one) × NamesAsBefore path said.outcome one)
-        → IfSome last (λ (one : LastIndex). Recalls old stage.known one × (list_of one ≡ paths_of stage))
-        → IfSome kept (λ (one : LastIndex). Recalls new after.known one × (list_of one ≡ paths_of after))
-    kept-more list_of None alike recalls = tt
-    kept-more list_of (Some one) alike recalls =
-        let before : Recalls old stage.known one × (list_of one ≡ paths_of stage) =
-        subst (λ (l : Option LastIndex). IfSome l (λ (one : LastIndex). Recalls old stage.known one × (list_of one ≡ paths_of stage))) alike.0 recalls in (
-          recalls-more law world path said old new more stage.known after.known is.knows knows.known one alike.1 before.0,
-          before.1 ∙ sym (ap (λ names. map string_bytes names.items) knows.paths),
-        )
+  same_paths : paths_of after ≡ paths_of stage
+  same_paths = ap (λ names. map string_bytes names.items) knows.paths
+
+  -- an index of before is still recalled, if the row names the same paths as the outdated one
+  module _ (law : AlikeRowsListTheSame) (paths : List (List ℕ)) (is : IsStage old paths stage) where
+    pub below-more : (lists kept : Option LastLists) → IfSome kept (λ (one : LastLists). (lists ≡ Some one) × NamesAsBefore path said.outcome one.last)
+        → IfSome lists (IsBelow old stage) → IfSome kept (IsBelow new after)
+    below-more lists None alike recalls = tt
+    below-more lists (Some one) alike recalls =
+        let before : IsBelow old stage one = subst (λ (l : Option LastLists). IfSome l (IsBelow old stage)) alike.0 recalls in record {
+          listed = before.listed ∙ ap (listed_from (led_to stage.known one.last.outdated)) (sym same_paths)
+              ∙ sym (listed-more law world path said old new more stage.known after.known is.knows knows.known one.last alike.1 (paths_of after));
+          last = recalls-more law world path said old new more stage.known after.known is.knows knows.known one.last alike.1 (listed_in one) before.last;
+        }
+
+    pub listed-kept : (last kept : Option LastIndex) → IfSome kept (λ (one : LastIndex). (last ≡ Some one) × NamesAsBefore path said.outcome one)
+        → IfSome last (IsListed old stage) → IfSome kept (IsListed new after)
+    listed-kept last None alike recalls = tt
+    listed-kept last (Some one) alike recalls =
+        let before : IsListed old stage one = subst (λ (l : Option LastIndex). IfSome l (IsListed old stage)) alike.0 recalls in
+        subst (λ (listed : List (List ℕ)). Recalls new after.known listed one) (sym same_paths)
+        (recalls-more law world path said old new more stage.known after.known is.knows knows.known one alike.1 (paths_of stage) before)
 
   -- the paths of the last stage are still alone
   module _ (is : IsStage old (needed_paths world) stage) where
-    same_paths : paths_of after ≡ paths_of stage
-    same_paths = ap (λ names. map string_bytes names.items) knows.paths
-
     alone_at : HaveRowsAlone (paths_of stage) old → (other : List ℕ) (same : Bool) → bytes_eq path other ≡ same → (same || is_some (old other)) ≡ true → is_one_of other (paths_of stage) ≡ true
     alone_at alone other true e some =
         ap (λ at. is_one_of at (paths_of stage)) (sym ((bytes_eq-Decides path other).0 e)) ∙ ap (is_one_of path) is.through ∙ more.lacking.needed

@@ -20,8 +20,9 @@ use Rattle.row_text.specs.Rows.{RowValue}
 use Rattle.ports_index.specs.RowLaws.{HaveRows, KnownRowsAreEnough}
 use Rattle.ports_index.specs.Seen.{Said, entries_in, known_in, said_in}
 use Rattle.ports_index.specs.declared.keeping.MemoryRows.{MemoryRows}
-use Rattle.index_keep.specs.Last.{HasEither, HaveRowsAlone, LeavesNeeded, Recalls, SaysAll, led_to}
+use Rattle.index_keep.specs.Last.{HasEither, HaveRowsAlone, LeavesNeeded, Recalls, SaysAll, led_to, listed_in}
 use Rattle.index_keep.specs.declared.last_index.LastIndex.{LastIndex}
+use Rattle.index_keep.specs.declared.last_index.LastLists.{LastLists}
 use Rattle.index_keep.specs.declared.walking.ListedStage.{ListedStage}
 use Rattle.index_keep.specs.declared.walking.Stage.{Stage}
 use Rattle.index_keep.specs.declared.walking.LastStage.{LastStage}
@@ -244,16 +245,10 @@ module _ (rows : ShownRows) (paths : List (List ℕ)) (stage : Stage) (is : IsSt
 
 -- ---- the paths of a stage, if the index of before may be kept
 
-module _ (rows : ShownRows) (stage : Stage) (last : LastIndex) (recalls : Recalls rows stage.known last) where
-  listed_others : (path : List ℕ) → is_one_of path (map string_bytes last.paths.listed.items) ≡ true → HasEither stage.known last.outdated path
-  listed_others path is =
-      recalls.others path (ap (is_one_of path) recalls.lists.needed
-      ∙ needed-among (led_to stage.known last.outdated) (map string_bytes last.paths.listed.items) path is)
-
-  directory_others : (path : List ℕ) → is_one_of path (map string_bytes last.paths.directories.items) ≡ true → HasEither stage.known last.outdated path
-  directory_others path is =
-      listed_others path (ap (is_one_of path) recalls.lists.listed
-      ∙ listed-from (led_to stage.known last.outdated) (map string_bytes last.paths.directories.items) path is)
+listed_others : (rows : ShownRows) (stage : Stage) (listed : List (List ℕ)) (last : LastIndex) → Recalls rows stage.known listed last
+    → (path : List ℕ) → is_one_of path listed ≡ true → HasEither stage.known last.outdated path
+listed_others rows stage listed last recalls path is =
+    recalls.others path (ap (is_one_of path) recalls.needed ∙ needed-among (led_to stage.known last.outdated) listed path is)
 
 pub either-at : {X : Type 0} (stage : Stage) (rows_of : X → MemoryRows) (outdated : Option X) (path : List ℕ) → is_one_of path (paths_of stage) ≡ true
     → IfSome outdated (λ one. HasFreshOthers stage (rows_of one)) → IfSome outdated (λ one. HasEither stage.known (rows_of one) path)
@@ -270,13 +265,14 @@ lent-of P lent rows same is = of_copied lent (subst (λ (found : Option MemoryRo
     of_copied (Some one) holds = holds
 
 module _ (rows : ShownRows) (stage : Stage) where
-  pub below-others : (last : Option LastIndex) → IfSome last (IsBelow rows stage) → IfSome (option_map (λ (one : LastIndex). one.outdated) last) (HasFreshOthers stage)
+  pub below-others : (lists : Option LastLists) → IfSome lists (IsBelow rows stage) → IfSome (option_map (λ (one : LastLists). one.last.outdated) lists) (HasFreshOthers stage)
   below-others None is = tt
-  below-others (Some last) is = λ path one. directory_others rows stage last is.0 path (ap (is_one_of path) is.1 ∙ one)
+  below-others (Some lists) is = λ path one. listed_others rows stage (listed_in lists) lists.last is.last path
+      (ap (is_one_of path) is.listed ∙ listed-from (led_to stage.known lists.last.outdated) (paths_of stage) path one)
 
   pub listed-others : (last : Option LastIndex) → IfSome last (IsListed rows stage) → IfSome (option_map (λ (one : LastIndex). one.outdated) last) (HasFreshOthers stage)
   listed-others None is = tt
-  listed-others (Some last) is = λ path one. listed_others rows stage last is.0 path (ap (is_one_of path) is.1 ∙ one)
+  listed-others (Some last) is = λ path one. listed_others rows stage (paths_of stage) last is path one
 
   pub alone-others : (outdated : Option MemoryRows) → IfSome outdated (HasAllRows rows stage) → IfSome outdated (HasFreshOthers stage)
   alone-others None is = tt

@@ -1,5 +1,5 @@
 -- What a keeper of rows has, and when it is right about a world.
-use Rattle.std.specs.Prelude.{◌≡◌, ◌⊎◌, ℕ, Bool, List, [], Option, Some, None, IfSome, string_bytes}
+use Rattle.std.specs.Prelude.{◌≡◌, ◌⊎◌, ℕ, Bool, true, List, [], Option, Some, None, IfSome, is_some, string_bytes}
 use Rattle.std.specs.BTreeSet.{contains_text, keys}
 use Rattle.mk_paths.specs.World.{World, files_in}
 use Rattle.ports_index.specs.Known.{ArePathsOf, IsIndexOf}
@@ -92,6 +92,14 @@ IsEnded (Walking walk) = ⊥
 IsEnded (Asking walk ask) = ⊥
 IsEnded (Current paths) = ⊥
 IsEnded (AtHand index) = Unit {0}
+
+-- if the index is at hand, its dependencies are kept with it
+abbrev pub HasEdges : Progress → Type 0
+HasEdges (Changed names last) = Unit {0}
+HasEdges (Walking walk) = Unit {0}
+HasEdges (Asking walk ask) = Unit {0}
+HasEdges (Current paths) = Unit {0}
+HasEdges (AtHand index) = is_some index.edges ≡ true
 
 -- how many bytes the rows of the index have, if it is at hand
 abbrev pub size_in : Progress → Option ℕ

@@ -6,14 +6,17 @@ use Rattle.std.specs.Option.{option_or}
 use Rattle.mk_paths.specs.World.{FileMap}
 use Rattle.ports_index.specs.Alike.{NameAlike}
 use Rattle.ports_index.specs.Filling.{is_one_of}
+use Rattle.ports_index.specs.Index.{needed_among}
 use Rattle.ports_index.specs.Known.{FollowFrom}
 use Rattle.ports_index.specs.Makefiles.{WereDirectories}
+use Rattle.ports_index.specs.Naming.{listed_from}
 use Rattle.ports_index.specs.PathOutcomes.{PathOutcome}
 use Rattle.ports_index.specs.Seen.{entries_in, known_in, known_row, said_in}
 use Rattle.ports_index.specs.declared.keeping.MemoryRows.{MemoryRows}
 use Rattle.ports_index.specs.declared.known_index.IndexPaths.{IndexPaths}
 use Rattle.ports_index.specs.declared.known_index.KnownIndex.{KnownIndex}
 use Rattle.index_keep.specs.declared.last_index.LastIndex.{LastIndex}
+use Rattle.index_keep.specs.declared.last_index.LastLists.{LastLists}
 use Rattle.index_keep.specs.Shown.{ShownRow, ShownRows, asked_one, said_in_row}
 
 -- rows in memory say what the rows that are shown say, stale ones too
@@ -53,13 +56,26 @@ HasEither known outdated path = entries_in outdated path ≡ None → is_some (e
 abbrev pub HaveEither : List (List ℕ) → MemoryRows → MemoryRows → Type 0
 HaveEither paths known outdated = (path : List ℕ) → is_one_of path paths ≡ true → HasEither known outdated path
 
--- A refresh knows these fresh rows, and the index of before may be kept: its lists follow from these rows and from the
--- outdated ones, no path has a row but its needed ones, and each of these has one.
-pub record Recalls (rows : ShownRows) (known : MemoryRows) (last : LastIndex) : Type 0 where
-  pub lists : FollowFrom (led_to known last.outdated) last.paths
-  pub alone : HaveRowsAlone (needed_in last.paths) rows
-  pub outdated : (path : List ℕ) → is_some (entries_in last.outdated path) ≡ true → is_one_of path (needed_in last.paths) ≡ true
-  pub others : HaveEither (needed_in last.paths) known last.outdated
+-- the needed paths of the index of before
+abbrev pub needed_of : LastIndex → List (List ℕ)
+needed_of last = map string_bytes last.needed.items
+
+-- A refresh knows these fresh rows, and the index of before may be kept, whose listed paths are these: its needed paths
+-- follow from them, by these rows and the outdated ones; no path has a row but its needed ones, and each of these has one.
+pub record Recalls (rows : ShownRows) (known : MemoryRows) (listed : List (List ℕ)) (last : LastIndex) : Type 0 where
+  pub needed : needed_of last ≡ needed_among (led_to known last.outdated) listed
+  pub alone : HaveRowsAlone (needed_of last) rows
+  pub outdated : (path : List ℕ) → is_some (entries_in last.outdated path) ≡ true → is_one_of path (needed_of last) ≡ true
+  pub others : HaveEither (needed_of last) known last.outdated
+
+-- the listed paths of the index of before
+abbrev pub listed_in : LastLists → List (List ℕ)
+listed_in lists = map string_bytes lists.listed.items
+
+-- the same, and its listed paths follow from these directories
+pub record RecallsLists (rows : ShownRows) (known : MemoryRows) (directories : List (List ℕ)) (lists : LastLists) : Type 0 where
+  pub listed : listed_in lists ≡ listed_from (led_to known lists.last.outdated) directories
+  pub last : Recalls rows known (listed_in lists) lists.last
 
 -- the path has an outdated row, which names the same paths as this one
 pub record NamesAsBefore (path : List ℕ) (row : PathOutcome) (last : LastIndex) : Type 0 where

@@ -11,6 +11,7 @@ use Rattle.ports_index.specs.Seen.{Said, entries_in, known_in, said_in}
 use Rattle.ports_index.specs.declared.keeping.MemoryRows.{MemoryRows}
 use Rattle.index_keep.specs.declared.walking.Stage.{Stage}
 use Rattle.index_keep.specs.declared.last_index.LastIndex.{LastIndex}
+use Rattle.index_keep.specs.declared.last_index.LastLists.{LastLists}
 use Rattle.index_keep.specs.declared.walking.ListedStage.{ListedStage}
 use Rattle.index_keep.specs.declared.walking.LastStage.{LastStage}
 use Rattle.index_keep.specs.declared.walking.Next.{Next}
@@ -18,7 +19,7 @@ use Rattle.index_keep.specs.declared.walking.Next.TheVariants as next
 use Rattle.index_keep.specs.declared.walking.Walk.{Walk}
 use Rattle.index_keep.specs.declared.walking.Walk.TheVariants.{Directories, Listed, Needed}
 use Rattle.index_keep.specs.Shown.{ShownRows, fresh, fresh_said}
-use Rattle.index_keep.specs.Last.{HaveEither, HaveRowsAlone, Recalls}
+use Rattle.index_keep.specs.Last.{HaveEither, HaveRowsAlone, Recalls, RecallsLists}
 use Rattle.index_keep.specs.Right.{AreKept, HaveFresh}
 
 -- A stage of a refresh goes through these paths. Those that it has passed have fresh rows, and it knows what
@@ -32,13 +33,13 @@ pub record IsStage (rows : ShownRows) (paths : List (List ℕ)) (stage : Stage) 
 abbrev pub paths_of : Stage → List (List ℕ)
 paths_of stage = map string_bytes stage.paths.items
 
--- the index of before may be kept, and its directories are the paths of this stage
-abbrev pub IsBelow : ShownRows → Stage → LastIndex → Type 0
-IsBelow rows stage last = Recalls rows stage.known last × (map string_bytes last.paths.directories.items ≡ paths_of stage)
+-- the lists of the index of before may be kept, and its directories are the paths of this stage
+abbrev pub IsBelow : ShownRows → Stage → LastLists → Type 0
+IsBelow rows stage lists = RecallsLists rows stage.known (paths_of stage) lists
 
 -- the index of before may be kept, and its listed paths are those of this stage
 abbrev pub IsListed : ShownRows → Stage → LastIndex → Type 0
-IsListed rows stage last = Recalls rows stage.known last × (map string_bytes last.paths.listed.items ≡ paths_of stage)
+IsListed rows stage last = Recalls rows stage.known (paths_of stage) last
 
 -- the index of before may be kept, if it is there
 abbrev pub MayBeKept : ShownRows → ListedStage → Type 0
@@ -68,7 +69,7 @@ pub record IsLastStage (world : World) (rows : ShownRows) (last : LastStage) : T
 -- A refresh that is under way goes through directories first, then through listed paths, then through all paths on which
 -- the index depends. In the first two, it may recall the index of before.
 abbrev pub IsWalk : World → ShownRows → Walk → Type 0
-IsWalk world rows (Directories stage last) = IsStage rows (directories (files_in world)) stage × IfSome last (IsBelow rows stage)
+IsWalk world rows (Directories stage lists) = IsStage rows (directories (files_in world)) stage × IfSome lists (IsBelow rows stage)
 IsWalk world rows (Listed listed) = IsListedStage world rows listed
 IsWalk world rows (Needed last) = IsLastStage world rows last
 
@@ -96,7 +97,7 @@ pub record HasRowMore (world : World) (path : List ℕ) (said : Said) (old new :
 
 -- the stage of a walk
 abbrev pub stage_of : Walk → Stage
-stage_of (Directories stage last) = stage
+stage_of (Directories stage lists) = stage
 stage_of (Listed listed) = listed.stage
 stage_of (Needed last) = last.stage
 

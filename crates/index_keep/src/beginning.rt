@@ -9,13 +9,13 @@ ghost use Rattle.index_store.specs.Entries.{Entries, SameRows, AreRowsOf, stored
 ghost use Rattle.index_store.specs.Entries.{SameProfiles};
 ghost use Rattle.row_text.specs.Seen.{row_seen};
 ghost use Rattle.index_keep.specs.Shown.{shown, no_name, ShowsSame, asked_one, fresh_said, said_by};
-ghost use Rattle.index_keep.specs.Last.{IsLast, Recalls};
+ghost use Rattle.index_keep.specs.Last.{IsLast, RecallsLists};
 ghost use Rattle.index_keep.specs.Judging as judging;
 
-use crate::last_index::LastIndex;
+use crate::last_index::{LastIndex, LastLists};
 use index_store::{PathRows, StoredRow};
 use mk_paths::FilesFault;
-use ports_index::{KnownIndex, KnownRow, MemoryRows, is_one_among};
+use ports_index::{IndexPaths, KnownIndex, KnownRow, MemoryRows, is_one_among};
 use row_text::{KeptRow, read_row};
 use std::alloc::{AllocError, Global};
 use std::collections::BTreeSet;
@@ -54,7 +54,8 @@ pub(crate) fn begin<R: PathRows>(
 /// The rows that are fresh as a refresh begins over the index of before, and what is kept of that.
 pub(crate) struct Begun {
     pub(crate) known: MemoryRows,
-    pub(crate) last: LastIndex,
+    pub(crate) directories: Vec<String>,
+    pub(crate) lists: LastLists,
 }
 
 /// The same, by what all rows said before these files changed.
@@ -67,22 +68,34 @@ pub(crate) fn begin_over<R: PathRows>(
     requires { IsLast (contains_text changed.now) (shown (contains_text changed.now) (R.entries rows.old)) last }
     ensures known { IfOk result (λ begun. (path : List ℕ)
         → said_in begun.known path ≡ fresh_said (shown (contains_text changed.now) (R.entries rows.old)) path) }
-    ensures recalls { IfOk result (λ begun. Recalls
-        (shown (contains_text changed.now) (R.entries rows.old)) begun.known begun.last) }
+    ensures directories { IfOk result (λ begun. begun.directories ≡ last.paths.directories) }
+    ensures recalls { IfOk result (λ begun. RecallsLists (shown (contains_text changed.now) (R.entries rows.old))
+        begun.known (map string_bytes begun.directories.items) begun.lists) }
     ensures marked { OnOk result (ShowsSame
         (shown (contains_text changed.now) (R.entries rows.old)) (shown no_name (R.entries rows.new))) }
     ensures err { OnErr result (SameRows (R.entries rows.old) (R.entries rows.new)) }
     ensures profiles { SameProfiles (R.profiles rows.old) (R.profiles rows.new) }
 {
-    let KnownIndex { paths, rows: known } = last;
+    let KnownIndex {
+        paths,
+        rows: known,
+        ..
+    } = last;
     let marked = known.paths_asking(alloc, changed)?;
     let Parted { left, taken } = part(alloc, known, &marked)?;
     rows.mark(&marked)?;
+    let IndexPaths {
+        directories,
+        listed,
+        needed,
+    } = paths;
+    let outdated = taken;
     Ok(Begun {
         known: left,
-        last: LastIndex {
-            paths,
-            outdated: taken,
+        directories,
+        lists: LastLists {
+            listed,
+            last: LastIndex { needed, outdated },
         },
     })
 }

@@ -9,7 +9,7 @@ ghost use Rattle.index_store.specs.Entries.{SameProfiles};
 ghost use Rattle.index_keep.specs.Profiles.{profiles_of};
 ghost use Rattle.index_keep.specs.Shown.{ShowsSame, made_stale, stale_if_asked};
 ghost use Rattle.index_keep.specs.Right.{DifferAt};
-ghost use Rattle.index_keep.specs.Keeping.{rows_of, begun_in, changed_in, size_at_hand, IsKept, IsDone};
+ghost use Rattle.index_keep.specs.Keeping.{rows_of, refresh_of, begun_in, changed_in, size_at_hand, HasEdges, IsKept, IsDone};
 ghost use Rattle.index_keep.specs.Keeping.{DropsTo, HasForgotten, Halts, Stops};
 
 use crate::beginning::begin;
@@ -127,6 +127,24 @@ impl<R: PathRows + Drop> Keeper<R> {
             unreachable!(); // the refresh is done
         };
         index
+    }
+
+    /// Makes the dependencies of the index, if it is at hand, and keeps them with it, until files change or it is put away.
+    /// If memory runs out, nothing changes.
+    pub fn keep_edges(&mut self, alloc: Global) -> Result<(), AllocError>
+        ensures edges { OnOk result (HasEdges self.new.progress) }
+        ensures refresh { refresh_of R.entries self.new ≡ refresh_of R.entries self.old }
+        ensures done { IsDone self.old → IsDone self.new }
+        ensures kept { (world : World) → IsKept R.entries world self.old → IsKept R.entries world self.new }
+        ensures profiles { SameProfiles (profiles_of R.profiles self.old) (profiles_of R.profiles self.new) }
+    {
+        match &mut self.progress {
+            Progress::AtHand(index) => index.keep_edges(alloc),
+            Progress::Changed(_, _)
+            | Progress::Walking(_)
+            | Progress::Asking(_, _)
+            | Progress::Current(_) => Ok(()),
+        }
     }
 
     /// How many bytes the rows of the index have, if it is at hand.

@@ -1,15 +1,22 @@
 //! The index before files changed, whose lists are kept while no row names other paths.
-ghost use Rattle.std.specs.Prelude.{◌≡◌, true, map, string_bytes, Some, IfSome, option_map};
+ghost use Rattle.std.specs.Prelude.{◌≡◌, true, Some, IfSome, option_map};
 ghost use Rattle.ports_index.specs.Seen.{row_seen};
 ghost use Rattle.index_keep.specs.Last.{NamesAsBefore};
 
-use ports_index::{IndexPaths, MemoryRows, Row, name_alike};
+use ports_index::{MemoryRows, Row, name_alike};
 
-/// The paths of the index before files changed, and its outdated rows.
+/// The needed paths of the index before files changed, and its outdated rows.
 #[derive(Debug, Drop)]
 pub(crate) struct LastIndex {
-    pub(crate) paths: IndexPaths,
+    pub(crate) needed: Vec<String>,
     pub(crate) outdated: MemoryRows,
+}
+
+/// The same, with its listed paths.
+#[derive(Debug, Drop)]
+pub(crate) struct LastLists {
+    pub(crate) listed: Vec<String>,
+    pub(crate) last: LastIndex,
 }
 
 impl LastIndex {
@@ -36,13 +43,13 @@ pub(crate) fn if_alike(last: Option<LastIndex>, path: &str, row: &Row) -> Option
     }
 }
 
-/// The index of before, if its directories are these.
-pub(crate) fn if_below(last: LastIndex, directories: &[String]) -> Option<LastIndex>
-    ensures { IfSome result (λ kept. (last ≡ kept)
-        × (map string_bytes kept.paths.directories.items ≡ map string_bytes directories.now)) }
+/// Its lists, if the outdated row of this path names the same paths as this row.
+pub(crate) fn lists_if_alike(lists: Option<LastLists>, path: &str, row: &Row) -> Option<LastLists>
+    ensures { IfSome result (λ kept. (lists ≡ Some kept) × NamesAsBefore path.now (row_seen row.now) kept.last) }
 {
-    if last.paths.are_below(directories) {
-        Some(last)
+    let lists = lists?;
+    if lists.last.names_alike(path, row) {
+        Some(lists)
     } else {
         None
     }
@@ -54,6 +61,16 @@ pub(crate) fn outdated_in(last: &Option<LastIndex>) -> Option<&MemoryRows>
 {
     match last {
         Some(last) => Some(&last.outdated),
+        None => None,
+    }
+}
+
+/// The same, if its lists may be kept.
+pub(crate) fn outdated_of(lists: &Option<LastLists>) -> Option<&MemoryRows>
+    ensures { option_map (λ outdated. outdated.now) result ≡ option_map (λ lists. lists.last.outdated) lists.now }
+{
+    match lists {
+        Some(lists) => Some(&lists.last.outdated),
         None => None,
     }
 }

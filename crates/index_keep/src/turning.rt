@@ -241,6 +241,7 @@ impl<R: PathRows + Drop> Keeper<R> {
                 needed,
             },
             rows: without(known, &others),
+            edges: None,
         });
         Ok(())
     }
@@ -257,7 +258,11 @@ impl<R: PathRows + Drop> Keeper<R> {
     {
         match fresh_rows(alloc, &mut self.rows) {
             Ok(rows) => {
-                self.progress = Progress::AtHand(KnownIndex { paths, rows });
+                self.progress = Progress::AtHand(KnownIndex {
+                    paths,
+                    rows,
+                    edges: None,
+                });
                 Ok(())
             }
             Err(fault) => {

@@ -1,6 +1,6 @@
 //! A refresh: the paths on which the index depends, one after another, until each has its row.
 ghost use Rattle.std.specs.Prelude.{◌≡◌, ◌<◌, ℕ, List, if◌then◌else◌, Some, is_none, length, map, string_bytes, slice_get};
-ghost use Rattle.std.specs.Prelude.{IfOk, IfSome, IfNone, OnOk, OnErr};
+ghost use Rattle.std.specs.Prelude.{IfOk, IfSome, IfNone, OnOk, OnErr, unwrap_or};
 ghost use Rattle.std.specs.Result.{result_err};
 ghost use Rattle.std.specs.Str.{bytes_eq};
 ghost use Rattle.mk_paths.specs.FilesView.{world_of};
@@ -20,18 +20,17 @@ ghost use Rattle.index_keep.specs.Walking as walking;
 ghost use Rattle.index_keep.specs.declared.walking.Walk.TheVariants.{Directories, Listed, Needed};
 
 use crate::beginning::{Begun, begin, begin_over};
-use crate::last_index::{LastIndex, if_alike, if_below, outdated_in};
+use crate::last_index::{LastIndex, LastLists, if_alike, lists_if_alike, outdated_in, outdated_of};
 use index_store::PathRows;
 use mk_files::Listing;
 use mk_paths::FilesFault;
 use ports_index::{
-    KnownIndex, KnownRow, MemoryRows, alike_rows_list_the_same, are_still_directories, directories,
-    known_rows_are_enough, listed, needed_among,
+    IndexPaths, KnownIndex, KnownRow, MemoryRows, alike_rows_list_the_same, are_still_directories,
+    directories, known_rows_are_enough, listed, needed_among,
 };
 use read_trace::Recorder;
 use std::alloc::{AllocError, Global};
 use std::collections::BTreeSet;
-use text_parts::clones_of;
 
 /// The paths of a stage, how many of them have been passed, and what the fresh rows say.
 #[derive(Debug, Drop)]
@@ -131,7 +130,7 @@ pub(crate) struct LastStage {
 #[derive(Debug, Drop)]
 pub(crate) enum Walk {
     /// It goes through the directories. The index of before may still have the same lists.
-    Directories(Stage, Option<LastIndex>),
+    Directories(Stage, Option<LastLists>),
     /// It goes through the listed paths: directories, and what lists among them name.
     Listed(ListedStage),
     /// It goes through all paths on which the index depends.
@@ -168,10 +167,16 @@ pub(crate) fn begin_walk<F: Listing + Drop, R: PathRows>(
 {
     match last {
         Some(last) => {
-            let paths = directories_after(alloc, files, &last.paths.directories, changed)?;
-            let Begun { known, last } = begin_over(alloc, rows, last, changed)?;
-            let last = if_below(last, &paths);
-            Ok(Walk::Directories(Stage::new(paths, known), last))
+            let others = other_directories(alloc, files, &last.paths, changed)?;
+            let Begun {
+                known,
+                directories,
+                lists,
+            } = begin_over(alloc, rows, last, changed)?;
+            Ok(match others {
+                Some(others) => Walk::Directories(Stage::new(others, known), None),
+                None => Walk::Directories(Stage::new(directories, known), Some(lists)),
+            })
         }
         None => {
             let paths = directories(alloc, files)?;
@@ -181,23 +186,28 @@ pub(crate) fn begin_walk<F: Listing + Drop, R: PathRows>(
     }
 }
 
-// The directories in which a makefile may be, by those before files of these names changed. They are looked for only if
-// they may be others.
-fn directories_after<F: Listing + Drop>(
+// The directories in which a makefile may be, if they are others than before files of these names changed. They are looked
+// for only if they may be.
+fn other_directories<F: Listing + Drop>(
     alloc: Global,
     files: &mut Recorder<F>,
-    before: &[String],
+    before: &IndexPaths,
     changed: &BTreeSet<String>,
-) -> Result<Vec<String>, FilesFault>
-    ensures ok { WereDirectories (contains_text changed.now) (view_of F.view files.old).files (map string_bytes before.now)
-        → IfOk result (λ found. map string_bytes found.items
+) -> Result<Option<Vec<String>>, FilesFault>
+    ensures ok { WereDirectories (contains_text changed.now) (view_of F.view files.old).files
+        (map string_bytes before.now.directories.items)
+        → IfOk result (λ others. map string_bytes (unwrap_or others before.now.directories).items
         ≡ naming.directories (view_of F.view files.old).files) }
     ensures leaves { LeavesFiles (result_err result) (view_of F.view files.old) (view_of F.view files.new) }
 {
-    if are_still_directories(alloc, files, before, changed)? {
-        return Ok(clones_of(alloc, before)?);
+    if are_still_directories(alloc, files, &before.directories, changed)? {
+        return Ok(None);
     }
-    directories(alloc, files)
+    let found = directories(alloc, files)?;
+    if before.are_below(&found) {
+        return Ok(None);
+    }
+    Ok(Some(found))
 }
 
 impl Walk {
@@ -208,7 +218,7 @@ impl Walk {
             → IfOk result (walking.IsNext world rows) }
     {
         match self {
-            Walk::Directories(stage, last) => next_directory(alloc, stage, last),
+            Walk::Directories(stage, lists) => next_directory(alloc, stage, lists),
             Walk::Listed(listed) => next_listed(alloc, listed),
             Walk::Needed(last) => next_needed(alloc, last),
         }
@@ -222,11 +232,11 @@ impl Walk {
     {
         alike_rows_list_the_same();
         match self {
-            Walk::Directories(stage, last) => {
+            Walk::Directories(stage, lists) => {
                 let mut stage = stage;
-                let last = if_alike(last, path.as_str(), &row.row);
+                let lists = lists_if_alike(lists, path.as_str(), &row.row);
                 stage.know(path, row)?;
-                Ok(Walk::Directories(stage, last))
+                Ok(Walk::Directories(stage, lists))
             }
             Walk::Listed(listed) => {
                 let ListedStage {
@@ -251,16 +261,16 @@ impl Walk {
     }
 }
 
-fn next_directory(alloc: Global, stage: Stage, last: Option<LastIndex>) -> Result<Next, AllocError>
+fn next_directory(alloc: Global, stage: Stage, lists: Option<LastLists>) -> Result<Next, AllocError>
     requires { walking.HasPassed stage }
-    ensures { (world : World) (rows : ShownRows) → walking.IsOnTheWay world rows (Directories stage last)
+    ensures { (world : World) (rows : ShownRows) → walking.IsOnTheWay world rows (Directories stage lists)
         → IfOk result (walking.IsNext world rows) }
 {
     known_rows_are_enough();
     let mut stage = stage;
-    match stage.pass(alloc, outdated_in(&last))? {
-        Some(path) => Ok(Next::Lacks(Walk::Directories(stage, last), path)),
-        None => next_listed(alloc, listed_stage(alloc, stage, last)?),
+    match stage.pass(alloc, outdated_of(&lists))? {
+        Some(path) => Ok(Next::Lacks(Walk::Directories(stage, lists), path)),
+        None => next_listed(alloc, listed_stage(alloc, stage, lists)?),
     }
 }
 
@@ -268,10 +278,10 @@ fn next_directory(alloc: Global, stage: Stage, last: Option<LastIndex>) -> Resul
 fn listed_stage(
     alloc: Global,
     stage: Stage,
-    last: Option<LastIndex>,
+    lists: Option<LastLists>,
 ) -> Result<ListedStage, AllocError>
     ensures begins { IfOk result (λ listed. listed.stage.place ≡ 0) }
-    ensures lists { (rows : ShownRows) → walking.LacksNone stage → IfSome last (walking.IsBelow rows stage)
+    ensures lists { (rows : ShownRows) → walking.LacksNone stage → IfSome lists (walking.IsBelow rows stage)
         → IfOk result (walking.ListsPaths rows stage) }
 {
     alike_rows_list_the_same();
@@ -280,15 +290,24 @@ fn listed_stage(
         known,
         ..
     } = stage;
-    let paths = match &last {
-        Some(last) => clones_of(alloc, &last.paths.listed)?,
-        None => listed(alloc, &directories, &known)?,
-    };
-    Ok(ListedStage {
-        stage: Stage::new(paths, known),
-        directories,
-        last,
-    })
+    match lists {
+        Some(lists) => {
+            let LastLists { listed, last } = lists;
+            Ok(ListedStage {
+                stage: Stage::new(listed, known),
+                directories,
+                last: Some(last),
+            })
+        }
+        None => {
+            let listed = listed(alloc, &directories, &known)?;
+            Ok(ListedStage {
+                stage: Stage::new(listed, known),
+                directories,
+                last: None,
+            })
+        }
+    }
 }
 
 fn next_listed(alloc: Global, listed: ListedStage) -> Result<Next, AllocError>
@@ -323,9 +342,9 @@ fn last_stage(alloc: Global, listed: ListedStage) -> Result<LastStage, AllocErro
     } = stage;
     match last {
         Some(last) => {
-            let LastIndex { paths, outdated } = last;
+            let LastIndex { needed, outdated } = last;
             Ok(LastStage {
-                stage: Stage::new(paths.needed, known),
+                stage: Stage::new(needed, known),
                 directories,
                 listed,
                 outdated: Some(outdated),

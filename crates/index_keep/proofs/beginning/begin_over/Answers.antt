@@ -1,10 +1,9 @@
 -- What is left of the rows says what is fresh, and the others are marked.
-use Rattle.std.proofs.Common.{◌∙◌, ap, sym, refl, Bool, ℕ, List, None, if◌then◌else◌, map, string_bytes}
+use Rattle.std.proofs.Common.{◌∙◌, ap, sym, Bool, ℕ, List, None, if◌then◌else◌, map, string_bytes}
 use Rattle.std.specs.BTreeSet.{contains_text}
 use Rattle.ports_index.specs.Filling.{is_one_of}
 use Rattle.ports_index.specs.Seen.{said_in}
 use Rattle.index_keep.specs.Shown.{shown}
-use Rattle.index_keep.specs.declared.last_index.LastIndex.{LastIndex}
 use Rattle.index_keep.proofs.LastLemmas.{left-fresh, recalls-begun, stored-asked}
 use Rattle.index_keep.proofs.ShownLemmas.{shown-asked}
 use Rattle.index_keep.proofs.beginning.begin_over.Goals as goal
@@ -21,9 +20,8 @@ pub returns-clause-recalls : goal.returns-clause-recalls
 returns-clause-recalls g c =
     let test = contains_text c.args.changed.now in
     let rows = shown test (g.R.PathRows.entries c.args.rows.now) in
-    let begun : LastIndex = record { paths = c.args.last.paths; outdated = c.in_ok-left.field-0.taken } in
     let asked = λ (path : List ℕ). ap (λ items. is_one_of path (map string_bytes items)) c.deref.ensures.value ∙ c.in_ok-marked.ensures path in
-    recalls-begun test rows c.args.last c.requires begun c.in_ok-left.field-0.left refl
+    recalls-begun test rows c.args.last c.requires c.in_ok-left.field-0.left c.in_ok-left.field-0.taken
     (λ path. c.in_ok-left.ensures.left path ∙ ap (λ (b : Bool). if b then None else said_in c.args.last.rows path) (asked path))
     (λ path. c.in_ok-left.ensures.taken path ∙ ap (λ (b : Bool). if b then said_in c.args.last.rows path else None) (asked path))
 

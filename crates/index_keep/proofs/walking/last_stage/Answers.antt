@@ -1,7 +1,6 @@
 -- The needed paths of before are those that the rows say.
 use Rattle.std.proofs.Common.{◌∙◌, ap, refl, subst, sym, IfSome, is_some}
 use Rattle.ports_index.specs.Filling.{is_one_of}
-use Rattle.ports_index.specs.Index.{needed_among}
 use Rattle.ports_index.specs.Seen.{entries_in, known_in, said_in}
 use Rattle.index_keep.specs.Last.{led_to}
 use Rattle.index_keep.specs.Walking.{IsListed, paths_of}
@@ -18,14 +17,14 @@ returns-in-Some-clause-lists c = λ rows none may.
     let fresh = known_in (entries_in stage.known) in
     let paths = ap paths_of c.new.ensures in
     record {
-      paths = paths ∙ is.0.lists.needed ∙ ap (needed_among led) is.1
+      paths = paths ∙ is.needed
           ∙ sym (c.alike_rows_list_the_same.ensures.needed led fresh (paths_of stage) (alike-fresh stage.known last.outdated (paths_of stage) none));
       place = ap (λ (s : Stage). s.place) c.new.ensures;
       known = λ path. ap (λ (s : Stage). said_in s.known path) c.new.ensures;
       directories = refl;
       listed = refl;
       alone = (
-        λ path some. ap (is_one_of path) paths ∙ is.0.alone path some,
-        λ path one none. ap (λ (s : Stage). is_some (entries_in s.known path)) c.new.ensures ∙ is.0.others path (ap (is_one_of path) (sym paths) ∙ one) none,
+        λ path some. ap (is_one_of path) paths ∙ is.alone path some,
+        λ path one none. ap (λ (s : Stage). is_some (entries_in s.known path)) c.new.ensures ∙ is.others path (ap (is_one_of path) (sym paths) ∙ one) none,
       );
     }

@@ -35,6 +35,7 @@ returns-clause-kept g c = λ world way.
         record {
           paths = record { directories = way.far.directories; listed = way.far.listed; needed = way.far.stage.through };
           rows = have-said world new current c.without.result says;
+          edges = tt;
         },
         says,
       );

@@ -15,5 +15,5 @@ returns-in-Ok-clause-kept g c = λ world kept.
     let says = says-current world new current c.in-Ok.rows (λ path. c.in-Ok.ensures.known path ∙ said-same old new shows path) in
     record {
       rows = AreKept-same world old new shows kept.rows;
-      progress = (current, record { paths = kept.progress.1; rows = have-said world new current c.in-Ok.rows says }, says);
+      progress = (current, record { paths = kept.progress.1; rows = have-said world new current c.in-Ok.rows says; edges = tt }, says);
     }

@@ -1,5 +1,5 @@
 -- The index of before is recalled as long as each row names the same paths as the outdated one.
-use Rattle.std.proofs.Common.{◌≡◌, subst, IfSome, List, ℕ, Some, map, string_bytes}
+use Rattle.std.proofs.Common.{◌≡◌, subst, IfSome, List, ℕ, Some, string_bytes}
 use Rattle.mk_paths.specs.World.{files_in}
 use Rattle.ports_index.specs.Index.{listed_paths, needed_paths}
 use Rattle.ports_index.specs.Naming.{directories}
@@ -7,7 +7,8 @@ use Rattle.ports_index.specs.Seen.{known_seen, row_seen}
 use Rattle.index_keep.specs.Last.{NamesAsBefore}
 use Rattle.index_keep.specs.Walking.{IsWalk}
 use Rattle.index_keep.specs.declared.last_index.LastIndex.{LastIndex}
-use Rattle.index_keep.proofs.MoreLemmas.{alone-more, kept-more, stage-more}
+use Rattle.index_keep.specs.declared.last_index.LastLists.{LastLists}
+use Rattle.index_keep.proofs.MoreLemmas.{alone-more, below-more, listed-kept, stage-more}
 use Rattle.index_keep.proofs.walking.Walk.with_row.Goals as goal
 
 pub returns-in_ok-know-in-Directories : goal.returns-in_ok-know-in-Directories
@@ -19,11 +20,11 @@ returns-in_ok-know-in-Directories c = λ world old new walk more.
     let after = c.know.new.self in
     let knows = c.in_ok-know-in-Directories.ensures in
     let paths = directories (files_in world) in
-    let alike = subst (λ (at : List ℕ). IfSome c.if_alike-last.result (λ (kept : LastIndex). (c.in-Directories.last ≡ Some kept) × NamesAsBefore at (row_seen c.args.row.row) kept))
-    c.as_str.ensures.value c.if_alike-last.ensures in (
+    let lists = c.in-Directories.lists in
+    let alike = subst (λ (at : List ℕ). IfSome c.lists_if_alike-lists.result (λ (kept : LastLists). (lists ≡ Some kept) × NamesAsBefore at (row_seen c.args.row.row) kept.last))
+    c.as_str.ensures.value c.lists_if_alike-lists.ensures in (
       stage-more world path said old new more stage after knows paths far.0,
-      kept-more world path said old new more stage after knows c.alike_rows_list_the_same.ensures paths far.0 c.in-Directories.last (λ (last : LastIndex). map string_bytes last.paths.directories.items)
-          c.if_alike-last.result alike far.1,
+      below-more world path said old new more stage after knows c.alike_rows_list_the_same.ensures paths far.0 lists c.lists_if_alike-lists.result alike far.1,
     )
 
 pub returns-in_ok-know-in-Listed : goal.returns-in_ok-know-in-Listed
@@ -35,13 +36,13 @@ returns-in_ok-know-in-Listed c = λ world old new walk more.
     let after = c.know-in-Listed.new.self in
     let knows = c.in_ok-know-in-Listed.ensures in
     let last = c.in-Listed.listed.last in
-    let alike = subst (λ (at : List ℕ). IfSome c.if_alike-last-in-Listed.result (λ (kept : LastIndex). (last ≡ Some kept) × NamesAsBefore at (row_seen c.args.row.row) kept))
-    c.as_str-in-Listed.ensures.value c.if_alike-last-in-Listed.ensures in
+    let alike = subst (λ (at : List ℕ). IfSome c.if_alike-last.result (λ (kept : LastIndex). (last ≡ Some kept) × NamesAsBefore at (row_seen c.args.row.row) kept))
+    c.as_str-in-Listed.ensures.value c.if_alike-last.ensures in
     record {
       stage = stage-more world path said old new more stage after knows (listed_paths world) far.stage;
       directories = far.directories;
-      last = kept-more world path said old new more stage after knows c.alike_rows_list_the_same.ensures (listed_paths world) far.stage last (λ (last : LastIndex). map string_bytes last.paths.listed.items)
-          c.if_alike-last-in-Listed.result alike far.last;
+      last = listed-kept world path said old new more stage after knows c.alike_rows_list_the_same.ensures (listed_paths world) far.stage last
+          c.if_alike-last.result alike far.last;
     }
 
 pub returns-in_ok-know-in-Needed : goal.returns-in_ok-know-in-Needed
