@@ -4,6 +4,7 @@ ghost use Rattle.index_keep.specs.Keeping.{refresh_of, IsDone, TurnsKeeper};
 ghost use Rattle.mk_paths.specs.World.{World};
 ghost use Rattle.ports_index.specs.Spending.{no_spending, spent_together};
 ghost use Rattle.ports_index.specs.declared.spending.Spent.{Spent};
+ghost use Rattle.ports_plain.specs.Answers.{index_reply};
 ghost use Rattle.ports_plain.specs.Resting.{pair_of, path_asked};
 ghost use Rattle.index_keep.specs.Turns.{RefreshView};
 ghost use Rattle.eval_ask.specs.Asking.{spent_in, total_of, EvaluatesInTime, HasLooked, IsShort, IsUpFrom, SpendsTurn};
@@ -25,10 +26,15 @@ use mk_eval::evaluations_cost_few;
 use mk_files::Listing;
 use mk_paths::FilesFault;
 use port_rules::records_cost_few;
+use ports_http::Reply;
 use ports_index::{Spent, makefiles_are_evaluated};
 use ports_plain::{IndexQuestion, PortQuestion, no_port};
 use std::alloc::{AllocError, Global};
 use turn_amounts::TURN_UNITS;
+
+/// The most bytes that the rows of an index may have whose dependencies are kept in memory. These take several times as
+/// much.
+const MOST_BYTES: u64 = 4_194_304;
 
 impl<F: Listing + Drop, R: PathRows + Drop> KeptPorts<'_, F, R> {
     /// A turn for the question for which this is under way.
@@ -111,9 +117,31 @@ impl<F: Listing + Drop, R: PathRows + Drop> KeptPorts<'_, F, R> {
                 spent: before.and(spent),
             })),
             None => {
-                let reply = question.reply(alloc, self.keeper.index())?;
+                let reply = self.reply(alloc, &question)?;
                 Ok(Turned::Done(reply, before))
             }
+        }
+    }
+
+    // The reply by the index, which is at hand. Dependencies that may be kept for the next question are.
+    fn reply(&mut self, alloc: Global, question: &IndexQuestion) -> Result<Reply, FilesFault>
+        requires { IsDone self.old.keeper.now }
+        ensures reply { IfOk result (λ reply. reply ≡ index_reply (world_at F.view self.old) question.now) }
+        ensures refresh { refresh_of R.entries self.new.keeper.now
+            ≡ refresh_of R.entries self.old.keeper.now }
+        ensures leaves { LeavesPorts F.view R.entries self.old self.new }
+    {
+        if self.may_keep_edges(question) {
+            self.keeper.keep_edges(alloc)?;
+        }
+        question.reply(alloc, self.keeper.index())
+    }
+
+    // Whether a question is about dependencies, and the rows of the index aren't too large to keep them.
+    fn may_keep_edges(&self, question: &IndexQuestion) -> bool {
+        match self.keeper.size_at_hand() {
+            Some(size) => question.follows_edges() && size <= MOST_BYTES,
+            None => false,
         }
     }
 

@@ -70,6 +70,7 @@ pub fn index_files<F: Listing>(
                 needed,
             },
             rows,
+            edges: None,
         },
         effort: effort.and(more),
     })

@@ -28,7 +28,7 @@ pub fn index(alloc: Global, world: &mut World) -> Result<Answer, Trouble> {
             answer.word("fault");
         }
     }
-    for edge in &index.edges(alloc)? {
+    for edge in &index.make_edges(alloc)? {
         answer.word(edge.root());
         answer.text(edge.edge().item().as_bytes());
         answer.word(edge.edge().status().as_str());
@@ -103,8 +103,7 @@ pub fn over_edges(
     };
     let kinds = Kinds::read(as_text(kinds)?).ok_or(Trouble::NoCase)?;
     let path = path_of(alloc, as_text(path)?)?;
-    let mut edges = RowsInMemory::new(edges(alloc, world)?);
-    edges_answer(alloc, what, kinds, &path, &mut edges)
+    edges_answer(alloc, what, kinds, &path, &edges(alloc, world)?)
 }
 
 fn edges_answer(
@@ -112,7 +111,7 @@ fn edges_answer(
     what: &str,
     kinds: Kinds,
     path: &PkgPath,
-    edges: &mut RowsInMemory<RootEdge>,
+    edges: &[RootEdge],
 ) -> Result<Answer, Trouble> {
     Ok(match what {
         "first" => items_of(alloc, &first_edges(alloc, kinds, path, edges)?),
@@ -189,7 +188,7 @@ fn edge(alloc: Global, item: Item, port: &PortRecord) -> Result<RootEdge, AllocE
     Ok(RootEdge::new(String::from_str(alloc, ROOT)?, edge))
 }
 
-fn items_of(alloc: Global, edges: &[RootEdge]) -> Answer {
+fn items_of(alloc: Global, edges: &[&RootEdge]) -> Answer {
     let mut answer = Answer::new(alloc);
     for edge in edges {
         answer.text(edge.edge().item().as_bytes());

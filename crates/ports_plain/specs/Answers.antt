@@ -1,5 +1,5 @@
 -- The answer to a question over a world.
-use Rattle.std.specs.Prelude.{◌≡◌, ℕ, if◌then◌else◌, List, Option, Some, Result, is_some}
+use Rattle.std.specs.Prelude.{◌≡◌, ℕ, Bool, true, false, if◌then◌else◌, List, Option, Some, Result, is_some}
 use Rattle.std.specs.FinMap.{get}
 use Rattle.mk_paths.specs.World.{World, files_in}
 use Rattle.mk_eval.specs.declared.outcome.Evaluated.{Evaluated}
@@ -46,6 +46,13 @@ index_reply world (index.List conditions) = list_reply world conditions
 index_reply world (index.Match spec) = match_reply world spec
 index_reply world index.Faults = get_faults world
 index_reply world (index.Dependencies direction asked) = dependency_reply world direction asked
+
+-- a question about all ports is about their dependencies
+abbrev pub follows_edges : IndexQuestion → Bool
+follows_edges (index.List conditions) = false
+follows_edges (index.Match spec) = false
+follows_edges index.Faults = false
+follows_edges (index.Dependencies direction asked) = true
 
 -- the answer to a question over a world
 abbrev pub answer_to : World → Question → Answer

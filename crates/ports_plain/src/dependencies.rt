@@ -2,6 +2,7 @@
 ghost use Rattle.std.specs.Prelude.{◌≡◌, IfOk, Ok};
 ghost use Rattle.mk_paths.specs.World.{World};
 ghost use Rattle.serde_json.specs.Written.{compact_text};
+ghost use Rattle.ports_index.specs.Index as indexed;
 ghost use Rattle.ports_index.specs.Known.{IsIndexOf};
 ghost use Rattle.ports_query.specs.Kinds.{kinds_of};
 ghost use Rattle.ports_plain.specs.IndexRoutes as routes;
@@ -98,28 +99,47 @@ pub fn dependency_reply(
     ensures { (world : World) → IsIndexOf world index.now
         → IfOk result (λ reply. reply ≡ routes.dependency_reply world direction question.now) }
 {
-    let mut edges = RowsInMemory::new(index.edges(alloc)?);
+    match &index.edges {
+        Some(edges) => reply_over(alloc, index, edges, direction, question),
+        None => {
+            let edges = index.make_edges(alloc)?;
+            reply_over(alloc, index, &edges, direction, question)
+        }
+    }
+}
+
+// The same, given the dependencies of all ports.
+fn reply_over(
+    alloc: Global,
+    index: &KnownIndex,
+    edges: &[RootEdge],
+    direction: Direction,
+    question: &DependencyQuestion,
+) -> Result<Reply, FilesFault>
+    ensures { (world : World) → IsIndexOf world index.now → edges.now ≡ indexed.edges world
+        → IfOk result (λ reply. reply ≡ routes.dependency_reply world direction question.now) }
+{
     match direction {
         Direction::Dependencies => {
             let mut roots = RowsInMemory::new(index.roots(alloc)?);
-            dependencies_in(alloc, &mut roots, &mut edges, question)
+            dependencies_in(alloc, &mut roots, edges, question)
         }
         Direction::Dependents => {
-            let body = dependents_body(alloc, &mut edges, question)?;
+            let body = dependents_body(alloc, edges, question)?;
             Ok(Reply::of_bytes(StatusCode::OK, Some(Content::Json), body))
         }
     }
 }
 
 // What a port depends on. The port must have the subpackage, if one is named.
-fn dependencies_in<R: Cursor<Root>, E: Cursor<RootEdge>>(
+fn dependencies_in<C: Cursor<Root>>(
     alloc: Global,
-    roots: &mut R,
-    edges: &mut E,
+    roots: &mut C,
+    edges: &[RootEdge],
     question: &DependencyQuestion,
 ) -> Result<Reply, FilesFault>
     ensures { IfOk result (λ reply. reply
-        ≡ routes.dependencies_in (R.left roots.old) (E.left edges.old) question.now) }
+        ≡ routes.dependencies_in (C.left roots.old) edges.now question.now) }
 {
     let path = question.path.port_path(alloc)?;
     let Some(root) = root_at(path.as_str(), roots)? else {
@@ -137,42 +157,42 @@ fn dependencies_in<R: Cursor<Root>, E: Cursor<RootEdge>>(
     }
 }
 
-fn dependencies_body<E: Cursor<RootEdge>>(
+fn dependencies_body(
     alloc: Global,
-    edges: &mut E,
+    edges: &[RootEdge],
     question: &DependencyQuestion,
-) -> Result<Vec<u8>, FilesFault>
+) -> Result<Vec<u8>, AllocError>
     ensures { IfOk result (λ text. text.items
-        ≡ compact_text (routes.dependencies_body_of (E.left edges.old) question.now)) }
+        ≡ compact_text (routes.dependencies_body_of edges.now question.now)) }
 {
     match question.depth {
         Depth::Direct => {
             let first = first_edges(alloc, question.kinds, &question.path, edges)?;
-            Ok(list_bodies::dependencies(alloc, first.as_slice())?)
+            list_bodies::dependencies(alloc, &first)
         }
         Depth::All => {
             let paths = reached(alloc, question.kinds, &question.path, edges)?;
-            Ok(list_bodies::reached(alloc, paths.as_slice())?)
+            list_bodies::reached(alloc, &paths)
         }
     }
 }
 
-fn dependents_body<E: Cursor<RootEdge>>(
+fn dependents_body(
     alloc: Global,
-    edges: &mut E,
+    edges: &[RootEdge],
     question: &DependencyQuestion,
-) -> Result<Vec<u8>, FilesFault>
+) -> Result<Vec<u8>, AllocError>
     ensures { IfOk result (λ text. text.items
-        ≡ compact_text (routes.dependents_body_of (E.left edges.old) question.now)) }
+        ≡ compact_text (routes.dependents_body_of edges.now question.now)) }
 {
     match question.depth {
         Depth::Direct => {
             let found = edges_to(alloc, question.kinds, &question.path, edges)?;
-            Ok(list_bodies::dependents(alloc, found.as_slice())?)
+            list_bodies::dependents(alloc, &found)
         }
         Depth::All => {
             let paths = reaching(alloc, question.kinds, &question.path, edges)?;
-            Ok(list_bodies::reaching(alloc, paths.as_slice())?)
+            list_bodies::reaching(alloc, &paths)
         }
     }
 }

@@ -2,7 +2,7 @@
 ghost use Rattle.std.specs.Prelude.{◌≡◌, IfOk};
 ghost use Rattle.mk_paths.specs.World.{World};
 ghost use Rattle.ports_index.specs.Known.{IsIndexOf};
-ghost use Rattle.ports_plain.specs.Answers.{index_reply};
+ghost use Rattle.ports_plain.specs.Answers.{follows_edges, index_reply};
 
 use crate::dependencies::{DependencyQuestion, Direction, dependency_reply};
 use crate::lists::{faults_reply, list_reply, match_reply};
@@ -27,6 +27,13 @@ pub enum IndexQuestion {
 }
 
 impl IndexQuestion {
+    /// Whether it is about dependencies, and so looks at those of all ports.
+    pub fn follows_edges(&self) -> bool
+        ensures { result ≡ follows_edges self.now }
+    {
+        matches!(self, IndexQuestion::Dependencies(_, _))
+    }
+
     /// The reply, by the index of a world. It fails only if memory runs out.
     pub fn reply(&self, alloc: Global, index: &KnownIndex) -> Result<Reply, FilesFault>
         ensures { (world : World) → IsIndexOf world index.now

@@ -3,6 +3,7 @@ ghost use Rattle.std.specs.Prelude.{◌≡◌, IfOk, IfErr, OnOk, map, string_by
 ghost use Rattle.std.specs.Option.{option_copied};
 ghost use Rattle.serde_json.specs.Data.{string};
 ghost use Rattle.serde_json.specs.Written.{compact_text};
+ghost use Rattle.ports_query.specs.Edges.{edges_lent};
 ghost use Rattle.ports_query.specs.Failing.{MayFail};
 ghost use Rattle.ports_plain.specs.ListBodies as bodies;
 ghost use Rattle.ports_plain.specs.Writing.{Adds, AddsItems};
@@ -42,8 +43,9 @@ fn listed(out: &mut Writer, one: &Listed) -> Result<(), AllocError>
 }
 
 // What a port depends on.
-pub fn dependencies(alloc: Global, edges: &[RootEdge]) -> Result<Vec<u8>, AllocError>
-    ensures { IfOk result (λ text. text.items ≡ compact_text (bodies.dependencies_body edges.now)) }
+pub fn dependencies(alloc: Global, edges: &[&RootEdge]) -> Result<Vec<u8>, AllocError>
+    ensures { IfOk result (λ text. text.items
+        ≡ compact_text (bodies.dependencies_body (edges_lent edges.now))) }
 {
     let mut out = begin_list(alloc, "deps")?;
     for edge in edges {
@@ -88,8 +90,9 @@ fn target_text(alloc: Global, target: Option<&PkgPath>) -> Result<String, AllocE
 }
 
 // What depends on a port.
-pub fn dependents(alloc: Global, edges: &[RootEdge]) -> Result<Vec<u8>, AllocError>
-    ensures { IfOk result (λ text. text.items ≡ compact_text (bodies.dependents_body edges.now)) }
+pub fn dependents(alloc: Global, edges: &[&RootEdge]) -> Result<Vec<u8>, AllocError>
+    ensures { IfOk result (λ text. text.items
+        ≡ compact_text (bodies.dependents_body (edges_lent edges.now))) }
 {
     let mut out = begin_list(alloc, "rdeps")?;
     for edge in edges {

@@ -43,6 +43,7 @@ returns-clause-known g c =
     record {
       paths = record { directories = c.in_ok-directories.ensures.directories; listed = c.in_ok-directories.ensures.listed; needed = needed };
       rows = have-filled world (needed_paths world) middle end filled;
+      edges = tt;
     }
 
 pub returns-clause-effort : goal.returns-clause-effort

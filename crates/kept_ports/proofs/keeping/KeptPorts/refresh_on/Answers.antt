@@ -6,6 +6,7 @@ use Rattle.turn_amounts.specs.declared.TheConstants.{TURN_UNITS}
 use Rattle.ports_index.specs.Spending.{no_spending, spent_together}
 use Rattle.eval_ask.specs.Asking.{IsShort, IsUpFrom}
 use Rattle.index_keep.specs.Keeping.{refresh_of}
+use Rattle.index_keep.specs.Turns.{RefreshView}
 use Rattle.kept_ports.specs.Leaving.{world_at}
 use Rattle.kept_ports.specs.Pending.{IsSpentOnIndex, RefreshesInTime, RefreshesOn}
 use Rattle.kept_ports.specs.TurnsLeft.{RefreshesFewer}
@@ -56,5 +57,6 @@ returns-in_ok-reply-in-None-clause-told g c =
     let old = refresh_of g.R.PathRows.entries c.args.self.now.keeper.now in
     let refresh = refresh_of g.R.PathRows.entries c.refresh.new.self.keeper.now in
     let before = c.args.before in
-    subst (RefreshesInTime world old refresh before) (nothing_more before (omega arith) (omega arith))
-    (subst (λ (spent : Option Spent). RefreshesInTime world old refresh before (spent_together before (unwrap_or spent no_spending))) c.in-None.is (c.in_ok-spent.ensures.told before))
+    subst (λ (now : RefreshView). RefreshesInTime world old now before before) (sym c.reply.ensures.refresh)
+    (subst (RefreshesInTime world old refresh before) (nothing_more before (omega arith) (omega arith))
+    (subst (λ (spent : Option Spent). RefreshesInTime world old refresh before (spent_together before (unwrap_or spent no_spending))) c.in-None.is (c.in_ok-spent.ensures.told before)))
