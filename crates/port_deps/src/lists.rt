@@ -1,47 +1,47 @@
 //! The ports of a ports tree and their dependencies, as lists that are asked.
 ghost use Rattle.std.specs.Prelude.{◌≡◌, string_bytes};
+ghost use Rattle.port_deps.specs.Roots.{state_lent};
 
 use crate::edges::Edge;
 use mk_base::Fault;
 use port_rules::PortRecord;
 use std::marker::Model;
 
-/// A port of a ports tree, or a directory of it whose makefile has a fault.
+/// A port of a ports tree, or a directory of it whose makefile has a fault. All of it is lent.
 #[derive(Debug, Drop)]
-pub struct Root {
-    path: String,
-    state: Result<PortRecord, Fault>,
+pub struct Root<'a> {
+    path: &'a str,
+    state: Result<&'a PortRecord, &'a Fault>,
 }
 
-impl Model for Root {
-    ghost use Rattle.std.specs.Prelude.{string_bytes};
-    ghost use Rattle.port_deps.specs.Roots.{RootValue};
+impl<'a> Model for Root<'a> {
+    ghost use Rattle.port_deps.specs.Roots.{RootValue, state_lent};
 
     ghost Value = { RootValue };
 
-    ghost view = { λ r. record { path = string_bytes r.path; state = r.state } };
+    ghost view = { λ r. record { path = r.path.now; state = state_lent r.state } };
 }
 
-impl Root {
+impl<'a> Root<'a> {
     /// What is found at this canonical path.
-    pub fn new(path: String, state: Result<PortRecord, Fault>) -> Root
-        ensures { result ≡ record { path = string_bytes path; state = state } }
+    pub fn new(path: &'a str, state: Result<&'a PortRecord, &'a Fault>) -> Root<'a>
+        ensures { result ≡ record { path = path.now; state = state_lent state.entry } }
     {
         Root { path, state }
     }
 
     /// Its path, in the canonical form and without a subpackage; `.` for the trees' own directory.
-    pub fn path(&self) -> &str
+    pub fn path(&self) -> &'a str
         ensures { result.now ≡ self.now.path }
     {
-        self.path.as_str()
+        self.path
     }
 
     /// The port, or the fault of its makefile or of its record.
-    pub fn state(&self) -> &Result<PortRecord, Fault>
-        ensures { result.now ≡ self.now.state }
+    pub fn state(&self) -> Result<&'a PortRecord, &'a Fault>
+        ensures { state_lent result ≡ self.now.state }
     {
-        &self.state
+        self.state
     }
 }
 

@@ -11,13 +11,11 @@ use mk_base::{Budget, FaultKind, PureStop};
 use mk_env::Env;
 use std::alloc::{AllocError, Global};
 use std::marker::Model;
-use std::rc::Rc;
 
-/// What a port is, as its variables say (bsd.port.mk(5)). It never changes, and is shared by all who hold it. Clauses
-/// see what it says.
+/// What a port is, as its variables say (bsd.port.mk(5)). It never changes. Clauses see what it says.
 #[derive(Debug, Drop)]
 pub struct PortRecord {
-    port: Rc<Port>,
+    port: Box<Port>,
 }
 
 /// What a port is.
@@ -67,16 +65,7 @@ impl PortRecord {
             depends,
         };
         Ok(PortRecord {
-            port: Rc::new(alloc, port)?,
-        })
-    }
-
-    /// The same port once more, without a copy of what it says. It fails only if no more can share it.
-    pub fn share(&self) -> Result<PortRecord, AllocError>
-        ensures { IfOk result (λ port. port ≡ self.now) }
-    {
-        Ok(PortRecord {
-            port: self.port.clone()?,
+            port: Box::new(alloc, port)?,
         })
     }
 

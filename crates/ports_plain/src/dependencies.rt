@@ -15,12 +15,11 @@ use crate::parameters::{optional, path_in};
 use crate::port_questions::has_named;
 use crate::questions::Question;
 use crate::replies::{faulty, refusal};
-use mk_paths::FilesFault;
 use pkg_path::PkgPath;
 use port_deps::{Root, RootEdge};
 use ports_http::{Content, Reply, StatusCode};
 use ports_index::KnownIndex;
-use ports_query::{Cursor, Kinds, RowsInMemory, edges_to, first_edges, reached, reaching, root_at};
+use ports_query::{Kinds, edges_to, first_edges, reached, reaching, root_at};
 use std::alloc::{AllocError, Global};
 
 /// Which way dependencies are followed.
@@ -95,7 +94,7 @@ pub fn dependency_reply(
     index: &KnownIndex,
     direction: Direction,
     question: &DependencyQuestion,
-) -> Result<Reply, FilesFault>
+) -> Result<Reply, AllocError>
     ensures { (world : World) → IsIndexOf world index.now
         → IfOk result (λ reply. reply ≡ routes.dependency_reply world direction question.now) }
 {
@@ -115,14 +114,14 @@ fn reply_over(
     edges: &[RootEdge],
     direction: Direction,
     question: &DependencyQuestion,
-) -> Result<Reply, FilesFault>
+) -> Result<Reply, AllocError>
     ensures { (world : World) → IsIndexOf world index.now → edges.now ≡ indexed.edges world
         → IfOk result (λ reply. reply ≡ routes.dependency_reply world direction question.now) }
 {
     match direction {
         Direction::Dependencies => {
-            let mut roots = RowsInMemory::new(index.roots(alloc)?);
-            dependencies_in(alloc, &mut roots, edges, question)
+            let roots = index.roots(alloc)?;
+            dependencies_in(alloc, &roots, edges, question)
         }
         Direction::Dependents => {
             let body = dependents_body(alloc, edges, question)?;
@@ -132,23 +131,23 @@ fn reply_over(
 }
 
 // What a port depends on. The port must have the subpackage, if one is named.
-fn dependencies_in<C: Cursor<Root>>(
+fn dependencies_in(
     alloc: Global,
-    roots: &mut C,
+    roots: &[Root<'_>],
     edges: &[RootEdge],
     question: &DependencyQuestion,
-) -> Result<Reply, FilesFault>
+) -> Result<Reply, AllocError>
     ensures { IfOk result (λ reply. reply
-        ≡ routes.dependencies_in (C.left roots.old) edges.now question.now) }
+        ≡ routes.dependencies_in roots.now edges.now question.now) }
 {
     let path = question.path.port_path(alloc)?;
-    let Some(root) = root_at(path.as_str(), roots)? else {
-        return Ok(refusal(alloc, StatusCode::NOT_FOUND, "NoPort")?);
+    let Some(root) = root_at(path.as_str(), roots) else {
+        return refusal(alloc, StatusCode::NOT_FOUND, "NoPort");
     };
     match root.state() {
-        Err(fault) => Ok(faulty(alloc, fault)?),
+        Err(fault) => faulty(alloc, fault),
         Ok(port) if !has_named(&question.path, port) => {
-            Ok(refusal(alloc, StatusCode::NOT_FOUND, "NoSubpackage")?)
+            refusal(alloc, StatusCode::NOT_FOUND, "NoSubpackage")
         }
         Ok(_port) => {
             let body = dependencies_body(alloc, edges, question)?;

@@ -6,12 +6,11 @@ ghost use Rattle.ports_plain.specs.Answers.{follows_edges, index_reply};
 
 use crate::dependencies::{DependencyQuestion, Direction, dependency_reply};
 use crate::lists::{faults_reply, list_reply, match_reply};
-use mk_paths::FilesFault;
 use pkg_spec::Spec;
 use ports_http::Reply;
 use ports_index::KnownIndex;
 use ports_query::Query;
-use std::alloc::Global;
+use std::alloc::{AllocError, Global};
 
 /// What is asked of all ports.
 #[derive(Drop)]
@@ -35,7 +34,7 @@ impl IndexQuestion {
     }
 
     /// The reply, by the index of a world. It fails only if memory runs out.
-    pub fn reply(&self, alloc: Global, index: &KnownIndex) -> Result<Reply, FilesFault>
+    pub fn reply(&self, alloc: Global, index: &KnownIndex) -> Result<Reply, AllocError>
         ensures { (world : World) → IsIndexOf world index.now
             → IfOk result (λ reply. reply ≡ index_reply world self.now) }
     {

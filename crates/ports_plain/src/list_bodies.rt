@@ -1,10 +1,9 @@
 // Lists of packages, dependencies and faults, as JSON texts.
-ghost use Rattle.std.specs.Prelude.{◌≡◌, IfOk, IfErr, OnOk, map, string_bytes, option_to_list};
+ghost use Rattle.std.specs.Prelude.{◌≡◌, IfOk, OnOk, map, string_bytes, option_to_list};
 ghost use Rattle.std.specs.Option.{option_copied};
 ghost use Rattle.serde_json.specs.Data.{string};
 ghost use Rattle.serde_json.specs.Written.{compact_text};
 ghost use Rattle.ports_query.specs.Edges.{edges_lent};
-ghost use Rattle.ports_query.specs.Failing.{MayFail};
 ghost use Rattle.ports_plain.specs.ListBodies as bodies;
 ghost use Rattle.ports_plain.specs.Writing.{Adds, AddsItems};
 
@@ -12,32 +11,45 @@ use crate::writing::Scalar::{Number, Text};
 use crate::writing::{begin_list, end_list, write_object};
 use json::Writer;
 use mk_base::Fault;
-use mk_paths::FilesFault;
 use pkg_path::PkgPath;
 use port_deps::{Edge, Root, RootEdge};
-use ports_query::{Cursor, Listed};
+use ports_query::Listed;
 use std::alloc::{AllocError, Global};
 
 // Packages.
-pub fn packages(alloc: Global, packages: &[Listed]) -> Result<Vec<u8>, AllocError>
+pub fn packages(alloc: Global, packages: &[Listed<'_>]) -> Result<Vec<u8>, AllocError>
     ensures { IfOk result (λ text. text.items ≡ compact_text (bodies.packages_body packages.now)) }
 {
     let mut out = begin_list(alloc, "packages")?;
     for one in packages {
-        listed(&mut out, one)?;
+        listed(alloc, &mut out, one)?;
     }
     end_list(out)
 }
 
-fn listed(out: &mut Writer, one: &Listed) -> Result<(), AllocError>
+fn listed(alloc: Global, out: &mut Writer, one: &Listed<'_>) -> Result<(), AllocError>
     ensures { OnOk result (Adds out.old out.new (bodies.listed_body one.now)) }
+{
+    let name = one.name().text(alloc)?;
+    listed_as(out, name.as_str(), one.path(), one.subpackage())
+}
+
+// A package, given its texts.
+fn listed_as<'a>(
+    out: &mut Writer,
+    name: &'a str,
+    path: &'a str,
+    subpackage: &'a str,
+) -> Result<(), AllocError>
+    ensures { OnOk result (Adds out.old out.new
+        (bodies.listed_body (record { name = name.now; path = path.now; subpackage = subpackage.now }))) }
 {
     write_object(
         out,
         &[
-            ("name", Text(one.name())),
-            ("path", Text(one.path())),
-            ("subpackage", Text(one.subpackage())),
+            ("name", Text(name)),
+            ("path", Text(path)),
+            ("subpackage", Text(subpackage)),
         ],
     )
 }
@@ -145,20 +157,18 @@ fn texts(alloc: Global, name: &str, texts: &[String]) -> Result<Vec<u8>, AllocEr
 }
 
 // The faults of roots.
-pub fn faults<C: Cursor<Root>>(alloc: Global, roots: &mut C) -> Result<Vec<u8>, FilesFault>
-    ensures body { IfOk result (λ text. text.items
-        ≡ compact_text (bodies.faults_body (C.left roots.old))) }
-    ensures kind { IfErr result (MayFail C.fails_with) }
+pub fn faults(alloc: Global, roots: &[Root<'_>]) -> Result<Vec<u8>, AllocError>
+    ensures { IfOk result (λ text. text.items ≡ compact_text (bodies.faults_body roots.now)) }
 {
     let mut out = begin_list(alloc, "faults")?;
-    while let Some(root) = roots.next()? {
-        add_fault(&mut out, &root)?;
+    for root in roots {
+        add_fault(&mut out, root)?;
     }
-    Ok(end_list(out)?)
+    end_list(out)
 }
 
 // Writes the fault of a root, if it has one.
-fn add_fault(out: &mut Writer, root: &Root) -> Result<(), AllocError>
+fn add_fault(out: &mut Writer, root: &Root<'_>) -> Result<(), AllocError>
     ensures { OnOk result (AddsItems out.old out.new (option_to_list (bodies.fault_at root.now))) }
 {
     match root.state() {

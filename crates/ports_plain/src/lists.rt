@@ -9,11 +9,10 @@ use crate::index_questions::IndexQuestion;
 use crate::list_bodies;
 use crate::parameters::{optional, parameter};
 use crate::questions::Question;
-use mk_paths::FilesFault;
 use pkg_spec::{Spec, SpecFault};
 use ports_http::{Content, Reply, StatusCode};
 use ports_index::KnownIndex;
-use ports_query::{Listed, Query, QueryFault, RowsInMemory, admitted, answer};
+use ports_query::{Listed, Query, QueryFault, admitted, answer};
 use std::alloc::{AllocError, Global};
 
 // The question about the packages that meet the conditions that the query gives.
@@ -35,13 +34,13 @@ pub fn list_reply(
     alloc: Global,
     index: &KnownIndex,
     conditions: &Query,
-) -> Result<Reply, FilesFault>
+) -> Result<Reply, AllocError>
     ensures { (world : World) → IsIndexOf world index.now
         → IfOk result (λ reply. reply ≡ routes.list_reply world conditions.now) }
 {
-    let mut roots = RowsInMemory::new(index.roots(alloc)?);
-    let packages = answer(alloc, conditions, &mut roots)?;
-    Ok(packages_reply(alloc, packages.as_slice())?)
+    let roots = index.roots(alloc)?;
+    let packages = answer(alloc, conditions, &roots)?;
+    packages_reply(alloc, &packages)
 }
 
 // The question about the packages that are admitted by the spec that the query gives.
@@ -59,17 +58,17 @@ pub fn match_question(alloc: Global, query: &str) -> Result<Question, AllocError
 }
 
 // The packages that a spec admits.
-pub fn match_reply(alloc: Global, index: &KnownIndex, spec: &Spec) -> Result<Reply, FilesFault>
+pub fn match_reply(alloc: Global, index: &KnownIndex, spec: &Spec) -> Result<Reply, AllocError>
     ensures { (world : World) → IsIndexOf world index.now
         → IfOk result (λ reply. reply ≡ routes.match_reply world spec.now) }
 {
-    let mut roots = RowsInMemory::new(index.roots(alloc)?);
-    let packages = admitted(alloc, spec, &mut roots)?;
-    Ok(packages_reply(alloc, packages.as_slice())?)
+    let roots = index.roots(alloc)?;
+    let packages = admitted(alloc, spec, &roots)?;
+    packages_reply(alloc, &packages)
 }
 
 // The reply that lists packages.
-fn packages_reply(alloc: Global, packages: &[Listed]) -> Result<Reply, AllocError>
+fn packages_reply(alloc: Global, packages: &[Listed<'_>]) -> Result<Reply, AllocError>
     ensures { IfOk result (λ reply. reply ≡ routes.packages_reply packages.now) }
 {
     let body = list_bodies::packages(alloc, packages)?;
@@ -77,11 +76,11 @@ fn packages_reply(alloc: Global, packages: &[Listed]) -> Result<Reply, AllocErro
 }
 
 // The faults of ports and lists.
-pub fn faults_reply(alloc: Global, index: &KnownIndex) -> Result<Reply, FilesFault>
+pub fn faults_reply(alloc: Global, index: &KnownIndex) -> Result<Reply, AllocError>
     ensures { (world : World) → IsIndexOf world index.now
         → IfOk result (λ reply. reply ≡ routes.get_faults world) }
 {
-    let mut roots = RowsInMemory::new(index.roots(alloc)?);
-    let body = list_bodies::faults(alloc, &mut roots)?;
+    let roots = index.roots(alloc)?;
+    let body = list_bodies::faults(alloc, &roots)?;
     Ok(Reply::of_bytes(StatusCode::OK, Some(Content::Json), body))
 }

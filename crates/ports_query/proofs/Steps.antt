@@ -1,9 +1,8 @@
 -- Lists that are tested, mapped and filtered, one element more.
-use Rattle.std.proofs.Common.{◌≡◌, ◌∙◌, sym, ap, refl, ℕ, ◌+◌, ◌<◌, Bool, true, false, cond, List, [], ◌∷◌, ◌++◌, map, take, length, get_or, Option, Some, None, append-nil}
+use Rattle.std.proofs.Common.{◌≡◌, ◌∙◌, sym, ap, refl, ℕ, ◌+◌, ◌<◌, Bool, true, false, cond, List, [], ◌∷◌, ◌++◌, map, take, length, get_or, append-nil}
 use Rattle.std.proofs.lemmas.List.{append_assoc, take_more, map-append}
 use Rattle.std.proofs.lemmas.List.Elements.{filter-append}
-use Rattle.std.specs.List.{filter, cons_option}
-use Rattle.std.specs.Option.{option_to_list}
+use Rattle.std.specs.List.{filter}
 
 one_kept : {X Y : Type 0} (test : X → Bool) (f : X → Y) (x : X) (before : List Y) (passes : Bool) → test x ≡ passes
     → cond passes (before ++ f x ∷ []) before ≡ before ++ map f (filter test (x ∷ []))

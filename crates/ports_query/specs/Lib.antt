@@ -1,4 +1,3 @@
-pub mod Failing
 pub mod Conditions
 pub mod Meeting
 pub mod Listing

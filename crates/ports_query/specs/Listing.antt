@@ -10,6 +10,7 @@ use Rattle.port_rules.specs.Packages.{PackageValue}
 use Rattle.port_deps.specs.Roots.{RootValue}
 use Rattle.ports_query.specs.Conditions.{ConditionValue}
 use Rattle.ports_query.specs.Meeting.{meets_all}
+use Rattle.ports_query.specs.declared.meeting.Candidate.{Candidate}
 use Rattle.ports_query.specs.declared.listing.Test.{Test}
 use Rattle.ports_query.specs.declared.listing.Test.TheVariants.{Meets, Admitted}
 
@@ -54,3 +55,7 @@ root_named roots path = find (λ (root : RootValue). bytes_eq root.path path) ro
 abbrev pub test_seen : Test → PackageTest
 test_seen (Meets query) = meets_all query.now
 test_seen (Admitted spec) = admits spec.now
+
+-- a package with its port passes such a test
+abbrev pub passes : Test → Candidate → Bool
+passes test candidate = test_seen test candidate.path.now candidate.port.now candidate.found.now

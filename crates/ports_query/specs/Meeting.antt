@@ -1,5 +1,5 @@
 -- When a package meets a condition.
-use Rattle.std.specs.Prelude.{ℕ, ◌||◌, nat_eq, not, Bool, List, [], ◌∷◌}
+use Rattle.std.specs.Prelude.{ℕ, ◌||◌, nat_eq, not, Bool, List, [], ◌∷◌, string_bytes}
 use Rattle.std.specs.List.{list_all, list_any, starts_with}
 use Rattle.std.specs.Ordering.{is_lt, is_ge}
 use Rattle.std.specs.Str.{bytes_eq}
@@ -13,6 +13,8 @@ use Rattle.ports_query.specs.declared.conditions.TextField.{TextField}
 use Rattle.ports_query.specs.declared.conditions.TextField.TheVariants.{Path, Name, Stem, Version, Maintainer, Comment}
 use Rattle.ports_query.specs.declared.conditions.ListField.{ListField}
 use Rattle.ports_query.specs.declared.conditions.ListField.TheVariants.{Category, Flavor}
+use Rattle.ports_query.specs.declared.meeting.FieldText.{FieldText}
+use Rattle.ports_query.specs.declared.meeting.FieldText.TheVariants.{Lent, Made}
 use Rattle.ports_query.specs.declared.operators.OperatorSign.{OperatorSign}
 use Rattle.ports_query.specs.declared.operators.OperatorSign.TheVariants.{Is, IsNot, Has}
 use Rattle.ports_query.specs.declared.operators.Bound.{Bound}
@@ -63,3 +65,8 @@ meets path port found (OfVersion bound version) = bound_meets bound (version_cmp
 -- a package meets all of these conditions
 abbrev pub meets_all : List ConditionValue → List ℕ → PortValue → PackageValue → Bool
 meets_all conditions path port found = list_all (meets path port found) conditions
+
+-- a text that is lent, or one that was made
+abbrev pub text_seen : FieldText → List ℕ
+text_seen (Lent text) = text.now
+text_seen (Made text) = string_bytes text

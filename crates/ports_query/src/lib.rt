@@ -1,9 +1,8 @@
-//! Questions about the ports of a tree, which are taken row by row, and about their dependencies, which are
-//! lent: which packages meet conditions or a spec, and which ports depend on which.
+//! Questions about the ports of a tree and their dependencies, which are lent: which packages meet conditions or a
+//! spec, and which ports depend on which.
 #![tactic(auto)]
 
 mod conditions;
-mod cursor;
 mod edges;
 mod faults;
 mod kinds;
@@ -14,7 +13,6 @@ mod paths;
 mod query;
 mod reach;
 
-pub use cursor::{Cursor, RowsInMemory};
 pub use edges::{edges_to, first_edges};
 pub use faults::QueryFault;
 pub use kinds::Kinds;

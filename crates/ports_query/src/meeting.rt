@@ -1,8 +1,7 @@
 //! When a package meets conditions.
-ghost use Rattle.std.specs.Prelude.{◌≡◌, map, string_bytes};
+ghost use Rattle.std.specs.Prelude.{◌≡◌, map, string_bytes, IfOk};
 ghost use Rattle.std.specs.List.{list_any, list_all};
 ghost use Rattle.std.specs.Str.{bytes_eq};
-ghost use Rattle.pkg_name.specs.Name.{name_text};
 ghost use Rattle.pkg_name.specs.Order.{version_cmp};
 ghost use Rattle.ports_query.specs.Conditions.{condition_seen};
 ghost use Rattle.ports_query.specs.Meeting as meeting;
@@ -11,61 +10,96 @@ use crate::conditions::{Condition, ListField, TextField};
 use crate::operators::{Bound, OperatorSign};
 use pkg_name::Version;
 use port_rules::{Package, PortRecord};
+use std::alloc::{AllocError, Global};
 
-/// A package that is looked at, with its port, the port's canonical path and its own full name.
+/// A package that is looked at, with its port and the port's canonical path.
 #[derive(Clone, Copy)]
 pub(crate) struct Candidate<'a> {
     pub(crate) path: &'a str,
     pub(crate) port: &'a PortRecord,
     pub(crate) found: &'a Package,
-    pub(crate) name: &'a str,
 }
 
 /// Whether a package meets all conditions.
-pub(crate) fn meets_all(conditions: &[Condition], candidate: Candidate<'_>) -> bool
-    requires { candidate.name.now ≡ name_text candidate.found.now.name }
-    ensures { result
+pub(crate) fn meets_all(
+    alloc: Global,
+    conditions: &[Condition],
+    candidate: Candidate<'_>,
+) -> Result<bool, AllocError>
+    ensures { IfOk result (λ all. all
         ≡ list_all (λ condition. meeting.meets candidate.entry.path.now candidate.entry.port.now
-        candidate.entry.found.now (condition_seen condition)) conditions.now }
+        candidate.entry.found.now (condition_seen condition)) conditions.now) }
 {
-    conditions
-        .iter()
-        .all(|condition| meets(condition, candidate))
+    for condition in conditions {
+        if !meets(alloc, condition, candidate)? {
+            return Ok(false);
+        }
+    }
+    Ok(true)
 }
 
 /// Whether a package meets a condition.
-fn meets(condition: &Condition, candidate: Candidate<'_>) -> bool
-    requires { candidate.name.now ≡ name_text candidate.found.now.name }
-    ensures { result
-        ≡ meeting.meets candidate.entry.path.now candidate.entry.port.now candidate.entry.found.now (condition_seen condition.now) }
+fn meets(alloc: Global, condition: &Condition, candidate: Candidate<'_>) -> Result<bool, AllocError>
+    ensures { IfOk result (λ met. met
+        ≡ meeting.meets candidate.entry.path.now candidate.entry.port.now candidate.entry.found.now
+        (condition_seen condition.now)) }
 {
     match condition {
         Condition::OnText(field, sign, value) => {
-            text_meets(*sign, value.as_str(), text_of(*field, candidate))
+            let text = text_of(alloc, *field, candidate)?;
+            Ok(text_meets(*sign, value.as_str(), text.as_str()))
         }
-        Condition::OnTexts(field, sign, value) => {
-            texts_meet(*sign, value.as_str(), texts_of(*field, candidate.port))
-        }
-        Condition::OnVersion(bound, version) => {
-            bound_meets(*bound, candidate.found.name().version(), version)
+        Condition::OnTexts(field, sign, value) => Ok(texts_meet(
+            *sign,
+            value.as_str(),
+            texts_of(*field, candidate.port),
+        )),
+        Condition::OnVersion(bound, version) => Ok(bound_meets(
+            *bound,
+            candidate.found.name().version(),
+            version,
+        )),
+    }
+}
+
+/// A text of a package or of its port. The package's full name is made, and each other text is lent.
+#[derive(Drop)]
+enum FieldText<'a> {
+    Lent(&'a str),
+    Made(String),
+}
+
+impl FieldText<'_> {
+    /// Its text.
+    fn as_str(&self) -> &str
+        ensures { result.now ≡ meeting.text_seen self.now }
+    {
+        match self {
+            FieldText::Lent(text) => text,
+            FieldText::Made(text) => text.as_str(),
         }
     }
 }
 
 /// A text of a package or of its port.
-fn text_of<'a>(field: TextField, candidate: Candidate<'a>) -> &'a str
-    requires { candidate.name.now ≡ name_text candidate.found.now.name }
-    ensures { result.now
-        ≡ meeting.text_of field candidate.entry.path.now candidate.entry.port.now candidate.entry.found.now }
+fn text_of<'a>(
+    alloc: Global,
+    field: TextField,
+    candidate: Candidate<'a>,
+) -> Result<FieldText<'a>, AllocError>
+    ensures { IfOk result (λ text. meeting.text_seen text
+        ≡ meeting.text_of field candidate.entry.path.now candidate.entry.port.now candidate.entry.found.now) }
 {
-    match field {
-        TextField::Path => candidate.path,
-        TextField::Name => candidate.name,
-        TextField::Stem => candidate.found.name().stem(),
-        TextField::Version => candidate.found.name().version().as_str(),
-        TextField::Maintainer => candidate.port.maintainer(),
-        TextField::Comment => candidate.found.comment(),
-    }
+    let Candidate { path, port, found } = candidate;
+    let lent = match field {
+        TextField::Path => path,
+        TextField::Name => return Ok(FieldText::Made(found.name().text(alloc)?)),
+        TextField::Stem => found.name().stem(),
+        TextField::Version => found.name().version().as_str(),
+        TextField::Maintainer => port.maintainer(),
+        TextField::Comment => found.comment(),
+    };
+    Ok(FieldText::Lent(lent))
 }
 
 /// Texts of a port.

@@ -1,31 +1,26 @@
-use Rattle.std.proofs.Common.{rules, ◌≡◌, ◌++◌, ◌∙◌, ◌∷◌, [], ap, sym, subst, append_assoc, append-nil, codes, List}
-use Rattle.std.specs.List.{filter_map, cons_option}
-use Rattle.std.specs.Prelude.{option_to_list, Option, Some, None, refl}
-use Rattle.serde_json.specs.Data.{Data}
+-- The fault of one root more, if it has one.
+use Rattle.std.proofs.Common.{◌∙◌, ap, refl, subst, ◌++◌, take, get_or, codes}
+use Rattle.std.proofs.lemmas.List.{take_all}
+use Rattle.std.specs.List.{filter_map}
+use Rattle.std.specs.Option.{option_to_list}
+use Rattle.general_facts.specs.Lists.{filter_map-more}
 use Rattle.ports_plain.specs.ListBodies.{fault_at}
 use Rattle.ports_plain.specs.Writing.{HasItems}
 use Rattle.ports_plain.proofs.WritingLemmas.{more_items}
 use Rattle.ports_plain.proofs.list_bodies.faults.Goals as goal
 
-one_more : (fault : Option Data) (others : List Data) → option_to_list fault ++ others ≡ cons_option fault others
-one_more None others = refl
-one_more (Some fault) others = refl
-
-pub loop-out-preserved : goal.loop-out-preserved
-loop-out-preserved g c =
-    let step : g.C.Cursor.left c.loop-out.roots ≡ c.in-Some.root ∷ g.C.Cursor.left c.next.new.self = search rules in
-    let here = option_to_list (fault_at c.in-Some.root) in
-    let so_far = c.loop-out.invariant.0 in
-    let left = filter_map fault_at (g.C.Cursor.left c.next.new.self) in
-    let all = append_assoc so_far here left ∙ ap (λ rest. so_far ++ rest) (one_more (fault_at c.in-Some.root) left) ∙ ap (λ rows. so_far ++ filter_map fault_at rows) (sym step) ∙ c.loop-out.invariant.2 in
-    (so_far ++ here, more_items here c.loop-out.invariant.1 c.in_ok-add_fault.ensures, all)
+pub loop-root-preserved : goal.loop-root-preserved
+loop-root-preserved c =
+    let roots = c.args.roots.now in
+    let at = c.loop-root.root-index in
+    let root = c.root-item.result in
+    let before = filter_map fault_at (take at roots) in
+    let more = ap (λ root. before ++ option_to_list (fault_at root)) c.root-item.is
+    ∙ filter_map-more fault_at roots at root before (before ++ option_to_list (fault_at (get_or roots at root))) c.loop-root-test.true refl refl in
+    subst (HasItems c.add_fault.new.out (codes "faults")) more (more_items (option_to_list (fault_at root)) c.loop-root.invariant c.in_ok-add_fault.ensures)
 
 pub returns : goal.returns
-returns g c =
-    let none : g.C.Cursor.left c.loop-out.roots ≡ [] = search rules in
-    let so_far = c.loop-out.invariant.0 in
-    let all = sym (append-nil so_far) ∙ ap (λ rows. so_far ++ filter_map fault_at rows) (sym none) ∙ c.loop-out.invariant.2 in
-    record {
-      body = c.in_ok-end_list.ensures (codes "faults") (filter_map fault_at (g.C.Cursor.left c.args.roots.now)) (subst (HasItems c.loop-out.out (codes "faults")) all c.loop-out.invariant.1);
-      kind = tt;
-    }
+returns c =
+    let roots = c.args.roots.now in
+    c.end_list.ensures (codes "faults") (filter_map fault_at roots)
+    (subst (λ part. HasItems c.loop-root.out (codes "faults") (filter_map fault_at part)) (take_all c.loop-root.root-index roots c.loop-root-test.false) c.loop-root.invariant)

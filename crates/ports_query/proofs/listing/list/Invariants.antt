@@ -1,12 +1,7 @@
--- What is listed so far, and the packages of the rows that are left, are those of all rows.
-use Rattle.std.proofs.Common.{◌≡◌, ◌++◌, length}
+-- What is listed so far are the packages of the roots up to here.
+use Rattle.std.proofs.Common.{◌≡◌, take}
 use Rattle.ports_query.specs.Listing.{listed_packages, test_seen}
 use Rattle.ports_query.proofs.listing.list.Given as goal
 
-abbrev pub invariant-loop-listed : goal.invariant-loop-listed
-invariant-loop-listed g l =
-    let passing = listed_packages (test_seen l.test) in
-    l.listed.items ++ passing (g.C.Cursor.left l.roots) ≡ passing (g.C.Cursor.left l.fn.roots)
-
-abbrev pub decreases-loop-listed : goal.decreases-loop-listed
-decreases-loop-listed g l = length (g.C.Cursor.left l.roots)
+abbrev pub invariant-loop-root : goal.invariant-loop-root
+invariant-loop-root l = l.listed.items ≡ listed_packages (test_seen l.test) (take l.root-index l.roots)
