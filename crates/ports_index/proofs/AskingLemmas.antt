@@ -1,5 +1,5 @@
 -- Rows for which a name was asked that passes a test.
-use Rattle.std.proofs.Common.{◌≡◌, ◌∙◌, ap, sym, refl, ℕ, Bool, true, false, ◌||◌, cond, if◌then◌else◌, List, [], ◌∷◌, Option, Some, None, option_map, String, Global, string_bytes}
+use Rattle.std.proofs.Common.{◌≡◌, ◌∙◌, ap, sym, refl, ℕ, Bool, true, false, ◌||◌, cond, if◌then◌else◌, List, [], ◌∷◌, Option, Some, None, option_map, String, Global, string_bytes, length, slice_get, arith}
 use Rattle.std.proofs.ByRecursion.{All-from_get_or}
 use Rattle.std.proofs.lemmas.Bool.{false≢true, or_right}
 use Rattle.std.proofs.lemmas.Map.Text.{is_eq-slice_cmp}
@@ -8,7 +8,8 @@ use Rattle.std.specs.BTreeMap.{BTreeMap, get_by_text, is_at}
 use Rattle.std.specs.Cmp.Lexicographic.{slice_cmp}
 use Rattle.std.specs.List.{All, AllByRecursion, list_any}
 use Rattle.std.specs.Map.{lookup}
-use Rattle.std.specs.Ordering.{nat_cmp}
+use Rattle.std.specs.BTreeSet.{BTreeSet, contains_text, keys}
+use Rattle.std.specs.Ordering.{is_eq, nat_cmp}
 use Rattle.std.specs.Str.{bytes_eq}
 use Rattle.ports_index.specs.Filling.{is_one_of}
 use Rattle.ports_index.specs.Seen.{Said, has_asked_for, known_seen, names_seen}
@@ -77,3 +78,21 @@ module _ (test : List ℕ → Bool) where
       same_by (is_one_of path (asking rows.entries)) (has_asked_for test (names_at (get_by_text rows path)))
       (asking-found path (get_by_text rows) rows.entries (each_of (λ (entry : Entry). get_by_text rows (string_bytes entry.0) ≡ Some entry.1) rows.entries all)) (found-asking path rows.entries)
       ∙ named_same (get_by_text rows path)
+
+-- ---- names of which there is one
+
+one_of_these : {X : Type 0} (xs : List X) (x : X) → length xs ≡ 1 → slice_get xs 0 ≡ Some x → xs ≡ x ∷ []
+one_of_these [] x one first = absurd (omega (arith, one))
+one_of_these (y ∷ []) x one first = let same : y ≡ x = cc in ap (λ z. z ∷ []) same
+one_of_these (y ∷ z ∷ xs) x one first = absurd (omega (arith, one))
+
+or_none : (b : Bool) → (b || false) ≡ b
+or_none true = refl
+or_none false = refl
+
+-- a name is the one, if it is among them
+pub alone-contains : (names : BTreeSet (String Global)) (only : String Global) → length (keys names) ≡ 1 → slice_get (keys names) 0 ≡ Some only → (name : List ℕ)
+    → contains_text names name ≡ bytes_eq name (string_bytes only)
+alone-contains names only one first name =
+    ap (list_any (λ (other : String Global). is_eq (slice_cmp nat_cmp name (string_bytes other)))) (one_of_these (keys names) only one first)
+    ∙ or_none (is_eq (slice_cmp nat_cmp name (string_bytes only))) ∙ is_eq-slice_cmp name (string_bytes only)

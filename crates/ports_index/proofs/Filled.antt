@@ -1,5 +1,5 @@
--- Paths that are among others, and paths that have their rows.
-use Rattle.std.proofs.Common.{◌≡◌, ◌∙◌, ap, refl, ℕ, Bool, true, false, ◌||◌, List, [], ◌∷◌, ◌++◌, Option, Some}
+-- Paths that are among others, and paths of which it is known what they lead to.
+use Rattle.std.proofs.Common.{◌≡◌, ◌∙◌, ap, refl, ℕ, Bool, true, false, ◌||◌, List, [], ◌∷◌, ◌++◌, Option}
 use Rattle.std.proofs.lemmas.Bool.{or_right}
 use Rattle.std.proofs.lemmas.Slice.Eq.{bytes_eq-Decides}
 use Rattle.std.specs.List.{AllByRecursion}
@@ -9,13 +9,14 @@ use Rattle.text_parts.specs.Ordered.{among-in_order}
 use Rattle.mk_paths.specs.World.{World}
 use Rattle.ports_index.specs.PathOutcomes.{PathOutcome, outcome_at}
 use Rattle.ports_index.specs.Filling.{is_one_of}
+use Rattle.ports_index.specs.Seen.{known_in}
 
 abbrev pub Entries : Type 0
 Entries = List ℕ → Option PathOutcome
 
--- each of these paths has its row
+-- it is known what each of these paths leads to
 abbrev pub AreKnown : World → Entries → List (List ℕ) → Type 0
-AreKnown world entries paths = AllByRecursion (λ path. entries path ≡ Some (outcome_at world path)) paths
+AreKnown world entries paths = AllByRecursion (λ path. known_in entries path ≡ outcome_at world path) paths
 
 regroup : (a b c : Bool) → (a || (b || c)) ≡ ((a || b) || c)
 regroup true b c = refl
@@ -31,7 +32,7 @@ pub one_of-in_order : (path : List ℕ) (paths more : List (List ℕ)) → is_on
 one_of-in_order path paths more = among-in_order (λ one. bytes_eq one path) (paths ++ more) ∙ one_of-append path paths more
 
 module _ (world : World) where
-  pub known-of : (paths : List (List ℕ)) (entries : Entries) → ((path : List ℕ) → is_one_of path paths ≡ true → entries path ≡ Some (outcome_at world path)) → AreKnown world entries paths
+  pub known-of : (paths : List (List ℕ)) (entries : Entries) → ((path : List ℕ) → is_one_of path paths ≡ true → known_in entries path ≡ outcome_at world path) → AreKnown world entries paths
   known-of [] entries are = tt
   known-of (path ∷ paths) entries are = (
     are path (ap (λ b. b || is_one_of path paths) ((bytes_eq-Decides path path).1 refl)),

@@ -2,10 +2,9 @@
 use Rattle.std.proofs.Common.{arith, length, ◌<◌, ◌≡◌, ◌∙◌, ap, subst, sym, ℕ, List, [], ◌∷◌, ◌++◌, Option, Some, None, option_map, Bor, String, Global, string_bytes}
 use Rattle.std.proofs.lemmas.List.Elements.{All-rest}
 use Rattle.std.specs.Prelude.{MatchOption}
-use Rattle.std.specs.BTreeMap.{get_by_text}
 use Rattle.std.specs.List.{All}
 use Rattle.std.specs.Option.{option_to_list}
-use Rattle.ports_index.specs.Finding.{IsFinderOf, ahead_of}
+use Rattle.ports_index.specs.Finding.{IsEntryOf, IsFinderOf, ahead_of}
 use Rattle.ports_index.specs.Seen.{Said, entries_in, known_seen, row_seen}
 use Rattle.ports_index.specs.declared.keeping.KnownRow.{KnownRow}
 use Rattle.ports_index.specs.declared.keeping.MemoryRows.{MemoryRows}
@@ -27,22 +26,19 @@ taken entries left None is = is.1 ∙ sym is.0
 taken entries left (Some entry) is = sym is
 
 module _ (rows : MemoryRows) where
-  abbrev IsOf : Entry → Type 0
-  IsOf entry = get_by_text rows.rows (string_bytes entry.0) ≡ Some entry.1
-
   -- a finder that has passed its first entry
   pub finder-passed : (old new : RowFinder) (first : Lent) → IsFinderOf rows old → old.ahead ≡ Some first → new.rows ≡ old.rows
       → MatchOption new.ahead ((old.left ≡ []) × (new.left ≡ [])) (λ entry. old.left ≡ shown entry ∷ new.left) → IsFinderOf rows new
   finder-passed old new first is ahead same next = record {
     finds = ap (λ (one : Bor MemoryRows). one.now) same ∙ is.finds;
-    ahead = subst (All IsOf) (sym (taken old.left new.left new.ahead next))
-        (All-rest IsOf (shown first) old.left (ahead_of old) (ap (λ (one : Option Lent). option_to_list (option_map shown one) ++ old.left) ahead) is.ahead);
+    ahead = subst (All (IsEntryOf rows)) (sym (taken old.left new.left new.ahead next))
+        (All-rest (IsEntryOf rows) (shown first) old.left (ahead_of old) (ap (λ (one : Option Lent). option_to_list (option_map shown one) ++ old.left) ahead) is.ahead);
   }
 
   -- the row of the path that comes first
   pub first-found : (old : RowFinder) (first : Lent) (path : List ℕ) → IsFinderOf rows old → old.ahead ≡ Some first → string_bytes first.0.now ≡ path
       → Some (row_seen first.1.now.row) ≡ entries_in rows path
   first-found old first path is ahead same =
-      let all = subst (All IsOf) (ap (λ (one : Option Lent). option_to_list (option_map shown one) ++ old.left) ahead) is.ahead in
+      let all = subst (All (IsEntryOf rows)) (ap (λ (one : Option Lent). option_to_list (option_map shown one) ++ old.left) ahead) is.ahead in
       let inside : 0 < length (shown first ∷ old.left) = omega arith in
       sym (ap (entries_in rows) (sym same) ∙ ap (λ row. option_map (λ (said : Said). said.outcome) (option_map known_seen row)) (all 0 (shown first) inside))

@@ -1,4 +1,4 @@
--- Where paths have their rows, what rows say of them is what the world says.
+-- Where it is known what paths lead to, what follows from rows is what the world says.
 use Rattle.std.proofs.Common.{◌≡◌, ◌∙◌, ap, refl, ℕ, List, [], ◌∷◌, ◌++◌, map, Option, Some, None}
 use Rattle.std.specs.List.{filter_map, flat_map, cons_option}
 use Rattle.text_parts.specs.Order.{in_order}
@@ -8,13 +8,13 @@ use Rattle.ports_index.specs.PathOutcomes.{PathOutcome, outcome_at}
 use Rattle.ports_index.specs.Naming.{named_in, named_at, listed_from}
 use Rattle.ports_index.specs.Depending.{RootItemValue, state_of, root_with, root_at, roots_among, items_in, items_at, items_among, target_of, found_of, found_at, edge_at}
 use Rattle.ports_index.proofs.Filled.{AreKnown}
-use Rattle.ports_index.specs.Seen.{known_row, known_in}
+use Rattle.ports_index.specs.Seen.{known_in}
 
 module _ (world : World) (entries : List ℕ → Option PathOutcome) where
   named-known : (paths : List (List ℕ)) → AreKnown world entries paths → flat_map (named_at (known_in entries)) paths ≡ flat_map (named_at (outcome_at world)) paths
   named-known [] known = refl
   named-known (path ∷ paths) known =
-      ap (λ row. named_in path (known_row row) ++ flat_map (named_at (known_in entries)) paths) known.0
+      ap (λ outcome. named_in path outcome ++ flat_map (named_at (known_in entries)) paths) known.0
       ∙ ap (λ more. named_at (outcome_at world) path ++ more) (named-known paths known.1)
 
   pub listed-known : (paths : List (List ℕ)) → AreKnown world entries paths → listed_from (known_in entries) paths ≡ listed_from (outcome_at world) paths
@@ -23,19 +23,19 @@ module _ (world : World) (entries : List ℕ → Option PathOutcome) where
   pub items-known : (paths : List (List ℕ)) → AreKnown world entries paths → items_among (known_in entries) paths ≡ items_among (outcome_at world) paths
   items-known [] known = refl
   items-known (path ∷ paths) known =
-      ap (λ row. items_in path (known_row row) ++ items_among (known_in entries) paths) known.0
+      ap (λ outcome. items_in path outcome ++ items_among (known_in entries) paths) known.0
       ∙ ap (λ more. items_at (outcome_at world) path ++ more) (items-known paths known.1)
 
   pub roots-known : (paths : List (List ℕ)) → AreKnown world entries paths → roots_among (known_in entries) paths ≡ roots_among (outcome_at world) paths
   roots-known [] known = refl
   roots-known (path ∷ paths) known =
-      ap (λ row. cons_option (root_with path (state_of (known_row row))) (roots_among (known_in entries) paths)) known.0
+      ap (λ outcome. cons_option (root_with path (state_of outcome)) (roots_among (known_in entries) paths)) known.0
       ∙ ap (λ more. cons_option (root_at (outcome_at world) path) more) (roots-known paths known.1)
 
   found-known : (target : Option (List ℕ)) (more : List (List ℕ)) → AreKnown world entries (cons_option target more)
       → (found_at (known_in entries) target ≡ found_at (outcome_at world) target) × AreKnown world entries more
   found-known None more known = (refl, known)
-  found-known (Some path) more known = (ap (λ row. found_of (known_row row)) known.0, known.1)
+  found-known (Some path) more known = (ap found_of known.0, known.1)
 
   pub edges-known : (items : List RootItemValue) → AreKnown world entries (filter_map target_of items)
       → map (edge_at (known_in entries)) items ≡ map (edge_at (outcome_at world)) items

@@ -14,3 +14,4 @@ pub mod AlikeLemmas
 pub mod MakefileLemmas
 pub mod AskingLemmas
 pub mod FindingLemmas
+pub mod SearchLemmas

@@ -12,13 +12,13 @@ use Rattle.ports_index.specs.Depending.{items_among, target_of, edge_at, roots_a
 use Rattle.ports_index.specs.Efforts.{lacking}
 use Rattle.ports_index.specs.Filling.{is_one_of}
 use Rattle.ports_index.specs.Index.{listed_paths, needed_paths, roots, edges}
-use Rattle.ports_index.specs.RowLaws.{HaveRows, KnownRowsAreEnough, OneRowMoreLeavesLess}
+use Rattle.ports_index.specs.RowLaws.{SayAll, KnownRowsAreEnough, OneRowMoreLeavesLess}
 use Rattle.ports_index.specs.Seen.{known_in}
 use Rattle.ports_index.proofs.EffortLemmas.{sum-on, lacking-same, in_order-same}
 use Rattle.ports_index.proofs.Filled.{AreKnown, known-of, one_of-in_order}
 use Rattle.ports_index.proofs.Known.{listed-known, items-known, roots-known, edges-known}
 
-module _ (world : World) (entries : List ℕ → Option PathOutcome) (have : HaveRows world entries (needed_paths world)) where
+module _ (world : World) (entries : List ℕ → Option PathOutcome) (have : SayAll world entries (needed_paths world)) where
   listed_have : AreKnown world entries (listed_paths world)
   listed_have = known-of world (listed_paths world) entries (λ path is. have path
       (one_of-in_order path (listed_paths world) (filter_map target_of (items_among (outcome_at world) (listed_paths world)))

@@ -1,6 +1,6 @@
 -- How much work it takes to learn what paths lead to: how many makefiles are evaluated, and how many units
 -- that costs.
-use Rattle.std.specs.Prelude.{ℕ, if◌then◌else◌, Bool, true, false, List, filter, Option, is_none, sum_by}
+use Rattle.std.specs.Prelude.{ℕ, if◌then◌else◌, Bool, true, false, List, filter, Option, Some, is_none, sum_by}
 use Rattle.text_parts.specs.Order.{in_order}
 use Rattle.mk_paths.specs.World.{World}
 use Rattle.ports_index.specs.PathOutcomes.{PathOutcome, Absent, Faulty, Port, BadPort, Lists, BadList, FlavoredList, Other}
@@ -16,6 +16,14 @@ is_there (Lists words) = true
 is_there (BadList fault) = true
 is_there FlavoredList = true
 is_there Other = true
+
+-- a path's makefile is there
+abbrev pub has_makefile : World → List ℕ → Bool
+has_makefile world path = is_there (outcome_at world path)
+
+-- what is known of each path: what its row says, and that nothing is there if it has no makefile
+abbrev pub decided : World → (List ℕ → Option PathOutcome) → List ℕ → Option PathOutcome
+decided world entries path = if has_makefile world path then entries path else Some Absent
 
 -- how many makefiles are evaluated for what a path leads to: one, if there is one
 abbrev pub evaluations_for : PathOutcome → ℕ

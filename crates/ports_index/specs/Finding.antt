@@ -12,7 +12,11 @@ use Rattle.ports_index.specs.declared.keeping.RowFinder.{RowFinder}
 abbrev pub ahead_of : RowFinder → List (String Global × KnownRow)
 ahead_of finder = option_to_list (option_map (λ entry. (entry.0.now, entry.1.now)) finder.ahead) ++ finder.left
 
+-- an entry of these rows, which is found under its path
+abbrev pub IsEntryOf : MemoryRows → String Global × KnownRow → Type 0
+IsEntryOf rows entry = get_by_text rows.rows (string_bytes entry.0) ≡ Some entry.1
+
 -- It finds these rows, and what it hasn't passed is of them.
 pub record IsFinderOf (rows : MemoryRows) (finder : RowFinder) : Type 0 where
   pub finds : finder.rows.now ≡ rows
-  pub ahead : All (λ (entry : String Global × KnownRow). get_by_text rows.rows (string_bytes entry.0) ≡ Some entry.1) (ahead_of finder)
+  pub ahead : All (IsEntryOf rows) (ahead_of finder)

@@ -1,5 +1,5 @@
 -- What a path leads to, by the directory that it names.
-use Rattle.std.proofs.Common.{◌≡◌, ◌∙◌, ap, ℕ, true, false, List, [], Some, None}
+use Rattle.std.proofs.Common.{◌≡◌, ◌∙◌, ap, ℕ, true, false, List, Some, None}
 use Rattle.std.specs.Prelude.{if◌then◌else◌}
 use Rattle.std.specs.Str.{bytes_eq}
 use Rattle.mk_paths.specs.World.{World}
@@ -38,9 +38,3 @@ pub finding-none : (world : World) (path : List ℕ)
 unfolding finding_at
 finding-none world path other is =
     ap (λ own. if own then finding_in world path None else finding_named world (path_if_one path)) other ∙ ap (finding_named world) is
-
-pub questions-none : (world : World) (path : List ℕ)
-    → bytes_eq path own_directory ≡ false → path_if_one path ≡ None → questions_at world path ≡ []
-unfolding questions_at
-questions-none world path other is =
-    ap (λ own. if own then questions_in world path None else questions_named world (path_if_one path)) other ∙ ap (questions_named world) is

@@ -1,7 +1,7 @@
 -- The paths of a ports tree: the directories in which a makefile may be, and the paths that
 -- lists of directories name (SUBDIR of bsd.port.subdir.mk(5)). Paths are in their canonical
 -- form, without subpackages.
-use Rattle.std.specs.Prelude.{ℕ, ◌-◌, ◌==◌, nat_eq, ◌&&◌, ◌||◌, if◌then◌else◌, Bool, false, List, [], ◌∷◌, ◌++◌, length, take}
+use Rattle.std.specs.Prelude.{◌≡◌, ℕ, ◌-◌, ◌==◌, nat_eq, ◌&&◌, ◌||◌, if◌then◌else◌, Bool, false, List, [], ◌∷◌, ◌++◌, length, take}
 use Rattle.std.specs.Prelude.{Option, Some, None, option_and_then, option_map, unwrap_or, is_none, codes}
 use Rattle.std.specs.List.{filter_map, flat_map, list_any, ends_with, after_first}
 use Rattle.std.specs.FinMap.{keys}
@@ -75,3 +75,7 @@ named_at outcomes directory = named_in directory (outcomes directory)
 -- directories, and the paths that they name, in the order of their bytes, each once
 abbrev pub listed_from : (List ℕ → PathOutcome) → List (List ℕ) → List (List ℕ)
 listed_from outcomes directories = in_order (flat_map (named_at outcomes) directories ++ directories)
+
+-- paths that are in the order of their bytes, each once
+abbrev pub AreInOrder : List (List ℕ) → Type 0
+AreInOrder paths = in_order paths ≡ paths

@@ -1,5 +1,5 @@
 -- What follows from the rows of paths.
-use Rattle.std.specs.Prelude.{◌≡◌, ℕ, ◌+◌, true, List, ◌∷◌, [], Option, Some, None, sum_by}
+use Rattle.std.specs.Prelude.{◌≡◌, ℕ, ◌+◌, true, List, ◌∷◌, [], Option, None, sum_by}
 use Rattle.mk_paths.specs.World.{World, files_in}
 use Rattle.ports_index.specs.PathOutcomes.{PathOutcome, outcome_at}
 use Rattle.ports_index.specs.Naming.{directories, listed_from}
@@ -9,22 +9,22 @@ use Rattle.ports_index.specs.Filling.{is_one_of, Fills}
 use Rattle.ports_index.specs.Efforts.{lacking}
 use Rattle.ports_index.specs.Seen.{known_in}
 
--- each of these paths has its row
-abbrev pub HaveRows : World → (List ℕ → Option PathOutcome) → List (List ℕ) → Type 0
-HaveRows world entries paths = (path : List ℕ) → is_one_of path paths ≡ true → entries path ≡ Some (outcome_at world path)
+-- rows say what each of these paths leads to, which is nothing if it has no row
+abbrev pub SayAll : World → (List ℕ → Option PathOutcome) → List (List ℕ) → Type 0
+SayAll world entries paths = (path : List ℕ) → is_one_of path paths ≡ true → known_in entries path ≡ outcome_at world path
 
--- what the index is, by rows that each path on which it depends has
+-- what the index is, by rows that say what each path leads to on which it depends
 pub record KnownRowsAreEnough : Type 0 where
   -- the rows of directories say which paths are listed
-  pub listed : (world : World) (entries : List ℕ → Option PathOutcome) → HaveRows world entries (directories (files_in world))
+  pub listed : (world : World) (entries : List ℕ → Option PathOutcome) → SayAll world entries (directories (files_in world))
       → listed_from (known_in entries) (directories (files_in world)) ≡ listed_paths world
   -- the rows of listed paths say which paths are needed
-  pub needed : (world : World) (entries : List ℕ → Option PathOutcome) → HaveRows world entries (listed_paths world)
+  pub needed : (world : World) (entries : List ℕ → Option PathOutcome) → SayAll world entries (listed_paths world)
       → needed_among (known_in entries) (listed_paths world) ≡ needed_paths world
   -- the rows of needed paths say which roots there are, and which dependencies
-  pub roots : (world : World) (entries : List ℕ → Option PathOutcome) → HaveRows world entries (needed_paths world)
+  pub roots : (world : World) (entries : List ℕ → Option PathOutcome) → SayAll world entries (needed_paths world)
       → roots_among (known_in entries) (listed_paths world) ≡ roots world
-  pub edges : (world : World) (entries : List ℕ → Option PathOutcome) → HaveRows world entries (needed_paths world)
+  pub edges : (world : World) (entries : List ℕ → Option PathOutcome) → SayAll world entries (needed_paths world)
       → edges_among (known_in entries) (listed_paths world) ≡ edges world
 
 -- One of these paths, which had no row, gets its own. Whatever is counted for each path that has no row, what

@@ -47,7 +47,7 @@ fn have_same_items(old: &[Depend], new: &[Depend]) -> bool
 }
 
 /// Whether texts are the same, in the same order.
-pub(crate) fn are_same(old: &[String], new: &[String]) -> bool
+pub fn are_same(old: &[String], new: &[String]) -> bool
     ensures { result ≡ true → map string_bytes new.now ≡ map string_bytes old.now }
 {
     old == new

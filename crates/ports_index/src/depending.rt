@@ -3,21 +3,24 @@ ghost use Rattle.std.specs.Prelude.{◌≡◌, ◌++◌, true, map, string_bytes
 ghost use Rattle.std.specs.List.{filter_map, flat_map};
 ghost use Rattle.std.specs.Option.{option_copied};
 ghost use Rattle.port_deps.specs.Reading.{wanted_of};
+ghost use Rattle.port_deps.specs.Roots.{state_lent};
 ghost use Rattle.port_deps.specs.Seen.{found_seen};
 ghost use Rattle.ports_index.specs.Adding.{AddSame};
 ghost use Rattle.ports_index.specs.Depending as depending;
 ghost use Rattle.ports_index.specs.Filling.{is_one_of};
 ghost use Rattle.ports_index.specs.Index.{needed_among};
+ghost use Rattle.ports_index.specs.Known.{needed_with};
+ghost use Rattle.ports_index.specs.Naming.{AreInOrder};
 ghost use Rattle.ports_index.specs.Seen.{row_seen, known_row, known_in, entries_in, item_seen};
 
-use crate::evaluating::{Row, copy_of};
+use crate::evaluating::Row;
 use crate::keeping::MemoryRows;
-use crate::naming::{add_found, append, is_found_in};
+use crate::naming::{add_found, is_found_in};
 use mk_base::Fault;
 use port_deps::{Found, Item, Root, RootEdge, Wanted, items, plain_target, read_wanted, resolve};
 use port_rules::{Depend, PortRecord};
 use std::alloc::{AllocError, Global};
-use text_parts::{clones_of, put_in_order};
+use text_parts::put_in_order;
 
 // An item of the port at a path.
 #[derive(Debug, Drop)]
@@ -239,72 +242,65 @@ pub(crate) fn edges_among(
     edges_of_all(alloc, items, rows)
 }
 
-/// The paths on which the index depends, by the rows of the listed ones: these, and those that the items of
-/// ports among them name. They are in the order of their bytes, each once. It fails only if memory runs
-/// out.
-pub fn needed_among(
+/// The paths on which the index depends beside the listed ones, by the rows of these: those that the items of ports
+/// among them name. They are in the order of their bytes, each once. Some may be listed themselves. It fails only if
+/// memory runs out.
+pub fn paths_beside(
     alloc: Global,
     listed: &[String],
     rows: &MemoryRows,
 ) -> Result<Vec<String>, AllocError>
-    ensures { IfOk result (λ found. map string_bytes found.items
+    ensures needed { IfOk result (λ beside. needed_with (map string_bytes listed.now) (map string_bytes beside.items)
         ≡ needed_among (known_in (entries_in rows.now)) (map string_bytes listed.now)) }
+    ensures ordered { IfOk result (λ beside. AreInOrder (map string_bytes beside.items)) }
 {
-    let targets = targets_beside(alloc, listed, rows)?;
-    let mut paths = clones_of(alloc, listed)?;
-    append(&mut paths, targets)?;
-    put_in_order(&mut paths);
-    Ok(paths)
+    let mut beside = targets_beside(alloc, listed, rows)?;
+    put_in_order(&mut beside);
+    Ok(beside)
 }
 
-/// The roots at these paths, in their order: the ports, and the faults there. The ports are shared with the rows.
-/// It fails only if memory runs out.
-pub(crate) fn roots_among(
+/// The roots at these paths, in their order: the ports, and the faults there. They are lent by the paths and the
+/// rows. It fails only if memory runs out.
+pub(crate) fn roots_among<'a>(
     alloc: Global,
-    paths: &[String],
-    rows: &MemoryRows,
-) -> Result<Vec<Root>, AllocError>
+    paths: &'a [String],
+    rows: &'a MemoryRows,
+) -> Result<Vec<Root<'a>>, AllocError>
     ensures { IfOk result (λ found. found.items
         ≡ depending.roots_among (known_in (entries_in rows.now)) (map string_bytes paths.now)) }
 {
     let mut found = Vec::with_capacity(alloc, paths.len())?;
     let mut finder = rows.finder();
     for path in paths {
-        add_root(alloc, &mut found, path, finder.get(path))?;
+        add_root(&mut found, path, finder.get(path))?;
     }
     Ok(found)
 }
 
 // Adds the root at a path with this row, if there is one.
-fn add_root(
-    alloc: Global,
-    found: &mut Vec<Root>,
-    path: &str,
-    row: Option<&Row>,
+fn add_root<'a>(
+    found: &mut Vec<Root<'a>>,
+    path: &'a str,
+    row: Option<&'a Row>,
 ) -> Result<(), AllocError>
     ensures { OnOk result (found.new.items ≡ found.old.items
         ++ option_to_list (depending.root_with path.now
         (depending.state_of (known_row (option_map (λ row. row_seen row.now) row.entry))))) }
 {
-    if let Some(state) = state_of(alloc, row)? {
-        found.push(Root::new(String::from_str(alloc, path)?, state))?;
+    if let Some(state) = state_of(row) {
+        found.push(Root::new(path, state))?;
     }
     Ok(())
 }
 
 // The state of the root that a row is, if it is one: a port, or a fault.
-fn state_of(
-    alloc: Global,
-    row: Option<&Row>,
-) -> Result<Option<Result<PortRecord, Fault>>, AllocError>
-    ensures { IfOk result (λ state. state
-        ≡ depending.state_of (known_row (option_map (λ row. row_seen row.now) row.entry))) }
+fn state_of(row: Option<&Row>) -> Option<Result<&PortRecord, &Fault>>
+    ensures { option_map state_lent result
+        ≡ depending.state_of (known_row (option_map (λ row. row_seen row.now) row.entry)) }
 {
     match row {
-        Some(Row::Port(port)) => Ok(Some(Ok(port.share()?))),
-        Some(Row::Faulty(fault) | Row::BadPort(fault) | Row::BadList(fault)) => {
-            Ok(Some(Err(copy_of(alloc, fault)?)))
-        }
-        Some(Row::Absent | Row::Lists(_) | Row::FlavoredList | Row::Other) | None => Ok(None),
+        Some(Row::Port(port)) => Some(Ok(port)),
+        Some(Row::Faulty(fault) | Row::BadPort(fault) | Row::BadList(fault)) => Some(Err(fault)),
+        Some(Row::Absent | Row::Lists(_) | Row::FlavoredList | Row::Other) | None => None,
     }
 }

@@ -75,8 +75,8 @@ pub fn finding_of(
     }
 }
 
-/// The same fault once more. It fails only if memory runs out.
-pub(crate) fn copy_of(alloc: Global, fault: &Fault) -> Result<Fault, AllocError>
+// The same fault once more.
+fn copy_of(alloc: Global, fault: &Fault) -> Result<Fault, AllocError>
     ensures { IfOk result (λ copied. copied ≡ fault.now) }
 {
     Fault::new(alloc, fault.kind(), fault.name(), fault.line())

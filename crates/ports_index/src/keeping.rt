@@ -4,16 +4,16 @@ ghost use Rattle.std.specs.Prelude.{IfOk, OnOk, OnErr};
 ghost use Rattle.std.specs.Str.{bytes_eq};
 ghost use Rattle.std.specs.BTreeMap.{get_by_text};
 ghost use Rattle.std.specs.BTreeSet.{contains_text};
-ghost use Rattle.std.specs.List.{list_any};
+ghost use Rattle.std.specs.List.{All, list_any};
 ghost use Rattle.ports_index.specs.Filling.{is_one_of};
-ghost use Rattle.ports_index.specs.Finding.{IsFinderOf};
+ghost use Rattle.ports_index.specs.Finding.{IsEntryOf, IsFinderOf};
 ghost use Rattle.ports_index.specs.PathOutcomes.{PathOutcome, counted};
 ghost use Rattle.ports_index.specs.Seen.{entries_in, has_asked_for, known_seen, names_in, names_seen, row_seen, said_in, size_of};
 
 use crate::evaluating::Row;
 use std::alloc::{AllocError, Global};
 use std::cmp::Ordering;
-use std::collections::btree_map::Iter;
+use std::collections::btree_map::Range;
 use std::collections::{BTreeMap, BTreeSet};
 
 /// A row that is known.
@@ -61,7 +61,21 @@ impl MemoryRows {
     pub(crate) fn finder(&self) -> RowFinder<'_>
         ensures { IsFinderOf self.now result }
     {
-        let mut left = self.rows.iter();
+        self.finder_of(self.rows.range(..))
+    }
+
+    /// What finds the rows of this path and of those after it in one pass; any other path is looked up.
+    pub fn finder_from(&self, path: &String) -> RowFinder<'_>
+        ensures { IsFinderOf self.now result }
+    {
+        self.finder_of(self.rows.range(path..))
+    }
+
+    // What finds rows by their paths: those that are left in one pass, and any other row by a look-up.
+    fn finder_of<'a>(&'a self, mut left: Range<'a, String, KnownRow>) -> RowFinder<'a>
+        requires { All (IsEntryOf self.now) left }
+        ensures { IsFinderOf self.now result }
+    {
         RowFinder {
             rows: self,
             ahead: left.next(),
@@ -125,18 +139,18 @@ impl MemoryRows {
     }
 }
 
-/// Finds rows by their paths. For paths in the order of their bytes, all take one pass over the rows; any other path is
-/// looked up.
+/// Finds rows by their paths. For paths in the order of their bytes, from the path at which it begins, all take one pass
+/// over the rows; any other path is looked up.
 #[derive(Drop)]
-pub(crate) struct RowFinder<'a> {
+pub struct RowFinder<'a> {
     rows: &'a MemoryRows,
     ahead: Option<(&'a String, &'a KnownRow)>,
-    left: Iter<'a, String, KnownRow>,
+    left: Range<'a, String, KnownRow>,
 }
 
 impl<'a> RowFinder<'a> {
     /// The row of this path, if it has one.
-    pub(crate) fn get(&mut self, path: &str) -> Option<&'a Row>
+    pub fn get(&mut self, path: &str) -> Option<&'a Row>
         ensures row { (rows : MemoryRows) → IsFinderOf rows self.old
             → option_map (λ row. row_seen row.now) result ≡ entries_in rows path.now }
         ensures finder { (rows : MemoryRows) → IsFinderOf rows self.old → IsFinderOf rows self.new }
@@ -144,7 +158,10 @@ impl<'a> RowFinder<'a> {
         while let Some((key, known)) = self.ahead {
             match key.as_str().cmp(path) {
                 Ordering::Less => self.ahead = self.left.next(),
-                Ordering::Equal => return Some(&known.row),
+                Ordering::Equal => {
+                    self.ahead = self.left.next();
+                    return Some(&known.row);
+                }
                 Ordering::Greater => return self.rows.get(path),
             }
         }
@@ -156,5 +173,15 @@ impl<'a> RowFinder<'a> {
 pub fn is_one_among(names: &[String], others: &BTreeSet<String>) -> bool
     ensures { result ≡ list_any (λ name. contains_text others.now (string_bytes name)) names.now }
 {
-    names.iter().any(|name| others.contains(name.as_str()))
+    match others.first() {
+        Some(only) if others.len() == 1 => has_name(names, only.as_str()),
+        _ => names.iter().any(|name| others.contains(name.as_str())),
+    }
+}
+
+// Whether a name is one of these.
+fn has_name(names: &[String], name: &str) -> bool
+    ensures { result ≡ list_any (λ one. bytes_eq (string_bytes one) name.now) names.now }
+{
+    names.iter().any(|one| one.as_str() == name)
 }

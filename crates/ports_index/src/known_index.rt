@@ -18,8 +18,8 @@ pub struct IndexPaths {
     pub directories: Vec<String>,
     /// Those that are listed.
     pub listed: Vec<String>,
-    /// Those on which the index depends.
-    pub needed: Vec<String>,
+    /// Those beside the listed ones on which the index depends, in the order of their bytes, each once.
+    pub beside: Vec<String>,
 }
 
 impl IndexPaths {
@@ -37,16 +37,16 @@ impl IndexPaths {
 pub struct KnownIndex {
     /// Its paths.
     pub paths: IndexPaths,
-    /// The rows of its paths.
+    /// The rows of its paths. A path without a makefile needs none.
     pub rows: MemoryRows,
     /// The dependencies of all ports, if they were made.
     pub edges: Option<Vec<RootEdge>>,
 }
 
 impl KnownIndex {
-    /// The ports, and the faults met where ports should be, in the order of their canonical paths, each once.
-    /// The ports are shared with the index. It fails only if memory runs out.
-    pub fn roots(&self, alloc: Global) -> Result<Vec<Root>, AllocError>
+    /// The ports, and the faults met where ports should be, in the order of their canonical paths, each once. The
+    /// index lends them all. It fails only if memory runs out.
+    pub fn roots(&self, alloc: Global) -> Result<Vec<Root<'_>>, AllocError>
         ensures { (world : World) → IsIndexOf world self.now
             → IfOk result (λ roots. roots.items ≡ indexed.roots world) }
     {

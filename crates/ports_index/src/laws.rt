@@ -25,7 +25,7 @@ pub fn makefiles_are_evaluated()
     ensures { MakefilesAreEvaluated }
 {}
 
-/// What the index is follows from rows alone, once each path on which it depends has its row: which paths
+/// What the index is follows from rows alone, once they say what each path leads to on which it depends: which paths
 /// are listed and needed, and which roots and dependencies there are.
 pub fn known_rows_are_enough()
     ensures { KnownRowsAreEnough }

@@ -12,10 +12,10 @@ mod makefiles;
 mod naming;
 mod spending;
 
-pub use alike::name_alike;
-pub use depending::needed_among;
+pub use alike::{are_same, name_alike};
+pub use depending::paths_beside;
 pub use evaluating::{Finding, Row, finding_of};
-pub use keeping::{KnownRow, MemoryRows, is_one_among};
+pub use keeping::{KnownRow, MemoryRows, RowFinder, is_one_among};
 pub use known_index::{IndexPaths, KnownIndex};
 pub use laws::{
     alike_rows_list_the_same, directories_are_followed, known_rows_are_enough,
@@ -23,5 +23,5 @@ pub use laws::{
     path_is_the_same_where_answered,
 };
 pub use makefiles::are_still_directories;
-pub use naming::{directories, listed};
+pub use naming::{directories, is_found_in, listed};
 pub use spending::Spent;

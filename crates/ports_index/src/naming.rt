@@ -3,6 +3,7 @@ ghost use Rattle.std.specs.Prelude.{◌≡◌, ◌==◌, ◌++◌, true, map, st
 ghost use Rattle.std.specs.List.{filter_map, flat_map, list_any};
 ghost use Rattle.std.specs.Option.{option_copied};
 ghost use Rattle.std.specs.Result.{result_err};
+ghost use Rattle.text_parts.specs.Ordered.{by_bytes};
 ghost use Rattle.ports_index.specs.Filling.{is_one_of};
 ghost use Rattle.ports_index.specs.Keeping.{Keeps};
 ghost use Rattle.ports_index.specs.Naming as naming;
@@ -14,6 +15,7 @@ use mk_files::Listing;
 use mk_paths::FilesFault;
 use pkg_path::PkgPath;
 use std::alloc::{AllocError, Global};
+use std::cmp::Ordering;
 use text_parts::{clones_of, put_in_order};
 
 /// The directories in which a makefile may be, by the names of the files: in the order of their bytes, each
@@ -119,18 +121,26 @@ pub fn listed(
     Ok(paths)
 }
 
-/// Whether a search in the order of the bytes finds a path among these.
-pub(crate) fn is_found_in(paths: &[String], path: &str) -> bool
-    ensures { result ≡ true → is_one_of path.now (map string_bytes paths.now) ≡ true }
+/// Whether a path is found among these. They are searched in the order of their bytes: a path that is found is one
+/// of them, and one of them may be missed if they aren't in that order, each once.
+pub fn is_found_in(paths: &[String], path: &str) -> bool
+    ensures found { result ≡ true → is_one_of path.now (map string_bytes paths.now) ≡ true }
+    ensures all { naming.AreInOrder (map string_bytes paths.now)
+        → result ≡ is_one_of path.now (map string_bytes paths.now) }
 {
-    match paths.binary_search_by(|one| one.as_str().cmp(path)) {
+    let place = paths.binary_search_by(
+        |one: &String| -> Ordering
+            ensures { result ≡ by_bytes (string_bytes one.now) path.entry.now }
+        { one.as_str().cmp(path) },
+    );
+    match place {
         Ok(place) => paths[place].as_str() == path,
         Err(_place) => false,
     }
 }
 
-/// Adds more texts after these.
-pub(crate) fn append(texts: &mut Vec<String>, more: Vec<String>) -> Result<(), AllocError>
+// Adds more texts after these.
+fn append(texts: &mut Vec<String>, more: Vec<String>) -> Result<(), AllocError>
     ensures { OnOk result (texts.new.items ≡ texts.old.items ++ more.items) }
 {
     for text in more {

@@ -14,7 +14,7 @@ pub returns-clause-stays : goal.returns-clause-stays
 returns-clause-stays g c =
     let directory = c.in-Some.directory in
     let found = sym (ap (option_map string_bytes) c.in-Some.is) ∙ c.in_ok-directory.ensures in
-    let there = ap (λ path. is_one_of path (map string_bytes c.args.directories.now)) (sym c.as_str.ensures.value) ∙ c.is_found_in.ensures c.if-not-is_found_in.false in
+    let there = ap (λ path. is_one_of path (map string_bytes c.args.directories.now)) (sym c.as_str.ensures.value) ∙ c.is_found_in.ensures.found c.if-not-is_found_in.false in
     IfOk-map c.is_there.result
     (λ is was stays other named. (ap (λ path. is_one_of path (map string_bytes c.args.directories.now)) (sym (same_text (string_bytes directory) other (found ∙ named))) ∙ there, was stays))
     c.is_there.ensures.there
