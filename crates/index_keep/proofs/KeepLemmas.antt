@@ -1,5 +1,5 @@
 -- What a change of a file, and what is known of changes, makes of rows; and what is left of a refresh.
-use Rattle.std.proofs.Common.{◌≡◌, ◌⊎◌, inl, inr, ◌∙◌, sym, ap, subst, refl, ℕ, ◌+◌, Bool, true, false, ◌||◌, if◌then◌else◌, List, [], ◌∷◌, map, Result, Ok, Err, OnOk, OnErr, Option, Some, None, IfSome, is_some, is_none, option_map, option_and_then, String, Global, string_bytes}
+use Rattle.std.proofs.Common.{◌≡◌, ◌⊎◌, inl, inr, ◌∙◌, sym, ap, subst, refl, ℕ, ◌+◌, Bool, true, false, ◌||◌, ◌&&◌, if◌then◌else◌, List, [], ◌∷◌, map, Result, Ok, Err, OnOk, OnErr, Option, Some, None, IfSome, is_some, is_none, option_map, option_and_then, String, Global, string_bytes}
 use Rattle.std.proofs.lemmas.Bool.{false≢true, or_right}
 use Rattle.std.proofs.lemmas.Slice.Eq.{bytes_eq-Decides}
 use Rattle.std.specs.BTreeSet.{BTreeSet, contains_text, keys}
@@ -12,7 +12,7 @@ use Rattle.std.specs.Str.{bytes_eq}
 use Rattle.mk_paths.specs.World.{World, files_in}
 use Rattle.mk_paths.specs.FilesView.{Question, Reply, Presence, Contents, IsReply}
 use Rattle.mk_eval.specs.Sharing.{Agrees}
-use Rattle.ports_index.specs.Efforts.{lacking}
+use Rattle.ports_index.specs.Efforts.{decided, has_makefile, is_there}
 use Rattle.ports_index.specs.declared.spending.Spent.{Spent}
 use Rattle.ports_index.specs.Filling.{is_one_of, Fills}
 use Rattle.ports_index.specs.Index.{needed_among, needed_paths}
@@ -20,7 +20,7 @@ use Rattle.ports_index.specs.Known.{IsIndexOf}
 use Rattle.ports_index.specs.Makefiles.{DirectoriesAreFollowed, WereDirectories}
 use Rattle.ports_index.specs.declared.known_index.KnownIndex.{KnownIndex}
 use Rattle.ports_index.specs.PathLaws.{PathIsTheSameWhereAnswered}
-use Rattle.ports_index.specs.PathOutcomes.{PathOutcome, Finding, finding_at, outcome_at}
+use Rattle.ports_index.specs.PathOutcomes.{PathOutcome, Absent, Finding, finding_at, outcome_at}
 use Rattle.ports_index.specs.PathQuestions.{questions_at}
 use Rattle.ports_index.specs.RowLaws.{KnownRowsAreEnough, OneRowMoreLeavesLess}
 use Rattle.ports_index.specs.Naming.{listed_from}
@@ -31,13 +31,13 @@ use Rattle.index_keep.specs.declared.keeper.Progress.{Progress}
 use Rattle.index_keep.specs.declared.keeper.Progress.TheVariants.{Changed, Walking, Asking, Current, AtHand}
 use Rattle.index_keep.specs.Shown.{ShownRow, ShownRows, shown, show_row, show_stored, asked_one, no_name, fresh, fresh_outcome, said_in_row, stale_if_asked, ShowsSame}
 use Rattle.index_keep.specs.Last.{IsLast, IsLastOf, SaysAll}
-use Rattle.index_keep.specs.Right.{names_in, row_with, IsRightRow, AreKept, AreCurrent, HaveFresh, DifferAt, RenewsOneOf, fresh_row}
+use Rattle.index_keep.specs.Right.{names_in, row_with, IsRightRow, AreKept, AreCurrent, HaveFresh, DifferAt, RenewsOneOf, fresh_row, is_evaluated}
 use Rattle.ports_index.specs.Spending.{no_spending}
-use Rattle.index_keep.specs.Turns.{DropsTurn, refresh_at}
+use Rattle.index_keep.specs.Turns.{DropsTurn, paths_left, refresh_at}
 use Rattle.index_keep.specs.Keeping.{changed_in, begun_in, last_in, DropsTo, IsKept, IsProgress, HasForgotten, Halts, Stops}
 use Rattle.index_keep.specs.declared.keeper.Keeper.{Keeper}
 use Rattle.index_keep.proofs.ShownLemmas.{shown-test}
-use Rattle.index_keep.proofs.WalkLemmas.{listed-has, needed-has}
+use Rattle.index_keep.proofs.WalkLemmas.{lacking-there, listed-has, needed-has}
 
 -- ---- another world, which differs at one name
 
@@ -83,14 +83,14 @@ module _ (name : List ℕ) (world other : World) (differ : DifferAt name world o
 
     module _ (old new : ShownRows) (noted : (path : List ℕ) → new path ≡ option_map (stale_if_asked name) (old path)) (kept : AreKept world old) where
       kept_by : (path : List ℕ) (row before : ShownRow) → old path ≡ Some before → stale_if_asked name before ≡ row → (stale asked : Bool)
-          → before.stale ≡ stale → asked_one (λ asked. bytes_eq name asked) before.row ≡ asked → row.stale ≡ false → IsRightRow other path row.row
+          → before.stale ≡ stale → asked_one (λ asked. bytes_eq name asked) before.row ≡ asked → row.stale ≡ false → IsRightRow other path row.row × (is_there row.row.outcome ≡ true)
       kept_by path row before was is true asked e f fresh = absurd (false≢true (sym (ap (λ (r : ShownRow). r.stale) is ∙ fresh) ∙ ap (λ b. b || asked_one (λ asked. bytes_eq name asked) before.row) e))
       kept_by path row before was is false true e f fresh =
           absurd (false≢true (sym (ap (λ (r : ShownRow). r.stale) is ∙ fresh) ∙ ap (λ b. b || asked_one (λ asked. bytes_eq name asked) before.row) e ∙ f))
       kept_by path row before was is false false e f fresh =
-          subst (λ (r : ShownRow). IsRightRow other path r.row) is (right_too path before.row f (kept.right path before was e))
+          subst (λ (r : ShownRow). IsRightRow other path r.row × (is_there r.row.outcome ≡ true)) is (right_too path before.row f (kept.right path before was e), kept.there path before was e)
 
-      kept_at : (path : List ℕ) (before : Option ShownRow) → old path ≡ before → (row : ShownRow) → new path ≡ Some row → row.stale ≡ false → IsRightRow other path row.row
+      kept_at : (path : List ℕ) (before : Option ShownRow) → old path ≡ before → (row : ShownRow) → new path ≡ Some row → row.stale ≡ false → IsRightRow other path row.row × (is_there row.row.outcome ≡ true)
       kept_at path None was row is fresh =
           let none : new path ≡ None = noted path ∙ ap (option_map (stale_if_asked name)) was in absurd cc
       kept_at path (Some before) was row is fresh =
@@ -100,7 +100,10 @@ module _ (name : List ℕ) (world other : World) (differ : DifferAt name world o
 
       -- rows stay right in a world that differs at a name, where the rows are stale that asked for it
       pub AreKept-noted : AreKept other new
-      AreKept-noted = record { right = λ path row is fresh. kept_at path (old path) refl row is fresh }
+      AreKept-noted = record {
+        right = λ path row is fresh. (kept_at path (old path) refl row is fresh).0;
+        there = λ path row is fresh. (kept_at path (old path) refl row is fresh).1;
+      }
 
 -- the world itself
 pub DifferAt-itself : (name : List ℕ) (world : World) → DifferAt name world world
@@ -109,7 +112,10 @@ DifferAt-itself name world = record { settings = refl; files = λ file apart. re
 -- ---- rows that are shown the same, or none of which is fresh
 
 pub AreKept-same : (world : World) (old new : ShownRows) → ShowsSame old new → AreKept world old → AreKept world new
-AreKept-same world old new same kept = record { right = λ path row is fresh. kept.right path row (sym (same path) ∙ is) fresh }
+AreKept-same world old new same kept = record {
+  right = λ path row is fresh. kept.right path row (sym (same path) ∙ is) fresh;
+  there = λ path row is fresh. kept.there path row (sym (same path) ∙ is) fresh;
+}
 
 -- ---- names that are known to have changed
 
@@ -227,7 +233,7 @@ module _ (name : List ℕ) (one more : List ℕ → Bool) (is : (other : List �
     IsLast-noted = record {
       says = λ path. last.says path ∙ sym (ap (option_map said_in_row) (noted path) ∙ shown_said (old path));
       lists = last.lists;
-      paths = λ path. ap is_some (noted path) ∙ still_there (old path) ∙ last.paths path;
+      paths = λ path some. last.paths path (sym (ap is_some (noted path) ∙ still_there (old path)) ∙ some);
       stale = λ path row is. stale_at path (old path) refl row (sym (noted path) ∙ is);
     }
 
@@ -238,9 +244,9 @@ asked_nobody [] = refl
 asked_nobody (name ∷ names) = asked_nobody names
 
 module _ (enough : KnownRowsAreEnough) (world : World) (rows : ShownRows) (index : KnownIndex) (current : AreCurrent world rows) (is : IsIndexOf world index) (says : SaysAll rows index.rows) where
-  there_if : (path : List ℕ) (needed : Bool) → is_some (if needed then Some (fresh_row world path) else None) ≡ needed
-  there_if path true = refl
-  there_if path false = refl
+  there_if : (path : List ℕ) (need there : Bool) → is_some (if need && there then Some (fresh_row world path) else None) ≡ true → need ≡ true
+  there_if path true there some = refl
+  there_if path false there some = absurd (false≢true some)
 
   fresh_if : (path : List ℕ) (needed : Bool) (row : ShownRow) → (if needed then Some (fresh_row world path) else None) ≡ Some row → row.stale ≡ asked_one no_name row.row
   fresh_if path true row same =
@@ -258,9 +264,11 @@ module _ (enough : KnownRowsAreEnough) (world : World) (rows : ShownRows) (index
       needed = is.paths.needed
           ∙ sym (ap (needed_among (known_in (entries_in index.rows))) is.paths.listed
           ∙ enough.needed world (entries_in index.rows) (λ path one. is.rows path (needed-has world path one)));
+      ordered = is.paths.ordered;
     };
-    paths = λ path. ap is_some (current.each path) ∙ there_if path (is_one_of path (needed_paths world)) ∙ ap (is_one_of path) (sym is.paths.needed);
-    stale = λ path row there. fresh_if path (is_one_of path (needed_paths world)) row (sym (current.each path) ∙ there);
+    paths = λ path some. ap (is_one_of path) is.paths.needed
+        ∙ there_if path (is_one_of path (needed_paths world)) (has_makefile world path) (sym (ap is_some (current.each path)) ∙ some);
+    stale = λ path row there. fresh_if path (is_evaluated world path) row (sym (current.each path) ∙ there);
   }
 
 module _ (enough : KnownRowsAreEnough) (followed : DirectoriesAreFollowed) (name : List ℕ) (world other : World) (differ : DifferAt name world other)
@@ -298,19 +306,24 @@ module _ (law : OneRowMoreLeavesLess) (world : World) (old new : ShownRows) (spe
   fresh_put other true = refl
   fresh_put other false = refl
 
+  abbrev decides : Bool → Option PathOutcome → Option PathOutcome
+  decides there row = if there then row else Some Absent
+
   outcome_there : (other : List ℕ) (same : Bool) → bytes_eq renews.path other ≡ same
-      → (if same then Some (outcome_at world renews.path) else fresh old other) ≡ (if same || false then Some (outcome_at world other) else fresh old other)
-  outcome_there other true same = ap (λ path. Some (outcome_at world path)) ((bytes_eq-Decides renews.path other).0 same)
+      → decides (has_makefile world other) (if same then Some (outcome_at world renews.path) else fresh old other) ≡ (if same || false then Some (outcome_at world other) else decided world (fresh old) other)
+  outcome_there other true same =
+      subst (λ at. decides (has_makefile world at) (Some (outcome_at world renews.path)) ≡ Some (outcome_at world at)) ((bytes_eq-Decides renews.path other).0 same)
+      (ap (λ b. decides b (Some (outcome_at world renews.path))) (lacking-there world (fresh old) renews.path renews.lacking).0)
   outcome_there other false same = refl
 
-  fills : Fills world (renews.path ∷ []) (fresh old) (fresh new)
+  fills : Fills world (renews.path ∷ []) (decided world (fresh old)) (decided world (fresh new))
   fills = record {
-    filled = λ other. ap (option_and_then fresh_outcome) (renews.rows other) ∙ fresh_put other (bytes_eq renews.path other)
+    filled = λ other. ap (decides (has_makefile world other)) (ap (option_and_then fresh_outcome) (renews.rows other) ∙ fresh_put other (bytes_eq renews.path other))
         ∙ outcome_there other (bytes_eq renews.path other) refl;
   }
 
-  pub left_less : (weight : List ℕ → ℕ) → weight renews.path + sum_by weight (lacking (fresh new) (needed_paths world)) ≡ sum_by weight (lacking (fresh old) (needed_paths world))
-  left_less weight = law world weight (needed_paths world) renews.path (fresh old) (fresh new) renews.needed renews.lacking fills
+  pub left_less : (weight : List ℕ → ℕ) → weight renews.path + sum_by weight (paths_left world new) ≡ sum_by weight (paths_left world old)
+  left_less weight = law world weight (needed_paths world) renews.path (decided world (fresh old)) (decided world (fresh new)) renews.needed renews.lacking fills
 
 none_left : (entries : List ℕ → Option PathOutcome) (paths : List (List ℕ)) → ((path : List ℕ) → is_one_of path paths ≡ true → is_some (entries path) ≡ true)
     → filter (λ path. is_none (entries path)) paths ≡ []
@@ -325,14 +338,20 @@ none_left entries (path ∷ paths) have =
     there (Some row) some = refl
 
 -- where each needed path has a fresh row, nothing is left to be done
-pub lacking-none : (world : World) (rows : ShownRows) → HaveFresh world rows → lacking (fresh rows) (needed_paths world) ≡ []
+pub lacking-none : (world : World) (rows : ShownRows) → HaveFresh world rows → paths_left world rows ≡ []
 lacking-none world rows have =
-    none_left (fresh rows) (in_order (needed_paths world)) (λ path is. have path (sym (among-in_order (λ one. bytes_eq one path) (needed_paths world)) ∙ is))
+    none_left (decided world (fresh rows)) (in_order (needed_paths world)) (λ path is. have path (sym (among-in_order (λ one. bytes_eq one path) (needed_paths world)) ∙ is))
 
 -- rows that are current are fresh
 pub HaveFresh-current : (world : World) (rows : ShownRows) → AreCurrent world rows → HaveFresh world rows
 HaveFresh-current world rows current path is =
-    ap (λ row. is_some (option_and_then fresh_outcome row)) (current.each path ∙ ap (λ (b : Bool). if b then Some (fresh_row world path) else None) is)
+    ap (λ row. is_some (if has_makefile world path then option_and_then fresh_outcome row else Some Absent))
+    (current.each path ∙ ap (λ (b : Bool). if b && has_makefile world path then Some (fresh_row world path) else None) is)
+    ∙ by (has_makefile world path)
+  where
+    by : (there : Bool) → is_some (if there then option_and_then fresh_outcome (if there then Some (fresh_row world path) else None) else Some Absent) ≡ true
+    by true = refl
+    by false = refl
 
 -- ---- a keeper whose walk was taken out
 

@@ -7,6 +7,7 @@ use Rattle.std.specs.Str.{bytes_eq}
 use Rattle.mk_paths.specs.World.{World}
 use Rattle.ports_index.specs.Alike.{AlikeRowsListTheSame, AreAlikeAt, NameAlike}
 use Rattle.ports_index.specs.Depending.{targets_in}
+use Rattle.ports_index.specs.Efforts.{has_makefile, is_there}
 use Rattle.ports_index.specs.Filling.{is_one_of}
 use Rattle.ports_index.specs.Known.{FollowFrom}
 use Rattle.ports_index.specs.Naming.{listed_from, named_in}
@@ -16,12 +17,14 @@ use Rattle.ports_index.specs.declared.keeping.MemoryRows.{MemoryRows}
 use Rattle.ports_index.specs.declared.known_index.KnownIndex.{KnownIndex}
 use Rattle.row_text.specs.Rows.{RowValue, row_of}
 use Rattle.index_store.specs.Entries.{StoredValue, Entries}
-use Rattle.index_keep.specs.Last.{IsLast, NamesAsBefore, Recalls, RecallsLists, led_to, needed_in, needed_of}
+use Rattle.index_keep.specs.Last.{IsLast, NamesAsBefore, Recalls, RecallsLists, led_to, needed_of}
+use Rattle.index_keep.specs.Right.{AreDecided, AreKept}
 use Rattle.index_keep.specs.declared.last_index.LastIndex.{LastIndex}
 use Rattle.index_keep.specs.declared.last_index.LastLists.{LastLists}
 use Rattle.index_keep.specs.Walking.{HasRowMore}
 use Rattle.index_keep.proofs.ShownLemmas.{entries-fresh}
-use Rattle.index_keep.specs.Shown.{ShownRow, ShownRows, shown, show_row, show_stored, asked_one, fresh_said, said_if_fresh, said_in_row}
+use Rattle.index_keep.specs.Shown.{ShownRow, ShownRows, shown, show_row, show_stored, asked_one, fresh, fresh_said, said_if_fresh, said_in_row}
+use Rattle.index_keep.proofs.WalkLemmas.{decided-there, lacking-there}
 
 module _ (test : List ℕ → Bool) (rows : ShownRows) (index : KnownIndex) (last : IsLast test rows index) where
   -- whether a path's row asked for a name that has changed
@@ -73,34 +76,38 @@ module _ (test : List ℕ → Bool) (rows : ShownRows) (index : KnownIndex) (las
     said_there path None is = ap (λ said. is_some (outcome_of said)) (last.says path ∙ ap (option_map said_in_row) is)
     said_there path (Some row) is = ap (λ said. is_some (outcome_of said)) (last.says path ∙ ap (option_map said_in_row) is)
 
-    -- a path has a row if it is needed
-    said_needed : (path : List ℕ) → is_some (outcome_of (said_in index.rows path)) ≡ is_one_of path (needed_in index.paths)
-    said_needed path = said_there path (rows path) refl ∙ last.paths path
+    among_taken : (path : List ℕ) (b : Bool) → is_some (outcome_of (if b then said_in index.rows path else None)) ≡ true → is_some (outcome_of (said_in index.rows path)) ≡ true
+    among_taken path true some = some
+    among_taken path false some = absurd (false≢true some)
 
-    among_needed : (path : List ℕ) (b : Bool) → is_some (outcome_of (if b then said_in index.rows path else None)) ≡ true → is_one_of path (needed_in index.paths) ≡ true
-    among_needed path true some = sym (said_needed path) ∙ some
-    among_needed path false some = absurd (false≢true some)
+    -- a path that has a row, and whose row is left or asked for such a name, has a makefile
+    module _ (world : World) (kept : AreKept world rows) (have : (path : List ℕ) → asked path ≡ true → has_makefile world path ≡ true) where
+      there_by : (path : List ℕ) (row : ShownRow) → rows path ≡ Some row → (b : Bool) → asked path ≡ b → has_makefile world path ≡ true
+      there_by path row is true e = have path e
+      there_by path row is false e =
+          let stale : row.stale ≡ false = last.stale path row is ∙ sym (asked-there path row is) ∙ e in
+          ap (λ (one : RowValue). is_there one.outcome) (sym (kept.right path row is stale).same) ∙ kept.there path row is stale
 
-    either_of : (path : List ℕ) (b : Bool) → is_some (outcome_of (said_in index.rows path)) ≡ true → outcome_of (if b then said_in index.rows path else None) ≡ None
-        → is_some (outcome_of (if b then None else said_in index.rows path)) ≡ true
-    either_of path true some none = absurd (false≢true (sym (ap is_some none) ∙ some))
-    either_of path false some none = some
+      there_at : (path : List ℕ) (row : Option ShownRow) → rows path ≡ row → is_some row ≡ true → has_makefile world path ≡ true
+      there_at path None is some = absurd (false≢true some)
+      there_at path (Some row) is some = there_by path row is (asked path) refl
 
     follow_from : FollowFrom (led_to left taken) index.paths
     follow_from = subst (λ outcomes. FollowFrom outcomes index.paths) (λ i path. sym (led_as_before path) i) last.lists
 
     abbrev begun : LastLists
-    begun = record { listed = index.paths.listed; last = record { needed = index.paths.needed; outdated = taken } }
+    begun = record { listed = index.paths.listed; last = record { beside = index.paths.beside; outdated = taken } }
 
-    pub recalls-begun : RecallsLists rows left (map string_bytes index.paths.directories.items) begun
-    recalls-begun = record {
+    pub recalls-begun : (world : World) → AreKept world rows → ((path : List ℕ) → asked path ≡ true → has_makefile world path ≡ true)
+        → RecallsLists world rows left (map string_bytes index.paths.directories.items) begun
+    recalls-begun world kept have = record {
       listed = follow_from.listed;
       last = record {
         needed = follow_from.needed;
-        alone = λ path some. sym (last.paths path) ∙ some;
-        outdated = λ path some. among_needed path (asked path) (ap (λ said. is_some (outcome_of said)) (sym (takes path)) ∙ some);
-        others = λ path one none. ap (λ said. is_some (outcome_of said)) (leaves path)
-            ∙ either_of path (asked path) (said_needed path ∙ one) (ap outcome_of (sym (takes path)) ∙ none);
+        ordered = last.lists.ordered;
+        alone = λ path some. (last.paths path some, there_at world kept have path (rows path) refl some);
+        outdated = λ path some. sym (said_there path (rows path) refl)
+            ∙ among_taken path (asked path) (ap (λ said. is_some (outcome_of said)) (sym (takes path)) ∙ some);
       };
     }
 
@@ -109,22 +116,24 @@ module _ (test : List ℕ → Bool) (rows : ShownRows) (index : KnownIndex) (las
 alike-same : (path : List ℕ) (old new : PathOutcome) → new ≡ old → NameAlike path old new
 alike-same path old new same = record { words = ap (named_in path) same; items = ap targets_in same }
 
--- rows of these paths that are fresh say what they lead to
-pub alike-fresh : (known outdated : MemoryRows) (paths : List (List ℕ)) → ((path : List ℕ) → is_one_of path paths ≡ true → is_some (entries_in known path) ≡ true)
+-- Where it is known what these paths lead to, and outdated rows are those of makefiles, fresh rows say what they lead to.
+pub alike-fresh : (world : World) (known outdated : MemoryRows) (paths : List (List ℕ)) → AreDecided world (entries_in known) paths
+    → ((path : List ℕ) → is_some (entries_in outdated path) ≡ true → has_makefile world path ≡ true)
     → AreAlikeAt (led_to known outdated) (known_in (entries_in known)) paths
-alike-fresh known outdated paths have path is =
-    alike-same path (led_to known outdated path) (known_in (entries_in known) path) (by (entries_in known path) (have path is))
+alike-fresh world known outdated paths have there path is =
+    alike-same path (led_to known outdated path) (known_in (entries_in known) path) (by (entries_in known path) refl (entries_in outdated path) refl)
   where
-    by : (row : Option PathOutcome) → is_some row ≡ true → known_row row ≡ known_row (option_or row (entries_in outdated path))
-    by None some = absurd (false≢true some)
-    by (Some row) some = refl
+    by : (row : Option PathOutcome) → entries_in known path ≡ row → (before : Option PathOutcome) → entries_in outdated path ≡ before → known_row row ≡ known_row (option_or row before)
+    by (Some row) e before f = refl
+    by None e None f = refl
+    by None e (Some before) f = absurd (false≢true (sym (ap is_some e) ∙ decided-there world (entries_in known) path (there path (ap is_some f)) (have path is)))
 
 module _ (law : AlikeRowsListTheSame) (world : World) (path : List ℕ) (said : Said) (old new : ShownRows) (more : HasRowMore world path said old new)
     (known after : MemoryRows) (knows : (other : List ℕ) → said_in known other ≡ fresh_said old other)
     (puts : (other : List ℕ) → said_in after other ≡ (if bytes_eq path other then Some said else said_in known other))
     (last : LastIndex) (names : NamesAsBefore path said.outcome last) where
   lacked : entries_in known path ≡ None
-  lacked = entries-fresh old known knows path ∙ more.lacking.lacking
+  lacked = entries-fresh old known knows path ∙ (lacking-there world (fresh old) path more.lacking.lacking).1
 
   put_at : (other : List ℕ) (same : Bool) → bytes_eq path other ≡ same → NameAlike other (led_to known last.outdated other) (led_to after last.outdated other)
   put_at other true same =
@@ -142,24 +151,24 @@ module _ (law : AlikeRowsListTheSame) (world : World) (path : List ℕ) (said : 
   alike : (paths : List (List ℕ)) → AreAlikeAt (led_to known last.outdated) (led_to after last.outdated) paths
   alike paths other is = put_at other (bytes_eq path other) refl
 
-  module _ (listed : List (List ℕ)) (recalls : Recalls old known listed last) where
-    alone_at : (other : List ℕ) (same : Bool) → bytes_eq path other ≡ same → (same || is_some (old other)) ≡ true → is_one_of other (needed_of last) ≡ true
-    alone_at other true same some = ap (λ at. is_one_of at (needed_of last)) (sym ((bytes_eq-Decides path other).0 same)) ∙ recalls.outdated path (ap is_some names.was)
+  module _ (listed : List (List ℕ)) (recalls : Recalls world old known listed last) where
+    alone_at : (other : List ℕ) (same : Bool) → bytes_eq path other ≡ same → (same || is_some (old other)) ≡ true → (is_one_of other (needed_of listed last) ≡ true) × (has_makefile world other ≡ true)
+    alone_at other true same some =
+        subst (λ at. (is_one_of at (needed_of listed last) ≡ true) × (has_makefile world at ≡ true)) ((bytes_eq-Decides path other).0 same)
+        (recalls.alone path (recalls.outdated path (ap is_some names.was)))
     alone_at other false same some = recalls.alone other some
 
-    still_there : (other : List ℕ) (same : Bool) → is_some (entries_in known other) ≡ true
-        → is_some (option_map (λ (one : Said). one.outcome) (if same then Some said else said_in known other)) ≡ true
+    still_there : (other : List ℕ) (same : Bool) → is_some (old other) ≡ true → (same || is_some (old other)) ≡ true
     still_there other true some = refl
     still_there other false some = some
 
     -- the row of a path that names the same paths as the outdated one
-    pub recalls-more : Recalls new after listed last
+    pub recalls-more : Recalls world new after listed last
     recalls-more = record {
       needed = recalls.needed ∙ sym (law.needed (led_to known last.outdated) (led_to after last.outdated) listed (alike listed));
+      ordered = recalls.ordered;
       alone = λ other some. alone_at other (bytes_eq path other) refl (sym (more.there other) ∙ some);
-      outdated = recalls.outdated;
-      others = λ other one none. ap (λ row. is_some (option_map (λ (one : Said). one.outcome) row)) (puts other)
-          ∙ still_there other (bytes_eq path other) (recalls.others other one none);
+      outdated = λ other some. more.there other ∙ still_there other (bytes_eq path other) (recalls.outdated other some);
     }
 
   -- then the same paths are listed below these directories

@@ -11,12 +11,12 @@ use Rattle.std.specs.Str.{bytes_eq}
 use Rattle.text_parts.specs.Order.{in_order}
 use Rattle.text_parts.specs.Ordered.{among-in_order}
 use Rattle.mk_paths.specs.World.{World}
-use Rattle.ports_index.specs.Efforts.{cost_over, evaluations_at, evaluations_over, is_there}
+use Rattle.ports_index.specs.Efforts.{cost_over, decided, evaluations_at, evaluations_over, has_makefile, is_there}
 use Rattle.ports_index.specs.Filling.{is_one_of}
 use Rattle.ports_index.specs.Index.{needed_paths}
 use Rattle.ports_index.specs.Pairs.{Pair, pair_at}
 use Rattle.ports_index.specs.PathLaws.{MakefilesAreEvaluated}
-use Rattle.ports_index.specs.PathOutcomes.{cost_at, outcome_at}
+use Rattle.ports_index.specs.PathOutcomes.{Absent, cost_at, outcome_at}
 use Rattle.ports_index.specs.RowLaws.{OneRowMoreLeavesLess}
 use Rattle.ports_index.specs.Spending.{ChecksFew, evaluation_cost, evaluations_of}
 use Rattle.ports_index.specs.declared.spending.Spent.{Spent}
@@ -65,7 +65,7 @@ module _ (weight : List ℕ → ℕ) (test : List ℕ → Bool) (path : List ℕ
 
 left-in : (weight : List ℕ → ℕ) (world : World) (rows : ShownRows) (path : List ℕ) → IsLacking world rows path → weight path ≤ sum_by weight (paths_left world rows)
 left-in weight world rows path is =
-    weight-in weight (λ other. is_none (fresh rows other)) path (ap is_none is.lacking) (in_order (needed_paths world))
+    weight-in weight (λ other. is_none (decided world (fresh rows) other)) path (ap is_none is.lacking) (in_order (needed_paths world))
     (among-in_order (λ one. bytes_eq one path) (needed_paths world) ∙ is.needed)
 
 enough_by : (units old_units old_checks more_units more_checks new_units new_checks : ℕ) → old_units + more_units ≡ new_units → old_checks + more_checks ≡ new_checks
@@ -148,17 +148,20 @@ pays_by few law world units old new turned.Done takes =
     nothing : (left begun other : ℕ) → left ≡ 0 → left - begun ≤ other
     nothing left begun other none = omega (arith, none)
 
-fresh_put : (world : World) (path other : List ℕ) (old : ShownRows) (same : Bool) → is_some (fresh old other) ≡ true
-    → is_some (option_and_then fresh_outcome (if same then Some (fresh_row world path) else old other)) ≡ true
-fresh_put world path other old true is = refl
-fresh_put world path other old false is = is
+fresh_put : (world : World) (path other : List ℕ) (old : ShownRows) (same there : Bool) → is_some (if there then fresh old other else Some Absent) ≡ true
+    → is_some (if there then option_and_then fresh_outcome (if same then Some (fresh_row world path) else old other) else Some Absent) ≡ true
+fresh_put world path other old true true is = refl
+fresh_put world path other old false true is = is
+fresh_put world path other old same false is = refl
 
--- a row that is fresh stays fresh
+-- what is known of a path stays known
 pub stays-fresh : (world : World) (units : ℕ) (old new : RefreshView) (turned : Refreshed) → TakesTurn world units old new turned → StayFresh world old.rows new.rows
 stays-fresh world units old new (turned.Evaluated spent) takes other needed is =
     let renews = takes.renews.0 in
-    ap (λ row. is_some (option_and_then fresh_outcome row)) (renews.rows other) ∙ fresh_put world renews.path other old.rows (bytes_eq renews.path other) is
-stays-fresh world units old new (turned.More spent) takes other needed is = ap (λ row. is_some (option_and_then fresh_outcome row)) (takes.rows other) ∙ is
+    ap (λ row. is_some (if has_makefile world other then option_and_then fresh_outcome row else Some Absent)) (renews.rows other)
+    ∙ fresh_put world renews.path other old.rows (bytes_eq renews.path other) (has_makefile world other) is
+stays-fresh world units old new (turned.More spent) takes other needed is =
+    ap (λ row. is_some (if has_makefile world other then option_and_then fresh_outcome row else Some Absent)) (takes.rows other) ∙ is
 stays-fresh world units old new turned.Done takes other needed is = HaveFresh-current world new.rows takes.current other needed
 
 pub RefreshingPays-all : OneRowMoreLeavesLess → MakefilesAreEvaluated → CostFew → RefreshingPays

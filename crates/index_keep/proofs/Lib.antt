@@ -4,6 +4,7 @@ pub mod ListLemmas
 pub mod WalkLemmas
 pub mod RowLemmas
 pub mod LastLemmas
+pub mod EndLemmas
 pub mod KeepLemmas
 pub mod Props
 pub mod MadeLemmas

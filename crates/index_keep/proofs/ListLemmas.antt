@@ -1,9 +1,8 @@
 -- Lists of names and paths.
-use Rattle.std.proofs.Common.{◌≡◌, ◌∙◌, sym, ap, refl, ℕ, ◌+◌, ◌<◌, Bool, true, false, cond, ◌||◌, ◌&&◌, if◌then◌else◌, List, [], ◌∷◌, ◌++◌, map, take, length, get_or, Option, Some, None, is_none, is_some, String, string_bytes, Global}
+use Rattle.std.proofs.Common.{◌≡◌, ◌∙◌, sym, ap, refl, ℕ, ◌+◌, ◌<◌, Bool, true, false, cond, ◌||◌, ◌&&◌, if◌then◌else◌, List, [], ◌∷◌, ◌++◌, map, take, length, get_or, Option, Some, None, is_some, option_map, String, string_bytes, Global}
 use Rattle.std.proofs.lemmas.Bool.{false≢true}
-use Rattle.std.proofs.lemmas.List.{take_more, take-map}
+use Rattle.std.proofs.lemmas.List.{take_more}
 use Rattle.std.proofs.lemmas.List.Folds.{list_any_at}
-use Rattle.ports_index.specs.PathOutcomes.{PathOutcome}
 use Rattle.std.proofs.lemmas.Slice.Eq.{bytes_eq-Decides}
 use Rattle.std.specs.List.{list_any}
 use Rattle.std.specs.Str.{bytes_eq}
@@ -30,19 +29,6 @@ one_of-more texts place text name inside is =
     ∙ ap (is_one_of name) (map-append string_bytes (take place texts) (text ∷ []))
     ∙ one_of-append name (map string_bytes (take place texts)) (string_bytes text ∷ [])
     ∙ ap (λ b. is_one_of name (map string_bytes (take place texts)) || b) (or-none (bytes_eq (string_bytes text) name))
-
-swap : (a b : Bool) → (a || b) ≡ (b || a)
-swap true true = refl
-swap true false = refl
-swap false true = refl
-swap false false = refl
-
--- a set of names with the next one
-pub set-more : (texts : List (String Global)) (place : ℕ) (text : String Global) (name : List ℕ) (before : Bool) → place < length texts → text ≡ get_or texts place text
-    → before ≡ is_one_of name (map string_bytes (take place texts))
-    → (bytes_eq (string_bytes text) name || before) ≡ is_one_of name (map string_bytes (take (place + 1) texts))
-set-more texts place text name before inside is was =
-    swap (bytes_eq (string_bytes text) name) before ∙ ap (λ b. b || bytes_eq (string_bytes text) name) was ∙ sym (one_of-more texts place text name inside is)
 
 step : (added a same t before : Bool) → before ≡ (a && t) → (same ≡ true → t ≡ added) → (if added then before || same else before) ≡ ((a || same) && t)
 step true true true true before was is = ap (λ b. b || true) was
@@ -82,21 +68,25 @@ one_of-place texts place text inside is =
     list_any-map (λ one. bytes_eq one (string_bytes text)) string_bytes texts
     ∙ list_any_at (λ one. bytes_eq (string_bytes one) (string_bytes text)) texts place text inside ((bytes_eq-Decides _ (string_bytes text)).1 (ap string_bytes (sym is)))
 
-pub some-of : {X : Type 0} (row : Option X) → is_none row ≡ false → is_some row ≡ true
-some-of None is = absurd (false≢true (sym is))
-some-of (Some row) is = refl
-
--- the path at the next place is known too
-pub known-more : (known : List ℕ → Option PathOutcome) (texts : List (String Global)) (place : ℕ) (text : String Global)
-    → place < length texts → text ≡ get_or texts place text → is_some (known (string_bytes text)) ≡ true
-    → ((path : List ℕ) → is_one_of path (take place (map string_bytes texts)) ≡ true → is_some (known path) ≡ true)
-    → (path : List ℕ) → is_one_of path (take (place + 1) (map string_bytes texts)) ≡ true → is_some (known path) ≡ true
-known-more known texts place text inside is some passed path one =
+-- the path at the next place passes the test too
+pub passes-more : (test : List ℕ → Bool) (texts : List (String Global)) (place : ℕ) (text : String Global)
+    → place < length texts → text ≡ get_or texts place text → test (string_bytes text) ≡ true
+    → ((path : List ℕ) → is_one_of path (map string_bytes (take place texts)) ≡ true → test path ≡ true)
+    → (path : List ℕ) → is_one_of path (map string_bytes (take (place + 1) texts)) ≡ true → test path ≡ true
+passes-more test texts place text inside is passes passed path one =
     by (is_one_of path (map string_bytes (take place texts))) (bytes_eq (string_bytes text) path) refl refl
-    (sym (one_of-more texts place text path inside is) ∙ ap (is_one_of path) (sym (take-map string_bytes (place + 1) texts)) ∙ one)
+    (sym (one_of-more texts place text path inside is) ∙ one)
   where
     by : (before same : Bool) → is_one_of path (map string_bytes (take place texts)) ≡ before → bytes_eq (string_bytes text) path ≡ same
-        → (is_one_of path (map string_bytes (take place texts)) || bytes_eq (string_bytes text) path) ≡ true → is_some (known path) ≡ true
-    by true same e1 e2 either = passed path (ap (is_one_of path) (take-map string_bytes place texts) ∙ e1)
-    by false true e1 e2 either = ap (λ p. is_some (known p)) (sym ((bytes_eq-Decides (string_bytes text) path).0 e2)) ∙ some
+        → (is_one_of path (map string_bytes (take place texts)) || bytes_eq (string_bytes text) path) ≡ true → test path ≡ true
+    by true same e1 e2 either = passed path e1
+    by false true e1 e2 either = ap test (sym ((bytes_eq-Decides (string_bytes text) path).0 e2)) ∙ passes
     by false false e1 e2 either = absurd (false≢true (sym (ap (λ b. b || bytes_eq (string_bytes text) path) e1 ∙ e2) ∙ either))
+
+pub some-map : {X Y : Type 0} (f : X → Y) (row : Option X) → is_some (option_map f row) ≡ is_some row
+some-map f None = refl
+some-map f (Some row) = refl
+
+pub none-of : {X : Type 0} (row : Option X) → is_some row ≡ false → row ≡ None
+none-of None is = refl
+none-of (Some row) is = absurd cc

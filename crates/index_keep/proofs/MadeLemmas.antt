@@ -1,5 +1,5 @@
 -- The row of a path, made of what was found and asked.
-use Rattle.std.proofs.Common.{Result, Ok, Err, codes, append-nil, ◌≡◌, ◌≤◌, ◌<◌, ◌∙◌, sym, ap, ap₂, subst, refl, inl, inr, arith, ℕ, zero, suc, ◌+◌, ◌-◌, Bool, true, false, if◌then◌else◌, List, [], ◌∷◌, ◌++◌, Option, Some, None, option_map, option_and_then, string_bytes}
+use Rattle.std.proofs.Common.{Result, Ok, Err, codes, ◌≡◌, ◌≤◌, ◌<◌, ◌∙◌, sym, ap, ap₂, subst, refl, inr, arith, ℕ, zero, suc, ◌+◌, ◌-◌, Bool, true, false, if◌then◌else◌, List, [], ◌∷◌, ◌++◌, Option, Some, None, is_some, option_map, option_and_then, string_bytes}
 use Rattle.std.proofs.lemmas.Slice.Eq.{bytes_eq-Decides}
 use Rattle.std.specs.Str.{bytes_eq}
 use Rattle.mk_paths.specs.World.{World, FileMap, files_in, search_path_of}
@@ -21,19 +21,19 @@ use Rattle.eval_cache.specs.Right.{evaluation_of}
 use Rattle.pkg_path.specs.Paths.{PathValue, path_if_one}
 use Rattle.read_trace.specs.Recording.{with_trace}
 use Rattle.read_trace.specs.declared.evaluating.Evaluation.{Evaluation}
-use Rattle.ports_index.specs.Efforts.{evaluations_at, evaluations_for}
-use Rattle.ports_index.specs.NamedPaths.{finding-own, finding-named, finding-none, questions-own, questions-named, questions-none}
+use Rattle.ports_index.specs.Efforts.{evaluations_at, evaluations_for, has_makefile, is_there}
+use Rattle.ports_index.specs.NamedPaths.{finding-own, finding-named, finding-none, questions-own, questions-named}
 use Rattle.ports_index.specs.Pairs.{Pair, pair_in, pair_named, pair_at}
 use Rattle.ports_index.specs.PathOutcomes.{port_finding, list_finding, finding_by, Finding, finding_at, cost_at, finding_in, finding_named, finding_of, finding_of_evaluation, nothing_found, own_directory}
 use Rattle.ports_index.specs.PathQuestions.{questions_in, questions_after, questions_at}
-use Rattle.ports_index.specs.Spending.{SpendsOnOne, SpendsOn, SpendsOnPath, evaluation_cost, no_spending}
+use Rattle.ports_index.specs.Spending.{SpendsOnOne, SpendsOn, evaluation_cost}
 use Rattle.ports_index.specs.declared.spending.Spent.{Spent}
 use Rattle.row_text.specs.Rows.{RowValue}
 use Rattle.row_text.specs.Seen.{row_seen}
 use Rattle.eval_ask.specs.Asking.{AsksOn, EvaluatesInTime, HasComeTo, HasLooked, IsAnswerTo, IsShort, IsUpBy, IsUpFrom, MakesInTime, spent_in, spent_on, total_of}
 use Rattle.mk_base.specs.declared.metering.TheConstants.{UNITS}
-use Rattle.index_keep.specs.Paths.{directory_of, flavors_of, absent_row, row_made, IsNamed, IsFoundAt, IsPathAsk, IsMade}
-use Rattle.index_keep.specs.Right.{names_in, row_with, IsRightRow}
+use Rattle.index_keep.specs.Paths.{directory_of, flavors_of, row_made, IsNamed, IsFoundAt, IsFoundOf, IsPathAsk, IsMade}
+use Rattle.index_keep.specs.Right.{row_with, IsRightRow}
 use Rattle.eval_ask.specs.declared.asking.Asked.{Asked}
 use Rattle.eval_ask.specs.declared.asking.AskTurned.{AskTurned}
 use Rattle.eval_ask.specs.declared.asking.AskTurned.TheVariants as asks
@@ -76,44 +76,19 @@ module _ (world : World) (path : List ℕ) where
       ∙ ap (λ directory. pair_in world directory None) ((bytes_eq-Decides path own_directory).0 is)
   pair_in_named (OfPath found) is = pair_by is.0 (Some found) is.1
 
-  -- a row that nothing leads to
-  right_absent : (questions : List Question) (row : RowValue) → row ≡ absent_row (names_in questions) → finding_at world path ≡ nothing_found → questions_at world path ≡ questions → Agrees (files_in world) questions
-      → IsRightRow world path row
-  right_absent questions row is none asked answered = record {
-    same = is ∙ ap₂ row_with (sym none) (sym asked);
-    answered = subst (Agrees (files_in world)) (sym asked) answered;
-  }
-
-  spends_absent : finding_at world path ≡ nothing_found → pair_at world path ≡ None → (spent : Spent) → spent ≡ no_spending → SpendsOnPath world path spent
-  spends_absent none no_pair spent is =
-      subst (λ (finding : Finding). SpendsOn world finding.cost (pair_at world path) spent) (sym none)
-      (subst (λ (pair : Option Pair). SpendsOn world 0 pair spent) (sym no_pair)
-      (subst (SpendsOn world 0 None) (sym is) (record { few = omega arith; paid = inl refl })))
+  -- nothing is there, if it is nothing that is found
+  absent_by : finding_at world path ≡ nothing_found → has_makefile world path ≡ false
+  absent_by none = ap (λ (finding : Finding). is_there finding.outcome) none
 
   -- a text that is no path
-  pub IsMade-none : (made : MadeRow) → IsNamed path None → string_bytes made.path ≡ path → row_seen made.row ≡ absent_row [] → made.spent ≡ no_spending → IsMade world path made
-  IsMade-none made none at is spent = record {
-    at = at;
-    row = right_absent [] (row_seen made.row) is (finding-none world path none.0 none.1) (questions-none world path none.0 none.1) tt;
-    spent = spends_absent (finding-none world path none.0 none.1) (pair_by none.0 None none.1) made.spent spent;
-  }
+  pub absent-unnamed : IsNamed path None → has_makefile world path ≡ false
+  absent-unnamed none = absent_by (finding-none world path none.0 none.1)
+
+  -- a directory without a makefile
+  pub absent-there : (named : NamedDirectory) → IsNamed path (Some named) → place world (directory_of named) ≡ None → has_makefile world path ≡ false
+  absent-there named is none = absent_by (finding_in_named named is ∙ ap (finding_of world (flavors_of named)) none)
 
   module _ (named : NamedDirectory) (is : IsNamed path (Some named)) (placed : List Question) (asked : placed ≡ places_asked (files_in world) (search_path_of world) (directory_of named)) (answered : Agrees (files_in world) placed) where
-    -- no makefile is there
-    pub IsMade-absent : (made : MadeRow) → place world (directory_of named) ≡ None → string_bytes made.path ≡ path → row_seen made.row ≡ absent_row (names_in placed) → made.spent ≡ no_spending → IsMade world path made
-    IsMade-absent made none at row spent = record {
-      at = at;
-      row = right_absent placed (row_seen made.row) row finding questions answered;
-      spent = spends_absent finding (pair_in_named named is ∙ ap (option_map (λ makefile. let one : Pair = record { makefile = makefile; flavors = flavors_of named } in one)) none) made.spent spent;
-    }
-      where
-        finding : finding_at world path ≡ nothing_found
-        finding = finding_in_named named is ∙ ap (finding_of world (flavors_of named)) none
-
-        questions : questions_at world path ≡ placed
-        questions = questions_in_named named is ∙ ap (λ at. places_asked (files_in world) (search_path_of world) (directory_of named) ++ questions_after world (flavors_of named) at) none
-            ∙ append-nil _ ∙ sym asked
-
     -- a makefile is there
     pub IsFoundAt-placed : (found : FoundPath) → found.named ≡ named → string_bytes found.path ≡ path → found.placed ≡ placed → place world (directory_of named) ≡ Some found.makefile → IsFoundAt world found
     IsFoundAt-placed found same at places there = record {
@@ -192,29 +167,38 @@ within-path world path self is units within =
     let cost : cost_at world path ≡ (finding_of_evaluation makefile flavors outcome).cost = ap (cost_at world) (sym is.at) ∙ ap (λ (finding : Finding). finding.cost) is.found.finding in
     omega (arith, up, cost)
 
-there_after : (makefile : List ℕ) (flavors : Option (List (List ℕ))) (evaluated : Evaluated) (kind : Kind) → evaluations_for (finding_by makefile flavors evaluated kind).outcome ≡ 1
+there_after : (makefile : List ℕ) (flavors : Option (List (List ℕ))) (evaluated : Evaluated) (kind : Kind) → is_there (finding_by makefile flavors evaluated kind).outcome ≡ true
 there_after makefile flavors evaluated kinds.Port = port (record_of evaluated.env makefile)
   where
-    port : (recorded : Result Recorded Failed) → evaluations_for (port_finding evaluated.cost recorded).outcome ≡ 1
+    port : (recorded : Result Recorded Failed) → is_there (port_finding evaluated.cost recorded).outcome ≡ true
     port (Ok recorded) = refl
     port (Err failed) = refl
 there_after makefile (Some flavors) evaluated kinds.List = refl
 there_after makefile None evaluated kinds.List = lists (value_of evaluated.env makefile (codes "SUBDIR"))
   where
-    lists : (value : Result (Option Expanded) Failed) → evaluations_for (list_finding evaluated.cost value).outcome ≡ 1
+    lists : (value : Result (Option Expanded) Failed) → is_there (list_finding evaluated.cost value).outcome ≡ true
     lists (Ok value) = refl
     lists (Err failed) = refl
 there_after makefile flavors evaluated kinds.Other = refl
 
-there : (makefile : List ℕ) (flavors : Option (List (List ℕ))) (outcome : Result Evaluated Failed) → evaluations_for (finding_of_evaluation makefile flavors outcome).outcome ≡ 1
+there : (makefile : List ℕ) (flavors : Option (List (List ℕ))) (outcome : Result Evaluated Failed) → is_there (finding_of_evaluation makefile flavors outcome).outcome ≡ true
 there makefile flavors (Ok evaluated) = there_after makefile flavors evaluated evaluated.kind
 there makefile flavors (Err failed) = refl
+
+-- a path whose makefile was found has one
+pub there-found : (world : World) (found : FoundPath) → IsFoundAt world found → has_makefile world (string_bytes found.path) ≡ true
+there-found world found is =
+    ap (λ (finding : Finding). is_there finding.outcome) is.finding ∙ there found.makefile (flavors_of found.named) (means world found.makefile (flavors_of found.named))
+
+-- a path for which a makefile was found, or not
+pub found-there : (world : World) (path : List ℕ) (found : Option FoundPath) → is_some found ≡ true → IsFoundOf world path found → has_makefile world path ≡ true
+found-there world path None some is = absurd cc
+found-there world path (Some found) some is = ap (has_makefile world) (sym is.0) ∙ there-found world found is.1
 
 -- its makefile is there
 pub one-evaluation : (world : World) (path : List ℕ) (self : PathAsk) → IsPathAsk world path self → evaluations_at world path ≡ 1
 one-evaluation world path self is =
-    ap (evaluations_at world) (sym is.at) ∙ ap (λ (finding : Finding). evaluations_for finding.outcome) is.found.finding
-    ∙ there self.found.makefile (flavors_of self.found.named) (means world self.found.makefile (flavors_of self.found.named))
+    ap (evaluations_at world) (sym is.at) ∙ ap {B = ℕ} (λ (b : Bool). if b then 1 else 0) (there-found world self.found is.found)
 
 -- ---- the row that is made of an evaluation that is at its end
 
@@ -331,7 +315,7 @@ most-found few records makefile flavors (Err failed) = omega arith
 
 none_found : (world : World) (flavors : Option (List (List ℕ))) (makefile : Option (List ℕ)) → evaluations_for (finding_of world flavors makefile).outcome ≡ 0
     → (finding_of world flavors makefile).cost ≡ 0
-none_found world flavors (Some makefile) none = absurd (omega (arith, there makefile flavors (means world makefile flavors), none))
+none_found world flavors (Some makefile) none = absurd (omega (arith, ap {B = ℕ} (λ (b : Bool). if b then 1 else 0) (there makefile flavors (means world makefile flavors)), none))
 none_found world flavors None none = refl
 
 none_named : (world : World) (path : Option PathValue) → evaluations_for (finding_named world path).outcome ≡ 0 → (finding_named world path).cost ≡ 0

@@ -1,41 +1,42 @@
 -- A refresh that goes through paths.
-use Rattle.std.proofs.Common.{Bor, Global, String, string_bytes, map, ◌≡◌, ◌∙◌, sym, ap, subst, refl, ℕ, zero, suc, Bool, true, false, ◌||◌, if◌then◌else◌, List, [], ◌∷◌, ◌++◌, take, Option, Some, None, IfSome, is_some, option_and_then, option_map, slice_get}
+use Rattle.std.proofs.Common.{Global, String, string_bytes, map, ◌≡◌, ◌∙◌, sym, ap, subst, refl, ℕ, Bool, true, false, ◌||◌, ◌&&◌, if◌then◌else◌, List, ◌++◌, take, Option, Some, None, is_some, option_and_then, option_map}
 use Rattle.std.proofs.lemmas.Bool.{false≢true, or_right}
 use Rattle.std.proofs.lemmas.Slice.Eq.{bytes_eq-Decides}
 use Rattle.std.specs.List.{filter_map, flat_map}
-use Rattle.std.specs.Option.{option_copied}
 use Rattle.std.specs.Prelude.{Vec}
 use Rattle.std.specs.Str.{bytes_eq}
 use Rattle.text_parts.specs.Ordered.{among-in_order}
 use Rattle.mk_paths.specs.World.{World, files_in}
 use Rattle.ports_index.specs.Depending.{items_among, target_of}
+use Rattle.ports_index.specs.Efforts.{decided, has_makefile, is_there}
 use Rattle.ports_index.specs.Filling.{is_one_of}
 use Rattle.ports_index.specs.Index.{listed_paths, needed_among, needed_paths}
+use Rattle.ports_index.specs.Known.{needed_with}
 use Rattle.ports_index.specs.Naming.{directories, listed_from, named_at}
 use Rattle.ports_index.specs.Pairs.{pair_at}
-use Rattle.ports_index.specs.PathOutcomes.{PathOutcome, cost_at, outcome_at}
+use Rattle.ports_index.specs.PathOutcomes.{PathOutcome, Absent, Faulty, Port, BadPort, Lists, BadList, FlavoredList, Other, cost_at, outcome_at}
 use Rattle.ports_index.specs.Spending.{SpendsOnPath, no_spending}
 use Rattle.ports_index.specs.declared.spending.Spent.{Spent}
 use Rattle.row_text.specs.Rows.{RowValue}
-use Rattle.ports_index.specs.RowLaws.{HaveRows, KnownRowsAreEnough}
-use Rattle.ports_index.specs.Seen.{Said, entries_in, known_in, said_in}
+use Rattle.ports_index.specs.RowLaws.{KnownRowsAreEnough, SayAll}
+use Rattle.ports_index.specs.Seen.{Said, entries_in, known_in, known_row, said_in}
 use Rattle.ports_index.specs.declared.keeping.MemoryRows.{MemoryRows}
-use Rattle.index_keep.specs.Last.{HasEither, HaveRowsAlone, LeavesNeeded, Recalls, SaysAll, led_to, listed_in}
-use Rattle.index_keep.specs.declared.last_index.LastIndex.{LastIndex}
-use Rattle.index_keep.specs.declared.last_index.LastLists.{LastLists}
+use Rattle.index_keep.specs.Last.{HaveRowsAlone, LeavesFresh, SaysAll, is_fresh_of}
+use Rattle.index_keep.specs.declared.evaluating.FoundPath.{FoundPath}
 use Rattle.index_keep.specs.declared.walking.ListedStage.{ListedStage}
-use Rattle.index_keep.specs.declared.walking.Stage.{Stage}
+use Rattle.index_keep.specs.declared.stage.Stage.{Stage}
 use Rattle.index_keep.specs.declared.walking.LastStage.{LastStage}
 use Rattle.index_keep.specs.Shown.{ShownRow, ShownRows, ShowsSame, fresh, fresh_outcome, fresh_said, said_by, said_if_fresh, said_in_row}
-use Rattle.index_keep.specs.Right.{IsRightRow, AreKept, AreCurrent, right_row, fresh_row, RenewsRow}
+use Rattle.index_keep.specs.Right.{AreCurrent, AreDecided, AreKept, HaveFresh, IsRightRow, RenewsRow, fresh_row, is_evaluated, right_row}
 use Rattle.index_keep.specs.Keeping.{IsReadyFor}
 use Rattle.eval_ask.specs.Asking.{IsShort, MakesInTime}
 use Rattle.index_keep.specs.Paths.{IsMade}
 use Rattle.index_keep.specs.Turns.{Evaluates, refresh_at, spent_in_all}
-use Rattle.index_keep.specs.Walking.{HasFreshOthers, HasRowMore, HasAllRows, IsBelow, IsLacking, IsLackingAt, IsLastStage, IsListed, IsListedStage, IsStage, LacksNone, ListsPaths, NeedsPaths, paths_of}
+use Rattle.index_keep.specs.Walking.{HasPassed, HasRowMore, IsLacking, IsLastStage, IsListedStage, IsStage, LacksNone, LacksRow, ListsPaths, NeedsPaths, paths_of}
 use Rattle.index_keep.specs.declared.evaluating.MadeRow.{MadeRow}
 use Rattle.index_keep.specs.declared.walking.Walk.{Walk}
 use Rattle.row_text.specs.Seen.{row_seen}
+use Rattle.index_keep.proofs.MadeLemmas.{there-found}
 use Rattle.index_keep.proofs.ShownLemmas.{entries-fresh}
 use Rattle.index_keep.proofs.SortLemmas.{one_of-append}
 
@@ -59,10 +60,55 @@ listed-has world = listed-from (outcome_at world) (directories (files_in world))
 pub needed-has : (world : World) (path : List ℕ) → is_one_of path (listed_paths world) ≡ true → is_one_of path (needed_paths world) ≡ true
 needed-has world = needed-among (outcome_at world) (listed_paths world)
 
-pub one_of-at : (paths : List (List ℕ)) (place : ℕ) (path : List ℕ) → slice_get paths place ≡ Some path → is_one_of path paths ≡ true
-one_of-at [] place path is = absurd cc
-one_of-at (first ∷ paths) zero path is = ap (λ b. b || is_one_of path paths) ((bytes_eq-Decides first path).1 cc)
-one_of-at (first ∷ paths) (suc place) path is = or_right (bytes_eq first path) (is_one_of path paths) (one_of-at paths place path is)
+pub needed-has-beside : (world : World) (listed beside : List (List ℕ)) → needed_with listed beside ≡ needed_paths world → (path : List ℕ) → is_one_of path beside ≡ true → is_one_of path (needed_paths world) ≡ true
+needed-has-beside world listed beside needed path is =
+    ap (is_one_of path) (sym needed) ∙ among-in_order (λ one. bytes_eq one path) (listed ++ beside)
+    ∙ one_of-append path listed beside ∙ or_right (is_one_of path listed) (is_one_of path beside) is
+
+-- ---- what is known of paths
+
+-- what isn't there is nothing
+pub absent-of : (outcome : PathOutcome) → is_there outcome ≡ false → outcome ≡ Absent
+absent-of Absent is = refl
+absent-of (Faulty fault) is = absurd cc
+absent-of (Port port) is = absurd cc
+absent-of (BadPort fault) is = absurd cc
+absent-of (Lists words) is = absurd cc
+absent-of (BadList fault) is = absurd cc
+absent-of FlavoredList is = absurd cc
+absent-of Other is = absurd cc
+
+module _ (world : World) (entries : List ℕ → Option PathOutcome) (path : List ℕ) where
+  lacking_by : (there : Bool) → has_makefile world path ≡ there → (if there then entries path else Some Absent) ≡ None → (has_makefile world path ≡ true) × (entries path ≡ None)
+  lacking_by true e is = (e, is)
+  lacking_by false e is = absurd cc
+
+  -- a path of which it isn't known what it leads to has a makefile and no row
+  pub lacking-there : decided world entries path ≡ None → (has_makefile world path ≡ true) × (entries path ≡ None)
+  lacking-there is = lacking_by (has_makefile world path) refl is
+
+  pub lacking-of : has_makefile world path ≡ true → entries path ≡ None → decided world entries path ≡ None
+  lacking-of there none = ap (λ (b : Bool). if b then entries path else Some Absent) there ∙ none
+
+  known_by : (there : Bool) → is_some (entries path) ≡ true → is_some (if there then entries path else Some Absent) ≡ true
+  known_by true some = some
+  known_by false some = refl
+
+  -- it is known of a path with a row, and of a path without a makefile
+  pub decided-known : is_some (entries path) ≡ true → is_some (decided world entries path) ≡ true
+  decided-known some = known_by (has_makefile world path) some
+
+  pub decided-absent : has_makefile world path ≡ false → is_some (decided world entries path) ≡ true
+  decided-absent there = ap (λ (b : Bool). is_some (if b then entries path else Some Absent)) there
+
+  -- a path with a makefile of which it is known has a row
+  pub decided-there : has_makefile world path ≡ true → is_some (decided world entries path) ≡ true → is_some (entries path) ≡ true
+  decided-there there some = ap (λ (b : Bool). is_some (if b then entries path else Some Absent)) (sym there) ∙ some
+
+-- the same rows decide the same
+pub decided-same : (world : World) (one other : List ℕ → Option PathOutcome) → ((path : List ℕ) → one path ≡ other path) → (paths : List (List ℕ)) → AreDecided world one paths → AreDecided world other paths
+decided-same world one other same paths known path is =
+    ap (λ row. is_some (if has_makefile world path then row else Some Absent)) (sym (same path)) ∙ known path is
 
 -- ---- rows that are right
 
@@ -85,28 +131,53 @@ module _ (world : World) (rows : ShownRows) (kept : AreKept world rows) where
   pub outcome-fresh : (path : List ℕ) → is_some (fresh rows path) ≡ true → fresh rows path ≡ Some (outcome_at world path)
   outcome-fresh path some = ap (option_and_then fresh_outcome) (row-fresh path some)
 
-  pub have-fresh : (paths : List (List ℕ)) → ((path : List ℕ) → is_one_of path paths ≡ true → is_some (fresh rows path) ≡ true) → HaveRows world (fresh rows) paths
-  have-fresh paths known path is = outcome-fresh path (known path is)
+  -- its makefile is there
+  pub there-fresh : (path : List ℕ) → is_some (fresh rows path) ≡ true → has_makefile world path ≡ true
+  there-fresh path some = kept.there path (fresh_row world path) (row-fresh path some) refl
 
-  -- the rows of needed paths are left
-  module _ (new : ShownRows) (needed : (path : List ℕ) → is_one_of path (needed_paths world) ≡ true → is_some (fresh rows path) ≡ true)
-      (left : (path : List ℕ) → new path ≡ (if is_one_of path (needed_paths world) then rows path else None)) where
-    current_at : (path : List ℕ) (is : Bool) → is_one_of path (needed_paths world) ≡ is → (if is then rows path else None) ≡ (if is then Some (fresh_row world path) else None)
-    current_at path true is = row-fresh path (needed path is)
-    current_at path false is = refl
+  say_absent : (path : List ℕ) (row : Option PathOutcome) → fresh rows path ≡ row → has_makefile world path ≡ false → known_row row ≡ outcome_at world path
+  say_absent path None is there = sym (absent-of (outcome_at world path) there)
+  say_absent path (Some outcome) is there = absurd (false≢true (sym there ∙ there-fresh path (ap is_some is)))
+
+  say_by : (path : List ℕ) (there : Bool) → has_makefile world path ≡ there → is_some (if there then fresh rows path else Some Absent) ≡ true → known_in (fresh rows) path ≡ outcome_at world path
+  say_by path true e some = ap known_row (outcome-fresh path some)
+  say_by path false e some = say_absent path (fresh rows path) refl e
+
+  -- rows say what the paths lead to of which it is known
+  pub say-all : (paths : List (List ℕ)) → AreDecided world (fresh rows) paths → SayAll world (fresh rows) paths
+  say-all paths known path is = say_by path (has_makefile world path) refl (known path is)
+
+  -- the fresh rows of needed paths are left
+  module _ (new : ShownRows) (known : HaveFresh world rows)
+      (left : (path : List ℕ) → new path ≡ (if is_fresh_of (needed_paths world) rows path then rows path else None)) where
+    current_at : (path : List ℕ) (need some there : Bool) → is_one_of path (needed_paths world) ≡ need → is_some (fresh rows path) ≡ some → has_makefile world path ≡ there
+        → (if need && some then rows path else None) ≡ (if need && there then Some (fresh_row world path) else None)
+    current_at path true true true e f g = row-fresh path f
+    current_at path true true false e f g = absurd (false≢true (sym g ∙ there-fresh path f))
+    current_at path true false true e f g = absurd (false≢true (sym f ∙ decided-there world (fresh rows) path g (known path e)))
+    current_at path true false false e f g = refl
+    current_at path false some there e f g = refl
 
     pub AreCurrent-left : AreCurrent world new
-    AreCurrent-left = record { each = λ path. left path ∙ current_at path (is_one_of path (needed_paths world)) refl }
+    AreCurrent-left = record {
+      each = λ path. left path ∙ current_at path (is_one_of path (needed_paths world)) (is_some (fresh rows path)) (has_makefile world path) refl refl refl;
+    }
 
-    right_left : (path : List ℕ) (row : ShownRow) (is : Bool) → (if is then rows path else None) ≡ Some row → row.stale ≡ false → IsRightRow world path row.row
-    right_left path row true there stale = kept.right path row there stale
-    right_left path row false there stale = absurd cc
+    old_left : (path : List ℕ) (row : ShownRow) (is : Bool) → (if is then rows path else None) ≡ Some row → rows path ≡ Some row
+    old_left path row true there = there
+    old_left path row false there = absurd cc
+
+    was_there : (path : List ℕ) (row : ShownRow) → new path ≡ Some row → rows path ≡ Some row
+    was_there path row is = old_left path row (is_fresh_of (needed_paths world) rows path) (sym (left path) ∙ is)
 
     pub AreKept-left : AreKept world new
-    AreKept-left = record { right = λ path row there stale. right_left path row (is_one_of path (needed_paths world)) (sym (left path) ∙ there) stale }
+    AreKept-left = record {
+      right = λ path row is stale. kept.right path row (was_there path row is) stale;
+      there = λ path row is stale. kept.there path row (was_there path row is) stale;
+    }
 
   -- a path has its row now
-  module _ (path : List ℕ) (right : IsRightRow world path (right_row world path)) (new : ShownRows)
+  module _ (path : List ℕ) (right : IsRightRow world path (right_row world path)) (makefile : has_makefile world path ≡ true) (new : ShownRows)
       (put : (other : List ℕ) → new other ≡ (if bytes_eq path other then Some (fresh_row world path) else rows other)) where
     put_right : (other : List ℕ) (same : Bool) → bytes_eq path other ≡ same → (row : ShownRow) → new other ≡ Some row → row.stale ≡ false → IsRightRow world other row.row
     put_right other true same row e stale =
@@ -115,8 +186,18 @@ module _ (world : World) (rows : ShownRows) (kept : AreKept world rows) where
         subst (λ (one : ShownRow). IsRightRow world other one.row) the_row (subst (λ at. IsRightRow world at (right_row world path)) ((bytes_eq-Decides path other).0 same) right)
     put_right other false same row e stale = kept.right other row (sym (put other ∙ ap (λ (b : Bool). if b then Some (fresh_row world path) else rows other) same) ∙ e) stale
 
+    put_there : (other : List ℕ) (same : Bool) → bytes_eq path other ≡ same → (row : ShownRow) → new other ≡ Some row → row.stale ≡ false → is_there row.row.outcome ≡ true
+    put_there other true same row e stale =
+        let there : new other ≡ Some (fresh_row world path) = put other ∙ ap (λ (b : Bool). if b then Some (fresh_row world path) else rows other) same in
+        let the_row : fresh_row world path ≡ row = cc in
+        subst (λ (one : ShownRow). is_there one.row.outcome ≡ true) the_row makefile
+    put_there other false same row e stale = kept.there other row (sym (put other ∙ ap (λ (b : Bool). if b then Some (fresh_row world path) else rows other) same) ∙ e) stale
+
     pub AreKept-put : AreKept world new
-    AreKept-put = record { right = λ other row e stale. put_right other (bytes_eq path other) refl row e stale }
+    AreKept-put = record {
+      right = λ other row e stale. put_right other (bytes_eq path other) refl row e stale;
+      there = λ other row e stale. put_there other (bytes_eq path other) refl row e stale;
+    }
 
     said_cases : (other : List ℕ) (same : Bool) → option_and_then said_if_fresh (if same then Some (fresh_row world path) else rows other) ≡ (if same then Some (said_by (right_row world path)) else fresh_said rows other)
     said_cases other true = refl
@@ -127,7 +208,7 @@ module _ (world : World) (rows : ShownRows) (kept : AreKept world rows) where
 
   -- ---- one stage after another
 
-  module _ (enough : KnownRowsAreEnough) (before : Stage) (none : LacksNone before)
+  module _ (enough : KnownRowsAreEnough) (before : Stage) (none : LacksNone world before)
       (says : (path : List ℕ) → said_in before.known path ≡ fresh_said rows path) where
     knows : (path : List ℕ) → entries_in before.known path ≡ fresh rows path
     knows = entries-fresh rows before.known says
@@ -135,19 +216,22 @@ module _ (world : World) (rows : ShownRows) (kept : AreKept world rows) where
     same_known : entries_in before.known ≡ fresh rows
     same_known i path = knows path i
 
-    nothing_passed : (paths : List (List ℕ)) (place : ℕ) → place ≡ 0 → (path : List ℕ) → is_one_of path (take place paths) ≡ true → is_some (fresh rows path) ≡ true
-    nothing_passed paths place start path is = absurd (false≢true (sym (ap (λ n. is_one_of path (take n paths)) start) ∙ is))
+    pub all-known : (paths : List (List ℕ)) → paths_of before ≡ paths → AreDecided world (fresh rows) paths
+    all-known paths are = subst (AreDecided world (fresh rows)) are (decided-same world (entries_in before.known) (fresh rows) knows (paths_of before) none)
 
-    all_known : (paths : List (List ℕ)) → paths_of before ≡ paths → (path : List ℕ) → is_one_of path paths ≡ true → is_some (fresh rows path) ≡ true
-    all_known paths are path is = ap is_some (sym (knows path)) ∙ none path (ap (is_one_of path) are ∙ is)
+    paths_after : (listed : ListedStage) → paths_of before ≡ directories (files_in world) → ListsPaths world rows before listed → paths_of listed.stage ≡ listed_paths world
+    paths_after listed are lists =
+        lists.paths ∙ ap (λ known. listed_from (known_in known) (paths_of before)) same_known ∙ ap (listed_from (known_in (fresh rows))) are
+        ∙ enough.listed world (fresh rows) (say-all (directories (files_in world)) (all-known (directories (files_in world)) are))
 
-    pub IsListedStage-after : (listed : ListedStage) → paths_of before ≡ directories (files_in world) → ListsPaths rows before listed → IsListedStage world rows listed
+    pub IsListedStage-after : (listed : ListedStage) → paths_of before ≡ directories (files_in world) → ListsPaths world rows before listed → IsListedStage world rows listed
     IsListedStage-after listed are lists = record {
       stage = record {
-        through = lists.paths ∙ ap (λ known. listed_from (known_in known) (paths_of before)) same_known ∙ ap (listed_from (known_in (fresh rows))) are
-            ∙ enough.listed world (fresh rows) (have-fresh (directories (files_in world)) (all_known (directories (files_in world)) are));
+        through = paths_after listed are lists;
         knows = λ path. lists.known path ∙ says path;
-        passed = nothing_passed (listed_paths world) listed.stage.place lists.place;
+        passed = subst (λ at. AreDecided world (fresh rows) (take listed.stage.place at)) (paths_after listed are lists)
+            (decided-same world (entries_in listed.stage.known) (fresh rows) (entries-fresh rows listed.stage.known (λ path. lists.known path ∙ says path))
+            (take listed.stage.place (paths_of listed.stage)) lists.passed);
       };
       directories = lists.directories ∙ are;
       last = lists.last;
@@ -156,22 +240,25 @@ module _ (world : World) (rows : ShownRows) (kept : AreKept world rows) where
     pub IsStage-needed : (needed : List (List ℕ)) → paths_of before ≡ listed_paths world → needed ≡ needed_among (known_in (entries_in before.known)) (paths_of before) → needed ≡ needed_paths world
     IsStage-needed needed are is =
         is ∙ ap (λ known. needed_among (known_in known) (paths_of before)) same_known ∙ ap (needed_among (known_in (fresh rows))) are
-        ∙ enough.needed world (fresh rows) (have-fresh (listed_paths world) (all_known (listed_paths world) are))
+        ∙ enough.needed world (fresh rows) (say-all (listed_paths world) (all-known (listed_paths world) are))
 
 -- the last stage comes after that of the listed paths
-pub IsLastStage-after : (world : World) (rows : ShownRows) → AreKept world rows → KnownRowsAreEnough → (before : ListedStage) (last : LastStage) → LacksNone before.stage
-    → IsListedStage world rows before → NeedsPaths rows before last → IsLastStage world rows last
+pub IsLastStage-after : (world : World) (rows : ShownRows) → AreKept world rows → KnownRowsAreEnough → (before : ListedStage) (last : LastStage) → LacksNone world before.stage
+    → IsListedStage world rows before → NeedsPaths world rows before last → IsLastStage world rows last
 IsLastStage-after world rows kept enough before last none is needs =
-    let through = IsStage-needed world rows kept enough before.stage none is.stage.knows (paths_of last.stage) is.stage.through needs.paths in
+    let same = IsStage-needed world rows kept enough before.stage none is.stage.knows (needed_with (paths_of before.stage) (paths_of last.stage)) is.stage.through needs.paths in
     record {
       stage = record {
-        through = through;
+        through = refl;
         knows = λ path. needs.known path ∙ is.stage.knows path;
-        passed = λ path one. absurd (false≢true (sym (ap (λ n. is_one_of path (take n (needed_paths world))) needs.place) ∙ one));
+        passed = λ path one. absurd (false≢true (sym (ap (λ n. is_one_of path (take n (paths_of last.stage))) needs.place) ∙ one));
       };
       directories = ap (λ (names : Vec (String Global) Global). map string_bytes names.items) needs.directories ∙ is.directories;
       listed = needs.listed ∙ is.stage.through;
-      alone = needs.alone;
+      needed = ap (λ listed. needed_with listed (paths_of last.stage)) (sym is.stage.through) ∙ same;
+      ordered = needs.ordered;
+      known = all-known world rows kept enough before.stage none is.stage.knows (listed_paths world) is.stage.through;
+      alone = λ are. subst (λ paths. HaveRowsAlone world paths rows) same (needs.alone are);
     }
 
 -- ---- rows that are current
@@ -192,27 +279,36 @@ module _ (world : World) (rows : ShownRows) (current : AreCurrent world rows) wh
   -- none of them is stale
   pub says-current : (known : MemoryRows) → ((path : List ℕ) → said_in known path ≡ fresh_said rows path) → SaysAll rows known
   says-current known says path =
-      says path ∙ ap (option_and_then said_if_fresh) (current.each path) ∙ said_if path (is_one_of path (needed_paths world)) ∙ ap (option_map said_in_row) (sym (current.each path))
+      says path ∙ ap (option_and_then said_if_fresh) (current.each path) ∙ said_if path (is_evaluated world path) ∙ ap (option_map said_in_row) (sym (current.each path))
 
-  -- what says all that they say has a row for each path on which the index depends
-  pub have-said : (known : MemoryRows) → SaysAll rows known → HaveRows world (entries_in known) (needed_paths world)
+  abbrev outcome_of : Option ShownRow → PathOutcome
+  outcome_of row = known_row (option_map (λ (said : Said). said.outcome) (option_map said_in_row row))
+
+  have_by : (path : List ℕ) (there : Bool) → has_makefile world path ≡ there → outcome_of (if there then Some (fresh_row world path) else None) ≡ outcome_at world path
+  have_by path true e = refl
+  have_by path false e = sym (absent-of (outcome_at world path) e)
+
+  -- what says all that they say says what each path leads to on which the index depends
+  pub have-said : (known : MemoryRows) → SaysAll rows known → SayAll world (entries_in known) (needed_paths world)
   have-said known says path is =
-      ap (option_map (λ (said : Said). said.outcome)) (says path ∙ ap (option_map said_in_row) (current.each path ∙ ap (λ (b : Bool). if b then Some (fresh_row world path) else None) is))
+      ap (λ said. known_row (option_map (λ (said : Said). said.outcome) said)) (says path)
+      ∙ ap outcome_of (current.each path ∙ ap (λ (b : Bool). if b && has_makefile world path then Some (fresh_row world path) else None) is)
+      ∙ have_by path (has_makefile world path) refl
 
--- ---- rows of which those are left that are needed
+-- ---- rows of which the fresh ones are left that are needed
 
-module _ (old new : ShownRows) (known left : MemoryRows) (needed : List (List ℕ)) (others : Vec (String Global) Global) (leaves : LeavesNeeded needed old new others)
+module _ (old new : ShownRows) (known left : MemoryRows) (needed : List (List ℕ)) (others : Vec (String Global) Global) (leaves : LeavesFresh needed old new others)
     (says : (path : List ℕ) → said_in known path ≡ fresh_said old path)
     (keeps : (path : List ℕ) → said_in left path ≡ (if is_one_of path (map string_bytes others.items) then None else said_in known path)) where
   nothing_there : (row : Option ShownRow) → is_some row ≡ false → option_and_then said_if_fresh row ≡ None
   nothing_there None is = refl
   nothing_there (Some row) is = absurd (false≢true (sym is))
 
-  not_there : (path : List ℕ) → is_one_of path needed ≡ false → is_one_of path (map string_bytes others.items) ≡ false → (there : Bool) → is_some (old path) ≡ there → fresh_said old path ≡ None
+  not_there : (path : List ℕ) → is_fresh_of needed old path ≡ false → is_one_of path (map string_bytes others.items) ≡ false → (there : Bool) → is_some (old path) ≡ there → fresh_said old path ≡ None
   not_there path apart other true is = absurd (false≢true (sym other ∙ leaves.all path apart is))
   not_there path apart other false is = nothing_there (old path) is
 
-  left_by : (path : List ℕ) (need other : Bool) → is_one_of path needed ≡ need → is_one_of path (map string_bytes others.items) ≡ other
+  left_by : (path : List ℕ) (need other : Bool) → is_fresh_of needed old path ≡ need → is_one_of path (map string_bytes others.items) ≡ other
       → (if other then None else said_in known path) ≡ option_and_then said_if_fresh (if need then old path else None)
   left_by path true true e f = absurd (false≢true (sym (leaves.apart path e) ∙ f))
   left_by path true false e f = says path
@@ -221,76 +317,65 @@ module _ (old new : ShownRows) (known left : MemoryRows) (needed : List (List �
 
   pub said-left : (path : List ℕ) → said_in left path ≡ fresh_said new path
   said-left path =
-      keeps path ∙ left_by path (is_one_of path needed) (is_one_of path (map string_bytes others.items)) refl refl
+      keeps path ∙ left_by path (is_fresh_of needed old path) (is_one_of path (map string_bytes others.items)) refl refl
       ∙ sym (ap (option_and_then said_if_fresh) (leaves.left path))
 
 -- ---- the next path of a stage
 
-module _ (rows : ShownRows) (paths : List (List ℕ)) (stage : Stage) (is : IsStage rows paths stage) where
-  module _ (place : ℕ) (found : IsLackingAt stage place) where
-    -- a stage that has come to it
-    pub stage-at : (more : Stage) → more ≡ record stage { place = place } → IsStage rows paths more
-    stage-at more same = subst (IsStage rows paths) (sym same) (record {
-      through = is.through;
-      knows = is.knows;
-      passed = λ path one. ap is_some (sym (entries-fresh rows stage.known is.knows path)) ∙ found.passed path (ap (λ at. is_one_of path (take place at)) is.through ∙ one);
-    })
+module _ (world : World) (rows : ShownRows) (paths : List (List ℕ)) (stage : Stage) (is : IsStage world rows paths stage) where
+  -- what a stage has passed by its own rows
+  pub passed-known : HasPassed world stage stage.place
+  passed-known =
+      decided-same world (fresh rows) (entries_in stage.known) (λ path. sym (entries-fresh rows stage.known is.knows path)) (take stage.place (paths_of stage))
+      (subst (λ at. AreDecided world (fresh rows) (take stage.place at)) (sym is.through) is.passed)
 
-    pub lacking-at : (world : World) → ((path : List ℕ) → is_one_of path paths ≡ true → is_one_of path (needed_paths world) ≡ true)
-        → (path : List ℕ) → slice_get (paths_of stage) place ≡ Some path → IsLacking world rows path
-    lacking-at world needed path at = record {
-      needed = needed path (ap (is_one_of path) (sym is.through) ∙ one_of-at (paths_of stage) place path at);
-      lacking = sym (entries-fresh rows stage.known is.knows path) ∙ found.lacking path at;
-    }
+  -- a stage that has come to a place
+  pub stage-at : (place : ℕ) → HasPassed world stage place → (more : Stage) → more ≡ record stage { place = place } → IsStage world rows paths more
+  stage-at place passed more same = subst (IsStage world rows paths) (sym same) (record {
+    through = is.through;
+    knows = is.knows;
+    passed = subst (λ at. AreDecided world (fresh rows) (take place at)) is.through
+        (decided-same world (entries_in stage.known) (fresh rows) (entries-fresh rows stage.known is.knows) (take place (paths_of stage)) passed);
+  })
 
--- ---- the paths of a stage, if the index of before may be kept
+  pub lacking-at : ((path : List ℕ) → is_one_of path paths ≡ true → is_one_of path (needed_paths world) ≡ true)
+      → (found : FoundPath) → LacksRow world stage found → IsLacking world rows (string_bytes found.path)
+  lacking-at needed found lacks =
+      let path = string_bytes found.path in
+      record {
+        needed = needed path (ap (is_one_of path) (sym is.through) ∙ lacks.among);
+        lacking = lacking-of world (fresh rows) path (there-found world found lacks.found) (sym (entries-fresh rows stage.known is.knows path) ∙ lacks.lacking);
+      }
 
-listed_others : (rows : ShownRows) (stage : Stage) (listed : List (List ℕ)) (last : LastIndex) → Recalls rows stage.known listed last
-    → (path : List ℕ) → is_one_of path listed ≡ true → HasEither stage.known last.outdated path
-listed_others rows stage listed last recalls path is =
-    recalls.others path (ap (is_one_of path) recalls.needed ∙ needed-among (led_to stage.known last.outdated) listed path is)
+-- ---- the last stage
 
-pub either-at : {X : Type 0} (stage : Stage) (rows_of : X → MemoryRows) (outdated : Option X) (path : List ℕ) → is_one_of path (paths_of stage) ≡ true
-    → IfSome outdated (λ one. HasFreshOthers stage (rows_of one)) → IfSome outdated (λ one. HasEither stage.known (rows_of one) path)
-either-at stage rows_of None path is others = tt
-either-at stage rows_of (Some outdated) path is others = others path is
+module _ (world : World) (rows : ShownRows) (last : LastStage) (is : IsLastStage world rows last) where
+  -- it has come to a place
+  pub last-at : (place : ℕ) → HasPassed world last.stage place → (more : Stage) → more ≡ record last.stage { place = place } → IsLastStage world rows (record last { stage = more })
+  last-at place passed more same =
+      let come : Stage = record last.stage { place = place } in
+      subst (λ (s : Stage). IsLastStage world rows (record last { stage = s })) (sym same) (record {
+        stage = stage-at world rows (paths_of last.stage) last.stage is.stage place passed come refl;
+        directories = is.directories;
+        listed = is.listed;
+        needed = is.needed;
+        ordered = is.ordered;
+        known = is.known;
+        alone = is.alone;
+      })
 
--- what holds of rows holds of them as they are lent
-pub lent-of : (P : MemoryRows → Type 0) (lent : Option (Bor MemoryRows)) (rows : Option MemoryRows) → option_copied lent ≡ rows → IfSome rows P
-    → IfSome lent (λ (one : Bor MemoryRows). P one.now)
-lent-of P lent rows same is = of_copied lent (subst (λ (found : Option MemoryRows). IfSome found P) (sym same) is)
-  where
-    of_copied : (found : Option (Bor MemoryRows)) → IfSome (option_copied found) P → IfSome found (λ (one : Bor MemoryRows). P one.now)
-    of_copied None holds = tt
-    of_copied (Some one) holds = holds
+  fresh_by : LacksNone world last.stage → (path : List ℕ) (listed : Bool) → is_one_of path (listed_paths world) ≡ listed → (listed || is_one_of path (paths_of last.stage)) ≡ true
+      → is_some (decided world (fresh rows) path) ≡ true
+  fresh_by none path true e one = is.known path e
+  fresh_by none path false e one =
+      decided-same world (entries_in last.stage.known) (fresh rows) (entries-fresh rows last.stage.known is.stage.knows) (paths_of last.stage) none path one
 
-module _ (rows : ShownRows) (stage : Stage) where
-  pub below-others : (lists : Option LastLists) → IfSome lists (IsBelow rows stage) → IfSome (option_map (λ (one : LastLists). one.last.outdated) lists) (HasFreshOthers stage)
-  below-others None is = tt
-  below-others (Some lists) is = λ path one. listed_others rows stage (listed_in lists) lists.last is.last path
-      (ap (is_one_of path) is.listed ∙ listed-from (led_to stage.known lists.last.outdated) (paths_of stage) path one)
-
-  pub listed-others : (last : Option LastIndex) → IfSome last (IsListed rows stage) → IfSome (option_map (λ (one : LastIndex). one.outdated) last) (HasFreshOthers stage)
-  listed-others None is = tt
-  listed-others (Some last) is = λ path one. listed_others rows stage (paths_of stage) last is path one
-
-  pub alone-others : (outdated : Option MemoryRows) → IfSome outdated (HasAllRows rows stage) → IfSome outdated (HasFreshOthers stage)
-  alone-others None is = tt
-  alone-others (Some outdated) is = is.1
-
-  pub alone-rows : (outdated : Option MemoryRows) → IfSome outdated (HasAllRows rows stage) → is_some outdated ≡ true → HaveRowsAlone (paths_of stage) rows
-  alone-rows None is some = absurd (false≢true some)
-  alone-rows (Some outdated) is some = is.0
-
--- at the end of the last stage, the rows of its paths are left
-pub leaves-last : (world : World) (old new : ShownRows) (last : LastStage) (needed : List (String Global)) (others : Vec (String Global) Global) (are_alone : Bool)
-    → needed ≡ last.stage.paths.items → are_alone ≡ is_some last.outdated → IsLastStage world old last
-    → ((are_alone ≡ true → HaveRowsAlone (map string_bytes needed) old) → LeavesNeeded (map string_bytes needed) old new others)
-    → LeavesNeeded (needed_paths world) old new others
-leaves-last world old new last needed others are_alone same alone is leaves =
-    subst (λ paths. LeavesNeeded paths old new others) (ap (map string_bytes) same ∙ is.stage.through)
-    (leaves (λ are. subst (λ paths. HaveRowsAlone paths old) (sym (ap (map string_bytes) same))
-    (alone-rows old last.stage last.outdated is.alone (sym alone ∙ are))))
+  -- at its end, each needed path with a makefile has a fresh row
+  pub last-fresh : LacksNone world last.stage → HaveFresh world rows
+  last-fresh none path one =
+      fresh_by none path (is_one_of path (listed_paths world)) refl
+      (sym (one_of-append path (listed_paths world) (paths_of last.stage))
+      ∙ sym (among-in_order (λ one. bytes_eq one path) (listed_paths world ++ paths_of last.stage)) ∙ ap (is_one_of path) is.needed ∙ one)
 
 -- ---- the row of a path is made, and written
 
@@ -304,8 +389,11 @@ module _ (world : World) (old new : ShownRows) (walk : Walk) (path : List ℕ) (
   itself : IsRightRow world path (right_row world path)
   itself = record { same = refl; answered = is.row.answered }
 
+  makefile : has_makefile world path ≡ true
+  makefile = (lacking-there world (fresh old) path ready.lacking.lacking).0
+
   pub kept-made : AreKept world new
-  kept-made = AreKept-put world old ready.kept path itself new put_fresh
+  kept-made = AreKept-put world old ready.kept path itself makefile new put_fresh
 
   there_by : (other : List ℕ) (same : Bool) → is_some (if same then Some (fresh_row world path) else old other) ≡ (same || is_some (old other))
   there_by other true = refl
@@ -314,7 +402,7 @@ module _ (world : World) (old new : ShownRows) (walk : Walk) (path : List ℕ) (
   pub more-made : HasRowMore world (string_bytes made.path) (said_by (row_seen made.row)) old new
   more-made = record {
     lacking = subst (IsLacking world old) (sym is.at) ready.lacking;
-    says = λ other. said-put world old ready.kept path itself new put_fresh other
+    says = λ other. said-put world old ready.kept path itself makefile new put_fresh other
         ∙ ap (λ (r : RowValue). if bytes_eq path other then Some (said_by r) else fresh_said old other) (sym is.row.same)
         ∙ ap (λ at. if bytes_eq at other then Some (said_by (row_seen made.row)) else fresh_said old other) (sym is.at);
     there = λ other. ap is_some (put_fresh other) ∙ there_by other (bytes_eq path other) ∙ ap (λ at. bytes_eq at other || is_some (old other)) (sym is.at);

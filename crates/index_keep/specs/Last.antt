@@ -1,38 +1,34 @@
 -- The index that was at hand before files changed.
 use Rattle.std.specs.Global.{Global}
-use Rattle.std.specs.Prelude.{◌≡◌, ℕ, Bool, true, false, if◌then◌else◌, List, map, Some, None, is_some, option_map}
+use Rattle.std.specs.Prelude.{◌≡◌, ◌&&◌, ℕ, Bool, true, false, if◌then◌else◌, List, map, Some, None, is_some, option_map}
 use Rattle.std.specs.Prelude.{string_bytes, String, Vec}
 use Rattle.std.specs.Option.{option_or}
-use Rattle.mk_paths.specs.World.{FileMap}
+use Rattle.mk_paths.specs.World.{FileMap, World}
 use Rattle.ports_index.specs.Alike.{NameAlike}
+use Rattle.ports_index.specs.Efforts.{has_makefile}
 use Rattle.ports_index.specs.Filling.{is_one_of}
 use Rattle.ports_index.specs.Index.{needed_among}
-use Rattle.ports_index.specs.Known.{FollowFrom}
+use Rattle.ports_index.specs.Known.{FollowFrom, needed_in, needed_with}
 use Rattle.ports_index.specs.Makefiles.{WereDirectories}
-use Rattle.ports_index.specs.Naming.{listed_from}
+use Rattle.ports_index.specs.Naming.{AreInOrder, listed_from}
 use Rattle.ports_index.specs.PathOutcomes.{PathOutcome}
 use Rattle.ports_index.specs.Seen.{entries_in, known_in, known_row, said_in}
 use Rattle.ports_index.specs.declared.keeping.MemoryRows.{MemoryRows}
-use Rattle.ports_index.specs.declared.known_index.IndexPaths.{IndexPaths}
 use Rattle.ports_index.specs.declared.known_index.KnownIndex.{KnownIndex}
 use Rattle.index_keep.specs.declared.last_index.LastIndex.{LastIndex}
 use Rattle.index_keep.specs.declared.last_index.LastLists.{LastLists}
-use Rattle.index_keep.specs.Shown.{ShownRow, ShownRows, asked_one, said_in_row}
+use Rattle.index_keep.specs.Shown.{ShownRow, ShownRows, asked_one, fresh, said_in_row}
 
 -- rows in memory say what the rows that are shown say, stale ones too
 abbrev pub SaysAll : ShownRows → MemoryRows → Type 0
 SaysAll rows known = (path : List ℕ) → said_in known path ≡ option_map said_in_row (rows path)
 
--- the needed paths of an index
-abbrev pub needed_in : IndexPaths → List (List ℕ)
-needed_in paths = map string_bytes paths.needed.items
-
 -- After the names that pass this test have changed, it is the index of before. It says what the rows say, its lists
--- follow from that, each of its needed paths has a row, and no row is stale but those that asked for such a name.
+-- follow from that, no path has a row but its needed ones, and no row is stale but those that asked for such a name.
 pub record IsLast (test : List ℕ → Bool) (rows : ShownRows) (index : KnownIndex) : Type 0 where
   pub says : SaysAll rows index.rows
   pub lists : FollowFrom (known_in (entries_in index.rows)) index.paths
-  pub paths : (path : List ℕ) → is_some (rows path) ≡ is_one_of path (needed_in index.paths)
+  pub paths : (path : List ℕ) → is_some (rows path) ≡ true → is_one_of path (needed_in index.paths) ≡ true
   pub stale : (path : List ℕ) (row : ShownRow) → rows path ≡ Some row → row.stale ≡ asked_one test row.row
 
 -- the same, and its directories were those of the files
@@ -44,38 +40,33 @@ pub record IsLastOf (test : List ℕ → Bool) (files : FileMap) (rows : ShownRo
 abbrev pub led_to : MemoryRows → MemoryRows → List ℕ → PathOutcome
 led_to known outdated path = known_row (option_or (entries_in known path) (entries_in outdated path))
 
--- no path has a row but these
-abbrev pub HaveRowsAlone : List (List ℕ) → ShownRows → Type 0
-HaveRowsAlone paths rows = (path : List ℕ) → is_some (rows path) ≡ true → is_one_of path paths ≡ true
+-- no path has a row but these, and whichever of these has one has a makefile
+abbrev pub HaveRowsAlone : World → List (List ℕ) → ShownRows → Type 0
+HaveRowsAlone world paths rows =
+    (path : List ℕ) → is_some (rows path) ≡ true → (is_one_of path paths ≡ true) × (has_makefile world path ≡ true)
 
--- a path that has no outdated row has a fresh one
-abbrev pub HasEither : MemoryRows → MemoryRows → List ℕ → Type 0
-HasEither known outdated path = entries_in outdated path ≡ None → is_some (entries_in known path) ≡ true
-
--- each of these paths does
-abbrev pub HaveEither : List (List ℕ) → MemoryRows → MemoryRows → Type 0
-HaveEither paths known outdated = (path : List ℕ) → is_one_of path paths ≡ true → HasEither known outdated path
-
--- the needed paths of the index of before
-abbrev pub needed_of : LastIndex → List (List ℕ)
-needed_of last = map string_bytes last.needed.items
+-- the needed paths of the index of before, whose listed paths are these
+abbrev pub needed_of : List (List ℕ) → LastIndex → List (List ℕ)
+needed_of listed last = needed_with listed (map string_bytes last.beside.items)
 
 -- A refresh knows these fresh rows, and the index of before may be kept, whose listed paths are these: its needed paths
--- follow from them, by these rows and the outdated ones; no path has a row but its needed ones, and each of these has one.
-pub record Recalls (rows : ShownRows) (known : MemoryRows) (listed : List (List ℕ)) (last : LastIndex) : Type 0 where
-  pub needed : needed_of last ≡ needed_among (led_to known last.outdated) listed
-  pub alone : HaveRowsAlone (needed_of last) rows
-  pub outdated : (path : List ℕ) → is_some (entries_in last.outdated path) ≡ true → is_one_of path (needed_of last) ≡ true
-  pub others : HaveEither (needed_of last) known last.outdated
+-- follow from them, by these rows and the outdated ones; no path has a row but those of its needed ones that have a
+-- makefile, and the paths of outdated rows have one.
+pub record Recalls (world : World) (rows : ShownRows) (known : MemoryRows) (listed : List (List ℕ)) (last : LastIndex) : Type 0 where
+  pub needed : needed_of listed last ≡ needed_among (led_to known last.outdated) listed
+  pub ordered : AreInOrder (map string_bytes last.beside.items)
+  pub alone : HaveRowsAlone world (needed_of listed last) rows
+  pub outdated : (path : List ℕ) → is_some (entries_in last.outdated path) ≡ true → is_some (rows path) ≡ true
 
 -- the listed paths of the index of before
 abbrev pub listed_in : LastLists → List (List ℕ)
 listed_in lists = map string_bytes lists.listed.items
 
 -- the same, and its listed paths follow from these directories
-pub record RecallsLists (rows : ShownRows) (known : MemoryRows) (directories : List (List ℕ)) (lists : LastLists) : Type 0 where
+pub record RecallsLists (world : World) (rows : ShownRows) (known : MemoryRows)
+    (directories : List (List ℕ)) (lists : LastLists) : Type 0 where
   pub listed : listed_in lists ≡ listed_from (led_to known lists.last.outdated) directories
-  pub last : Recalls rows known (listed_in lists) lists.last
+  pub last : Recalls world rows known (listed_in lists) lists.last
 
 -- the path has an outdated row, which names the same paths as this one
 pub record NamesAsBefore (path : List ℕ) (row : PathOutcome) (last : LastIndex) : Type 0 where
@@ -87,8 +78,12 @@ pub record NamesAsBefore (path : List ℕ) (row : PathOutcome) (last : LastIndex
 abbrev pub is_one_in : List ℕ → Vec (String Global) Global → Bool
 is_one_in path paths = is_one_of path (map string_bytes paths.items)
 
--- The rows of these paths are left. The others are those that had rows and aren't needed.
-pub record LeavesNeeded (needed : List (List ℕ)) (old new : ShownRows) (others : Vec (String Global) Global) : Type 0 where
-  pub left : (path : List ℕ) → new path ≡ (if is_one_of path needed then old path else None)
-  pub apart : (path : List ℕ) → is_one_of path needed ≡ true → is_one_in path others ≡ false
-  pub all : (path : List ℕ) → is_one_of path needed ≡ false → is_some (old path) ≡ true → is_one_in path others ≡ true
+-- it is one of these paths, and has a fresh row
+abbrev pub is_fresh_of : List (List ℕ) → ShownRows → List ℕ → Bool
+is_fresh_of needed rows path = is_one_of path needed && is_some (fresh rows path)
+
+-- The fresh rows of these paths are left. The others are the paths of all other rows.
+pub record LeavesFresh (needed : List (List ℕ)) (old new : ShownRows) (others : Vec (String Global) Global) : Type 0 where
+  pub left : (path : List ℕ) → new path ≡ (if is_fresh_of needed old path then old path else None)
+  pub apart : (path : List ℕ) → is_fresh_of needed old path ≡ true → is_one_in path others ≡ false
+  pub all : (path : List ℕ) → is_fresh_of needed old path ≡ false → is_some (old path) ≡ true → is_one_in path others ≡ true

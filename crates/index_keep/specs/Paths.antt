@@ -6,12 +6,13 @@ use Rattle.mk_eval.specs.Meaning.{means}
 use Rattle.mk_eval.specs.Sharing.{Agrees, questions_of}
 use Rattle.eval_cache.specs.Keys.{key_for}
 use Rattle.pkg_path.specs.Paths.{path_if_one}
+use Rattle.ports_index.specs.Efforts.{has_makefile}
 use Rattle.ports_index.specs.Pairs.{Pair, pair_at}
-use Rattle.ports_index.specs.PathOutcomes.{cost_at, finding_at, finding_of_evaluation, nothing_found, own_directory}
+use Rattle.ports_index.specs.PathOutcomes.{cost_at, finding_at, finding_of_evaluation, own_directory}
 use Rattle.ports_index.specs.PathQuestions.{questions_at}
 use Rattle.ports_index.specs.Spending.{SpendsOnPath}
 use Rattle.ports_index.specs.declared.spending.Spent.{Spent}
-use Rattle.row_text.specs.Rows.{RowValue, make_row}
+use Rattle.row_text.specs.Rows.{RowValue}
 use Rattle.row_text.specs.Seen.{row_seen}
 use Rattle.eval_ask.specs.Asking.{EvaluatesInTime, HasComeTo, IsShort, IsUpBy, IsUpFrom, MakesInTime, spent_in}
 use Rattle.index_keep.specs.Right.{IsRightRow, row_with}
@@ -39,10 +40,6 @@ IsNamed path None = (bytes_eq path own_directory ≡ false) × (path_if_one path
 IsNamed path (Some Own) = bytes_eq path own_directory ≡ true
 IsNamed path (Some (OfPath found)) = (bytes_eq path own_directory ≡ false) × (path_if_one path ≡ Some found)
 
--- the row of a path without a makefile, for which files of these names were asked for
-abbrev pub absent_row : List (List ℕ) → RowValue
-absent_row names = make_row nothing_found.outcome 0 names
-
 -- The makefile of a path was found in a world, with the questions that were asked for that. What the path leads to, and
 -- on which questions that depends, follows from the makefile's evaluation.
 pub record IsFoundAt (world : World) (found : FoundPath) : Type 0 where
@@ -53,6 +50,11 @@ pub record IsFoundAt (world : World) (found : FoundPath) : Type 0 where
   pub pair : ◌≡◌ {A = Option Pair} (pair_at world (string_bytes found.path))
       (Some (record { makefile = found.makefile; flavors = flavors_of found.named }))
   pub answered : Agrees (files_in world) found.placed
+
+-- what a path leads to: to this makefile, or to none
+abbrev pub IsFoundOf : World → List ℕ → Option FoundPath → Type 0
+IsFoundOf world path (Some found) = (string_bytes found.path ≡ path) × IsFoundAt world found
+IsFoundOf world path None = has_makefile world path ≡ false
 
 -- the row that is made of an evaluation which was asked for
 abbrev pub row_made : FoundPath → Asked → RowValue

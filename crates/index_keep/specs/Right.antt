@@ -1,15 +1,16 @@
 -- When the rows of an index are right.
-use Rattle.std.specs.Prelude.{◌≡◌, ◌⊎◌, ℕ, if◌then◌else◌, true, false, List, map, Option, Some, None, is_some}
+use Rattle.std.specs.Prelude.{◌≡◌, ◌⊎◌, ◌&&◌, ℕ, if◌then◌else◌, Bool, true, false, List, map, Option, Some, None, is_some}
 use Rattle.std.specs.FinMap.{get}
 use Rattle.std.specs.Str.{bytes_eq}
 use Rattle.mk_paths.specs.World.{World, FileMap, files_in}
 use Rattle.mk_paths.specs.FilesView.{Question, FilesView, failed}
 use Rattle.mk_paths.specs.declared.asking.FilesFault.{FilesFault}
 use Rattle.mk_eval.specs.Sharing.{Agrees}
+use Rattle.ports_index.specs.Efforts.{decided, has_makefile, is_there}
 use Rattle.ports_index.specs.Filling.{is_one_of}
 use Rattle.ports_index.specs.Index.{needed_paths}
 use Rattle.ports_index.specs.Keeping.{Keeps}
-use Rattle.ports_index.specs.PathOutcomes.{Finding, finding_at}
+use Rattle.ports_index.specs.PathOutcomes.{Finding, PathOutcome, finding_at}
 use Rattle.ports_index.specs.PathQuestions.{questions_at}
 use Rattle.ports_index.specs.Spending.{SpendsOnPath}
 use Rattle.ports_index.specs.declared.spending.Spent.{Spent}
@@ -37,33 +38,42 @@ pub record IsRowOf (files : FileMap) (found : Finding) (questions : List Questio
 abbrev pub IsRightRow : World → List ℕ → RowValue → Type 0
 IsRightRow world path row = IsRowOf (files_in world) (finding_at world path) (questions_at world path) row
 
--- each row that isn't stale is right
+-- each row that isn't stale is right, and is that of a makefile
 pub record AreKept (world : World) (rows : ShownRows) : Type 0 where
   pub right : (path : List ℕ) (row : ShownRow) → rows path ≡ Some row → row.stale ≡ false → IsRightRow world path row.row
+  pub there : (path : List ℕ) (row : ShownRow) → rows path ≡ Some row → row.stale ≡ false → is_there row.row.outcome ≡ true
 
 -- the row of a path in a world, not stale
 abbrev pub fresh_row : World → List ℕ → ShownRow
 fresh_row world path = record { row = right_row world path; stale = false }
 
--- each path on which the index depends has its row, none is stale, and no other path has a row
-pub record AreCurrent (world : World) (rows : ShownRows) : Type 0 where
-  pub each : (path : List ℕ) → rows path ≡ (if is_one_of path (needed_paths world) then Some (fresh_row world path) else None)
+-- the index depends on the path, whose makefile is there
+abbrev pub is_evaluated : World → List ℕ → Bool
+is_evaluated world path = is_one_of path (needed_paths world) && has_makefile world path
 
--- each path on which the index depends has a row that isn't stale
+-- each path with a makefile on which the index depends has its row, none is stale, and no other path has a row
+pub record AreCurrent (world : World) (rows : ShownRows) : Type 0 where
+  pub each : (path : List ℕ) → rows path ≡ (if is_evaluated world path then Some (fresh_row world path) else None)
+
+-- it is known of each of these paths what it leads to, by its row, or since it has no makefile
+abbrev pub AreDecided : World → (List ℕ → Option PathOutcome) → List (List ℕ) → Type 0
+AreDecided world entries paths = (path : List ℕ) → is_one_of path paths ≡ true → is_some (decided world entries path) ≡ true
+
+-- each path with a makefile on which the index depends has a row that isn't stale
 abbrev pub HaveFresh : World → ShownRows → Type 0
-HaveFresh world rows = (path : List ℕ) → is_one_of path (needed_paths world) ≡ true → is_some (fresh rows path) ≡ true
+HaveFresh world rows = AreDecided world (fresh rows) (needed_paths world)
 
 -- Two worlds with the same settings, in which each file but the one of this name is the same.
 pub record DifferAt (name : List ℕ) (world other : World) : Type 0 where
   pub settings : other.1 ≡ world.1
   pub files : (file : List ℕ) → bytes_eq name file ≡ false → get (files_in other) file ≡ get (files_in world) file
 
--- One of these paths had no row, or a stale one. Now it has its row, and so much was spent on that. All other rows
--- are as they were.
+-- One of these paths, whose makefile is there, had no row, or a stale one. Now it has its row, and so much was spent on
+-- that. All other rows are as they were.
 pub record RenewsOneOf (world : World) (paths : List (List ℕ)) (old new : ShownRows) (spending : Spent) : Type 0 where
   pub path : List ℕ
   pub needed : is_one_of path paths ≡ true
-  pub lacking : fresh old path ≡ None
+  pub lacking : decided world (fresh old) path ≡ None
   pub spent : SpendsOnPath world path spending
   pub rows : (other : List ℕ) → new other ≡ (if bytes_eq path other then Some (fresh_row world path) else old other)
 

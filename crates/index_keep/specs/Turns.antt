@@ -4,7 +4,7 @@ use Rattle.std.specs.List.{sum_by}
 use Rattle.mk_base.specs.declared.metering.TheConstants.{UNITS}
 use Rattle.turn_amounts.specs.declared.TheConstants.{MOST_CHECKS}
 use Rattle.mk_paths.specs.World.{World}
-use Rattle.ports_index.specs.Efforts.{cost_over, evaluations_over, lacking}
+use Rattle.ports_index.specs.Efforts.{cost_over, decided, evaluations_over, lacking}
 use Rattle.ports_index.specs.Filling.{is_one_of}
 use Rattle.ports_index.specs.Index.{needed_paths}
 use Rattle.ports_index.specs.Pairs.{pair_at}
@@ -32,9 +32,9 @@ abbrev pub RenewsOne : World → RefreshView → RefreshView → Spent → Type 
 RenewsOne world old new spent =
     RenewsRow world old.rows new.rows (spent_in_all old.begun spent) × (new.begun ≡ no_spending)
 
--- the paths that are left to be evaluated: those on which the index depends, and which have no fresh row
+-- the paths that are left to be evaluated: those with a makefile on which the index depends, and which have no fresh row
 abbrev pub paths_left : World → ShownRows → List (List ℕ)
-paths_left world rows = lacking (fresh rows) (needed_paths world)
+paths_left world rows = lacking (decided world (fresh rows)) (needed_paths world)
 
 -- how many these are
 abbrev pub count_left : World → ShownRows → ℕ
@@ -107,10 +107,11 @@ abbrev pub PaysAll : World → RefreshView → RefreshView → Spent → Type 0
 PaysAll world old new spent =
     units_left world old ≤ (units_left world new + spent.units) + (units_saved old.begun.checks + units_saved spent.checks)
 
--- a path on which the index depends, and which had a fresh row, has one still
+-- each path on which the index depends, and which had a fresh row or no makefile, has so still
 abbrev pub StayFresh : World → ShownRows → ShownRows → Type 0
 StayFresh world old new =
-    (path : List ℕ) → is_one_of path (needed_paths world) ≡ true → is_some (fresh old path) ≡ true → is_some (fresh new path) ≡ true
+    (path : List ℕ) → is_one_of path (needed_paths world) ≡ true
+    → is_some (decided world (fresh old) path) ≡ true → is_some (decided world (fresh new) path) ≡ true
 
 -- a turn that failed: all rows are as they were, and nothing is under way
 pub record DropsTurn (old new : RefreshView) : Type 0 where

@@ -4,12 +4,15 @@ ghost use Rattle.std.specs.Prelude.{option_map, string_bytes, IfOk, OnOk, OnErr,
 ghost use Rattle.std.specs.BTreeSet.{contains_text};
 ghost use Rattle.std.specs.Str.{bytes_eq};
 ghost use Rattle.ports_index.specs.Filling.{is_one_of};
-ghost use Rattle.ports_index.specs.Seen.{known_seen, said_in};
+ghost use Rattle.ports_index.specs.Seen.{has_asked_for, known_seen, names_in, said_in};
 ghost use Rattle.index_store.specs.Entries.{Entries, SameRows, AreRowsOf, stored_seen, value_in};
 ghost use Rattle.index_store.specs.Entries.{SameProfiles};
 ghost use Rattle.row_text.specs.Seen.{row_seen};
-ghost use Rattle.index_keep.specs.Shown.{shown, no_name, ShowsSame, asked_one, fresh_said, said_by};
+ghost use Rattle.index_keep.specs.Shown.{ShownRows, shown, no_name, ShowsSame, fresh_said, said_by};
 ghost use Rattle.index_keep.specs.Last.{IsLast, RecallsLists};
+ghost use Rattle.index_keep.specs.Right.{AreKept};
+ghost use Rattle.index_keep.specs.Walking.{HaveMakefiles};
+ghost use Rattle.mk_paths.specs.World.{World};
 ghost use Rattle.index_keep.specs.Judging as judging;
 
 use crate::last_index::{LastIndex, LastLists};
@@ -51,52 +54,57 @@ pub(crate) fn begin<R: PathRows>(
     Ok(known)
 }
 
-/// The rows that are fresh as a refresh begins over the index of before, and what is kept of that.
+/// What a refresh begins with over the index of before.
+#[derive(Drop)]
 pub(crate) struct Begun {
+    /// The rows that are fresh.
     pub(crate) known: MemoryRows,
+    /// The directories of that index.
     pub(crate) directories: Vec<String>,
+    /// Its other lists, and its outdated rows.
     pub(crate) lists: LastLists,
+    /// The paths of the outdated rows.
+    pub(crate) outdated: Vec<String>,
 }
 
-/// The same, by what all rows said before these files changed.
-pub(crate) fn begin_over<R: PathRows>(
+/// What a refresh begins with by what all rows said before files of these names changed. It fails only if memory runs
+/// out.
+pub(crate) fn begin_over(
     alloc: Global,
-    rows: &mut R,
     last: KnownIndex,
     changed: &BTreeSet<String>,
-) -> Result<Begun, FilesFault>
-    requires { IsLast (contains_text changed.now) (shown (contains_text changed.now) (R.entries rows.old)) last }
-    ensures known { IfOk result (λ begun. (path : List ℕ)
-        → said_in begun.known path ≡ fresh_said (shown (contains_text changed.now) (R.entries rows.old)) path) }
+) -> Result<Begun, AllocError>
+    ensures known { (rows : ShownRows) → IsLast (contains_text changed.now) rows last
+        → IfOk result (λ begun. (path : List ℕ) → said_in begun.known path ≡ fresh_said rows path) }
     ensures directories { IfOk result (λ begun. begun.directories ≡ last.paths.directories) }
-    ensures recalls { IfOk result (λ begun. RecallsLists (shown (contains_text changed.now) (R.entries rows.old))
-        begun.known (map string_bytes begun.directories.items) begun.lists) }
-    ensures marked { OnOk result (ShowsSame
-        (shown (contains_text changed.now) (R.entries rows.old)) (shown no_name (R.entries rows.new))) }
-    ensures err { OnErr result (SameRows (R.entries rows.old) (R.entries rows.new)) }
-    ensures profiles { SameProfiles (R.profiles rows.old) (R.profiles rows.new) }
+    ensures outdated { IfOk result (λ begun. (path : List ℕ) → is_one_of path (map string_bytes begun.outdated.items)
+        ≡ has_asked_for (contains_text changed.now) (names_in last.rows path)) }
+    ensures recalls { (world : World) (rows : ShownRows) → IsLast (contains_text changed.now) rows last
+        → AreKept world rows
+        → IfOk result (λ begun. HaveMakefiles world (map string_bytes begun.outdated.items)
+        → RecallsLists world rows begun.known (map string_bytes begun.directories.items) begun.lists) }
 {
     let KnownIndex {
         paths,
         rows: known,
         ..
     } = last;
-    let marked = known.paths_asking(alloc, changed)?;
-    let Parted { left, taken } = part(alloc, known, &marked)?;
-    rows.mark(&marked)?;
+    let asking = known.paths_asking(alloc, changed)?;
+    let Parted { left, taken } = part(alloc, known, &asking)?;
     let IndexPaths {
         directories,
         listed,
-        needed,
+        beside,
     } = paths;
-    let outdated = taken;
+    let last = LastIndex {
+        beside,
+        outdated: taken,
+    };
     Ok(Begun {
         known: left,
         directories,
-        lists: LastLists {
-            listed,
-            last: LastIndex { needed, outdated },
-        },
+        lists: LastLists { listed, last },
+        outdated: asking,
     })
 }
 

@@ -14,7 +14,7 @@ ghost use Rattle.read_trace.specs.Recording.{view_of};
 ghost use Rattle.row_text.specs.Seen.{row_seen};
 ghost use Rattle.eval_ask.specs.Asking.{HasBegun, HasLooked, IsUpFrom, spent_in, spent_on, total_of};
 ghost use Rattle.index_keep.specs.Paths as paths;
-ghost use Rattle.index_keep.specs.Paths.{IsNamed, IsPathAsk, IsUpTo, TurnsPath};
+ghost use Rattle.index_keep.specs.Paths.{IsFoundAt, IsFoundOf, IsNamed, IsPathAsk, IsUpTo, TurnsPath};
 ghost use Rattle.index_keep.specs.Right.{LeavesFiles, names_in};
 
 use eval_ask::{Ask, AskTurned, Asked, left_of};
@@ -24,7 +24,7 @@ use mk_files::Files;
 use mk_paths::{FilesFault, Name, Settings, find};
 use pkg_path::PkgPath;
 use port_rules::records_cost_few;
-use ports_index::{Finding, Spent, finding_of};
+use ports_index::{Spent, finding_of};
 use read_trace::{Question, Recorder, Trace};
 use row_text::KeptRow;
 use std::alloc::{AllocError, Global};
@@ -72,41 +72,33 @@ pub(crate) enum PathTurned {
 }
 
 impl PathAsk {
-    /// Begins to make the row of a path: what it leads to in these files under these settings, with the names
-    /// that are asked for. The makefile is evaluated until so many units are spent. Each answer that is checked
-    /// before counts as one of them. Then the row is made, if fewer are spent. It fails if the files fail, or if
+    /// Begins to make the row of a path whose makefile is there: what it leads to in these files under these settings,
+    /// with the names that are asked for. The makefile is evaluated until so many units are spent. Each answer that is
+    /// checked before counts as one of them. Then the row is made, if fewer are spent. It fails if the files fail, or if
     /// memory runs out.
     pub(crate) fn begin<F: Files + Drop>(
         alloc: Global,
         cache: &mut EvalCache,
         files: &mut Recorder<F>,
         settings: &Settings,
-        path: String,
+        found: FoundPath,
         units: u64,
     ) -> Result<PathTurned, FilesFault>
-        ensures turns { IfOk result (TurnsPath (world_of (view_of F.view files.old) settings.now)
-            (string_bytes path) units no_spending) }
+        ensures turns { IsFoundAt (world_of (view_of F.view files.old) settings.now) found
+            → IfOk result (TurnsPath (world_of (view_of F.view files.old) settings.now)
+            (string_bytes found.path) units no_spending) }
         ensures up { IfOk result (IsUpTo no_spending) }
         ensures leaves { LeavesFiles (result_err result) (view_of F.view files.old) (view_of F.view files.new) }
         ensures uses { UsesCache cache.old cache.new }
     {
-        let Some(named) = NamedDirectory::read(alloc, path.as_str())? else {
-            let made = MadeRow::absent(path, Vec::new(alloc));
-            return Ok(PathTurned::Made(made));
-        };
-        let (makefile, placed) = place_of(alloc, files, settings, named.directory())?;
-        let Some(makefile) = makefile else {
-            let names = names_of(alloc, placed.questions())?;
-            let made = MadeRow::absent(path, names);
-            return Ok(PathTurned::Made(made));
-        };
-        let ask = Ask::begin(alloc, cache, files, settings, &makefile, named.flavors())?;
-        let found = FoundPath {
-            path,
-            named,
-            makefile,
-            placed,
-        };
+        let ask = Ask::begin(
+            alloc,
+            cache,
+            files,
+            settings,
+            &found.makefile,
+            found.named.flavors(),
+        )?;
         PathAsk { found, ask }.go_on(alloc, cache, files, Spent::nothing(), units)
     }
 
@@ -210,6 +202,32 @@ impl NamedDirectory {
 }
 
 impl FoundPath {
+    /// The makefile of a path in these files under these settings, if it is there. It fails if the files fail, or if
+    /// memory runs out.
+    pub(crate) fn find<F: Files + Drop>(
+        alloc: Global,
+        files: &mut Recorder<F>,
+        settings: &Settings,
+        path: &str,
+    ) -> Result<Option<FoundPath>, FilesFault>
+        ensures found { IfOk result (IsFoundOf (world_of (view_of F.view files.old) settings.now) path.now) }
+        ensures leaves { LeavesFiles (result_err result) (view_of F.view files.old) (view_of F.view files.new) }
+    {
+        let Some(named) = NamedDirectory::read(alloc, path)? else {
+            return Ok(None);
+        };
+        let (makefile, placed) = place_of(alloc, files, settings, named.directory())?;
+        let Some(makefile) = makefile else {
+            return Ok(None);
+        };
+        Ok(Some(FoundPath {
+            path: String::from_str(alloc, path)?,
+            named,
+            makefile,
+            placed,
+        }))
+    }
+
     /// The row of the path, once its makefile is evaluated.
     fn made(self, alloc: Global, asked: &Asked) -> Result<MadeRow, AllocError>
         ensures path { IfOk result (λ made. string_bytes made.path ≡ string_bytes self.path) }
@@ -234,24 +252,6 @@ impl FoundPath {
             row: KeptRow { found: row, names },
             spent,
         })
-    }
-}
-
-impl MadeRow {
-    // The row of a path without a makefile, for which these names were asked for.
-    fn absent(path: String, names: Vec<String>) -> MadeRow
-        ensures path { string_bytes result.path ≡ string_bytes path }
-        ensures row { row_seen result.row ≡ paths.absent_row (map string_bytes names.items) }
-        ensures spent { result.spent ≡ no_spending }
-    {
-        MadeRow {
-            path,
-            row: KeptRow {
-                found: Finding::nothing(),
-                names,
-            },
-            spent: Spent::nothing(),
-        }
     }
 }
 

@@ -1,14 +1,14 @@
 //! The index before files changed, whose lists are kept while no row names other paths.
-ghost use Rattle.std.specs.Prelude.{◌≡◌, true, Some, IfSome, option_map};
+ghost use Rattle.std.specs.Prelude.{◌≡◌, true, Some, IfSome};
 ghost use Rattle.ports_index.specs.Seen.{row_seen};
 ghost use Rattle.index_keep.specs.Last.{NamesAsBefore};
 
 use ports_index::{MemoryRows, Row, name_alike};
 
-/// The needed paths of the index before files changed, and its outdated rows.
+/// The paths beside the listed ones of the index before files changed, and its outdated rows.
 #[derive(Debug, Drop)]
 pub(crate) struct LastIndex {
-    pub(crate) needed: Vec<String>,
+    pub(crate) beside: Vec<String>,
     pub(crate) outdated: MemoryRows,
 }
 
@@ -52,25 +52,5 @@ pub(crate) fn lists_if_alike(lists: Option<LastLists>, path: &str, row: &Row) ->
         Some(lists)
     } else {
         None
-    }
-}
-
-/// The outdated rows of the index of before, if it may be kept.
-pub(crate) fn outdated_in(last: &Option<LastIndex>) -> Option<&MemoryRows>
-    ensures { option_map (λ outdated. outdated.now) result ≡ option_map (λ last. last.outdated) last.now }
-{
-    match last {
-        Some(last) => Some(&last.outdated),
-        None => None,
-    }
-}
-
-/// The same, if its lists may be kept.
-pub(crate) fn outdated_of(lists: &Option<LastLists>) -> Option<&MemoryRows>
-    ensures { option_map (λ outdated. outdated.now) result ≡ option_map (λ lists. lists.last.outdated) lists.now }
-{
-    match lists {
-        Some(lists) => Some(&lists.last.outdated),
-        None => None,
     }
 }

@@ -9,6 +9,7 @@ mod keeper;
 mod last_index;
 mod laws;
 mod names;
+mod stage;
 mod turning;
 mod walking;
 

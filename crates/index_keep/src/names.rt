@@ -18,15 +18,3 @@ pub(crate) fn insert_name(names: &mut BTreeSet<String>, name: String) -> Result<
         Err(failed) => Err(failed.into()),
     }
 }
-
-/// The set of these names. It fails only if memory runs out.
-pub(crate) fn set_of(alloc: Global, names: &[String]) -> Result<BTreeSet<String>, AllocError>
-    ensures { IfOk result (λ set. (name : List ℕ)
-        → contains_text set name ≡ is_one_of name (map string_bytes names.now)) }
-{
-    let mut set = BTreeSet::new(alloc);
-    for name in names {
-        insert_name(&mut set, String::from_str(alloc, name.as_str())?)?;
-    }
-    Ok(set)
-}

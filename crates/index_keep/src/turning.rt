@@ -17,7 +17,7 @@ ghost use Rattle.eval_ask.specs.Asking.{HasBegun, spent_in};
 ghost use Rattle.index_keep.specs.Shown.{ShownRows, shown, no_name, said_by, ShowsSame};
 ghost use Rattle.index_keep.specs.Last.{IsLastOf};
 ghost use Rattle.index_keep.specs.Profiles.{WritesIn, profiles_of};
-ghost use Rattle.index_keep.specs.Right.{LeavesFiles};
+ghost use Rattle.index_keep.specs.Right.{AreKept, LeavesFiles};
 ghost use Rattle.index_keep.specs.Paths.{IsUpTo, TurnsPath};
 ghost use Rattle.index_keep.specs.Turns.{DropsTurn, EndsRefresh, refresh_at};
 ghost use Rattle.index_keep.specs.Walking.{IsWalk, IsOnTheWay, HasRowMore};
@@ -28,7 +28,7 @@ use crate::beginning::{fresh_rows, known_row, without};
 use crate::ending::leave_needed;
 use crate::evaluating::{MadeRow, PathAsk, PathTurned};
 use crate::keeper::{Keeper, Progress, Refreshed};
-use crate::walking::{LastStage, Next, Stage, Walk, begin_walk};
+use crate::walking::{LastStage, Next, Walk, begin_walk};
 use eval_ask::spent_since;
 use eval_cache::EvalCache;
 use index_store::PathRows;
@@ -82,7 +82,7 @@ impl<R: PathRows + Drop> Keeper<R> {
     {
         match mem::replace(&mut self.progress, Progress::nothing(alloc)) {
             Progress::Changed(names, last) => {
-                let walk = self.begun(alloc, files, last, names)?;
+                let walk = self.begun(alloc, files, settings, last, names)?;
                 self.walk_on(alloc, cache, files, settings, walk, units)
             }
             Progress::Walking(walk) => self.walk_on(alloc, cache, files, settings, walk, units),
@@ -124,9 +124,9 @@ impl<R: PathRows + Drop> Keeper<R> {
         ensures leaves { LeavesFiles (result_err result) (view_of F.view files.old) (view_of F.view files.new) }
         ensures uses { UsesCache cache.old cache.new }
     {
-        match walk.next(alloc)? {
-            Next::Lacks(walk, path) => {
-                let turned = PathAsk::begin(alloc, cache, files, settings, path, units)?;
+        match walk.next(alloc, files, settings)? {
+            Next::Lacks(walk, found) => {
+                let turned = PathAsk::begin(alloc, cache, files, settings, found, units)?;
                 let profile = settings.profile;
                 let writing = WritingWalk { walk, profile };
                 self.settle(alloc, writing, Spent::nothing(), turned)
@@ -222,25 +222,21 @@ impl<R: PathRows + Drop> Keeper<R> {
         ensures profiles { (profile : kinds.Profile)
             → WritesIn profile (profiles_of R.profiles self.old) (profiles_of R.profiles self.new) }
     {
+        let others = leave_needed(alloc, &mut self.rows, &last)?;
         let LastStage {
             stage,
             directories,
             listed,
-            outdated,
-        } = last;
-        let Stage {
-            paths: needed,
-            known,
             ..
-        } = stage;
-        let others = leave_needed(alloc, &mut self.rows, &needed, outdated.is_some())?;
+        } = last;
+        let paths = IndexPaths {
+            directories,
+            listed,
+            beside: stage.paths,
+        };
         self.progress = Progress::AtHand(KnownIndex {
-            paths: IndexPaths {
-                directories,
-                listed,
-                needed,
-            },
-            rows: without(known, &others),
+            paths,
+            rows: without(stage.known, &others),
             edges: None,
         });
         Ok(())
@@ -278,13 +274,16 @@ impl<R: PathRows + Drop> Keeper<R> {
         &mut self,
         alloc: Global,
         files: &mut Recorder<F>,
+        settings: &Settings,
         last: Option<KnownIndex>,
         names: BTreeSet<String>,
     ) -> Result<Walk, FilesFault>
-        requires { IfSome last (IsLastOf (contains_text names) (view_of F.view files.old).files
+        requires kept { AreKept (world_of (view_of F.view files.old) settings.now)
+            (shown (contains_text names) (R.entries self.old.rows)) }
+        requires last { IfSome last (IsLastOf (contains_text names) (view_of F.view files.old).files
             (shown (contains_text names) (R.entries self.old.rows))) }
-        ensures walk { IfOk result (λ walk. (settings : Settings) → IsWalk
-            (world_of (view_of F.view files.old) settings) (shown no_name (R.entries self.new.rows)) walk) }
+        ensures walk { IfOk result (IsWalk
+            (world_of (view_of F.view files.old) settings.now) (shown no_name (R.entries self.new.rows))) }
         ensures ok { OnOk result (ShowsSame (shown (contains_text names) (R.entries self.old.rows))
             (shown no_name (R.entries self.new.rows)) × (self.new.progress ≡ self.old.progress)) }
         ensures err { OnErr result (SameRows (R.entries self.old.rows) (R.entries self.new.rows)
@@ -292,7 +291,7 @@ impl<R: PathRows + Drop> Keeper<R> {
         ensures profiles { SameProfiles (profiles_of R.profiles self.old) (profiles_of R.profiles self.new) }
         ensures leaves { LeavesFiles (result_err result) (view_of F.view files.old) (view_of F.view files.new) }
     {
-        match begin_walk(alloc, files, &mut self.rows, last, &names) {
+        match begin_walk(alloc, files, settings, &mut self.rows, last, &names) {
             Ok(walk) => Ok(walk),
             Err(fault) => {
                 self.progress = Progress::Changed(names, None);

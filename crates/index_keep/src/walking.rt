@@ -1,110 +1,36 @@
 //! A refresh: the paths on which the index depends, one after another, until each has its row.
-ghost use Rattle.std.specs.Prelude.{◌≡◌, ◌<◌, ℕ, List, if◌then◌else◌, Some, is_none, length, map, string_bytes, slice_get};
-ghost use Rattle.std.specs.Prelude.{IfOk, IfSome, IfNone, OnOk, OnErr, unwrap_or};
+ghost use Rattle.std.specs.Prelude.{◌≡◌, ℕ, List, true, map, string_bytes};
+ghost use Rattle.std.specs.Prelude.{IfOk, IfSome, OnOk, OnErr, unwrap_or};
 ghost use Rattle.std.specs.Result.{result_err};
-ghost use Rattle.std.specs.Str.{bytes_eq};
 ghost use Rattle.mk_paths.specs.FilesView.{world_of};
-ghost use Rattle.mk_paths.specs.World.{World};
-ghost use Rattle.mk_paths.specs.declared.search_path.Settings.{Settings};
+ghost use Rattle.mk_paths.specs.World.{World, files_in};
 ghost use Rattle.ports_index.specs.Makefiles.{WereDirectories};
 ghost use Rattle.ports_index.specs.Naming as naming;
-ghost use Rattle.ports_index.specs.Seen.{entries_in};
+ghost use Rattle.ports_index.specs.Seen.{said_in};
 ghost use Rattle.ports_index.specs.Seen as seen;
 ghost use Rattle.read_trace.specs.Recording.{view_of};
 ghost use Rattle.std.specs.BTreeSet.{contains_text};
 ghost use Rattle.index_store.specs.Entries.{SameRows, SameProfiles};
-ghost use Rattle.index_keep.specs.Shown.{ShownRows, shown, no_name, ShowsSame};
-ghost use Rattle.index_keep.specs.Right.{LeavesFiles};
-ghost use Rattle.index_keep.specs.Last.{HasEither, IsLastOf};
+ghost use Rattle.index_keep.specs.Shown.{ShownRows, shown, no_name, ShowsSame, fresh_said};
+ghost use Rattle.index_keep.specs.Right.{AreKept, LeavesFiles};
+ghost use Rattle.index_keep.specs.Last.{IsLastOf, RecallsLists};
 ghost use Rattle.index_keep.specs.Walking as walking;
 ghost use Rattle.index_keep.specs.declared.walking.Walk.TheVariants.{Directories, Listed, Needed};
 
 use crate::beginning::{Begun, begin, begin_over};
-use crate::last_index::{LastIndex, LastLists, if_alike, lists_if_alike, outdated_in, outdated_of};
+use crate::evaluating::FoundPath;
+use crate::last_index::{LastIndex, LastLists, if_alike, lists_if_alike};
+use crate::stage::Stage;
 use index_store::PathRows;
-use mk_files::Listing;
-use mk_paths::FilesFault;
+use mk_files::{Files, Listing};
+use mk_paths::{FilesFault, Settings};
 use ports_index::{
     IndexPaths, KnownIndex, KnownRow, MemoryRows, alike_rows_list_the_same, are_still_directories,
-    directories, known_rows_are_enough, listed, needed_among,
+    directories, known_rows_are_enough, listed, paths_beside,
 };
 use read_trace::Recorder;
 use std::alloc::{AllocError, Global};
 use std::collections::BTreeSet;
-
-/// The paths of a stage, how many of them have been passed, and what the fresh rows say.
-#[derive(Debug, Drop)]
-pub(crate) struct Stage {
-    pub(crate) paths: Vec<String>,
-    pub(crate) place: usize,
-    pub(crate) known: MemoryRows,
-}
-
-impl Stage {
-    /// A stage that begins.
-    pub(crate) fn new(paths: Vec<String>, known: MemoryRows) -> Stage
-        ensures { result ≡ record { paths = paths; place = 0; known = known } }
-    {
-        Stage {
-            paths,
-            place: 0,
-            known,
-        }
-    }
-
-    /// Goes on to the next path that has no fresh row, if there is one, and gives it. If outdated rows are given, each path
-    /// that has none of them has a fresh row. It fails only if memory runs out.
-    fn pass(
-        &mut self,
-        alloc: Global,
-        outdated: Option<&MemoryRows>,
-    ) -> Result<Option<String>, AllocError>
-        requires { walking.HasPassed self.old }
-        ensures { IfSome outdated.entry (λ outdated. walking.HasFreshOthers self.old outdated.now)
-            → IfOk result (walking.PassesStage self.old self.new) }
-    {
-        let Some(place) = self.lacking(outdated) else {
-            return Ok(None);
-        };
-        self.place = place;
-        Ok(Some(String::from_str(alloc, self.paths[place].as_str())?))
-    }
-
-    /// The place of the next path that has no fresh row, if there is one, by the same outdated rows.
-    fn lacking(&self, outdated: Option<&MemoryRows>) -> Option<usize>
-        requires { walking.HasPassed self.now }
-        ensures inside { IfSome result (λ place. place < length self.now.paths.items) }
-        ensures found { IfSome outdated.entry (λ outdated. walking.HasFreshOthers self.now outdated.now)
-            → IfSome result (walking.IsLackingAt self.now) }
-        ensures none { IfSome outdated.entry (λ outdated. walking.HasFreshOthers self.now outdated.now)
-            → IfNone result (walking.LacksNone self.now) }
-    {
-        for place in self.place..self.paths.len() {
-            if lacks(&self.known, outdated, self.paths[place].as_str()) {
-                return Some(place);
-            }
-        }
-        None
-    }
-
-    /// Knows of one more fresh row from now on. If memory runs out, nothing changes.
-    fn know(&mut self, path: String, row: KnownRow) -> Result<(), AllocError>
-        ensures { OnOk result (walking.KnowsRow (string_bytes path) (seen.known_seen row) self.old self.new) }
-    {
-        self.known.put(path, row)
-    }
-}
-
-/// Whether a path isn't known to have a row. If outdated rows are given, it has a row, or one of them.
-fn lacks(known: &MemoryRows, outdated: Option<&MemoryRows>, path: &str) -> bool
-    ensures { IfSome outdated.entry (λ outdated. HasEither known.now outdated.now path.now)
-        → result ≡ is_none (entries_in known.now path.now) }
-{
-    match outdated {
-        Some(outdated) if outdated.get(path).is_none() => false,
-        _ => known.get(path).is_none(),
-    }
-}
 
 /// The stage of the listed paths, the directories, which are kept for the end, and the index of before, if it may still
 /// have the same lists.
@@ -115,15 +41,15 @@ pub(crate) struct ListedStage {
     pub(crate) last: Option<LastIndex>,
 }
 
-/// The last stage, that of all paths on which the index depends, and the directories and the listed paths, which are
-/// kept for the end.
+/// The last stage, that of the paths beside the listed ones on which the index depends, and the directories and the listed
+/// paths, which are kept for the end.
 #[derive(Debug, Drop)]
 pub(crate) struct LastStage {
     pub(crate) stage: Stage,
     pub(crate) directories: Vec<String>,
     pub(crate) listed: Vec<String>,
-    /// The outdated rows of the index of before, if its lists are kept. Then no other path has a row.
-    pub(crate) outdated: Option<MemoryRows>,
+    /// Whether it is known that no rows have to go, since the lists of the index of before are kept.
+    pub(crate) are_alone: bool,
 }
 
 /// A refresh that is under way.
@@ -133,16 +59,16 @@ pub(crate) enum Walk {
     Directories(Stage, Option<LastLists>),
     /// It goes through the listed paths: directories, and what lists among them name.
     Listed(ListedStage),
-    /// It goes through all paths on which the index depends.
+    /// It goes through the other paths on which the index depends.
     Needed(LastStage),
 }
 
 /// What a walk comes to next.
 #[derive(Drop)]
 pub(crate) enum Next {
-    /// This path has no fresh row.
-    Lacks(Walk, String),
-    /// Each path on which the index depends has a fresh row.
+    /// This path has no fresh row, and this is its makefile.
+    Lacks(Walk, FoundPath),
+    /// Each path with a makefile on which the index depends has a fresh row.
     All(LastStage),
 }
 
@@ -151,14 +77,17 @@ pub(crate) enum Next {
 pub(crate) fn begin_walk<F: Listing + Drop, R: PathRows>(
     alloc: Global,
     files: &mut Recorder<F>,
+    settings: &Settings,
     rows: &mut R,
     last: Option<KnownIndex>,
     changed: &BTreeSet<String>,
 ) -> Result<Walk, FilesFault>
-    requires { IfSome last (IsLastOf (contains_text changed.now) (view_of F.view files.old).files
+    requires kept { AreKept (world_of (view_of F.view files.old) settings.now)
+        (shown (contains_text changed.now) (R.entries rows.old)) }
+    requires last { IfSome last (IsLastOf (contains_text changed.now) (view_of F.view files.old).files
         (shown (contains_text changed.now) (R.entries rows.old))) }
-    ensures walk { IfOk result (λ walk. (settings : Settings) → walking.IsWalk
-        (world_of (view_of F.view files.old) settings) (shown no_name (R.entries rows.new)) walk) }
+    ensures walk { IfOk result (walking.IsWalk
+        (world_of (view_of F.view files.old) settings.now) (shown no_name (R.entries rows.new))) }
     ensures marked { OnOk result (ShowsSame (shown (contains_text changed.now) (R.entries rows.old))
         (shown no_name (R.entries rows.new))) }
     ensures err { OnErr result (SameRows (R.entries rows.old) (R.entries rows.new)) }
@@ -168,15 +97,10 @@ pub(crate) fn begin_walk<F: Listing + Drop, R: PathRows>(
     match last {
         Some(last) => {
             let others = other_directories(alloc, files, &last.paths, changed)?;
-            let Begun {
-                known,
-                directories,
-                lists,
-            } = begin_over(alloc, rows, last, changed)?;
-            Ok(match others {
-                Some(others) => Walk::Directories(Stage::new(others, known), None),
-                None => Walk::Directories(Stage::new(directories, known), Some(lists)),
-            })
+            let begun = begin_over(alloc, last, changed)?;
+            let are_there = have_makefiles(alloc, files, settings, &begun.outdated)?;
+            rows.mark(&begun.outdated)?;
+            Ok(first_walk(begun, others, are_there))
         }
         None => {
             let paths = directories(alloc, files)?;
@@ -184,6 +108,47 @@ pub(crate) fn begin_walk<F: Listing + Drop, R: PathRows>(
             Ok(Walk::Directories(Stage::new(paths, known), None))
         }
     }
+}
+
+// The walk that begins so: through other directories, if there are some; or through those of before. If each outdated path
+// still has a makefile, the lists of before may be kept.
+fn first_walk(begun: Begun, others: Option<Vec<String>>, are_there: bool) -> Walk
+    ensures { (world : World) (rows : ShownRows)
+        → map string_bytes (unwrap_or others begun.directories).items ≡ naming.directories (files_in world)
+        → ((path : List ℕ) → said_in begun.known path ≡ fresh_said rows path)
+        → (are_there ≡ true → RecallsLists world rows begun.known (map string_bytes begun.directories.items) begun.lists)
+        → walking.IsWalk world rows result }
+{
+    let Begun {
+        known,
+        directories,
+        lists,
+        ..
+    } = begun;
+    match others {
+        Some(others) => Walk::Directories(Stage::new(others, known), None),
+        None if are_there => Walk::Directories(Stage::new(directories, known), Some(lists)),
+        None => Walk::Directories(Stage::new(directories, known), None),
+    }
+}
+
+// Whether each of these paths has a makefile.
+fn have_makefiles<F: Files + Drop>(
+    alloc: Global,
+    files: &mut Recorder<F>,
+    settings: &Settings,
+    paths: &[String],
+) -> Result<bool, FilesFault>
+    ensures have { IfOk result (λ have. have ≡ true
+        → walking.HaveMakefiles (world_of (view_of F.view files.old) settings.now) (map string_bytes paths.now)) }
+    ensures leaves { LeavesFiles (result_err result) (view_of F.view files.old) (view_of F.view files.new) }
+{
+    for path in paths {
+        if FoundPath::find(alloc, files, settings, path)?.is_none() {
+            return Ok(false);
+        }
+    }
+    Ok(true)
 }
 
 // The directories in which a makefile may be, if they are others than before files of these names changed. They are looked
@@ -211,16 +176,24 @@ fn other_directories<F: Listing + Drop>(
 }
 
 impl Walk {
-    /// Goes on to the next path that has no fresh row. It fails only if memory runs out.
-    pub(crate) fn next(self, alloc: Global) -> Result<Next, AllocError>
-        requires { walking.HasPassed (walking.stage_of self) }
-        ensures { (world : World) (rows : ShownRows) → walking.IsOnTheWay world rows self
-            → IfOk result (walking.IsNext world rows) }
+    /// Goes on to the next path with a makefile that has no fresh row. It fails if the files fail, or if memory runs out.
+    pub(crate) fn next<F: Files + Drop>(
+        self,
+        alloc: Global,
+        files: &mut Recorder<F>,
+        settings: &Settings,
+    ) -> Result<Next, FilesFault>
+        ensures next { (rows : ShownRows)
+            → walking.IsOnTheWay (world_of (view_of F.view files.old) settings.now) rows self
+            → IfOk result (walking.IsNext (world_of (view_of F.view files.old) settings.now) rows) }
+        ensures leaves { LeavesFiles (result_err result) (view_of F.view files.old) (view_of F.view files.new) }
     {
         match self {
-            Walk::Directories(stage, lists) => next_directory(alloc, stage, lists),
-            Walk::Listed(listed) => next_listed(alloc, listed),
-            Walk::Needed(last) => next_needed(alloc, last),
+            Walk::Directories(stage, lists) => {
+                next_directory(alloc, files, settings, stage, lists)
+            }
+            Walk::Listed(listed) => next_listed(alloc, files, settings, listed),
+            Walk::Needed(last) => next_needed(alloc, files, settings, last),
         }
     }
 
@@ -261,16 +234,23 @@ impl Walk {
     }
 }
 
-fn next_directory(alloc: Global, stage: Stage, lists: Option<LastLists>) -> Result<Next, AllocError>
-    requires { walking.HasPassed stage }
-    ensures { (world : World) (rows : ShownRows) → walking.IsOnTheWay world rows (Directories stage lists)
-        → IfOk result (walking.IsNext world rows) }
+fn next_directory<F: Files + Drop>(
+    alloc: Global,
+    files: &mut Recorder<F>,
+    settings: &Settings,
+    stage: Stage,
+    lists: Option<LastLists>,
+) -> Result<Next, FilesFault>
+    ensures next { (rows : ShownRows)
+        → walking.IsOnTheWay (world_of (view_of F.view files.old) settings.now) rows (Directories stage lists)
+        → IfOk result (walking.IsNext (world_of (view_of F.view files.old) settings.now) rows) }
+    ensures leaves { LeavesFiles (result_err result) (view_of F.view files.old) (view_of F.view files.new) }
 {
     known_rows_are_enough();
     let mut stage = stage;
-    match stage.pass(alloc, outdated_of(&lists))? {
-        Some(path) => Ok(Next::Lacks(Walk::Directories(stage, lists), path)),
-        None => next_listed(alloc, listed_stage(alloc, stage, lists)?),
+    match stage.pass(alloc, files, settings)? {
+        Some(found) => Ok(Next::Lacks(Walk::Directories(stage, lists), found)),
+        None => next_listed(alloc, files, settings, listed_stage(alloc, stage, lists)?),
     }
 }
 
@@ -280,9 +260,9 @@ fn listed_stage(
     stage: Stage,
     lists: Option<LastLists>,
 ) -> Result<ListedStage, AllocError>
-    ensures begins { IfOk result (λ listed. listed.stage.place ≡ 0) }
-    ensures lists { (rows : ShownRows) → walking.LacksNone stage → IfSome lists (walking.IsBelow rows stage)
-        → IfOk result (walking.ListsPaths rows stage) }
+    ensures { (world : World) (rows : ShownRows) → walking.LacksNone world stage
+        → IfSome lists (walking.IsBelow world rows stage)
+        → IfOk result (walking.ListsPaths world rows stage) }
 {
     alike_rows_list_the_same();
     let Stage {
@@ -294,7 +274,7 @@ fn listed_stage(
         Some(lists) => {
             let LastLists { listed, last } = lists;
             Ok(ListedStage {
-                stage: Stage::new(listed, known),
+                stage: Stage::after(&directories, listed, known),
                 directories,
                 last: Some(last),
             })
@@ -302,7 +282,7 @@ fn listed_stage(
         None => {
             let listed = listed(alloc, &directories, &known)?;
             Ok(ListedStage {
-                stage: Stage::new(listed, known),
+                stage: Stage::after(&directories, listed, known),
                 directories,
                 last: None,
             })
@@ -310,24 +290,31 @@ fn listed_stage(
     }
 }
 
-fn next_listed(alloc: Global, listed: ListedStage) -> Result<Next, AllocError>
-    requires { walking.HasPassed listed.stage }
-    ensures { (world : World) (rows : ShownRows) → walking.IsOnTheWay world rows (Listed listed)
-        → IfOk result (walking.IsNext world rows) }
+fn next_listed<F: Files + Drop>(
+    alloc: Global,
+    files: &mut Recorder<F>,
+    settings: &Settings,
+    listed: ListedStage,
+) -> Result<Next, FilesFault>
+    ensures next { (rows : ShownRows)
+        → walking.IsOnTheWay (world_of (view_of F.view files.old) settings.now) rows (Listed listed)
+        → IfOk result (walking.IsNext (world_of (view_of F.view files.old) settings.now) rows) }
+    ensures leaves { LeavesFiles (result_err result) (view_of F.view files.old) (view_of F.view files.new) }
 {
     known_rows_are_enough();
     let mut listed = listed;
-    match listed.stage.pass(alloc, outdated_in(&listed.last))? {
-        Some(path) => Ok(Next::Lacks(Walk::Listed(listed), path)),
-        None => next_needed(alloc, last_stage(alloc, listed)?),
+    match listed.stage.pass(alloc, files, settings)? {
+        Some(found) => Ok(Next::Lacks(Walk::Listed(listed), found)),
+        None => next_needed(alloc, files, settings, last_stage(alloc, listed)?),
     }
 }
 
-// The stage of the needed paths, after that of the listed ones. The list of the index of before is kept, if it may be.
+// The stage of the paths beside the listed ones, after that of these. The list of the index of before is kept, if it may
+// be.
 fn last_stage(alloc: Global, listed: ListedStage) -> Result<LastStage, AllocError>
-    ensures begins { IfOk result (λ last. last.stage.place ≡ 0) }
-    ensures lists { (rows : ShownRows) → walking.LacksNone listed.stage → walking.MayBeKept rows listed
-        → IfOk result (walking.NeedsPaths rows listed) }
+    ensures { (world : World) (rows : ShownRows) → walking.LacksNone world listed.stage
+        → walking.MayBeKept world rows listed
+        → IfOk result (walking.NeedsPaths world rows listed) }
 {
     alike_rows_list_the_same();
     let ListedStage {
@@ -341,35 +328,38 @@ fn last_stage(alloc: Global, listed: ListedStage) -> Result<LastStage, AllocErro
         ..
     } = stage;
     match last {
-        Some(last) => {
-            let LastIndex { needed, outdated } = last;
-            Ok(LastStage {
-                stage: Stage::new(needed, known),
-                directories,
-                listed,
-                outdated: Some(outdated),
-            })
-        }
+        Some(last) => Ok(LastStage {
+            stage: Stage::new(last.beside, known),
+            directories,
+            listed,
+            are_alone: true,
+        }),
         None => {
-            let needed = needed_among(alloc, &listed, &known)?;
+            let beside = paths_beside(alloc, &listed, &known)?;
             Ok(LastStage {
-                stage: Stage::new(needed, known),
+                stage: Stage::new(beside, known),
                 directories,
                 listed,
-                outdated: None,
+                are_alone: false,
             })
         }
     }
 }
 
-fn next_needed(alloc: Global, last: LastStage) -> Result<Next, AllocError>
-    requires { walking.HasPassed last.stage }
-    ensures { (world : World) (rows : ShownRows) → walking.IsOnTheWay world rows (Needed last)
-        → IfOk result (walking.IsNext world rows) }
+fn next_needed<F: Files + Drop>(
+    alloc: Global,
+    files: &mut Recorder<F>,
+    settings: &Settings,
+    last: LastStage,
+) -> Result<Next, FilesFault>
+    ensures next { (rows : ShownRows)
+        → walking.IsOnTheWay (world_of (view_of F.view files.old) settings.now) rows (Needed last)
+        → IfOk result (walking.IsNext (world_of (view_of F.view files.old) settings.now) rows) }
+    ensures leaves { LeavesFiles (result_err result) (view_of F.view files.old) (view_of F.view files.new) }
 {
     let mut last = last;
-    match last.stage.pass(alloc, last.outdated.as_ref())? {
-        Some(path) => Ok(Next::Lacks(Walk::Needed(last), path)),
+    match last.stage.pass(alloc, files, settings)? {
+        Some(found) => Ok(Next::Lacks(Walk::Needed(last), found)),
         None => Ok(Next::All(last)),
     }
 }

@@ -1,5 +1,5 @@
 -- Paths that are picked from others, each once, cost no more than these.
-use Rattle.std.proofs.Common.{ℕ, ◌+◌, ◌*◌, ◌^◌, ◌-◌, min, ◌≤◌, ◌<◌, ◌≡◌, ◌∙◌, refl, sym, ap, subst, length, Bool, true, false, if◌then◌else◌, List, [], ◌∷◌, Result, Ok, Err, IfOk, OnErr, is_some, option_and_then, arith}
+use Rattle.std.proofs.Common.{ℕ, ◌+◌, ◌*◌, ◌^◌, ◌-◌, min, ◌≤◌, ◌<◌, ◌≡◌, ◌∙◌, refl, sym, ap, subst, length, Bool, true, false, if◌then◌else◌, List, [], ◌∷◌, Result, Ok, Err, IfOk, OnErr, Some, is_some, option_and_then, arith}
 use Rattle.std.proofs.lemmas.List.Sums.{sum_by-cons}
 use Rattle.std.specs.BTreeSet.{insert_key}
 use Rattle.std.specs.Cmp.Lexicographic.{slice_cmp}
@@ -11,10 +11,10 @@ use Rattle.std.specs.declared.cmp.Ordering.TheVariants.{Less, Equal, Greater}
 use Rattle.text_parts.specs.Order.{in_order}
 use Rattle.turn_amounts.specs.declared.TheConstants.{MOST_CHECKS, TURN_UNITS}
 use Rattle.mk_paths.specs.World.{World}
-use Rattle.ports_index.specs.Efforts.{cost_over, evaluations_at, evaluations_over}
+use Rattle.ports_index.specs.Efforts.{cost_over, decided, evaluations_at, evaluations_over, has_makefile}
 use Rattle.ports_index.specs.Index.{needed_paths}
 use Rattle.ports_index.specs.PathLaws.{MakefilesAreEvaluated}
-use Rattle.ports_index.specs.PathOutcomes.{cost_at}
+use Rattle.ports_index.specs.PathOutcomes.{Absent, cost_at}
 use Rattle.ports_index.specs.Pairs.{pairs_at}
 use Rattle.ports_index.specs.Spending.{no_spending, spent_together, ChecksFew}
 use Rattle.ports_index.specs.declared.spending.Spent.{Spent}
@@ -68,13 +68,13 @@ module _ (weight : List ℕ → ℕ) where
 pub left_costs_no_more : (world : World) (rows : ShownRows) → cost_left world rows ≤ cost_over world (needed_paths world)
 left_costs_no_more world rows =
     let paths = needed_paths world in
-    let few = picked (cost_at world) (λ path. is_none (fresh rows path)) (in_order paths) in
+    let few = picked (cost_at world) (λ path. is_none (decided world (fresh rows) path)) (in_order paths) in
     omega (arith, few, ordered (cost_at world) paths)
 
 pub left_takes_no_more : (world : World) (rows : ShownRows) → evaluations_left world rows ≤ evaluations_over world (needed_paths world)
 left_takes_no_more world rows =
     let paths = needed_paths world in
-    let few = picked (evaluations_at world) (λ path. is_none (fresh rows path)) (in_order paths) in
+    let few = picked (evaluations_at world) (λ path. is_none (decided world (fresh rows) path)) (in_order paths) in
     omega (arith, few, ordered (evaluations_at world) paths)
 
 few_left : (left all : ℕ) → left ≤ all → 0 + MOST_CHECKS * left ≤ MOST_CHECKS * all + 0
@@ -214,7 +214,8 @@ module _ {F R : Type 0} {files : names.Ghosts F} {entries : rows.Ghosts R} (view
 pub fresh-once : {R : Type 0} (entries : R → Entries) (world : World) (units : ℕ) (old : RefreshView) (new : Keeper R) (result : Result Refreshed FilesFault)
     → IfOk result (TurnsKeeper entries world units old new) → OnErr result (DropsTurn old (refresh_of entries new)) → StayFresh world old.rows (rows_of entries new)
 fresh-once entries world units old new (Ok turned) turn drops = stays-fresh world units old (refresh_of entries new) turned turn.turn
-fresh-once entries world units old new (Err fault) turn drops = λ path needed is. ap (λ row. is_some (option_and_then fresh_outcome row)) (drops.rows path) ∙ is
+fresh-once entries world units old new (Err fault) turn drops = λ path needed is.
+    ap (λ row. is_some (if has_makefile world path then option_and_then fresh_outcome row else Some Absent)) (drops.rows path) ∙ is
 
 -- ---- what is taken off the units that are left
 

@@ -134,7 +134,7 @@ impl<F: Listing + Drop, R: PathRows + Drop> KeptPorts<'_, F, R> {
         if self.may_keep_edges(question) {
             self.keeper.keep_edges(alloc)?;
         }
-        question.reply(alloc, self.keeper.index())
+        Ok(question.reply(alloc, self.keeper.index())?)
     }
 
     // Whether a question is about dependencies, and the rows of the index aren't too large to keep them.

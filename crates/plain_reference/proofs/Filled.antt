@@ -5,7 +5,8 @@ use Rattle.std.specs.Str.{bytes_eq}
 use Rattle.mk_paths.specs.World.{World}
 use Rattle.ports_index.specs.PathOutcomes.{PathOutcome, outcome_at}
 use Rattle.ports_index.specs.Filling.{is_one_of, Fills}
-use Rattle.ports_index.specs.RowLaws.{HaveRows}
+use Rattle.ports_index.specs.RowLaws.{SayAll}
+use Rattle.ports_index.specs.Seen.{known_row}
 use Rattle.ports_index.proofs.Filled.{Entries, one_of-append}
 use Rattle.plain_reference.specs.Right.{AreRight, Stay}
 
@@ -40,9 +41,9 @@ module _ (world : World) where
   pub Fills-same : (paths others : List (List ℕ)) (old new : Entries) → ((path : List ℕ) → is_one_of path paths ≡ is_one_of path others) → Fills world paths old new → Fills world others old new
   Fills-same paths others old new same fills = record { filled = λ path. fills.filled path ∙ ap (λ b. if b then Some (outcome_at world path) else old path) (same path) }
 
-  -- paths that were filled in have their rows
-  pub have-filled : (paths : List (List ℕ)) (old new : Entries) → Fills world paths old new → HaveRows world new paths
-  have-filled paths old new fills path is = fills.filled path ∙ ap (λ b. if b then Some (outcome_at world path) else old path) is
+  -- paths that were filled in have rows that say what they lead to
+  pub say-filled : (paths : List (List ℕ)) (old new : Entries) → Fills world paths old new → SayAll world new paths
+  say-filled paths old new fills path is = ap known_row (fills.filled path ∙ ap (λ b. if b then Some (outcome_at world path) else old path) is)
 
 module _ (world : World) (entries : Entries) (right : AreRight world entries) (path : List ℕ) where
   -- a path that is given its row

@@ -2,7 +2,6 @@
 use Rattle.std.proofs.Common.{◌≡◌, ◌∙◌, sym, ap, ap₂, refl, ℕ, ◌+◌, ◌-◌, ◌^◌, min, Bool, true, false, if◌then◌else◌, List, [], ◌∷◌, ◌++◌, Option, Some, None, is_some, is_none, option_map, arith}
 use Rattle.std.specs.List.{sum_by, filter}
 use Rattle.text_parts.specs.Order.{in_order}
-use Rattle.text_parts.specs.Ordered.{in_order-again}
 use Rattle.mk_paths.specs.World.{World}
 use Rattle.ports_index.specs.PathOutcomes.{PathOutcome, Absent, Faulty, Port, BadPort, Lists, BadList, FlavoredList, Other, Finding, counted, finding_at, outcome_at, cost_at}
 use Rattle.ports_index.specs.Efforts.{evaluations_at, evaluations_for, lacking}
@@ -67,9 +66,9 @@ all_lacking entries none (path ∷ paths) =
     ap (λ row. if is_none row then path ∷ filter (λ other. is_none (entries other)) paths else filter (λ other. is_none (entries other)) paths) (none path)
     ∙ ap (λ rest. path ∷ rest) (all_lacking entries none paths)
 
--- without rows, each path in order lacks its row
-pub lacking-all : (entries : Entries) → ((path : List ℕ) → entries path ≡ None) → (paths : List (List ℕ)) → lacking entries (in_order paths) ≡ in_order paths
-lacking-all entries none paths = all_lacking entries none (in_order (in_order paths)) ∙ in_order-again paths
+-- without rows, each path lacks its row
+pub lacking-all : (entries : Entries) → ((path : List ℕ) → entries path ≡ None) → (paths : List (List ℕ)) → lacking entries paths ≡ in_order paths
+lacking-all entries none paths = all_lacking entries none (in_order paths)
 
 -- paths, and then a list that has them
 pub lacking-absorbed : (entries : Entries) (paths all : List (List ℕ)) → ((path : List ℕ) → is_one_of path paths ≡ true → is_one_of path all ≡ true)

@@ -17,7 +17,7 @@ use crate::filling::fill;
 use mk_files::Listing;
 use mk_paths::{FilesFault, Settings};
 use ports_index::{
-    IndexPaths, KnownIndex, MemoryRows, directories, known_rows_are_enough, listed, needed_among,
+    IndexPaths, KnownIndex, MemoryRows, directories, known_rows_are_enough, listed, paths_beside,
 };
 use std::alloc::Global;
 
@@ -60,14 +60,14 @@ pub fn index_files<F: Listing>(
         effort,
     } = list(alloc, files, settings, &mut rows)?;
     known_rows_are_enough();
-    let needed = needed_among(alloc, &paths, &rows)?;
-    let more = fill(alloc, files, settings, &needed, &mut rows)?;
+    let beside = paths_beside(alloc, &paths, &rows)?;
+    let more = fill(alloc, files, settings, &beside, &mut rows)?;
     Ok(Index {
         known: KnownIndex {
             paths: IndexPaths {
                 directories,
                 listed: paths,
-                needed,
+                beside,
             },
             rows,
             edges: None,

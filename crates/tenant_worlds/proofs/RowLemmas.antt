@@ -1,10 +1,12 @@
 -- What is left of the rows of the tenants' indexes.
-use Rattle.std.proofs.Common.{◌≡◌, ◌≢◌, ◌<◌, ◌∙◌, ℕ, List, Option, length, get_or, is_some, option_and_then, inl, inr, refl, sym, ap, subst, arith}
+use Rattle.std.proofs.Common.{◌≡◌, ◌≢◌, ◌<◌, ◌∙◌, ℕ, if◌then◌else◌, List, Option, Some, length, get_or, is_some, option_and_then, inl, inr, refl, sym, ap, subst, arith}
 use Rattle.std.specs.Prelude.{slice_get, slice_set, ◌==◌}
 use Rattle.std.proofs.lemmas.Bool.{cases_Bool}
 use Rattle.std.proofs.lemmas.Bool.Decides.{nat_tests}
 use Rattle.std.proofs.lemmas.Option.{slice_get-get_or}
 use Rattle.mk_paths.specs.World.{World}
+use Rattle.ports_index.specs.Efforts.{has_makefile}
+use Rattle.ports_index.specs.PathOutcomes.{Absent}
 use Rattle.index_store.specs.PortTable.{stored_by}
 use Rattle.index_keep.specs.Keeping.{rows_of}
 use Rattle.index_keep.specs.Shown.{ShownRow, ShownRows, ShowsSame, fresh_outcome}
@@ -15,7 +17,8 @@ use Rattle.tenant_worlds.proofs.KeptLemmas.{get-set_other, get-set_same, some_sa
 
 -- rows that are shown the same
 fresh-same : (world : World) (old new : ShownRows) → ShowsSame old new → StayFresh world old new
-fresh-same world old new same path needed is = ap (λ (row : Option ShownRow). is_some (option_and_then fresh_outcome row)) (same path) ∙ is
+fresh-same world old new same path needed is =
+    ap (λ (row : Option ShownRow). is_some (if has_makefile world path then option_and_then fresh_outcome row else Some Absent)) (same path) ∙ is
 
 -- rows that were shown the same first
 pub fresh-after : (world : World) (old middle new : ShownRows) → ShowsSame old middle → StayFresh world middle new → StayFresh world old new

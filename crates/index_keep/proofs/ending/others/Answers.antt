@@ -1,24 +1,24 @@
--- The next path is needed, or is one of the others.
+-- The next path is kept, or is one of the others.
 use Rattle.std.proofs.Common.{◌≡◌, ◌∙◌, ap, sym, not, ◌&&◌, true, false, map, string_bytes, ◌∷◌, []}
-use Rattle.std.specs.BTreeSet.{contains_text}
 use Rattle.ports_index.specs.Filling.{is_one_of}
+use Rattle.index_keep.specs.Walking.{row_stays}
 use Rattle.index_keep.proofs.ListLemmas.{chosen-more, map-append}
 use Rattle.index_keep.proofs.ending.others.Goals as goal
 
-pub loop-path-preserved-in-Continue-branch-2 : goal.loop-path-preserved-in-Continue-branch-2
-loop-path-preserved-in-Continue-branch-2 c = λ path.
-    let needed = map string_bytes c.args.needed.now in
+pub loop-path-preserved-in-Continue-1 : goal.loop-path-preserved-in-Continue-1
+loop-path-preserved-in-Continue-1 c = λ order path.
+    let kept = row_stays c.args.last.now in
     let p = string_bytes c.in-Some.path in
-    let apart : not (is_one_of p needed) ≡ true = ap not (sym (c.in_ok-needed.ensures p) ∙ sym (c.contains.ensures ∙ ap (contains_text c.in_ok-needed.needed) c.as_str.ensures.value) ∙ c.if-not-contains.true) in
+    let apart : not (kept p) ≡ true = ap not (sym (c.is_kept.ensures order ∙ ap kept c.as_str.ensures.value) ∙ c.if-not-is_kept.true) in
     ap (λ items. is_one_of path (map string_bytes items)) c.in_ok-push.ensures.items
     ∙ ap (is_one_of path) (map-append string_bytes c.loop-path.others.items (c.in-Some.path ∷ []))
-    ∙ chosen-more (map string_bytes c.loop-path.others.items) (map string_bytes c.loop-path.yielded) (λ at. not (is_one_of at needed)) p true apart c.loop-path.invariant path
-    ∙ sym (ap (λ passed. is_one_of path passed && not (is_one_of path needed)) (map-append string_bytes c.loop-path.yielded (c.in-Some.path ∷ [])))
+    ∙ chosen-more (map string_bytes c.loop-path.others.items) (map string_bytes c.loop-path.yielded) (λ at. not (kept at)) p true apart (c.loop-path.invariant order) path
+    ∙ sym (ap (λ passed. is_one_of path passed && not (kept path)) (map-append string_bytes c.loop-path.yielded (c.in-Some.path ∷ [])))
 
 pub loop-path-preserved : goal.loop-path-preserved
-loop-path-preserved c = λ path.
-    let needed = map string_bytes c.args.needed.now in
+loop-path-preserved c = λ order path.
+    let kept = row_stays c.args.last.now in
     let p = string_bytes c.in-Some.path in
-    let there : not (is_one_of p needed) ≡ false = ap not (sym (c.in_ok-needed.ensures p) ∙ sym (c.contains.ensures ∙ ap (contains_text c.in_ok-needed.needed) c.as_str.ensures.value) ∙ c.if-not-contains.false) in
-    chosen-more (map string_bytes c.loop-path.others.items) (map string_bytes c.loop-path.yielded) (λ at. not (is_one_of at needed)) p false there c.loop-path.invariant path
-    ∙ sym (ap (λ passed. is_one_of path passed && not (is_one_of path needed)) (map-append string_bytes c.loop-path.yielded (c.in-Some.path ∷ [])))
+    let there : not (kept p) ≡ false = ap not (sym (c.is_kept.ensures order ∙ ap kept c.as_str.ensures.value) ∙ c.if-not-is_kept.false) in
+    chosen-more (map string_bytes c.loop-path.others.items) (map string_bytes c.loop-path.yielded) (λ at. not (kept at)) p false there (c.loop-path.invariant order) path
+    ∙ sym (ap (λ passed. is_one_of path passed && not (kept path)) (map-append string_bytes c.loop-path.yielded (c.in-Some.path ∷ [])))

@@ -1,32 +1,43 @@
-use Rattle.std.proofs.Common.{◌≡◌, ap, subst, sym}
+-- The next path of the listed ones. After them come those beside them.
+use Rattle.std.proofs.Common.{◌≡◌, ap, refl, subst, sym, IfOk}
+use Rattle.mk_paths.specs.FilesView.{world_of}
+use Rattle.mk_paths.specs.World.{World, FileMap}
+use Rattle.read_trace.specs.Recording.{view_of}
 use Rattle.ports_index.specs.Index.{listed_paths}
-use Rattle.index_keep.specs.Walking.{HasFreshOthers, PassesStage, IsListedStage, IsStage, LacksNone, MayBeKept, NeedsPaths}
+use Rattle.index_keep.specs.Walking.{IsListedStage, IsNext, IsOnTheWay, LacksNone, MayBeKept, NeedsPaths, PassesStage}
 use Rattle.index_keep.specs.declared.walking.ListedStage.{ListedStage}
-use Rattle.index_keep.specs.declared.walking.Stage.{Stage}
-use Rattle.index_keep.proofs.WalkLemmas.{listed-others, lent-of, stage-at, lacking-at, needed-has, IsLastStage-after}
+use Rattle.index_keep.specs.declared.stage.Stage.{Stage}
+use Rattle.index_keep.specs.declared.walking.Walk.TheVariants.{Needed}
+use Rattle.index_keep.proofs.WalkLemmas.{lacking-at, needed-has, passed-known, stage-at, IsLastStage-after}
 use Rattle.index_keep.proofs.walking.next_listed.Goals as goal
 
-pub returns-in-Some : goal.returns-in-Some
-returns-in-Some c = λ world rows way.
-    let passes = subst (PassesStage c.args.listed.stage c.pass.new.self) c.in-Some.is (c.in_ok-path.ensures (lent-of (HasFreshOthers c.args.listed.stage) c.outdated_in.result _ c.outdated_in.ensures (listed-others rows c.args.listed.stage c.args.listed.last way.far.last))) in
-    let stage = stage-at rows (listed_paths world) c.args.listed.stage way.far.stage c.pass.new.self.place passes.1 c.pass.new.self passes.0 in
-    let lacking = lacking-at rows (listed_paths world) c.args.listed.stage way.far.stage c.pass.new.self.place passes.1 world (needed-has world) _ passes.2 in (
-      subst (λ (s : Stage). IsListedStage world rows (record c.args.listed { stage = s })) (sym passes.0) (record {
-        stage = subst (λ (s : Stage). IsStage rows (listed_paths world) s) passes.0 stage;
+pub returns-in-Some-clause-next : goal.returns-in-Some-clause-next
+returns-in-Some-clause-next g c = λ rows way.
+    let world : World = world_of (view_of g.F.Names.view c.args.files.now) c.args.settings.now in
+    let listed = c.args.listed in
+    let passes = subst (PassesStage world listed.stage c.pass.new.self) c.in-Some.is (c.in_ok-found.ensures.passes (passed-known world rows (listed_paths world) listed.stage way.far.stage)) in
+    let come : Stage = record listed.stage { place = c.pass.new.self.place } in (
+      subst (λ (s : Stage). IsListedStage world rows (record listed { stage = s })) (sym passes.0) (record {
+        stage = stage-at world rows (listed_paths world) listed.stage way.far.stage c.pass.new.self.place passes.1 come refl;
         directories = way.far.directories;
         last = way.far.last;
       }),
-      lacking,
+      lacking-at world rows (listed_paths world) listed.stage way.far.stage (needed-has world) c.in-Some.found passes.2,
+      passes.2.found,
     )
 
-pub returns-in_ok-last_stage-in-None : goal.returns-in_ok-last_stage-in-None
-returns-in_ok-last_stage-in-None c = λ world rows way.
-    let passes = subst (PassesStage c.args.listed.stage c.pass.new.self) c.in-None.is (c.in_ok-path.ensures (lent-of (HasFreshOthers c.args.listed.stage) c.outdated_in.result _ c.outdated_in.ensures (listed-others rows c.args.listed.stage c.args.listed.last way.far.last))) in
+pub returns-in_ok-last_stage-in-None-clause-next : goal.returns-in_ok-last_stage-in-None-clause-next
+returns-in_ok-last_stage-in-None-clause-next g c = λ rows way.
+    let world : World = world_of (view_of g.F.Names.view c.args.files.now) c.args.settings.now in
+    let listed = c.args.listed in
+    let passes = subst (PassesStage world listed.stage c.pass.new.self) c.in-None.is (c.in_ok-found.ensures.passes (passed-known world rows (listed_paths world) listed.stage way.far.stage)) in
     let last = c.in_ok-last_stage-in-None.field-0 in
-    let same : record c.args.listed { stage = c.pass.new.self } ≡ c.args.listed = ap (λ (s : Stage). record c.args.listed { stage = s }) passes.0 in
-    let needs = subst (λ (before : ListedStage). NeedsPaths rows before last) same
-    (c.in_ok-last_stage-in-None.ensures.lists rows (subst (λ (s : Stage). LacksNone s) (sym passes.0) passes.1) (subst (λ (l : ListedStage). MayBeKept rows l) (sym same) way.far.last)) in
-    c.next_needed.ensures world rows (record {
+    let same : record listed { stage = c.pass.new.self } ≡ listed = ap (λ (s : Stage). record listed { stage = s }) passes.0 in
+    let needs = subst (λ (before : ListedStage). NeedsPaths world rows before last) same
+    (c.in_ok-last_stage-in-None.ensures world rows (subst (λ (s : Stage). LacksNone world s) (sym passes.0) passes.1) (subst (λ (l : ListedStage). MayBeKept world rows l) (sym same) way.far.last)) in
+    let next = subst (λ (files : FileMap). let w : World = (files, c.args.settings.now) in IsOnTheWay w rows (Needed last) → IfOk c.next_needed.result (IsNext w rows)) c.in_ok-found.ensures.leaves.files
+    (c.next_needed.ensures.next rows) in
+    next (record {
       kept = way.kept;
-      far = IsLastStage-after world rows way.kept c.known_rows_are_enough.ensures c.args.listed last passes.1 way.far needs;
+      far = IsLastStage-after world rows way.kept c.known_rows_are_enough.ensures listed last passes.1 way.far needs;
     })

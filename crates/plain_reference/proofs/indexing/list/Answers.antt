@@ -11,7 +11,7 @@ use Rattle.ports_index.specs.Index.{listed_paths}
 use Rattle.ports_index.specs.Seen.{known_in, entries_in}
 use Rattle.ports_index.proofs.Filled.{one_of-in_order}
 use Rattle.plain_reference.specs.Work.{both, effort_over}
-use Rattle.plain_reference.proofs.Filled.{Stay-on, Fills-on, Fills-same, have-filled, one_of-absorbed}
+use Rattle.plain_reference.proofs.Filled.{Stay-on, Fills-on, Fills-same, say-filled, one_of-absorbed}
 use Rattle.plain_reference.proofs.WorkLemmas.{Effort-on, lacking-absorbed}
 use Rattle.plain_reference.proofs.indexing.list.Goals as goal
 
@@ -35,7 +35,7 @@ returns-clause-listed g c =
     subst (λ paths. Fills world paths before entries) directories_are
     (subst (λ files. Fills (files, settings) (map string_bytes c.deref.result.now) before entries) c.in_ok-directories.ensures.keeps.files c.in_ok-first.ensures.fills) in
     c.in_ok-paths.ensures ∙ ap (listed_from (known_in entries)) (ap (map string_bytes) c.deref-2.ensures.value ∙ c.in_ok-directories.ensures.ok)
-    ∙ c.known_rows_are_enough.ensures.listed world entries (have-filled world found before entries first)
+    ∙ c.known_rows_are_enough.ensures.listed world entries (say-filled world found before entries first)
 
 pub returns-clause-fills : goal.returns-clause-fills
 returns-clause-fills g c =

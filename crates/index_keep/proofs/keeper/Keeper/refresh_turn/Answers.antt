@@ -20,7 +20,10 @@ begun-requires g c =
     let entries = g.R.PathRows.entries in
     let world : World = world_of (view_of g.F.Names.view c.args.files.now) c.args.settings.now in
     let is : c.args.self.now.progress ≡ Changed c.in-Changed.names c.in-Changed.last = sym c.replace.ensures.value ∙ c.in-Changed.is in
-    subst (λ (p : Progress). IsProgress world (shown (changed_in p) (entries c.args.self.now.rows)) p) is c.requires.progress
+    record {
+      kept = subst (λ (p : Progress). AreKept world (shown (changed_in p) (entries c.args.self.now.rows))) is c.requires.rows;
+      last = subst (λ (p : Progress). IsProgress world (shown (changed_in p) (entries c.args.self.now.rows)) p) is c.requires.progress;
+    }
 
 pub walk_on-requires : goal.walk_on-requires
 walk_on-requires g c =
@@ -32,7 +35,7 @@ walk_on-requires g c =
     let same : ShowsSame (rows_of entries c.args.self.now) (shown no_name (entries c.begun.new.self.rows)) = λ path. begun.ok.0 path ∙ sym (ap (λ (p : Progress). shown (changed_in p) rows path) is) in
     let there : IsOnTheWay world (shown no_name (entries c.begun.new.self.rows)) c.in_ok-walk-in-Changed.walk = record {
       kept = AreKept-same world (rows_of entries c.args.self.now) (shown no_name (entries c.begun.new.self.rows)) same c.requires.rows;
-      far = begun.walk c.args.settings.now;
+      far = begun.walk;
     } in
     subst (λ (files : FileMap). let w : World = (files, c.args.settings.now) in IsOnTheWay w (shown no_name (entries c.begun.new.self.rows)) c.in_ok-walk-in-Changed.walk) (sym begun.leaves.files) there
 

@@ -1,11 +1,12 @@
 -- The next path that has no fresh row is begun, or the walk is at its end.
 use Rattle.std.proofs.Common.{subst, sym, string_bytes, IfOk}
 use Rattle.mk_paths.specs.FilesView.{world_of}
-use Rattle.mk_paths.specs.World.{World}
+use Rattle.mk_paths.specs.World.{World, FileMap}
+use Rattle.ports_index.specs.Spending.{no_spending}
 use Rattle.ports_index.specs.declared.spending.Spent.{Spent}
 use Rattle.read_trace.specs.Recording.{view_of}
 use Rattle.index_keep.specs.Keeping.{IsReadyFor, TurnsKeeper}
-use Rattle.index_keep.specs.Paths.{TurnsPath}
+use Rattle.index_keep.specs.Paths.{IsFoundAt, TurnsPath}
 use Rattle.index_keep.specs.Shown.{shown, no_name}
 use Rattle.index_keep.specs.Turns.{refresh_at}
 use Rattle.index_keep.specs.Walking.{IsNext}
@@ -15,10 +16,13 @@ pub returns-in_ok-turned-in-Lacks-clause-turn : goal.returns-in_ok-turned-in-Lac
 returns-in_ok-turned-in-Lacks-clause-turn g c =
     let world : World = world_of (view_of g.F.Names.view c.args.files.now) c.args.settings.now in
     let old = shown no_name (g.R.PathRows.entries c.args.self.now.rows) in
-    let path = string_bytes c.in-Lacks.path in
-    let next = subst (IsNext world old) c.in-Lacks.is (c.in_ok-walk.ensures world old c.requires) in
+    let found = c.in-Lacks.found in
+    let path = string_bytes found.path in
+    let next = subst (IsNext world old) c.in-Lacks.is (c.in_ok-walk.ensures.next old c.requires) in
     let ready : IsReadyFor world old c.in-Lacks.walk path = record { kept = c.requires.kept; far = next.0; lacking = next.1 } in
-    let turns = subst (λ (before : Spent). TurnsPath world path c.args.units before c.in_ok-turned-in-Lacks.turned) (sym c.nothing.ensures) c.in_ok-turned-in-Lacks.ensures.turns in
+    let begins = subst (λ (files : FileMap). let w : World = (files, c.args.settings.now) in IsFoundAt w found → TurnsPath w path c.args.units no_spending c.in_ok-turned-in-Lacks.turned)
+    c.in_ok-walk.ensures.leaves.files c.in_ok-turned-in-Lacks.ensures.turns in
+    let turns = subst (λ (before : Spent). TurnsPath world path c.args.units before c.in_ok-turned-in-Lacks.turned) (sym c.nothing.ensures) (begins next.2) in
     subst (λ (before : Spent). IfOk c.settle.result (TurnsKeeper g.R.PathRows.entries world c.args.units (refresh_at old before) c.settle.new.self)) c.nothing.ensures
     (c.settle.ensures.settles world path c.args.units ready turns)
 
@@ -26,17 +30,20 @@ pub returns-in_ok-turned-in-Lacks-clause-kept : goal.returns-in_ok-turned-in-Lac
 returns-in_ok-turned-in-Lacks-clause-kept g c =
     let world : World = world_of (view_of g.F.Names.view c.args.files.now) c.args.settings.now in
     let old = shown no_name (g.R.PathRows.entries c.args.self.now.rows) in
-    let path = string_bytes c.in-Lacks.path in
-    let next = subst (IsNext world old) c.in-Lacks.is (c.in_ok-walk.ensures world old c.requires) in
+    let found = c.in-Lacks.found in
+    let path = string_bytes found.path in
+    let next = subst (IsNext world old) c.in-Lacks.is (c.in_ok-walk.ensures.next old c.requires) in
     let ready : IsReadyFor world old c.in-Lacks.walk path = record { kept = c.requires.kept; far = next.0; lacking = next.1 } in
-    let turns = subst (λ (before : Spent). TurnsPath world path c.args.units before c.in_ok-turned-in-Lacks.turned) (sym c.nothing.ensures) c.in_ok-turned-in-Lacks.ensures.turns in
+    let begins = subst (λ (files : FileMap). let w : World = (files, c.args.settings.now) in IsFoundAt w found → TurnsPath w path c.args.units no_spending c.in_ok-turned-in-Lacks.turned)
+    c.in_ok-walk.ensures.leaves.files c.in_ok-turned-in-Lacks.ensures.turns in
+    let turns = subst (λ (before : Spent). TurnsPath world path c.args.units before c.in_ok-turned-in-Lacks.turned) (sym c.nothing.ensures) (begins next.2) in
     c.settle.ensures.kept world path c.args.units ready turns
 
 pub returns-in_ok-end-in-All-clause-turn : goal.returns-in_ok-end-in-All-clause-turn
 returns-in_ok-end-in-All-clause-turn g c =
     let world : World = world_of (view_of g.F.Names.view c.args.files.now) c.args.settings.now in
     let old = shown no_name (g.R.PathRows.entries c.args.self.now.rows) in
-    let next = subst (IsNext world old) c.in-All.is (c.in_ok-walk.ensures world old c.requires) in
+    let next = subst (IsNext world old) c.in-All.is (c.in_ok-walk.ensures.next old c.requires) in
     record {
       turn = c.in_ok-end-in-All.ensures.ends world (record { kept = c.requires.kept; far = next.0; fresh = next.1 });
       done = λ done. c.in_ok-end-in-All.ensures.done;

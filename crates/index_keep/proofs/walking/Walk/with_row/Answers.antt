@@ -1,14 +1,15 @@
 -- The index of before is recalled as long as each row names the same paths as the outdated one.
-use Rattle.std.proofs.Common.{◌≡◌, subst, IfSome, List, ℕ, Some, string_bytes}
+use Rattle.std.proofs.Common.{◌≡◌, ◌∙◌, ap, subst, sym, IfSome, List, ℕ, Some, map, string_bytes}
 use Rattle.mk_paths.specs.World.{files_in}
-use Rattle.ports_index.specs.Index.{listed_paths, needed_paths}
-use Rattle.ports_index.specs.Naming.{directories}
+use Rattle.ports_index.specs.Index.{listed_paths}
+use Rattle.ports_index.specs.Known.{needed_with}
+use Rattle.ports_index.specs.Naming.{AreInOrder, directories}
 use Rattle.ports_index.specs.Seen.{known_seen, row_seen}
 use Rattle.index_keep.specs.Last.{NamesAsBefore}
-use Rattle.index_keep.specs.Walking.{IsWalk}
+use Rattle.index_keep.specs.Walking.{IsStage, IsWalk, paths_of}
 use Rattle.index_keep.specs.declared.last_index.LastIndex.{LastIndex}
 use Rattle.index_keep.specs.declared.last_index.LastLists.{LastLists}
-use Rattle.index_keep.proofs.MoreLemmas.{alone-more, below-more, listed-kept, stage-more}
+use Rattle.index_keep.proofs.MoreLemmas.{alone-more, below-more, decided-more, listed-kept, stage-more}
 use Rattle.index_keep.proofs.walking.Walk.with_row.Goals as goal
 
 pub returns-in_ok-know-in-Directories : goal.returns-in_ok-know-in-Directories
@@ -50,12 +51,16 @@ returns-in_ok-know-in-Needed c = λ world old new walk more.
     let far = subst (IsWalk world old) c.in-Needed.is walk in
     let path = string_bytes c.args.path in
     let said = known_seen c.args.row in
-    let stage = c.in-Needed.last.stage in
+    let last = c.in-Needed.last in
     let after = c.know-in-Needed.new.self in
     let knows = c.in_ok-know-in-Needed.ensures in
+    let same = ap (λ names. map string_bytes names.items) knows.paths in
     record {
-      stage = stage-more world path said old new more stage after knows (needed_paths world) far.stage;
+      stage = subst (λ paths. IsStage world new paths after) (sym same) (stage-more world path said old new more last.stage after knows (paths_of last.stage) far.stage);
       directories = far.directories;
       listed = far.listed;
-      alone = alone-more world path said old new more stage after knows far.stage c.in-Needed.last.outdated far.alone;
+      needed = ap (needed_with (listed_paths world)) same ∙ far.needed;
+      ordered = subst AreInOrder (sym same) far.ordered;
+      known = decided-more world path said old new more last.stage after knows (listed_paths world) far.known;
+      alone = λ are. alone-more world path said old new more (far.alone are);
     }

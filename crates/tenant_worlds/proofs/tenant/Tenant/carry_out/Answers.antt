@@ -1,5 +1,5 @@
 -- The keeper was told what changes, and the settings are those of the world.
-use Rattle.std.proofs.Common.{◌≡◌, ◌∙◌, ap, sym}
+use Rattle.std.proofs.Common.{◌∙◌, ap, sym}
 use Rattle.mk_paths.specs.World.{World}
 use Rattle.mk_paths.specs.declared.search_path.Settings.{Settings}
 use Rattle.tenant_worlds.proofs.KeptLemmas.{idle_right, kept_by_put, removed_differs, settings_of_put}

@@ -1,5 +1,5 @@
 -- Putting an index away changes no world and no job.
-use Rattle.std.proofs.Common.{◌≡◌, ◌∙◌, List, Option, length, ap, ap₂, subst, sym, arith}
+use Rattle.std.proofs.Common.{◌∙◌, List, Option, length, ap, ap₂, subst, sym, arith}
 use Rattle.mk_paths.specs.World.{World}
 use Rattle.ports_core.specs.Jobs.{TenantJob}
 use Rattle.tenant_worlds.specs.Kept.{AreRight, jobs_of, worlds_of}
