@@ -7,4 +7,4 @@ pub mod Worlds
 pub mod Remapping
 pub mod Keeping
 pub mod Paths
-pub mod Naming
+pub mod Lengths

@@ -1,5 +1,6 @@
 pub mod Holdings
 pub mod Tables
+pub mod Lengths
 pub mod Refusing
-pub mod Accounts
+pub mod SettingsRows
 pub mod TenantWorld

@@ -1,55 +1,79 @@
-// Names that are noted in memory.
-ghost use Rattle.std.specs.Prelude.{◌≡◌, ◌&&◌, ◌||◌, if◌then◌else◌, not, false, ℕ, List, map, string_bytes, IfOk, OnOk, OnErr};
-ghost use Rattle.std.specs.BTreeSet.{contains_text};
+// What is noted in memory of the files.
+ghost use Rattle.std.specs.Prelude.{◌≡◌, ◌+◌, ◌≤◌, None, Some, IsSome, map, string_bytes, IfOk, OnOk, OnErr};
+ghost use Rattle.std.specs.BTreeMap.{get_by_text};
 ghost use Rattle.std.specs.FinMap.{keys};
-ghost use Rattle.std.specs.Str.{bytes_eq};
+ghost use Rattle.mk_files.specs.declared.usage.Usage.{Usage as UsageSeen};
 ghost use Rattle.mk_paths.specs.World.{FileMap};
-ghost use Rattle.tenant_store.specs.Tables.{AreNoted};
+ghost use Rattle.tenant_store.specs.Lengths.{AreNoted, Notes};
 
+use mk_files::Usage;
 use mk_paths::FilesFault;
 use std::alloc::{AllocError, Global};
-use std::collections::BTreeSet;
-use text_parts::put_in_order;
+use std::collections::BTreeMap;
 
-/// Notes a name, and says whether it wasn't noted before. If memory runs out, it fails, and nothing changes.
+/// Notes a file of this name and length, whether or not one of the name was noted. If memory runs out, it fails, and
+/// nothing changes.
 pub(crate) fn note(
     alloc: Global,
-    names: &mut BTreeSet<String>,
+    lengths: &mut BTreeMap<String, usize>,
     name: &str,
-) -> Result<bool, FilesFault>
-    ensures is_new { IfOk result (λ is_new. is_new ≡ not (contains_text names.old name.now)) }
-    ensures noted { OnOk result ((other : List ℕ) → contains_text names.new other
-        ≡ (bytes_eq name.now other || contains_text names.old other)) }
-    ensures err { OnErr result (names.new ≡ names.old) }
+    length: usize,
+) -> Result<(), FilesFault>
+    ensures noted { OnOk result (Notes lengths.old lengths.new name.now (Some length)) }
+    ensures err { OnErr result (lengths.new.entries ≡ lengths.old.entries) }
 {
-    if names.contains(name) {
-        return Ok(false);
-    }
-    match names.insert(String::from_str(alloc, name)?) {
-        Ok(_is_new) => Ok(true),
+    match lengths.insert(String::from_str(alloc, name)?, length) {
+        Ok(_had) => Ok(()),
         Err(failed) => Err(AllocError::from(failed).into()),
     }
 }
 
-/// Forgets a name, if it is new.
-pub(crate) fn forget_if(is_new: bool, names: &mut BTreeSet<String>, name: &str)
-    ensures { (other : List ℕ) → contains_text names.new other
-        ≡ (if is_new && bytes_eq name.now other then false else contains_text names.old other) }
+/// Forgets the file of this name.
+pub(crate) fn forget(lengths: &mut BTreeMap<String, usize>, name: &str)
+    ensures { Notes lengths.old lengths.new name.now None }
 {
-    if is_new {
-        let _was_there = names.remove(name);
+    let _noted = lengths.remove(name);
+}
+
+/// Gives the noted file of this name the length that it had, or forgets it if it wasn't there.
+pub(crate) fn put_back(lengths: &mut BTreeMap<String, usize>, name: &str, had: Option<usize>)
+    requires { IsSome (get_by_text lengths.old name.now) }
+    ensures { Notes lengths.old lengths.new name.now had }
+{
+    match had {
+        Some(length) => {
+            if let Some(noted) = lengths.get_mut(name) {
+                *noted = length;
+            }
+        }
+        None => forget(lengths, name),
+    }
+}
+
+/// The same with one file fewer, of this length.
+pub(crate) fn without(usage: Usage, length: usize) -> Usage
+    requires files { 1 ≤ usage.files }
+    requires bytes { length ≤ usage.bytes }
+    ensures files { result.files + 1 ≡ usage.files }
+    ensures bytes { result.bytes + length ≡ usage.bytes }
+{
+    Usage {
+        files: usage.files - 1,
+        bytes: usage.bytes - length as u32,
     }
 }
 
 /// The names that are noted, in the order of their bytes.
-pub(crate) fn list_of(alloc: Global, noted: &BTreeSet<String>) -> Result<Vec<String>, AllocError>
-    ensures { IfOk result (λ names. (files : FileMap) → AreNoted noted.now files
-        → map string_bytes names.items ≡ keys files) }
+pub(crate) fn list_of(
+    alloc: Global,
+    lengths: &BTreeMap<String, usize>,
+) -> Result<Vec<String>, AllocError>
+    ensures { IfOk result (λ names. (usage : UsageSeen) (files : FileMap)
+        → AreNoted lengths.now usage files → map string_bytes names.items ≡ keys files) }
 {
-    let mut names = Vec::with_capacity(alloc, noted.len())?;
-    for name in noted {
+    let mut names = Vec::with_capacity(alloc, lengths.len())?;
+    for name in lengths.keys() {
         names.push(String::from_str(alloc, name.as_str())?)?;
     }
-    put_in_order(&mut names);
     Ok(names)
 }

@@ -22,7 +22,7 @@ fn create_files(conn: &mut Connection<MemStore>) -> Result<(), Error>
     Ok(())
 }
 
-fn create_account(conn: &mut Connection<MemStore>) -> Result<(), Error>
+fn create_settings(conn: &mut Connection<MemStore>) -> Result<(), Error>
     requires autocommit { (state_of conn.old).in_transaction ≡ false }
     requires schema { (state_of conn.old).now.schema ≡ file_schema }
     requires empty { (state_of conn.old).now.trees 0 ≡ [] }
@@ -30,33 +30,32 @@ fn create_account(conn: &mut Connection<MemStore>) -> Result<(), Error>
     ensures bare { OnOk result (IsBare (state_of conn.new).now) }
 {
     conn.execute(
-        "CREATE TABLE account (files INTEGER NOT NULL, bytes INTEGER NOT NULL, path TEXT NOT NULL, \
-         profile INTEGER NOT NULL) STRICT",
+        "CREATE TABLE settings (path TEXT NOT NULL, profile INTEGER NOT NULL) STRICT",
         &[],
     )?;
     Ok(())
 }
 
-// The account of a tenant without a file, with the standard path and the first profile.
-fn insert_account(conn: &mut Connection<MemStore>) -> Result<(), Error>
+// The standard path and the first profile.
+fn insert_settings(conn: &mut Connection<MemStore>) -> Result<(), Error>
     requires settled { IsSettled (state_of conn.old) }
     requires bare { IsBare (state_of conn.old).now }
     ensures { OnOk result (Holds (state_of conn.new) opening_world) }
 {
     conn.execute(
-        "INSERT INTO account (files, bytes, path, profile) VALUES (0, 0, '/ports:/mystuff', 1)",
+        "INSERT INTO settings (path, profile) VALUES ('/ports:/mystuff', 1)",
         &[],
     )?;
     Ok(())
 }
 
-/// A database with the two tables, no file, and the first account.
+/// A database with the two tables, no file, and the first settings.
 pub(crate) fn open(alloc: Global) -> Result<Connection<MemStore>, Error>
     ensures { IfOk result (λ conn. Holds (state_of conn) opening_world) }
 {
     let mut conn = Connection::open_in_memory(alloc)?;
     create_files(&mut conn)?;
-    create_account(&mut conn)?;
-    insert_account(&mut conn)?;
+    create_settings(&mut conn)?;
+    insert_settings(&mut conn)?;
     Ok(conn)
 }

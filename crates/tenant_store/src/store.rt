@@ -8,17 +8,18 @@ ghost use Rattle.mk_files.specs.Limits.{is_over};
 ghost use Rattle.tenant_store.specs.Tables.{IsKept, world_of};
 ghost use Rattle.table_facts.specs.States.{Stays, state_of};
 
-use crate::changing::{put, set_path, set_profile, take};
+use crate::changing::{set_path, set_profile};
 use crate::faults::PutFault;
-use crate::noting::{forget_if, list_of, note};
+use crate::noting::{forget, list_of, note, put_back, without};
 use crate::opening::open;
-use crate::reading::{account_of, content_of};
-use mk_files::Content;
+use crate::reading::{content_of, settings_row};
+use crate::writing::{delete_file, write_file};
+use mk_files::{Content, Usage};
 use mk_paths::{FilesFault, Name, PathFault, SearchPath, Settings};
 use mk_text::Profile;
 use sqlite::{Connection, MemStore};
 use std::alloc::{AllocError, Global};
-use std::collections::BTreeSet;
+use std::collections::BTreeMap;
 use std::marker::Model;
 use table_facts::Sqlite;
 
@@ -28,15 +29,18 @@ use table_facts::Sqlite;
 pub struct TenantStore {
     conn: Connection<MemStore>,
     alloc: Global,
-    // The names of the files.
-    names: BTreeSet<String>,
+    // The lengths of the files in bytes, by their names.
+    lengths: BTreeMap<String, usize>,
+    // How many files there are, and the sum of their lengths.
+    usage: Usage,
 }
 
 impl Model for TenantStore {
     ghost use Rattle.mk_paths.specs.World.{World, files_in, world_code};
     ghost use Rattle.sqlite.specs.Held.{state};
     ghost use Rattle.sqlite.specs.Steps.{over_memory};
-    ghost use Rattle.tenant_store.specs.Tables.{world_at, AreNoted, IsKept};
+    ghost use Rattle.tenant_store.specs.Lengths.{AreNoted};
+    ghost use Rattle.tenant_store.specs.Tables.{world_at, IsKept};
 
     ghost Value = { World };
 
@@ -45,7 +49,7 @@ impl Model for TenantStore {
     ghost view = { λ store. world_at (state over_memory store.conn) };
 
     ghost invariant = { λ store. IsKept (state over_memory store.conn)
-        × AreNoted store.names (files_in (world_at (state over_memory store.conn))) };
+        × AreNoted store.lengths store.usage (files_in (world_at (state over_memory store.conn))) };
 }
 
 impl TenantStore {
@@ -59,7 +63,8 @@ impl TenantStore {
             Ok(conn) => Ok(TenantStore {
                 conn,
                 alloc,
-                names: BTreeSet::new(alloc),
+                lengths: BTreeMap::new(alloc),
+                usage: Usage { files: 0, bytes: 0 },
             }),
             Err(error) => Err(FilesFault::of_statement::<Sqlite>(&error)),
         }
@@ -71,9 +76,8 @@ impl TenantStore {
     ///
     /// `Full` only if the tenant would then have more than 2,000 files or more than 8,388,608
     /// bytes of contents. A file that is replaced counts as the one that takes its place. A file
-    /// that makes it more is never stored, but `Store` or `Memory` may come in place of `Full`.
-    /// `Store` comes if the database refuses a statement, and `Memory` if memory runs out. After
-    /// an error nothing has changed.
+    /// that makes it more is never stored. `Store` comes if the database refuses a statement, and
+    /// `Memory` if memory runs out. After an error nothing has changed.
     pub fn put_file(&mut self, name: &Name, content: &[u8]) -> Result<(), PutFault>
         ensures stored { OnOk result (self.new ≡ with_file self.old name.now content.now) }
         ensures fits { OnOk result (is_over
@@ -83,15 +87,18 @@ impl TenantStore {
         ensures err { OnErr result (self.new ≡ self.old) }
     {
         let text = name.as_str();
-        let is_new = note(self.alloc, &mut self.names, text)?;
-        match put(&mut self.conn, text, content) {
-            Ok(true) => Ok(()),
-            Ok(false) => {
-                forget_if(is_new, &mut self.names, text);
-                Err(PutFault::Full)
+        let had = self.lengths.get(text).copied();
+        let Some(usage) = self.usage.with(had, content.len()) else {
+            return Err(PutFault::Full);
+        };
+        note(self.alloc, &mut self.lengths, text, content.len())?;
+        match write_file(&mut self.conn, text, content, had.is_some()) {
+            Ok(()) => {
+                self.usage = usage;
+                Ok(())
             }
             Err(error) => {
-                forget_if(is_new, &mut self.names, text);
+                put_back(&mut self.lengths, text, had);
                 Err(PutFault::from(FilesFault::of_statement::<Sqlite>(&error)))
             }
         }
@@ -110,10 +117,14 @@ impl TenantStore {
         ensures err { OnErr result (self.new ≡ self.old) }
     {
         let text = name.as_str();
-        match take(&mut self.conn, text) {
-            Ok(there) => {
-                forget_if(true, &mut self.names, text);
-                Ok(there)
+        let Some(length) = self.lengths.get(text).copied() else {
+            return Ok(false);
+        };
+        match delete_file(&mut self.conn, text) {
+            Ok(()) => {
+                forget(&mut self.lengths, text);
+                self.usage = without(self.usage, length);
+                Ok(true)
             }
             Err(error) => Err(FilesFault::of_statement::<Sqlite>(&error)),
         }
@@ -135,14 +146,14 @@ impl TenantStore {
     pub fn has_file(&self, name: &Name) -> bool
         ensures { result ≡ contains_key (files_in self.now) name.now }
     {
-        self.names.contains(name.as_str())
+        self.lengths.contains_key(name.as_str())
     }
 
     /// The names of all files, in the order of their bytes. The database isn't asked, so it fails only if memory runs out.
     pub fn names(&self, alloc: Global) -> Result<Vec<String>, AllocError>
         ensures { IfOk result (λ names. map string_bytes names.items ≡ keys (files_in self.now)) }
     {
-        list_of(alloc, &self.names)
+        list_of(alloc, &self.lengths)
     }
 
     /// Sets the search path.
@@ -237,10 +248,10 @@ fn settings_of(conn: &mut Connection<MemStore>, alloc: Global) -> Result<Setting
     ensures profile { IfOk result (λ settings. settings.profile ≡ profile_of (world_of conn.old)) }
     ensures stays { Stays (state_of conn.old) (state_of conn.new) }
 {
-    match account_of(conn) {
-        Ok(account) => Ok(Settings {
-            path: path_from(alloc, account.path.as_str())?,
-            profile: account.profile,
+    match settings_row(conn) {
+        Ok(settings) => Ok(Settings {
+            path: path_from(alloc, settings.path.as_str())?,
+            profile: settings.profile,
         }),
         Err(error) => Err(FilesFault::of_statement::<Sqlite>(&error)),
     }

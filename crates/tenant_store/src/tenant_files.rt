@@ -1,6 +1,6 @@
 // The files of the store, as a world that can be read and listed.
 ghost use Rattle.std.specs.Prelude.{◌≡◌, map, string_bytes, IfOk, OnOk, OnErr};
-ghost use Rattle.std.specs.FinMap.{get, keys};
+ghost use Rattle.std.specs.FinMap.{keys};
 ghost use Rattle.mk_paths.specs.FilesView.{Contents, Presence, Answers, Fails, IsReply};
 
 use crate::store::TenantStore;

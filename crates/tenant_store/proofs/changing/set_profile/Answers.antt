@@ -1,28 +1,32 @@
--- The account is written with the new profile.
-use Rattle.std.proofs.Common.{subst, ap, string_bytes}
-use Rattle.mk_paths.specs.SearchPath.{trees_of}
+-- The settings are written with the new profile.
+use Rattle.std.proofs.Common.{subst, sym}
 use Rattle.sqlite.specs.Held.{state}
 use Rattle.sqlite.specs.Steps.{over_memory}
-use Rattle.tenant_store.specs.Accounts.{shown_account}
-use Rattle.tenant_store.specs.Holdings.{Holdings}
-use Rattle.tenant_store.specs.Tables.{Makes}
+use Rattle.mk_paths.specs.SearchPath.{IsSearchPath}
+use Rattle.mk_paths.specs.World.{files_in}
+use Rattle.tenant_store.specs.Tables.{Holds}
 use Rattle.table_facts.proofs.Ending.{on_error, ok_then, err_then}
-use Rattle.tenant_store.proofs.Keeping.{still_held, stays_then, profile_holds}
+use Rattle.tenant_store.proofs.Keeping.{still_kept, same_world, stays_then}
 use Rattle.tenant_store.proofs.changing.set_profile.Goals as goal
 
-pub returns-in_err-account-clause-err : goal.returns-in_err-account-clause-err
-returns-in_err-account-clause-err c = on_error c.from_residual.result c.account_of.ensures.stays
+pub returns-in_err-settings-clause-err : goal.returns-in_err-settings-clause-err
+returns-in_err-settings-clause-err c = on_error c.from_residual.result c.settings_row.ensures.stays
+
+pub update_settings-requires-clause-kept : goal.update_settings-requires-clause-kept
+update_settings-requires-clause-kept c = still_kept (state over_memory c.args.conn.now) (state over_memory c.settings_row.new.conn) c.requires c.settings_row.ensures.stays
+
+pub update_settings-requires-clause-path : goal.update_settings-requires-clause-path
+update_settings-requires-clause-path c = subst IsSearchPath (sym c.in_ok-settings.ensures.settings.path) c.in_ok-settings.ensures.settings.is_path
+
+pub returns-clause-err : goal.returns-clause-err
+returns-clause-err c =
+    err_then c.update_settings.result (stays_then (state over_memory c.args.conn.now) (state over_memory c.settings_row.new.conn) (state over_memory c.update_settings.new.conn) c.settings_row.ensures.stays) c.update_settings.ensures.err
 
 pub returns-clause-profile : goal.returns-clause-profile
 returns-clause-profile c =
     let old = state over_memory c.args.conn.now in
-    let mid = state over_memory c.account_of.new.conn in
-    let new = state over_memory c.write.new.conn in
-    let next = c.with_profile-next in
-    ok_then c.write.result (λ made.
-    let over_old = subst (λ (h : Holdings). Makes new (record { files = h.files; account = shown_account next.result })) (still_held old mid c.account_of.ensures.stays) made in
-    profile_holds old new c.in_ok-account.account next.result c.in_ok-account.ensures.account next.ensures.files next.ensures.bytes over_old c.args.profile next.ensures.profile (ap (λ p. trees_of (string_bytes p)) next.ensures.path)) c.write.ensures.ok
-
-pub returns-clause-err : goal.returns-clause-err
-returns-clause-err c =
-    err_then c.write.result (stays_then (state over_memory c.args.conn.now) (state over_memory c.account_of.new.conn) (state over_memory c.write.new.conn) c.account_of.ensures.stays) c.write.ensures.err
+    let mid = state over_memory c.settings_row.new.conn in
+    let new = state over_memory c.update_settings.new.conn in
+    let same = same_world old mid c.settings_row.ensures.stays in
+    ok_then c.update_settings.result (λ made.
+    subst (Holds new) (λ i. (files_in (same i), record { path = c.in_ok-settings.ensures.settings.path i; profile = c.args.profile })) made) c.update_settings.ensures.set

@@ -10,6 +10,6 @@ pub returns : goal.returns
 returns c =
     let new = c.query_all.new.self in
     let both =
-    content_ends c.args.name.now (state over_memory c.args.conn.now) (state over_memory new) c.query_all.result c.requires.formed c.requires.settled refl
+    content_ends (state over_memory c.args.conn.now) (state over_memory new) c.query_all.result c.requires.formed c.requires.settled refl c.args.name.now
     (rw c.params-to_sql.ensures at (c.query_all.ensures.ok (memory_is_clean new))) (rw c.params-to_sql.ensures at (c.query_all.ensures.err (memory_is_clean new))) in
     record { rows = both.0; stays = both.1 }

@@ -1,10 +1,9 @@
 -- Nothing has changed.
-use Rattle.std.proofs.Common.{◌∙◌, subst, sym}
-use Rattle.mk_paths.specs.World.{World, files_in}
+use Rattle.std.proofs.Common.{◌∙◌}
 use Rattle.sqlite.specs.Held.{state}
 use Rattle.sqlite.specs.Steps.{over_memory}
-use Rattle.tenant_store.specs.Tables.{AreNoted}
 use Rattle.tenant_store.proofs.Keeping.{still_kept, same_world}
+use Rattle.tenant_store.proofs.Lengths.{still_noted}
 use Rattle.tenant_store.proofs.store.TenantStore.get_file.Goals as goal
 
 pub invariant_of-self : goal.invariant_of-self
@@ -12,7 +11,7 @@ invariant_of-self c =
     let old = state over_memory c.self.inside.conn in
     let new = state over_memory c.shared_content.new.conn in (
       still_kept old new c.self.invariant.0 c.shared_content.ensures.stays,
-      subst (λ (world : World). AreNoted c.self.inside.names (files_in world)) (sym (same_world old new c.shared_content.ensures.stays)) c.self.invariant.1,
+      still_noted old new c.self.inside.lengths c.self.inside.usage c.self.invariant.1 c.shared_content.ensures.stays,
     )
 
 pub returns-clause-same : goal.returns-clause-same

@@ -2,7 +2,8 @@
 use Rattle.std.proofs.Common.{◌∙◌}
 use Rattle.sqlite.specs.Held.{state}
 use Rattle.sqlite.specs.Steps.{over_memory}
-use Rattle.tenant_store.proofs.Keeping.{set_kept, set_noted, same_world}
+use Rattle.tenant_store.proofs.Keeping.{set_kept, same_world}
+use Rattle.tenant_store.proofs.Lengths.{set_noted}
 use Rattle.tenant_store.proofs.store.TenantStore.set_path.Goals as goal
 use Rattle.tenant_store.proofs.store.TenantStore.set_path.Goals.{in-Ok, in-Err}
 
@@ -11,7 +12,7 @@ invariant_of-self c =
     let old = state over_memory c.self.inside.conn in
     let new = state over_memory c.set_path.new.conn in (
       set_kept c.set_path.result old new _ c.self.invariant.0 c.set_path.ensures.path c.set_path.ensures.err,
-      set_noted c.set_path.result old new _ c.self.inside.names c.self.invariant.1 c.set_path.ensures.path c.set_path.ensures.err,
+      set_noted old new _ c.self.inside.lengths c.self.inside.usage c.self.invariant.1 c.set_path.result c.set_path.ensures.path c.set_path.ensures.err,
     )
 
 pub returns-clause-err : goal.returns-clause-err

@@ -1,0 +1,13 @@
+-- What the query shows.
+use Rattle.std.proofs.Common.{refl}
+use Rattle.sqlite.specs.Held.{state}
+use Rattle.sqlite.specs.Steps.{over_memory}
+use Rattle.sqlite.proofs.Callers.{memory_is_clean}
+use Rattle.tenant_store.proofs.Answering.{settings_ends}
+use Rattle.tenant_store.proofs.reading.settings_rows.Goals as goal
+
+pub returns : goal.returns
+returns c =
+    let new = c.query_all.new.self in
+    let both = settings_ends (state over_memory c.args.conn.now) (state over_memory new) c.query_all.result c.requires.formed c.requires.settled refl (c.query_all.ensures.ok (memory_is_clean new)) (c.query_all.ensures.err (memory_is_clean new)) in
+    record { rows = both.0; stays = both.1 }
