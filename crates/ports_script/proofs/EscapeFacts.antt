@@ -1,9 +1,15 @@
 -- What escaped texts mean.
-use Rattle.std.proofs.Common.{◌≡◌, ℕ, suc, zero, ◌+◌, ◌*◌, ◌<◌, ◌≤◌, Bool, true, false, cond, List, [], ◌∷◌, ◌++◌, length, refl, sym, ap, ◌∙◌, arith, Option, Some, None, option_map, option_and_then, append_assoc, append-nil, eqb, flat_map, codes, ◌^◌, ◌-◌, get_or, take, drop}
-use Rattle.std.proofs.lemmas.List.{take_all, take_more}
+use Rattle.std.proofs.Common.{◌≡◌, ◌==◌, ℕ, suc, zero, ◌+◌, ◌*◌, ◌<◌, ◌≤◌, Bool, true, false, cond, List, [], ◌∷◌, ◌++◌, length, refl, sym, ap, ◌∙◌, arith, Option, Some, None, option_map, option_and_then, append_assoc, append-nil, eqb, codes, ◌^◌, ◌-◌, get_or, take, drop}
+use Rattle.std.proofs.lemmas.List.{take_all, drop_all, drop_more}
+use Rattle.std.proofs.lemmas.Str.{IsUtf8-from_ascii}
+use Rattle.std.proofs.lemmas.Str.Ascii.{IsAscii-from_all}
+use Rattle.std.proofs.lemmas.Bool.Decides.{nat_tests}
+use Rattle.std.specs.List.{All, position, position_or_len, before_first}
+use Rattle.std.specs.Str.{IsUtf8}
 use Rattle.std.specs.Fmt.{padded_integral, format_spec, digits}
 use Rattle.std.proofs.lemmas.Fmt.{hex_byte as hex_byte_text}
-use Rattle.ports_script.specs.Escapes.{hex_value, hex_byte, hex_escape, escape_of, first_meant, unescaped_within, unescaped, hex_text, escape, escaped}
+use Rattle.ports_script.proofs.PlaceFacts.{position-none, position-some, passes-at, position_or_len-cons}
+use Rattle.ports_script.specs.Escapes.{hex_value, hex_byte, hex_escape, escape_of, first_meant, unescaped_within, unescaped, is_escaped, hex_text, escape, escaped}
 
 -- the text is no shorter than what follows its first byte
 abbrev IsShorter : Option (ℕ × List ℕ) → ℕ → Type 0
@@ -72,39 +78,98 @@ unescaped-nil : unescaped [] ≡ Some []
 unfolding unescaped
 unescaped-nil = refl
 
-pub unescaped-bad : (text : List ℕ) (byte : ℕ) (rest : List ℕ) → text ≡ byte ∷ rest → first_meant byte rest ≡ None → unescaped text ≡ None
-unescaped-bad text byte rest t e = rw (t, unescaped-cons byte rest, e)
+-- the byte that begins an escape
+abbrev is_backslash : ℕ → Bool
+is_backslash byte = byte == 92
 
-regroup : (before : List ℕ) (meant : ℕ) (o : Option (List ℕ)) → option_map (λ later. (before ++ meant ∷ []) ++ later) o ≡ option_map (λ later. before ++ later) (option_map (λ later. meant ∷ later) o)
-regroup before meant None = refl
-regroup before meant (Some later) = ap Some (append_assoc before (meant ∷ []) later)
+before_nothing : (o : Option (List ℕ)) → option_map (λ later. [] ++ later) o ≡ o
+before_nothing None = refl
+before_nothing (Some later) = refl
 
--- one more byte is read, after those read before
-pub unescaped-more : (before text : List ℕ) (byte : ℕ) (rest : List ℕ) (meant : ℕ) (left : List ℕ) → text ≡ byte ∷ rest → first_meant byte rest ≡ Some (meant, left) → option_map (λ later. (before ++ meant ∷ []) ++ later) (unescaped left) ≡ option_map (λ later. before ++ later) (unescaped text)
-unescaped-more before text byte rest meant left t e = rw (t, unescaped-cons byte rest, e) (regroup before meant (unescaped left))
+before_twice : (first second : List ℕ) (o : Option (List ℕ)) → option_map (λ later. first ++ later) (option_map (λ later. second ++ later) o) ≡ option_map (λ later. (first ++ second) ++ later) o
+before_twice first second None = refl
+before_twice first second (Some later) = ap Some (sym (append_assoc first second later))
 
--- a text that isn't empty is its first byte and the rest
-pub first_and_rest : (text : List ℕ) → 1 ≤ length text → text ≡ get_or text 0 0 ∷ take (length text - 1) (drop 1 text)
-first_and_rest [] h = absurd (omega arith)
-first_and_rest (byte ∷ rest) h = ap (λ x. byte ∷ x) (sym (take_all (length (byte ∷ rest) - 1) rest (omega arith)))
+-- up to the first backslash bytes are read as they are
+unescaped-front : (text : List ℕ) → unescaped text ≡ option_map (λ later. before_first is_backslash text ++ later) (unescaped (drop (position_or_len is_backslash text) text))
+unescaped-front [] = sym (before_nothing (unescaped []))
+unescaped-front (byte ∷ rest) = by (is_backslash byte) refl (unescaped-front rest)
+  where
+    by : (b : Bool) → is_backslash byte ≡ b → unescaped rest ≡ option_map (λ later. before_first is_backslash rest ++ later) (unescaped (drop (position_or_len is_backslash rest) rest)) → unescaped (byte ∷ rest) ≡ option_map (λ later. before_first is_backslash (byte ∷ rest) ++ later) (unescaped (drop (position_or_len is_backslash (byte ∷ rest)) (byte ∷ rest)))
+    by true t e = rw t (sym (before_nothing (unescaped (byte ∷ rest))))
+    by false t e = rw (position_or_len-cons is_backslash byte rest t, unescaped-cons byte rest, t, e) (before_twice (byte ∷ []) (before_first is_backslash rest) (unescaped (drop (position_or_len is_backslash rest) rest)))
 
--- nothing more is read
-pub unescaped-end : (before text : List ℕ) → length text ≡ 0 → option_map (λ later. before ++ later) (unescaped text) ≡ Some before
-unescaped-end before [] none = rw unescaped-nil (ap Some (append-nil before))
-unescaped-end before (byte ∷ rest) none = absurd (omega arith)
+-- at a backslash an escape is read
+unescaped-at : (text : List ℕ) (at : ℕ) → position is_backslash text ≡ Some at → unescaped text ≡ option_map (λ later. take at text ++ later) (before_later (escape_of (drop (at + 1) text)))
+unescaped-at text at found =
+    let place = position-some is_backslash text at found in
+    let begins : unescaped (drop at text) ≡ before_later (escape_of (drop (at + 1) text)) = rw (drop_more text at 0 place.0, unescaped-cons (get_or text at 0) (drop (at + 1) text), passes-at is_backslash text at found) refl in
+    rw place.1 at (unescaped-front text) ∙ ap (λ o. option_map (λ later. take at text ++ later) o) begins
 
--- bytes are printed one by one
-pub escaped-nil : escaped [] ≡ []
+pub unescaped-bad : (text : List ℕ) (at : ℕ) → position is_backslash text ≡ Some at → escape_of (drop (at + 1) text) ≡ None → unescaped text ≡ None
+unescaped-bad text at found bad = rw (unescaped-at text at found, bad) refl
+
+-- a run and an escape are read, after what was read before
+pub unescaped-more : (before text : List ℕ) (at meant : ℕ) (left : List ℕ) → position is_backslash text ≡ Some at → escape_of (drop (at + 1) text) ≡ Some (meant, left) → option_map (λ later. ((before ++ take at text) ++ meant ∷ []) ++ later) (unescaped left) ≡ option_map (λ later. before ++ later) (unescaped text)
+unescaped-more before text at meant left found e =
+    rw (unescaped-at text at found, e, before_twice before (take at text) (option_map (λ later. meant ∷ later) (unescaped left))) (sym (before_twice (before ++ take at text) (meant ∷ []) (unescaped left)))
+
+-- nothing more is escaped
+pub unescaped-end : (before text : List ℕ) → position is_backslash text ≡ None → option_map (λ later. before ++ later) (unescaped text) ≡ Some (before ++ text)
+unescaped-end before text none =
+    let past = position-none is_backslash text none in
+    let all : unescaped text ≡ Some text = rw (take_all (position_or_len is_backslash text) text past, drop_all (position_or_len is_backslash text) text past, unescaped-nil, append-nil) at (unescaped-front text) in
+    rw all refl
+
+-- a byte that isn't printed as an escape is printed as it is
+escape-plain : (byte : ℕ) → is_escaped byte ≡ false → escape byte ≡ byte ∷ []
+escape-plain byte h = grind (arith, nat_tests)
+
+-- the bytes before the first escape are a text
+plain_small : (bytes : List ℕ) → All (λ byte. byte < 128) (before_first is_escaped bytes)
+plain_small [] = grind (arith, nat_tests)
+plain_small (byte ∷ bytes) = by (is_escaped byte) refl (plain_small bytes)
+  where
+    by : (b : Bool) → is_escaped byte ≡ b → All (λ byte. byte < 128) (before_first is_escaped bytes) → All (λ byte. byte < 128) (before_first is_escaped (byte ∷ bytes))
+    by true t small = rw t (grind (arith, nat_tests))
+    by false t small = rw (position_or_len-cons is_escaped byte bytes t) (grind (arith, nat_tests))
+
+front-IsUtf8 : (bytes : List ℕ) → IsUtf8 (before_first is_escaped bytes)
+front-IsUtf8 bytes = IsUtf8-from_ascii (before_first is_escaped bytes) (IsAscii-from_all (before_first is_escaped bytes) (plain_small bytes))
+
+pub plain-IsUtf8 : (bytes : List ℕ) (at : ℕ) → position is_escaped bytes ≡ Some at → IsUtf8 (take at bytes)
+plain-IsUtf8 bytes at found = rw (position-some is_escaped bytes at found).1 at (front-IsUtf8 bytes)
+
+pub all_plain-IsUtf8 : (bytes : List ℕ) → position is_escaped bytes ≡ None → IsUtf8 bytes
+all_plain-IsUtf8 bytes none = rw (take_all (position_or_len is_escaped bytes) bytes (position-none is_escaped bytes none)) at (front-IsUtf8 bytes)
+
+escaped-nil : escaped [] ≡ []
 unfolding escaped
 escaped-nil = refl
 
-pub escaped-push : (bytes : List ℕ) (byte : ℕ) → escaped (bytes ++ byte ∷ []) ≡ escaped bytes ++ escape byte
+-- those bytes are printed as they are
+escaped-front : (bytes : List ℕ) → escaped bytes ≡ before_first is_escaped bytes ++ escaped (drop (position_or_len is_escaped bytes) bytes)
 unfolding escaped
-escaped-push [] byte = append-nil (escape byte)
-escaped-push (first ∷ bytes) byte = ap (λ x. escape first ++ x) (escaped-push bytes byte) ∙ sym (append_assoc (escape first) (flat_map escape bytes) (escape byte))
+escaped-front [] = refl
+escaped-front (byte ∷ bytes) = by (is_escaped byte) refl (escaped-front bytes)
+  where
+    by : (b : Bool) → is_escaped byte ≡ b → escaped bytes ≡ before_first is_escaped bytes ++ escaped (drop (position_or_len is_escaped bytes) bytes) → escaped (byte ∷ bytes) ≡ before_first is_escaped (byte ∷ bytes) ++ escaped (drop (position_or_len is_escaped (byte ∷ bytes)) (byte ∷ bytes))
+    by true t e = rw t refl
+    by false t e = rw (position_or_len-cons is_escaped byte bytes t, escape-plain byte t) (ap (λ x. byte ∷ x) e)
 
-pub escaped-more : (bytes : List ℕ) (i : ℕ) → i < length bytes → escaped (take (i + 1) bytes) ≡ escaped (take i bytes) ++ escape (get_or bytes i 0)
-escaped-more bytes i h = ap escaped (take_more bytes i 0 h) ∙ escaped-push (take i bytes) (get_or bytes i 0)
+cons-escaped : (bytes : List ℕ) (at : ℕ) → at < length bytes → escaped (drop at bytes) ≡ escape (get_or bytes at 0) ++ escaped (drop (at + 1) bytes)
+unfolding escaped
+cons-escaped bytes at h = rw (drop_more bytes at 0 h) refl
+
+pub escaped-run : (bytes : List ℕ) (at : ℕ) → position is_escaped bytes ≡ Some at → escaped bytes ≡ take at bytes ++ (escape (get_or bytes at 0) ++ escaped (drop (at + 1) bytes))
+escaped-run bytes at found =
+    let place = position-some is_escaped bytes at found in
+    rw place.1 at (escaped-front bytes) ∙ ap (λ x. take at bytes ++ x) (cons-escaped bytes at place.0)
+
+pub escaped-plain : (bytes : List ℕ) → position is_escaped bytes ≡ None → escaped bytes ≡ bytes
+escaped-plain bytes none =
+    let past = position-none is_escaped bytes none in
+    rw (take_all (position_or_len is_escaped bytes) bytes past, drop_all (position_or_len is_escaped bytes) bytes past, escaped-nil, append-nil) at (escaped-front bytes)
 
 -- what `{:02x}` writes of a byte
 pub hex_text-is : (byte : ℕ) → byte < 256 → hex_text byte ≡ codes "\\x" ++ padded_integral (format_spec 32 0 4 2 (2 ^ 64 - 1)) false [] (digits 16 false byte)

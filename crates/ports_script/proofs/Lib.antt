@@ -1,4 +1,5 @@
 mod NumeralFacts
+mod PlaceFacts
 mod EscapeFacts
 mod EntryFacts
 mod ScriptFacts

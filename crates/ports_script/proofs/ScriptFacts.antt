@@ -1,5 +1,5 @@
 -- What scripts hold.
-use Rattle.std.proofs.Common.{◌≡◌, ℕ, zero, suc, ◌+◌, ◌<◌, ◌≤◌, Bool, true, false, ◌==◌, cond, List, [], ◌∷◌, ◌++◌, length, take, drop, map, refl, sym, subst, ap, ◌∙◌, arith, nat_lt, Option, Some, None, Result, Ok, Err, append_assoc}
+use Rattle.std.proofs.Common.{◌≡◌, ℕ, zero, suc, ◌+◌, ◌<◌, ◌≤◌, Bool, true, false, ◌==◌, cond, List, [], ◌∷◌, ◌++◌, length, take, drop, map, refl, sym, subst, ap, ◌∙◌, arith, Option, Some, None, Result, Ok, Err, append_assoc}
 use Rattle.std.specs.List.{zip, slice_split, position, position_or_len, slice_get, HoldsAt}
 use Rattle.std.specs.Result.{OnOk, OnErr, IfOk, IfErr}
 use Rattle.std.specs.Io.KnownBytes.{Consumes}
@@ -7,7 +7,6 @@ use Rattle.std.proofs.KnownBytes.{Consumes-trans}
 use Rattle.std.proofs.lemmas.List.Sums.{fails_before_first}
 use Rattle.std.proofs.lemmas.List.Splits.{slice_split_first, slice_split_none}
 use Rattle.std.proofs.lemmas.Bool.{true≢false}
-use Rattle.std.proofs.lemmas.Bool.Decides.{nat_tests}
 use Rattle.general_facts.specs.Lists.{slice_split-first}
 use Rattle.ports_core.specs.declared.event.Event.{Event}
 use Rattle.ports_script.specs.declared.script.Script.{Script}
@@ -16,6 +15,7 @@ use Rattle.ports_script.specs.declared.script.ScriptFault.TheVariants.{BadEvent,
 use Rattle.ports_script.specs.Entries.{Entry, shown, event_of}
 use Rattle.ports_script.specs.Scripts.{Reading, is_passed_over, put_before, with_event, with_line, events_from, script_of, numbered, IsFaultOf, HasGiven, HasGivenSome, ReadsScript, FailsToRead}
 use Rattle.refusals.specs.Refused.{refused}
+use Rattle.ports_script.proofs.PlaceFacts.{position-none, position-some}
 
 pub zip-push : (lines : List ℕ) (events : List Event) (line : ℕ) (event : Event) → length lines ≡ length events → zip (lines ++ line ∷ []) (map shown (events ++ event ∷ [])) ≡ zip lines (map shown events) ++ (line, shown event) ∷ []
 zip-push [] [] line event same = refl
@@ -69,21 +69,12 @@ split_none : (text : List ℕ) → length text ≤ position_or_len (λ byte. byt
 split_none text h = slice_split_none (λ byte. byte == 10) text (λ k d l. fails_before_first (λ byte. byte == 10) text k d (omega arith))
 
 pub first_line-none : (text : List ℕ) (r : Option ℕ) → r ≡ position (λ byte. byte == 10) text → r ≡ None → slice_split (λ byte. byte == 10) text ≡ text ∷ []
-first_line-none text r at none = by (nat_lt (position_or_len (λ byte. byte == 10) text) (length text)) refl (sym at ∙ none)
-  where
-    by : (b : Bool) → nat_lt (position_or_len (λ byte. byte == 10) text) (length text) ≡ b → cond b (Some (position_or_len (λ byte. byte == 10) text)) None ≡ None → slice_split (λ byte. byte == 10) text ≡ text ∷ []
-    by true t e = absurd (cc)
-    by false t e = split_none text (grind (arith, nat_tests))
+first_line-none text r at none = split_none text (position-none (λ byte. byte == 10) text (sym at ∙ none))
 
 pub first_line-some : (text : List ℕ) (r : Option ℕ) (end : ℕ) → r ≡ position (λ byte. byte == 10) text → r ≡ Some end → (end < length text) × (slice_split (λ byte. byte == 10) text ≡ take end text ∷ slice_split (λ byte. byte == 10) (drop (end + 1) text))
-first_line-some text r end at found = by (nat_lt (position_or_len (λ byte. byte == 10) text) (length text)) refl (sym at ∙ found)
-  where
-    by : (b : Bool) → nat_lt (position_or_len (λ byte. byte == 10) text) (length text) ≡ b → cond b (Some (position_or_len (λ byte. byte == 10) text)) None ≡ Some end → (end < length text) × (slice_split (λ byte. byte == 10) text ≡ take end text ∷ slice_split (λ byte. byte == 10) (drop (end + 1) text))
-    by true t e =
-        let place : position_or_len (λ byte. byte == 10) text ≡ end = cc in
-        let within : position_or_len (λ byte. byte == 10) text < length text = grind (arith, nat_tests) in
-        (omega arith, rw place at (slice_split_first (λ byte. byte == 10) text 0 within))
-    by false t e = absurd (cc)
+first_line-some text r end at found =
+    let place = position-some (λ byte. byte == 10) text end (sym at ∙ found) in
+    (place.0, rw place.1 at (slice_split_first (λ byte. byte == 10) text 0 (omega arith)))
 
 pub OnOk-then : {T E : Type 0} (P Q : Type 0) (r : Result T E) → (P → Q) → OnOk r P → OnOk r Q
 OnOk-then P Q (Ok x) f h = f h

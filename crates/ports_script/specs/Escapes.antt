@@ -1,6 +1,6 @@
 -- Bytes as scripts and transcripts write them. A byte from 32 to 126 that isn't the backslash is written as
 -- itself. Any byte may be written as `\r`, `\n`, `\t`, `\\` or `\x` with two hexadecimal digits.
-use Rattle.std.specs.Prelude.{ℕ, suc, zero, ◌+◌, ◌-◌, ◌*◌, ◌/◌, ◌%◌, Bool, ◌&&◌, ◌==◌, nat_lt, nat_le, List, [], ◌∷◌}
+use Rattle.std.specs.Prelude.{ℕ, suc, zero, ◌+◌, ◌-◌, ◌*◌, ◌/◌, ◌%◌, Bool, not, ◌&&◌, ◌||◌, ◌==◌, nat_lt, nat_le, List, [], ◌∷◌}
 use Rattle.std.specs.Prelude.{◌++◌, length, flat_map, codes, Option, Some, None, option_map, option_and_then}
 use Rattle.std.specs.Prelude.{if◌then◌else◌}
 
@@ -50,6 +50,10 @@ unescaped_within (suc most) (byte ∷ rest) =
 -- the bytes that a text encodes; `None` if a backslash begins no escape
 unfoldable pub unescaped : List ℕ → Option (List ℕ)
 unescaped text = unescaped_within (length text) text
+
+-- whether a byte is printed as an escape
+abbrev pub is_escaped : ℕ → Bool
+is_escaped byte = byte == 92 || not (is_printable byte)
 
 -- a hexadecimal digit, in lower case
 abbrev pub hex_digit : ℕ → ℕ

@@ -1,6 +1,7 @@
 //! One line of a script.
-ghost use Rattle.std.specs.Prelude.{◌≡◌, ◌<◌, IfOk, IfSome, MatchOption, option_map};
-ghost use Rattle.ports_script.specs.Escapes.{unescaped, first_meant, escape_of, hex_escape, hex_value};
+ghost use Rattle.std.specs.Prelude.{◌≡◌, ◌==◌, ◌<◌, IfOk, IfSome, MatchOption, option_map};
+ghost use Rattle.std.specs.List.{position};
+ghost use Rattle.ports_script.specs.Escapes.{unescaped, escape_of, hex_escape, hex_value};
 ghost use Rattle.ports_script.specs.Numerals.{number_of};
 ghost use Rattle.ports_script.specs.Entries.{Turn, shown, event_of, at_blank, piece_of, wrote_of, worded};
 
@@ -84,26 +85,23 @@ fn unescape(alloc: Global, text: &[u8]) -> Result<Option<Vec<u8>>, AllocError>
 {
     let mut bytes = Vec::with_capacity(alloc, text.len())?;
     let mut rest = text;
-    while let [first, behind @ ..] = rest {
-        let Some((byte, left)) = read_first(*first, behind) else {
+    while let Some(at) = first_backslash(rest) {
+        bytes.extend_from_slice(&rest[..at])?;
+        let Some((byte, left)) = read_escape(&rest[at + 1..]) else {
             return Ok(None);
         };
         bytes.push(byte)?;
         rest = left;
     }
+    bytes.extend_from_slice(rest)?;
     Ok(Some(bytes))
 }
 
-/// The first byte that a text encodes, and what is left of the text after it.
-fn read_first(first: u8, behind: &[u8]) -> Option<(u8, &[u8])>
-    ensures { MatchOption result (first_meant first behind.now ≡ None)
-        (λ r. first_meant first behind.now ≡ Some (r.0, r.1.now)) }
+/// Where the first backslash of a text is.
+fn first_backslash(text: &[u8]) -> Option<usize>
+    ensures { result ≡ position (λ byte. byte == 92) text.now }
 {
-    if first == b'\\' {
-        read_escape(behind)
-    } else {
-        Some((first, behind))
-    }
+    text.iter().position(|byte| *byte == b'\\')
 }
 
 /// The byte that the text after a backslash means, and what is left of the text.

@@ -1,6 +1,8 @@
 //! What a run prints.
-ghost use Rattle.std.specs.Prelude.{◌≡◌, ◌++◌, IfOk, OnOk, string_bytes};
-ghost use Rattle.ports_script.specs.Escapes.{escape, escaped, hex_text};
+ghost use Rattle.std.specs.Prelude.{◌≡◌, ◌++◌, true, IfOk, OnOk, string_bytes};
+ghost use Rattle.std.specs.List.{position};
+ghost use Rattle.std.specs.Str.{IsUtf8};
+ghost use Rattle.ports_script.specs.Escapes.{is_escaped, escape, escaped, hex_text};
 ghost use Rattle.ports_script.specs.Entries.{shown};
 ghost use Rattle.ports_script.specs.Scripts.{numbered};
 ghost use Rattle.ports_script.specs.Printing.{sent_line, told_line, refused_line, closed_line};
@@ -107,15 +109,44 @@ fn push_closed(text: &mut String, line: u64, closed: Option<u64>) -> Result<(), 
 fn push_escaped(text: &mut String, bytes: &[u8]) -> Result<(), AllocError>
     ensures { OnOk result (string_bytes text.new ≡ string_bytes text.old ++ escaped bytes.now) }
 {
-    for byte in bytes {
-        push_escape(text, *byte)?;
+    let mut rest = bytes;
+    while let Some(at) = first_escaped(rest) {
+        push_text(text, &rest[..at])?;
+        push_escape(text, rest[at])?;
+        rest = &rest[at + 1..];
     }
-    Ok(())
+    push_text(text, rest)
 }
 
-/// A byte from 32 to 126 as it is, except for the backslash; any other byte, and
-/// the backslash, as an escape.
+/// Where the first byte is that is printed as an escape.
+fn first_escaped(bytes: &[u8]) -> Option<usize>
+    ensures { result ≡ position is_escaped bytes.now }
+{
+    bytes.iter().position(|byte| is_escaped(*byte))
+}
+
+/// Whether a byte is printed as an escape: the backslash is, and so is each byte
+/// that isn't from 32 to 126.
+fn is_escaped(byte: u8) -> bool
+    ensures { result ≡ is_escaped byte }
+{
+    byte == b'\\' || !matches!(byte, b' '..=b'~')
+}
+
+/// Bytes that are a text, as they are.
+fn push_text(text: &mut String, bytes: &[u8]) -> Result<(), AllocError>
+    requires { IsUtf8 bytes.now }
+    ensures { OnOk result (string_bytes text.new ≡ string_bytes text.old ++ bytes.now) }
+{
+    if bytes.is_empty() {
+        return Ok(());
+    }
+    text.push_str(str::from_utf8(bytes).unwrap())
+}
+
+/// A byte that is printed as an escape.
 fn push_escape(text: &mut String, byte: u8) -> Result<(), AllocError>
+    requires { is_escaped byte ≡ true }
     ensures { OnOk result (string_bytes text.new ≡ string_bytes text.old ++ escape byte) }
 {
     match byte {
@@ -123,7 +154,6 @@ fn push_escape(text: &mut String, byte: u8) -> Result<(), AllocError>
         b'\r' => text.push_str("\\r"),
         b'\n' => text.push_str("\\n"),
         b'\t' => text.push_str("\\t"),
-        b' '..=b'~' => text.push(byte as char),
         other => push_hex(text, other),
     }
 }

@@ -1,19 +1,23 @@
-use Rattle.std.proofs.Common.{◌≡◌, ◌++◌, List, ℕ, option_map, subst, sym, ◌∙◌, arith}
-use Rattle.ports_script.specs.Escapes.{unescaped}
-use Rattle.ports_script.proofs.EscapeFacts.{first_and_rest, unescaped-bad, unescaped-more, unescaped-end}
+use Rattle.std.proofs.Common.{◌+◌, ◌-◌, length, drop, sym, ◌∙◌, arith, length-drop}
+use Rattle.std.proofs.lemmas.List.{take_all}
+use Rattle.ports_script.proofs.EscapeFacts.{unescaped-bad, unescaped-more, unescaped-end}
 use Rattle.ports_script.proofs.entries.unescape.Goals as goal
 
-pub returns-in_default-read_first : goal.returns-in_default-read_first
-returns-in_default-read_first c =
-    let rest = c.loop-rest.rest.now in
-    let bad = unescaped-bad rest _ _ (first_and_rest rest (omega arith)) c.in_default-read_first.ensures in
-    rw bad at c.loop-rest.invariant
+pub returns-in_default-read_escape : goal.returns-in_default-read_escape
+returns-in_default-read_escape c =
+    let rest = c.loop-at.rest.now in
+    let at = c.in-Some.at in
+    let behind = take_all (length rest - (at + 1)) (drop (at + 1) rest) (omega (arith, length-drop (at + 1) rest)) in
+    let bad = unescaped-bad rest at (sym c.in-Some.ensures) (rw behind at c.in_default-read_escape.ensures) in
+    rw bad at c.loop-at.invariant
 
-pub loop-rest-preserved : goal.loop-rest-preserved
-loop-rest-preserved c =
-    let rest = c.loop-rest.rest.now in
-    let more = unescaped-more c.loop-rest.bytes.items rest _ _ _ _ (first_and_rest rest (omega arith)) c.in-Some.ensures in
-    subst (λ (read : List ℕ). option_map (λ later. read ++ later) (unescaped c.in-Some.left.now) ≡ unescaped c.args.text.now) (sym c.in_ok-push.ensures.items) (more ∙ c.loop-rest.invariant)
+pub loop-at-preserved : goal.loop-at-preserved
+loop-at-preserved c =
+    let rest = c.loop-at.rest.now in
+    let at = c.in-Some.at in
+    let behind = take_all (length rest - (at + 1)) (drop (at + 1) rest) (omega (arith, length-drop (at + 1) rest)) in
+    let more = unescaped-more c.loop-at.bytes.items rest at _ _ (sym c.in-Some.ensures) (rw behind at c.in-Some-read_escape.ensures) in
+    rw (c.in_ok-push.ensures.items, c.in_ok-extend_from_slice.ensures.items) (more ∙ c.loop-at.invariant)
 
 pub returns : goal.returns
-returns c = sym (unescaped-end c.loop-rest.bytes.items c.loop-rest.rest.now (omega arith)) ∙ c.loop-rest.invariant
+returns c = rw c.in_ok-extend_from_slice-2.ensures.items (sym (unescaped-end c.loop-at.bytes.items c.loop-at.rest.now (sym c.in_default.ensures)) ∙ c.loop-at.invariant)
