@@ -8,8 +8,7 @@ use plain_reference::index_files;
 use port_deps::{Found, Item, Root, RootEdge, items, resolve};
 use port_rules::{PortRecord, record};
 use ports_query::{
-    Kinds, Listed, Query, QueryFault, RowsInMemory, admitted, answer, edges_to, first_edges,
-    reached, reaching,
+    Kinds, Listed, Query, QueryFault, admitted, answer, edges_to, first_edges, reached, reaching,
 };
 use std::alloc::{AllocError, Global};
 use text_cases::{add_texts, path_of};
@@ -125,9 +124,9 @@ fn edges_answer(
 pub fn listed(alloc: Global, world: &mut World, given: &[Vec<u8>]) -> Result<Answer, Trouble> {
     match Query::read(alloc, one_text(given)?) {
         Ok(query) => {
-            let mut roots = RowsInMemory::new(roots(alloc, world)?);
-            let packages = answer(alloc, &query, &mut roots)?;
-            Ok(packages_answer(alloc, packages.as_slice()))
+            let port = port(alloc, world)?;
+            let packages = answer(alloc, &query, &[Root::new(ROOT, Ok(&port))])?;
+            Ok(packages_answer(alloc, &packages))
         }
         Err(QueryFault::BadQuery) => Ok(Answer::of_word(alloc, "BadQuery")),
         Err(QueryFault::Memory(refused)) => Err(Trouble::Memory(refused)),
@@ -138,21 +137,21 @@ pub fn listed(alloc: Global, world: &mut World, given: &[Vec<u8>]) -> Result<Ans
 pub fn matched(alloc: Global, world: &mut World, given: &[Vec<u8>]) -> Result<Answer, Trouble> {
     match Spec::read(alloc, one_text(given)?) {
         Ok(spec) => {
-            let mut roots = RowsInMemory::new(roots(alloc, world)?);
-            let packages = admitted(alloc, &spec, &mut roots)?;
-            Ok(packages_answer(alloc, packages.as_slice()))
+            let port = port(alloc, world)?;
+            let packages = admitted(alloc, &spec, &[Root::new(ROOT, Ok(&port))])?;
+            Ok(packages_answer(alloc, &packages))
         }
         Err(SpecFault::Memory(refused)) => Err(Trouble::Memory(refused)),
         Err(_) => Ok(Answer::of_word(alloc, "BadSpec")),
     }
 }
 
-fn packages_answer(alloc: Global, packages: &[Listed]) -> Answer {
+fn packages_answer(alloc: Global, packages: &[Listed<'_>]) -> Answer {
     let mut answer = Answer::new(alloc);
     for package in packages {
         answer.text(package.path().as_bytes());
         answer.text(package.subpackage().as_bytes());
-        answer.text(package.name().as_bytes());
+        answer.printed(alloc, package.name());
     }
     answer
 }
@@ -166,12 +165,6 @@ fn port(alloc: Global, world: &mut World) -> Result<PortRecord, Trouble> {
         },
         Err(_) => Err(Trouble::NoCase),
     }
-}
-
-fn roots(alloc: Global, world: &mut World) -> Result<Vec<Root>, Trouble> {
-    let port = port(alloc, world)?;
-    let root = Root::new(String::from_str(alloc, ROOT)?, Ok(port));
-    Ok(vec![in alloc; root]?)
 }
 
 fn edges(alloc: Global, world: &mut World) -> Result<Vec<RootEdge>, Trouble> {

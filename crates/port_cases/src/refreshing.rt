@@ -5,7 +5,7 @@ ghost use Rattle.std.specs.Result.{result_err};
 ghost use Rattle.mk_paths.specs.FilesView.{world_of};
 ghost use Rattle.index_store.specs.PortTable.{stored_by};
 ghost use Rattle.read_trace.specs.Recording.{view_of};
-ghost use Rattle.index_keep.specs.Keeping.{IsKept};
+ghost use Rattle.index_keep.specs.Keeping.{IsDone, IsKept};
 ghost use Rattle.index_keep.specs.Right.{LeavesFiles};
 
 use case_lines::{Answer, Trouble, as_number};
@@ -15,7 +15,6 @@ use index_store::IndexStore;
 use make_cases::{Asking, FailingFiles, World, failing_answer};
 use mk_files::{Listing, MemoryFiles};
 use mk_paths::{FilesFault, Settings};
-use port_deps::Root;
 use ports_index::Spent;
 use read_trace::{Recorder, Trace};
 use std::alloc::Global;
@@ -44,9 +43,8 @@ impl Limit {
     }
 }
 
-/// `refreshed by UNITS`: what each turn of a refresh tells that is given so many units, from the first one to the
-/// last, and how many roots the index has then. Then the same for a second index of the same files, with the
-/// same cache.
+/// `refreshed by UNITS`: what each turn of a refresh tells that is given so many units, and how many roots the index has
+/// then. Then the same for a second index of the same files, with the same cache.
 pub fn refreshed_answer(
     alloc: Global,
     world: &mut World,
@@ -86,9 +84,9 @@ fn refresh(
         units,
         Limit::Never,
     )?;
-    let roots = roots_of(alloc, cache, &mut keeper, &mut recorder, settings)?;
+    let count = count_roots(alloc, cache, &mut keeper, &mut recorder, settings)?;
     tell_turns(answer, &turns.ok_or(Trouble::NoCase)?);
-    answer.number(roots.len() as u64);
+    answer.number(count);
     Ok(())
 }
 
@@ -154,7 +152,8 @@ fn add_refresh<F: Listing + Drop>(
         Limit::Never,
     )?;
     tell_turns(answer, &turns.ok_or(Trouble::NoCase)?);
-    for root in &roots_of(alloc, &mut cache, keeper, files, settings)? {
+    end_refresh(alloc, &mut cache, keeper, files, settings)?;
+    for root in &keeper.index().roots(alloc)? {
         answer.text(root.path().as_bytes());
     }
     Ok(())
@@ -164,24 +163,37 @@ fn add_refresh<F: Listing + Drop>(
 fn new_keeper(alloc: Global) -> Result<Keeper<IndexStore>, FilesFault>
     ensures { IfOk result (λ keeper. (world : worlds.World) → IsKept stored_by world keeper) }
 {
-    let keeper = Keeper::new(alloc, IndexStore::open_in_memory(alloc)?);
-    Ok(keeper)
+    Ok(Keeper::new(alloc, IndexStore::open_in_memory(alloc)?))
 }
 
-/// The roots of an index that is refreshed, after one more turn. It is `NoCase` if that turn isn't the last of a refresh,
-/// and fails if the files or the rows fail, or if memory runs out.
-fn roots_of<F: Listing + Drop>(
+/// How many roots an index has that is refreshed, after one more turn (`end_refresh`).
+fn count_roots<F: Listing + Drop>(
     alloc: Global,
     cache: &mut EvalCache,
     keeper: &mut Keeper<IndexStore>,
     files: &mut Recorder<F>,
     settings: &Settings,
-) -> Result<Vec<Root>, Trouble>
+) -> Result<u64, Trouble>
     requires { IsKept stored_by (world_of (view_of F.view files.old) settings.now) keeper.old }
-    ensures { OnOk result (IsKept stored_by (world_of (view_of F.view files.new) settings.now) keeper.new) }
+{
+    end_refresh(alloc, cache, keeper, files, settings)?;
+    Ok(keeper.index().roots(alloc)?.len() as u64)
+}
+
+/// One more turn of a refresh, which brings the index at hand. It is `NoCase` if that turn isn't the last.
+fn end_refresh<F: Listing + Drop>(
+    alloc: Global,
+    cache: &mut EvalCache,
+    keeper: &mut Keeper<IndexStore>,
+    files: &mut Recorder<F>,
+    settings: &Settings,
+) -> Result<(), Trouble>
+    requires { IsKept stored_by (world_of (view_of F.view files.old) settings.now) keeper.old }
+    ensures kept { OnOk result (IsKept stored_by (world_of (view_of F.view files.new) settings.now) keeper.new) }
+    ensures done { OnOk result (IsDone keeper.new) }
 {
     match keeper.refresh_turn(alloc, cache, files, settings, u64::MAX)? {
-        Refreshed::Done => Ok(keeper.index().roots(alloc)?),
+        Refreshed::Done => Ok(()),
         Refreshed::Evaluated(_) | Refreshed::More(_) => Err(Trouble::NoCase),
     }
 }
