@@ -157,10 +157,10 @@ def missing_in_130():
 
 TEXTS = (
     doubled, choices, negations, references, loops, subpackages, directories, all_on_all, versions, stars,
-    stars_and_letters, missing,
+    stars_and_letters, missing, missing_once, missing_in_32,
 )
 # these are too much, as docs/HTTP.md says, so they run only if they are named
-TOO_MUCH = (inherited, missing_once, missing_in_32, missing_in_130)
+TOO_MUCH = (inherited, missing_in_130)
 
 
 def measured(program, script):

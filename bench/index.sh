@@ -51,6 +51,7 @@ uploads_and_asks() { new_version "$2" "$1" && get "$matching" 2; }
 adds_an_item() { new_item "$2" "$1" && get "$matching" 2; }
 adds_a_port() { new_port "$2" "$1" && get "$matching" 2; }
 removes_a_port() { remove "/ports/$(path $(($2 * 7 % $1)))/Makefile" && get "$matching" 1; }
+removes_and_lists() { remove "/ports/$(path $(($1 - 1)))/Makefile" && get /v1/list 1; }
 
 # measure SCRIPT..: runs these scripts one after another, in three rounds, and keeps the best of each
 measure() {
@@ -98,13 +99,14 @@ for ports in $sizes; do
     { cat "$work/list" && repeat "$times" adds_an_item "$ports"; } >"$work/items"
     { cat "$work/list" && repeat "$times" adds_a_port "$ports"; } >"$work/added"
     { cat "$work/list" && repeat "$times" removes_a_port "$ports"; } >"$work/removed"
+    { cat "$work/list" && repeat "$ports" removes_and_lists; } >"$work/emptied"
     { cat "$work/list" && repeat "$times" asks "$depended"; } >"$work/depended"
     { cat "$work/list" && repeat "$times" asks "$depending"; } >"$work/depending"
     { cat "$work/list" && repeat "$times" asks /v1/faults; } >"$work/faults"
     { cat "$work/list" && repeat "$times" asks "$reaching"; } >"$work/reached"
     { cat "$work/list" && repeat "$uploads" uploads_one "$ports"; } >"$work/uploaded"
     { cat "$work/stored" && repeat "$uploads" uploads_one "$ports"; } >"$work/restored"
-    measure stored list match rdeps again changed items added removed depended depending faults reached uploaded restored
+    measure stored list match rdeps again changed items added removed emptied depended depending faults reached uploaded restored
     [ "$count" != time ] || "$work/plain_index" "$work/tree$ports" "$times" >"$work/plain"
     echo "$ports ports:"
     tell "first list" list stored 1
@@ -115,6 +117,7 @@ for ports in $sizes; do
     tell "upload of an item and match" items list "$times"
     tell "new makefile and match" added list "$times"
     tell "removed one and match" removed list "$times"
+    tell "all removed, each and a list" emptied list "$ports"
     tell "deps again" depended list "$times"
     tell "rdeps again" depending list "$times"
     tell "rdeps, depth all, again" reached list "$times"
