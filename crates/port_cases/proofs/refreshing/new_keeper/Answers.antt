@@ -2,4 +2,4 @@
 use Rattle.port_cases.proofs.refreshing.new_keeper.Goals as goal
 
 pub returns : goal.returns
-returns c = c.new-keeper.ensures
+returns c = c.new.ensures
