@@ -1,6 +1,5 @@
 pub mod Fixed
 pub mod Changing
-pub mod Finding
 pub mod Settling
 pub mod Composing
 pub mod Answering

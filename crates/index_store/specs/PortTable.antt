@@ -1,16 +1,17 @@
 -- The two tables of the rows, and what their rows mean.
-use Rattle.std.specs.Prelude.{◌≡◌, ℕ, ℤ, pos, ◌==◌, not, if◌then◌else◌, Bool, true, false, codes}
-use Rattle.std.specs.Prelude.{List, [], ◌∷◌, ◌++◌, map, filter, find, Option, None, Some, String, is_some, option_map, unwrap_or, refl}
+use Rattle.std.specs.Prelude.{◌≡◌, ℕ, pos, ◌==◌, not, if◌then◌else◌, Bool, true, false, codes}
+use Rattle.std.specs.Prelude.{List, [], ◌∷◌, ◌++◌, map, find, Option, None, Some, String, is_some, option_map, unwrap_or, refl}
+use Rattle.std.specs.Option.{option_or}
+use Rattle.std.proofs.lemmas.Map.Entries.{option_filter}
 use Rattle.std.specs.BTreeSet.{BTreeSet, contains_text}
 use Rattle.std.specs.Global.{Global}
-use Rattle.std.specs.List.{list_all}
 use Rattle.std.specs.Str.{bytes_eq}
 use Rattle.std.specs.Ordering.{int_eq}
 use Rattle.std.specs.Coded.{Coded, code_by, coded×, coded_list, coded_option, coded_ℕ}
 use Rattle.mk_text.specs.declared.profile.Profile.{Profile}
 use Rattle.mk_text.specs.Profiles.{numbered_profile}
 use Rattle.sqlite_value.specs.declared.value.Value.{Value}
-use Rattle.sqlite_value.specs.declared.value.Value.TheVariants.{Int, Text, Blob}
+use Rattle.sqlite_value.specs.declared.value.Value.TheVariants.{Int, Blob}
 use Rattle.sqlite_value.specs.Order.{Row, column}
 use Rattle.sqlite_value.specs.Keys.{plain}
 use Rattle.sqlite_schema.specs.declared.schema.Table.{Table}
@@ -23,7 +24,7 @@ use Rattle.sqlite.specs.Effect.{Database}
 use Rattle.sqlite.specs.Held.{Held}
 use Rattle.sqlite.specs.State.{State}
 use Rattle.table_facts.specs.Tables.{filled, keyed, no_schema}
-use Rattle.table_facts.specs.Filled.{AreFilled, number_in, bytes_in}
+use Rattle.table_facts.specs.Filled.{Layout, AreFilled, entries_in, changed_at, number_in, bytes_in}
 use Rattle.table_facts.specs.States.{IsSettled, state_of}
 use Rattle.index_store.specs.Entries.{StoredValue, SeenRow, Entries, Profiles, is_one_of}
 use Rattle.index_store.specs.declared.port_table.Part.{Part}
@@ -135,28 +136,50 @@ entry_in part row =
       profile = profile_cell part row;
     }
 
+-- the columns of an entry that one table has and the other lacks
+abbrev pub profile_cells : Part → Entry → Row
+profile_cells Earlier e = []
+profile_cells Current e = Int (pos (unwrap_or e.profile 0)) ∷ []
+
+-- the columns of a table
+abbrev pub layout : Part → Layout Entry
+layout part =
+    record {
+      entry = entry_in part;
+      key = λ e. e.path;
+      rest = λ e. Int (pos e.mark) ∷ Blob e.text ∷ profile_cells part e;
+    }
+
+-- the rows of one table, or of both, by their paths
+abbrev pub ByPath : Type 0
+ByPath = List ℕ → Option Entry
+
 -- the rows of each table
 abbrev pub Rows : Type 0
-Rows = Part → List Entry
+Rows = Part → ByPath
 
 abbrev pub rows_at : Trees → Rows
-rows_at trees part = map (entry_in part) (trees (tree_of part))
+rows_at trees part = entries_in (layout part) (trees (tree_of part))
 
 -- no row in any table
 abbrev pub no_rows : Rows
-no_rows part = []
+no_rows part path = None
 
 -- the rows of both tables
-abbrev pub all_of : Rows → List Entry
-all_of rows = rows Earlier ++ rows Current
+abbrev pub all_of : Rows → ByPath
+all_of rows path = option_or (rows Earlier path) (rows Current path)
 
 -- the rows of each table of a connection's database
 abbrev pub rows_of : Held MemStore → Rows
 rows_of connection = rows_at (state_of connection).now.trees
 
+-- the rows of both tables, as a list
+abbrev pub entries_at : Trees → List Entry
+entries_at trees = map (entry_in Earlier) (trees (tree_of Earlier)) ++ map (entry_in Current) (trees (tree_of Current))
+
 -- the rows of a connection's database
 abbrev pub entries_of : Held MemStore → List Entry
-entries_of connection = all_of (rows_of connection)
+entries_of connection = entries_at (state_of connection).now.trees
 
 -- what a row stores for its path
 abbrev pub value_of : Entry → StoredValue
@@ -169,6 +192,10 @@ is_at path e = bytes_eq path e.path
 -- what rows store for each path
 abbrev pub stored_by : List Entry → Entries
 stored_by entries path = option_map value_of (find (is_at path) entries)
+
+-- what these rows store for each path
+abbrev pub stored_of : ByPath → Entries
+stored_of rows path = option_map value_of (rows path)
 
 -- what a connection's database stores for each path
 abbrev pub stored_in : Held MemStore → Entries
@@ -187,10 +214,6 @@ profile_of (Some e) = option_map numbered_profile e.profile
 abbrev pub profiles_by : List Entry → Profiles
 profiles_by entries path = profile_of (find (is_at path) entries)
 
--- the same of a connection's database
-abbrev pub profiles_in : Held MemStore → Profiles
-profiles_in connection = profiles_by (entries_of connection)
-
 -- whether a value of the column `stale` says so
 abbrev pub is_set : Value → Bool
 is_set (Int n) = not (int_eq n (pos 0))
@@ -200,27 +223,10 @@ is_set _ = false
 abbrev pub row_shown : Row → SeenRow
 row_shown row = record { path = bytes_in (column row 0); stale = is_set (column row 1); text = bytes_in (column row 2) }
 
--- the columns of an entry that one table has and the other lacks
-abbrev pub profile_cells : Part → Entry → Row
-profile_cells Earlier e = []
-profile_cells Current e = Int (pos (unwrap_or e.profile 0)) ∷ []
-
--- the row of an entry after a rowid
-abbrev pub row_with : Part → Value → Entry → Row
-row_with part id e = id ∷ Text e.path ∷ Int (pos e.mark) ∷ Blob e.text ∷ profile_cells part e
-
--- a row of the table, with its columns filled
-abbrev pub IsRowOf : Part → Row → Type 0
-IsRowOf part row = (id : ℤ) × (row ≡ row_with part (Int id) (entry_in part row))
-
--- the key of a row
-abbrev pub port_key : Row → List ℕ
-port_key row = bytes_in (column row 1)
-
 -- a database with the tables, whose rows have their form
 pub record IsFormed (db : Database) : Type 0 where
   pub schema : db.schema ≡ port_schema
-  pub rows : (part : Part) → AreFilled (IsRowOf part) port_key (db.trees (tree_of part))
+  pub rows : (part : Part) → AreFilled (layout part) (db.trees (tree_of part))
 
 -- a row that isn't about to be taken out
 abbrev pub is_staying : Entry → Bool
@@ -228,8 +234,8 @@ is_staying e = not (e.mark == leaving_mark)
 
 -- no row is about to be taken out, and no path has a row in both tables
 pub record AreSettled (rows : Rows) : Type 0 where
-  pub staying : (part : Part) → list_all is_staying (rows part) ≡ true
-  pub apart : (path : List ℕ) → is_some (find (is_at path) (rows Earlier)) ≡ true → find (is_at path) (rows Current) ≡ None
+  pub staying : (part : Part) (path : List ℕ) → option_filter is_staying (rows part path) ≡ rows part path
+  pub apart : (path : List ℕ) → is_some (rows Earlier path) ≡ true → rows Current path ≡ None
 
 -- what holds between the calls
 pub record IsKept (s : State) : Type 0 where
@@ -239,7 +245,7 @@ pub record IsKept (s : State) : Type 0 where
 
 -- where the release before may have no row, it has none
 abbrev pub AllowsFor : Bool → Rows → Type 0
-AllowsFor has_earlier rows = has_earlier ≡ false → rows Earlier ≡ []
+AllowsFor has_earlier rows = has_earlier ≡ false → rows Earlier ≡ no_rows Earlier
 
 -- what holds between the calls, where the release before may have a row or may not
 pub record IsKeptWith (has_earlier : Bool) (s : State) : Type 0 where
@@ -249,22 +255,22 @@ pub record IsKeptWith (has_earlier : Bool) (s : State) : Type 0 where
 -- between the calls, with these rows
 pub record Holds (s : State) (rows : Rows) : Type 0 where
   pub kept : IsKept s
-  pub are : (part : Part) → rows_at s.now.trees part ≡ rows part
+  pub are : rows_at s.now.trees ≡ rows
 
 -- in a transaction, with these rows
 pub record HoldsInside (s : State) (rows : Rows) : Type 0 where
   pub inside : s.in_transaction ≡ true
   pub formed : IsFormed s.now
-  pub are : (part : Part) → rows_at s.now.trees part ≡ rows part
+  pub are : rows_at s.now.trees ≡ rows
 
 -- ---- what the statements make of the rows
 
 -- the rows, with these in one table
-abbrev pub with_rows : Part → List Entry → Rows → Rows
-with_rows Earlier entries rows Earlier = entries
-with_rows Earlier entries rows Current = rows Current
-with_rows Current entries rows Earlier = rows Earlier
-with_rows Current entries rows Current = entries
+abbrev pub with_rows : Part → ByPath → Rows → Rows
+with_rows Earlier these rows Earlier = these
+with_rows Earlier these rows Current = rows Current
+with_rows Current these rows Earlier = rows Earlier
+with_rows Current these rows Current = these
 
 -- an entry with this mark
 abbrev pub with_mark : ℕ → Entry → Entry
@@ -274,28 +280,30 @@ with_mark mark e = record e { mark = mark }
 abbrev pub fresh_entry : List ℕ → Option ℕ → List ℕ → Entry
 fresh_entry path profile text = record { path = path; mark = fresh_mark; text = text; profile = profile }
 
--- the rows, with these bytes and this profile at this path
-abbrev pub replaced_at : List ℕ → Option ℕ → List ℕ → List Entry → List Entry
-replaced_at path profile text entries = map (λ e. if is_at path e then fresh_entry e.path profile text else e) entries
+-- the rows, with these bytes and this profile at this path, if it has a row
+abbrev pub replaced_at : List ℕ → Option ℕ → List ℕ → ByPath → ByPath
+replaced_at path profile text = changed_at path (option_map (λ _. fresh_entry path profile text))
+
+-- the rows with this one, whether or not its path has one
+abbrev pub with_row : List ℕ → Option ℕ → List ℕ → ByPath → ByPath
+with_row path profile text = changed_at path (λ _. Some (fresh_entry path profile text))
 
 -- the rows, with this mark at this path
-abbrev pub marked_at : ℕ → List ℕ → List Entry → List Entry
-marked_at mark path entries = map (λ e. if is_at path e then with_mark mark e else e) entries
+abbrev pub marked_at : ℕ → List ℕ → ByPath → ByPath
+marked_at mark path = changed_at path (option_map (with_mark mark))
 
 -- the rows, with this mark at these paths
-abbrev pub marked_among : ℕ → List (List ℕ) → List Entry → List Entry
-marked_among mark paths entries = map (λ e. if is_one_of e.path paths then with_mark mark e else e) entries
+abbrev pub marked_among : ℕ → List (List ℕ) → ByPath → ByPath
+marked_among mark paths rows path = if is_one_of path paths then option_map (with_mark mark) (rows path) else rows path
+
+-- the rows, each with the mark of a stale one
+abbrev pub all_marked : ByPath → ByPath
+all_marked rows path = option_map (with_mark stale_mark) (rows path)
 
 -- the rows that stay
-abbrev pub staying_of : List Entry → List Entry
-staying_of entries = filter is_staying entries
+abbrev pub staying_of : ByPath → ByPath
+staying_of rows path = option_filter is_staying (rows path)
 
 -- the rows without that of this path
-abbrev pub without : List ℕ → List Entry → List Entry
-without path entries = staying_of (marked_at leaving_mark path entries)
-
--- the rows with this one, in place of the row of its path or as the last
-abbrev pub with_row : List ℕ → Option ℕ → List ℕ → List Entry → List Entry
-with_row path profile text entries =
-    if is_some (find (is_at path) entries) then replaced_at path profile text entries
-    else entries ++ fresh_entry path profile text ∷ []
+abbrev pub without : List ℕ → ByPath → ByPath
+without path rows = staying_of (marked_at leaving_mark path rows)

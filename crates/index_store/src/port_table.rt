@@ -1,12 +1,12 @@
 // The statements on the two tables of the rows.
-ghost use Rattle.std.specs.Prelude.{◌≡◌, ◌∷◌, [], ◌++◌, None, Some, map, find, is_some, IfOk, OnOk, false};
+ghost use Rattle.std.specs.Prelude.{◌≡◌, [], None, Some, map, is_some, IfOk, OnOk, false};
 ghost use Rattle.mk_text.specs.Profiles.{profile_number};
 ghost use Rattle.table_facts.specs.Tables.{no_schema};
 ghost use Rattle.table_facts.specs.States.{IsOpen, KeepsCommit, Stays, state_of};
 ghost use Rattle.index_store.specs.Entries.{AreRowsOf};
-ghost use Rattle.index_store.specs.PortTable.{IsKept, IsFormed, Holds, HoldsInside, rows_of, stored_by, no_rows};
-ghost use Rattle.index_store.specs.PortTable.{is_at, fresh_entry, replaced_at, marked_at, with_mark, staying_of, with_rows};
-ghost use Rattle.index_store.specs.PortTable.{row_shown, stale_mark, earlier_schema};
+ghost use Rattle.index_store.specs.PortTable.{IsKept, IsFormed, Holds, HoldsInside, rows_of, stored_of, no_rows};
+ghost use Rattle.index_store.specs.PortTable.{replaced_at, with_row, marked_at, all_marked, staying_of, with_rows};
+ghost use Rattle.index_store.specs.PortTable.{row_shown, earlier_schema};
 ghost use Rattle.index_store.specs.PortTable.{select_rows, mark_row, mark_rows, delete_rows};
 ghost use Rattle.index_store.specs.Marking.{mark_number};
 
@@ -118,7 +118,7 @@ pub(crate) fn create_current(conn: &mut Connection<MemStore>) -> Result<(), Erro
 /// All rows of a table.
 pub(crate) fn all_rows(conn: &mut Connection<MemStore>, part: Part) -> Result<Vec<Row>, Error>
     requires { IsKept (state_of conn.old) }
-    ensures rows { IfOk result (λ rows. AreRowsOf (stored_by (rows_of conn.old part))
+    ensures rows { IfOk result (λ rows. AreRowsOf (stored_of (rows_of conn.old part))
         (map row_shown rows.items)) }
     ensures stays { Stays (state_of conn.old) (state_of conn.new) }
 {
@@ -132,11 +132,11 @@ pub(crate) fn insert_earlier<'x>(
     text: &'x [u8],
 ) -> Result<(), Error>
     requires open { IsOpen IsFormed (state_of tx.old.conn.now) }
-    requires free { find (is_at path.now) (rows_of tx.old.conn.now Part.Earlier) ≡ None }
+    requires free { rows_of tx.old.conn.now Part.Earlier path.now ≡ None }
     ensures kept { KeepsCommit tx.old.conn tx.new.conn }
     ensures made { OnOk result (HoldsInside (state_of tx.new.conn.now)
         (with_rows Part.Earlier
-        (rows_of tx.old.conn.now Part.Earlier ++ fresh_entry path.now None text.now ∷ [])
+        (with_row path.now None text.now (rows_of tx.old.conn.now Part.Earlier))
         (rows_of tx.old.conn.now))) }
 {
     run(
@@ -155,12 +155,12 @@ pub(crate) fn insert_current<'x>(
     text: &'x [u8],
 ) -> Result<(), Error>
     requires open { IsOpen IsFormed (state_of tx.old.conn.now) }
-    requires free { find (is_at path.now) (rows_of tx.old.conn.now Part.Current) ≡ None }
+    requires free { rows_of tx.old.conn.now Part.Current path.now ≡ None }
     ensures kept { KeepsCommit tx.old.conn tx.new.conn }
     ensures made { OnOk result (HoldsInside (state_of tx.new.conn.now)
         (with_rows Part.Current
-        (rows_of tx.old.conn.now Part.Current
-        ++ fresh_entry path.now (Some (profile_number profile)) text.now ∷ [])
+        (with_row path.now (Some (profile_number profile)) text.now
+        (rows_of tx.old.conn.now Part.Current))
         (rows_of tx.old.conn.now))) }
 {
     run(
@@ -182,7 +182,7 @@ pub(crate) fn replace_current<'x>(
     requires { IsOpen IsFormed (state_of tx.old.conn.now) }
     ensures kept { KeepsCommit tx.old.conn tx.new.conn }
     ensures was_there { IfOk result (λ there. there
-        ≡ is_some (find (is_at path.now) (rows_of tx.old.conn.now Part.Current))) }
+        ≡ is_some (rows_of tx.old.conn.now Part.Current path.now)) }
     ensures made { OnOk result (HoldsInside (state_of tx.new.conn.now)
         (with_rows Part.Current
         (replaced_at path.now (Some (profile_number profile)) text.now
@@ -202,7 +202,7 @@ pub(crate) fn mark_table(tx: &mut Transaction<'_, MemStore>, part: Part) -> Resu
     requires { IsOpen IsFormed (state_of tx.old.conn.now) }
     ensures kept { KeepsCommit tx.old.conn tx.new.conn }
     ensures made { OnOk result (HoldsInside (state_of tx.new.conn.now)
-        (with_rows part (map (with_mark stale_mark) (rows_of tx.old.conn.now part))
+        (with_rows part (all_marked (rows_of tx.old.conn.now part))
         (rows_of tx.old.conn.now))) }
 {
     run(tx, part.marks_statement(), &[])?;

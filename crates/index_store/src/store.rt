@@ -7,7 +7,7 @@ ghost use Rattle.index_store.specs.PortTable.{stored_by, profiles_by};
 
 use crate::path_rows::{PathRows, StoredRow};
 use crate::reading::read_rows;
-use crate::writing::{mark_paths, mark_rows, open, put_earlier_row, put_row, take_paths};
+use crate::writing::{Change, open, write};
 use mk_paths::FilesFault;
 use mk_text::Profile;
 use sqlite::{Connection, MemStore};
@@ -79,7 +79,7 @@ impl IndexStore {
     {
         let is_new = note(self.alloc, &mut self.paths, path)?;
         self.has_earlier = true;
-        match put_earlier_row(&mut self.conn, path, text) {
+        match write(&mut self.conn, true, Change::PutEarlier(path, text)) {
             Ok(()) => Ok(()),
             Err(error) => {
                 forget_if(is_new, &mut self.paths, path);
@@ -107,14 +107,8 @@ impl PathRows for IndexStore {
 
     fn put(&mut self, path: &str, profile: Profile, text: &[u8]) -> Result<(), FilesFault> {
         let is_new = note(self.alloc, &mut self.paths, path)?;
-        match put_row(
-            &mut self.conn,
-            self.has_earlier,
-            is_new,
-            path,
-            profile,
-            text,
-        ) {
+        let change = Change::Put(is_new, path, profile, text);
+        match write(&mut self.conn, self.has_earlier, change) {
             Ok(()) => Ok(()),
             Err(error) => {
                 forget_if(is_new, &mut self.paths, path);
@@ -124,21 +118,24 @@ impl PathRows for IndexStore {
     }
 
     fn mark(&mut self, paths: &[String]) -> Result<(), FilesFault> {
-        match mark_paths(&mut self.conn, self.has_earlier, paths) {
+        match write(&mut self.conn, self.has_earlier, Change::Mark(paths)) {
             Ok(()) => Ok(()),
             Err(error) => Err(FilesFault::of_statement::<Sqlite>(&error)),
         }
     }
 
     fn mark_all(&mut self) -> Result<(), FilesFault> {
-        match mark_rows(&mut self.conn, self.has_earlier) {
+        match write(&mut self.conn, self.has_earlier, Change::MarkAll) {
             Ok(()) => Ok(()),
             Err(error) => Err(FilesFault::of_statement::<Sqlite>(&error)),
         }
     }
 
     fn take_out(&mut self, paths: &[String]) -> Result<(), FilesFault> {
-        if let Err(error) = take_paths(&mut self.conn, self.has_earlier, paths) {
+        if paths.is_empty() {
+            return Ok(());
+        }
+        if let Err(error) = write(&mut self.conn, self.has_earlier, Change::TakeOut(paths)) {
             return Err(FilesFault::of_statement::<Sqlite>(&error));
         }
         forget(&mut self.paths, paths);

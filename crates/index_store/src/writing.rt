@@ -1,15 +1,12 @@
 // The calls that write, each in one transaction. With `has_earlier` the table of the release before may have a
 // row; without it that table has none, and no statement runs on it.
-ghost use Rattle.std.specs.Prelude.{◌≡◌, find, map, string_bytes, OnOk, OnErr, IfOk, None, Some, true};
+ghost use Rattle.std.specs.Prelude.{◌≡◌, map, string_bytes, OnOk, OnErr, IfOk, None, Some, true};
 ghost use Rattle.mk_text.specs.Profiles.{profile_number};
 ghost use Rattle.table_facts.specs.States.{IsOpen, KeepsCommit, Stays, state_of};
-ghost use Rattle.index_store.specs.Entries.{PutsRow, SameRows, Marks, MarksAll, TakesOut};
-ghost use Rattle.index_store.specs.Entries.{PutsProfile, SameProfiles, TakesProfilesOut};
-ghost use Rattle.index_store.specs.PortTable.{IsKept, IsKeptWith, AllowsFor, IsFormed, Holds, HoldsInside};
-ghost use Rattle.index_store.specs.PortTable.{rows_of, stored_in, profiles_in, no_rows};
+ghost use Rattle.index_store.specs.PortTable.{IsKeptWith, AllowsFor, IsFormed, Holds, HoldsInside};
+ghost use Rattle.index_store.specs.PortTable.{rows_of, entries_of, no_rows};
 ghost use Rattle.index_store.specs.PortTable.{marked_at, marked_among, staying_of, without, with_row, with_rows};
-ghost use Rattle.index_store.specs.PortTable.{is_at};
-ghost use Rattle.index_store.specs.Marking.{IsFree, mark_number, rows_after};
+ghost use Rattle.index_store.specs.Marking.{Changes, IsFree, mark_number, rows_after};
 
 use crate::port_table::{
     Mark, Part, create_current, create_earlier, delete_leaving, insert_current, insert_earlier,
@@ -22,10 +19,8 @@ use std::alloc::Global;
 /// What a call does to the rows.
 #[derive(Clone, Copy, Debug)]
 pub(crate) enum Change<'a> {
-    /// A path has this row, which isn't stale, and which is written with this profile.
-    Put(&'a str, Profile, &'a [u8]),
-    /// The same of a path that has no row before.
-    Add(&'a str, Profile, &'a [u8]),
+    /// A path has this row, which isn't stale, and which is written with this profile. A path that is new had none.
+    Put(bool, &'a str, Profile, &'a [u8]),
     /// A path has this row, which isn't stale, as the release before wrote it.
     PutEarlier(&'a str, &'a [u8]),
     /// The rows of these paths are stale.
@@ -102,7 +97,7 @@ fn put_current<'x>(
     text: &'x [u8],
 ) -> Result<(), Error>
     requires open { IsOpen IsFormed (state_of tx.old.conn.now) }
-    requires free { is_new ≡ true → find (is_at path.now) (rows_of tx.old.conn.now Part.Current) ≡ None }
+    requires free { is_new ≡ true → rows_of tx.old.conn.now Part.Current path.now ≡ None }
     ensures kept { KeepsCommit tx.old.conn tx.new.conn }
     ensures made { OnOk result (HoldsInside (state_of tx.new.conn.now)
         (with_rows Part.Current
@@ -131,10 +126,10 @@ fn put<'x>(
 ) -> Result<(), Error>
     requires open { IsOpen IsFormed (state_of tx.old.conn.now) }
     requires earlier { AllowsFor has_earlier (rows_of tx.old.conn.now) }
-    requires free { is_new ≡ true → find (is_at path.now) (rows_of tx.old.conn.now Part.Current) ≡ None }
+    requires free { is_new ≡ true → rows_of tx.old.conn.now Part.Current path.now ≡ None }
     ensures kept { KeepsCommit tx.old.conn tx.new.conn }
     ensures made { OnOk result (HoldsInside (state_of tx.new.conn.now)
-        (rows_after (Change.Put path.entry profile text.entry) (rows_of tx.old.conn.now))) }
+        (rows_after (Change.Put is_new path.entry profile text.entry) (rows_of tx.old.conn.now))) }
 {
     put_current(tx, is_new, path, profile, text)?;
     if !has_earlier {
@@ -220,14 +215,20 @@ fn make(
 ) -> Result<(), Error>
     requires open { IsOpen IsFormed (state_of tx.old.conn.now) }
     requires earlier { AllowsFor has_earlier (rows_of tx.old.conn.now) }
-    requires free { IsFree change (rows_of tx.old.conn.now) }
+    requires free { IsFree has_earlier change (rows_of tx.old.conn.now) }
     ensures kept { KeepsCommit tx.old.conn tx.new.conn }
     ensures made { OnOk result (HoldsInside (state_of tx.new.conn.now)
         (rows_after change.entry (rows_of tx.old.conn.now))) }
 {
     match change {
-        Change::Put(path, profile, text) => put(tx, has_earlier, false, path, profile, text),
-        Change::Add(path, profile, text) => put(tx, has_earlier, true, path, profile, text),
+        Change::Put(is_new, path, profile, text) => put(
+            tx,
+            has_earlier,
+            is_new,
+            path,
+            profile,
+            text,
+        ),
         Change::PutEarlier(path, text) => put_earlier(tx, has_earlier, path, text),
         Change::Mark(paths) => set_marks(tx, has_earlier, paths, Mark::Stale),
         Change::MarkAll => mark_tables(tx, has_earlier),
@@ -235,14 +236,14 @@ fn make(
     }
 }
 
-// Makes the change. If it fails, nothing changes.
-fn write(
+// Makes the change in one transaction. Each table is told of alone.
+fn commit(
     conn: &mut Connection<MemStore>,
     has_earlier: bool,
     change: Change<'_>,
 ) -> Result<(), Error>
     requires kept { IsKeptWith has_earlier (state_of conn.old) }
-    requires free { IsFree change (rows_of conn.old) }
+    requires free { IsFree has_earlier change (rows_of conn.old) }
     ensures ok { OnOk result (Holds (state_of conn.new) (rows_after change.entry (rows_of conn.old))) }
     ensures err { OnErr result (Stays (state_of conn.old) (state_of conn.new)) }
 {
@@ -251,93 +252,17 @@ fn write(
     tx.commit()
 }
 
-/// Gives a path this row, which isn't stale, whether or not it had one. A path that is new had none.
-pub(crate) fn put_row<'x>(
+/// Makes the change. If it fails, nothing changes.
+pub(crate) fn write(
     conn: &mut Connection<MemStore>,
     has_earlier: bool,
-    is_new: bool,
-    path: &'x str,
-    profile: Profile,
-    text: &'x [u8],
+    change: Change<'_>,
 ) -> Result<(), Error>
     requires kept { IsKeptWith has_earlier (state_of conn.old) }
-    requires free { is_new ≡ true → stored_in conn.old path.now ≡ None }
+    requires free { IsFree has_earlier change (rows_of conn.old) }
     ensures kept { IsKeptWith has_earlier (state_of conn.new) }
-    ensures ok { OnOk result (PutsRow path.now text.now (stored_in conn.old) (stored_in conn.new)) }
-    ensures profile { OnOk result (PutsProfile path.now (Some profile)
-        (profiles_in conn.old) (profiles_in conn.new)) }
-    ensures err { OnErr result (SameRows (stored_in conn.old) (stored_in conn.new)) }
-    ensures err_profiles { OnErr result (SameProfiles (profiles_in conn.old) (profiles_in conn.new)) }
+    ensures ok { OnOk result (Changes change.entry (entries_of conn.old) (entries_of conn.new)) }
+    ensures err { OnErr result (entries_of conn.new ≡ entries_of conn.old) }
 {
-    let change = if is_new {
-        Change::Add(path, profile, text)
-    } else {
-        Change::Put(path, profile, text)
-    };
-    write(conn, has_earlier, change)
-}
-
-/// Gives a path this row, which isn't stale, as the release before wrote it.
-pub(crate) fn put_earlier_row<'x>(
-    conn: &mut Connection<MemStore>,
-    path: &'x str,
-    text: &'x [u8],
-) -> Result<(), Error>
-    requires { IsKept (state_of conn.old) }
-    ensures kept { IsKeptWith true (state_of conn.new) }
-    ensures ok { OnOk result (PutsRow path.now text.now (stored_in conn.old) (stored_in conn.new)) }
-    ensures profile { OnOk result (PutsProfile path.now None
-        (profiles_in conn.old) (profiles_in conn.new)) }
-    ensures err { OnErr result (SameRows (stored_in conn.old) (stored_in conn.new)) }
-    ensures err_profiles { OnErr result (SameProfiles (profiles_in conn.old) (profiles_in conn.new)) }
-{
-    write(conn, true, Change::PutEarlier(path, text))
-}
-
-/// Marks the rows of these paths stale.
-pub(crate) fn mark_paths(
-    conn: &mut Connection<MemStore>,
-    has_earlier: bool,
-    paths: &[String],
-) -> Result<(), Error>
-    requires { IsKeptWith has_earlier (state_of conn.old) }
-    ensures kept { IsKeptWith has_earlier (state_of conn.new) }
-    ensures ok { OnOk result (Marks (map string_bytes paths.now)
-        (stored_in conn.old) (stored_in conn.new)) }
-    ensures err { OnErr result (SameRows (stored_in conn.old) (stored_in conn.new)) }
-    ensures profiles { SameProfiles (profiles_in conn.old) (profiles_in conn.new) }
-{
-    write(conn, has_earlier, Change::Mark(paths))
-}
-
-/// Marks all rows stale.
-pub(crate) fn mark_rows(conn: &mut Connection<MemStore>, has_earlier: bool) -> Result<(), Error>
-    requires { IsKeptWith has_earlier (state_of conn.old) }
-    ensures kept { IsKeptWith has_earlier (state_of conn.new) }
-    ensures ok { OnOk result (MarksAll (stored_in conn.old) (stored_in conn.new)) }
-    ensures err { OnErr result (SameRows (stored_in conn.old) (stored_in conn.new)) }
-    ensures profiles { SameProfiles (profiles_in conn.old) (profiles_in conn.new) }
-{
-    write(conn, has_earlier, Change::MarkAll)
-}
-
-/// Takes out the rows of these paths.
-pub(crate) fn take_paths(
-    conn: &mut Connection<MemStore>,
-    has_earlier: bool,
-    paths: &[String],
-) -> Result<(), Error>
-    requires { IsKeptWith has_earlier (state_of conn.old) }
-    ensures kept { IsKeptWith has_earlier (state_of conn.new) }
-    ensures ok { OnOk result (TakesOut (map string_bytes paths.now)
-        (stored_in conn.old) (stored_in conn.new)) }
-    ensures profiles { OnOk result (TakesProfilesOut (map string_bytes paths.now)
-        (profiles_in conn.old) (profiles_in conn.new)) }
-    ensures err { OnErr result (SameRows (stored_in conn.old) (stored_in conn.new)) }
-    ensures err_profiles { OnErr result (SameProfiles (profiles_in conn.old) (profiles_in conn.new)) }
-{
-    if paths.is_empty() {
-        return Ok(());
-    }
-    write(conn, has_earlier, Change::TakeOut(paths))
+    commit(conn, has_earlier, change)
 }

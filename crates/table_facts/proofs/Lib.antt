@@ -1,7 +1,6 @@
-pub mod Finding
 pub mod Rows
 pub mod Statements
 pub mod Tests
-pub mod Making
+pub mod Keyed
 pub mod Ending
 pub mod Creating

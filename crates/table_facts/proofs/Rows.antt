@@ -1,5 +1,6 @@
 -- What taking rows out of a table, replacing rows and adding a row make of its rows, as lists in the order of their rowids.
-use Rattle.std.proofs.Common.{◌≡◌, inl, inr, ℤ, pos, ◌+ℤ◌, ◌<ℤ◌, Bool, true, false, cond, not, List, [], ◌∷◌, ◌++◌, map, filter, fold, IsTrue, refl, sym, ap, subst, ◌∙◌, arith, Less, Equal, is_eq, true≢false}
+use Rattle.std.proofs.Common.{◌≡◌, inl, inr, ℤ, pos, ◌+ℤ◌, ◌<ℤ◌, Bool, true, false, cond, not, List, [], ◌∷◌, ◌++◌, map, filter, fold}
+use Rattle.std.proofs.Common.{IsTrue, refl, sym, ap, subst, ◌∙◌, arith, Less, Equal, is_eq, true≢false}
 use Rattle.std.proofs.lemmas.Bool.{cases_Bool, and_parts, not-true}
 use Rattle.std.proofs.lemmas.Bool.Decides.{nat_tests}
 use Rattle.std.proofs.lemmas.Int.{ints}
@@ -35,7 +36,8 @@ crossed : (a b : Row) → value_cmp (rowid a) (rowid b) ≡ Less → value_cmp (
 crossed a b p q = apart a a (value_cmp_total.trans (rowid a) (rowid b) (rowid a) p q) refl
 
 -- two tables with the same rows are one list
-pub same_rows : (xs ys : List Row) → IsTable xs → IsTable ys → ((r : Row) → Has xs r → Has ys r) → ((r : Row) → Has ys r → Has xs r) → xs ≡ ys
+pub same_rows : (xs ys : List Row) → IsTable xs → IsTable ys → ((r : Row) → Has xs r → Has ys r) → ((r : Row) → Has ys r → Has xs r)
+    → xs ≡ ys
 same_rows [] [] p q f g = refl
 same_rows [] (y ∷ ys) p q f g = absurd (g y (inl refl))
 same_rows (x ∷ xs) [] p q f g = absurd (f x (inl refl))
@@ -75,7 +77,8 @@ Lacks ids x = (id : ℤ) → Has ids id → has_rowid id x ≡ false
 left_has : (ids : List ℤ) (rows : List Row) (x : Row) → Has rows x → Lacks ids x → Has (without_all rows ids) x
 unfolding Lacks
 left_has [] rows x h lacks = h
-left_has (id ∷ ids) rows x h lacks = left_has ids (without_rowid id rows) x (has_kept (λ y. not (has_rowid id y)) rows x h (ap not (lacks id (inl refl)))) (λ other k. lacks other (inr k))
+left_has (id ∷ ids) rows x h lacks = left_has ids (without_rowid id rows) x
+    (has_kept (λ y. not (has_rowid id y)) rows x h (ap not (lacks id (inl refl)))) (λ other k. lacks other (inr k))
 
 left_lacks : (ids : List ℤ) (rows : List Row) (x : Row) → Has (without_all rows ids) x → Lacks ids x
 unfolding Lacks
@@ -87,7 +90,8 @@ left_lacks (k ∷ ids) rows x h id (inr later) = left_lacks ids (without_rowid k
 
 pub AreRows-without_all : (ids : List ℤ) (rows : List Row) → AreRows rows → AreRows (without_all rows ids)
 AreRows-without_all [] rows h = h
-AreRows-without_all (id ∷ ids) rows h = AreRows-without_all ids (without_rowid id rows) (IsShaped-filter Table (λ r. not (has_rowid id r)) rows h)
+AreRows-without_all (id ∷ ids) rows h =
+    AreRows-without_all ids (without_rowid id rows) (IsShaped-filter Table (λ r. not (has_rowid id r)) rows h)
 
 pub AreRows-put_all : (news rows : List Row) → have_rowids news ≡ true → AreRows rows → AreRows (put_all rows news)
 AreRows-put_all [] rows keyed h = h
@@ -113,7 +117,8 @@ module _ (p : Row → Bool) (rows : List Row) (ids : List ℤ) (are : AreRows ro
       let here = without_all_has ids rows x h in (
         here,
         elim (cases_Bool (p x)) [
-          | inl passes ↦ absurd (true≢false (sym (has_own x here) ∙ left_lacks ids rows x h (id_in (rowid x)) (picked.complete x here passes)))
+          | inl passes ↦ absurd (true≢false (sym (has_own x here)
+              ∙ left_lacks ids rows x h (id_in (rowid x)) (picked.complete x here passes)))
           | inr fails ↦ fails
         ],
       )
@@ -123,7 +128,8 @@ module _ (p : Row → Bool) (rows : List Row) (ids : List ℤ) (are : AreRows ro
   is_left x h fails = left_has ids rows x h (λ id k. elim (cases_Bool (has_rowid id x)) [
     | inl has ↦
         let r = picked.sound id k in
-        let tie : value_cmp (rowid x) (rowid r.0) ≡ Equal = subst (λ v. value_cmp (rowid x) v ≡ Equal) (ap Int r.3 ∙ sym (int_at r.0 r.1)) (Equal_from_is_eq _ has) in
+        let tie : value_cmp (rowid x) (rowid r.0) ≡ Equal =
+        subst (λ v. value_cmp (rowid x) v ≡ Equal) (ap Int r.3 ∙ sym (int_at r.0 r.1)) (Equal_from_is_eq _ has) in
         let same = tied_same rows x r.0 are.0 h r.1 tie in
         absurd (true≢false (sym r.2 ∙ ap p (sym same) ∙ fails))
     | inr lacks ↦ lacks
@@ -146,7 +152,8 @@ module _ (p : Row → Bool) (rows : List Row) (ids : List ℤ) (are : AreRows ro
     same_id r h = elim (p r) as (λ b. rowid (cond b (f r) r) ≡ rowid r) [ true ↦ kept r h | false ↦ refl ]
 
     pub replaced : (news : List Row) → have_rowids news ≡ true → are_fresh (without_all rows ids) news ≡ true
-        → ((x : Row) → Has news x → (r : Row) × Has rows r × (p r ≡ true) × (x ≡ f r)) → ((r : Row) → Has rows r → p r ≡ true → Has news (f r))
+        → ((x : Row) → Has news x → (r : Row) × Has rows r × (p r ≡ true) × (x ≡ f r))
+        → ((r : Row) → Has rows r → p r ≡ true → Has news (f r))
         → put_all (without_all rows ids) news ≡ map (λ r. cond (p r) (f r) r) rows
     replaced news keyed fresh sound complete =
         same_rows _ _ (AreRows-put_all news _ keyed (AreRows-without_all ids rows are)).0 (mapped_rise changed rows same_id are).0
@@ -161,8 +168,10 @@ module _ (p : Row → Bool) (rows : List Row) (ids : List ℤ) (are : AreRows ro
         (λ x h.
         let r = has_mapped changed rows x h in
         elim (cases_Bool (p r.0)) [
-          | inl passes ↦ subst (Has (put_all (without_all rows ids) news)) (sym (r.2 ∙ ap (λ b. cond b (f r.0) r.0) passes)) (put_all_adds news (without_all rows ids) (f r.0) fresh (complete r.0 r.1 passes))
-          | inr fails ↦ subst (Has (put_all (without_all rows ids) news)) (sym (r.2 ∙ ap (λ b. cond b (f r.0) r.0) fails)) (put_all_keeps news (without_all rows ids) r.0 fresh (is_left r.0 r.1 fails))
+          | inl passes ↦ subst (Has (put_all (without_all rows ids) news)) (sym (r.2 ∙ ap (λ b. cond b (f r.0) r.0) passes))
+              (put_all_adds news (without_all rows ids) (f r.0) fresh (complete r.0 r.1 passes))
+          | inr fails ↦ subst (Has (put_all (without_all rows ids) news)) (sym (r.2 ∙ ap (λ b. cond b (f r.0) r.0) fails))
+              (put_all_keeps news (without_all rows ids) r.0 fresh (is_left r.0 r.1 fails))
         ])
 
 -- ---- a row that is added
@@ -185,9 +194,11 @@ below_next x (y ∷ rows) up keyed =
 below_is : (a b : ℤ) → a <ℤ b → value_cmp (Int a) (Int b) ≡ Less
 below_is a b h = value_cmp-Int a b ∙ grind (arith, ints, nat_tests)
 
-put_last : (new : Row) (rows : List Row) → AllByRecursion (λ r. value_cmp (rowid r) (rowid new) ≡ Less) rows → put_row new rows ≡ rows ++ new ∷ []
+put_last : (new : Row) (rows : List Row) → AllByRecursion (λ r. value_cmp (rowid r) (rowid new) ≡ Less) rows
+    → put_row new rows ≡ rows ++ new ∷ []
 put_last new [] all = refl
-put_last new (r ∷ rows) all = ap (λ o. match_ordering o (r ∷ put_row new rows) (new ∷ rows) (new ∷ r ∷ rows)) all.0 ∙ ap (λ more. r ∷ more) (put_last new rows all.1)
+put_last new (r ∷ rows) all =
+    ap (λ o. match_ordering o (r ∷ put_row new rows) (new ∷ rows) (new ∷ r ∷ rows)) all.0 ∙ ap (λ more. r ∷ more) (put_last new rows all.1)
 
 -- a row with the rowid that is chosen for it is the last
 pub put_row-next : (new : Row) (rows : List Row) → AreRows rows → rowid new ≡ Int (next_rowid rows) → put_row new rows ≡ rows ++ new ∷ []
@@ -196,4 +207,5 @@ put_row-next new (x ∷ rows) are id =
     put_last new (x ∷ rows) (all_from _ (x ∷ rows) (λ r h.
     let low = all_has _ (x ∷ rows) r (below_next x rows are.0 are.1) h in
     let own : rowid r ≡ Int (id_in (rowid r)) = int_is (rowid r) (all_has _ (x ∷ rows) r are.1 h) in
-    subst (λ v. value_cmp (rowid r) v ≡ Less) (sym id) (subst (λ v. value_cmp v (Int (next_rowid (x ∷ rows))) ≡ Less) (sym own) (below_is (id_in (rowid r)) (next_rowid (x ∷ rows)) low))))
+    subst (λ v. value_cmp (rowid r) v ≡ Less) (sym id) (subst (λ v. value_cmp v (Int (next_rowid (x ∷ rows))) ≡ Less) (sym own)
+    (below_is (id_in (rowid r)) (next_rowid (x ∷ rows)) low))))

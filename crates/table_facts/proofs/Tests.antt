@@ -4,10 +4,8 @@ use Rattle.std.specs.Prelude.{◌==◌}
 use Rattle.std.specs.Ordering.{nat_cmp}
 use Rattle.std.specs.Cmp.{eq_by_cmp_equiv}
 use Rattle.std.specs.Cmp.Lexicographic.{slice_cmp, nat_list_cmp_total}
-use Rattle.std.specs.FinMap as finite
 use Rattle.std.proofs.lemmas.Bool.Decides.{nat_tests}
 use Rattle.std.proofs.lemmas.Int.{ints}
-use Rattle.general_facts.specs.Bools.{Equal_from_is_eq}
 use Rattle.sqlite_value.specs.declared.value.Value.TheVariants.{Int, Text}
 use Rattle.sqlite_value.specs.declared.keys.Collation.TheVariants.{Binary}
 use Rattle.sqlite_value.proofs.OrderLemmas.{value_cmp-Int, value_cmp-Text}
@@ -31,10 +29,6 @@ same_number a b = truth_of _ ∙ ap is_eq (value_cmp-Int (pos a) (pos b)) ∙ gr
 pub same_text : (a b : List ℕ) → is_true (binary (Compare Eq Binary) (Text a) (Text b)) ≡ is_eq (slice_cmp nat_cmp b a)
 unfolding binary
 same_text a b = truth_of _ ∙ ap is_eq (value_cmp-Text a b) ∙ (eq_by_cmp_equiv nat_list_cmp_total).symm a b
-
--- the texts that tie are one
-pub text_is : (a b : List ℕ) → is_eq (slice_cmp nat_cmp a b) ≡ true → a ≡ b
-text_is a b e = finite.slice_cmp-IsAntisymmetric finite.nat_cmp-IsAntisymmetric a b (Equal_from_is_eq _ e)
 
 -- a test alone
 pub alone : (a : Bool) → (a && true) ≡ a

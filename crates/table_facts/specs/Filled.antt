@@ -1,5 +1,6 @@
--- The rows of a table whose columns are filled.
-use Rattle.std.specs.Prelude.{◌≡◌, ℕ, pos, List, []}
+-- The rows of a table with a unique text key, and the map that they are.
+use Rattle.std.specs.Prelude.{◌≡◌, ℕ, ℤ, pos, if◌then◌else◌, Bool, List, [], ◌∷◌, Option, find, map}
+use Rattle.std.specs.Str.{bytes_eq}
 use Rattle.sqlite_value.specs.declared.value.Value.{Value}
 use Rattle.sqlite_value.specs.declared.value.Value.TheVariants.{Int, Text, Blob}
 use Rattle.sqlite_value.specs.Order.{Row}
@@ -18,8 +19,38 @@ bytes_in (Text t) = t
 bytes_in (Blob b) = b
 bytes_in _ = []
 
--- the rows of a table: their rowids rise, each has its form, and no two have the same key
-pub record AreFilled {K : Type 0} (HasForm : Row → Type 0) (key : Row → K) (rows : List Row) : Type 0 where
+-- what a row of a table says, and the columns that say it: the key comes first after the rowid
+pub record Layout (E : Type 0) : Type 0 where
+  pub entry : Row → E
+  pub key : E → List ℕ
+  pub rest : E → Row
+
+-- the row of an entry, after a rowid
+abbrev pub row_of : {E : Type 0} → Layout E → ℤ → E → Row
+row_of layout id e = Int id ∷ Text (layout.key e) ∷ layout.rest e
+
+-- a row whose columns are filled
+abbrev pub IsRowOf : {E : Type 0} → Layout E → Row → Type 0
+IsRowOf layout row = (id : ℤ) × (row ≡ row_of layout id (layout.entry row))
+
+-- the rows of a table: their rowids rise, each has its columns filled, and no two have the same key
+pub record AreFilled {E : Type 0} (layout : Layout E) (rows : List Row) : Type 0 where
   pub rise : IsShaped Shapes.Table rows
-  pub formed : (r : Row) → Has rows r → HasForm r
-  pub once : (r s : Row) → Has rows r → Has rows s → key r ≡ key s → r ≡ s
+  pub formed : (r : Row) → Has rows r → IsRowOf layout r
+  pub once : (r s : Row) → Has rows r → Has rows s → layout.key (layout.entry r) ≡ layout.key (layout.entry s) → r ≡ s
+
+-- an entry for each key that has one
+abbrev pub Entries : Type 0 → Type 0
+Entries E = List ℕ → Option E
+
+-- whether an entry has this key
+abbrev pub has_key : {E : Type 0} → Layout E → List ℕ → E → Bool
+has_key layout key e = bytes_eq key (layout.key e)
+
+-- the entries of these rows, by their keys
+abbrev pub entries_in : {E : Type 0} → Layout E → List Row → Entries E
+entries_in layout rows key = find (has_key layout key) (map layout.entry rows)
+
+-- the entries, with what this makes of the one at a key
+abbrev pub changed_at : {E : Type 0} → List ℕ → (Option E → Option E) → Entries E → Entries E
+changed_at key change entries other = if bytes_eq key other then change (entries other) else entries other

@@ -6,4 +6,4 @@ mod refusing;
 mod running;
 
 pub use refusing::Sqlite;
-pub use running::run;
+pub use running::{run, run_alone};

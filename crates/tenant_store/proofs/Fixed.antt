@@ -1,21 +1,32 @@
--- What the fixed texts of the store say.
-use Rattle.std.proofs.Common.{◌≡◌, ℕ, pos, false, List, [], ◌∷◌, codes, Ok, refl, ap, ◌∙◌}
+-- What the fixed texts of the store say, and where its tables are.
+use Rattle.std.proofs.Common.{pos, List, [], ◌∷◌, codes, refl}
 use Rattle.sqlite_value.specs.declared.value.Value.TheVariants.{Null, Int, Text}
-use Rattle.sqlite_value.specs.Order.{Row}
 use Rattle.sqlite_sql.specs.Term.{Term, lit, col}
-use Rattle.sqlite_schema.specs.declared.command.Command.TheVariants.{Select, Insert, Update, Delete, CreateTable}
+use Rattle.sqlite_schema.specs.declared.schema.Table.{Table}
+use Rattle.sqlite_schema.specs.declared.command.Command.TheVariants.{Select, Insert, Update, Delete}
 use Rattle.sqlite_schema.specs.declared.command.Source.TheVariants.{Values}
 use Rattle.sqlite_tied.specs.Compute.{everything}
-use Rattle.sqlite.specs.Compile.{table_defined_by}
-use Rattle.sqlite.specs.Listing.{understood, reads_listing}
-use Rattle.sqlite.proofs.Callers.{IsPlain, command_of, statement_of}
-use Rattle.tenant_store.specs.Tables.{store_schema, file_schema, file_table, settings_table, create_file, create_settings, insert_file, update_file, delete_file, select_content, insert_settings, update_settings, select_settings, file_of, IsFileRow, is_named}
+use Rattle.sqlite.specs.Listing.{understood}
+use Rattle.sqlite.specs.State.{State}
 use Rattle.table_facts.specs.Tables.{no_schema}
-use Rattle.table_facts.proofs.Statements.{over_table, program, passes}
-use Rattle.table_facts.proofs.Tests.{equals, same_text, alone}
+use Rattle.table_facts.proofs.Creating.{Defines}
+use Rattle.table_facts.proofs.Keyed.{IsMapAt, of_key}
+use Rattle.table_facts.proofs.Statements.{IsTableAt, Says, Queries, those_of}
+use Rattle.tenant_store.specs.Tables.{IsFormed, file_layout, store_schema, file_schema, file_table, settings_table, create_file}
+use Rattle.tenant_store.specs.Tables.{create_settings}
+use Rattle.tenant_store.specs.Tables.{insert_file, update_file, delete_file, select_content, insert_settings, update_settings}
+use Rattle.tenant_store.specs.Tables.{select_settings}
 
-abbrev pub of_file : List Term
-of_file = equals 1 0 ∷ []
+-- the table of the settings as the schema has it
+abbrev pub placed_settings_table : Table
+placed_settings_table = record settings_table { tree = 2 }
+
+pub files_site : (s : State) → IsFormed s.now → IsMapAt file_layout store_schema 0 file_table s
+files_site s formed =
+    record { schema_is = formed.schema; place = record { listed = refl; free = λ _ _. refl; whole = λ _. refl }; filled = formed.files }
+
+pub settings_place : IsTableAt store_schema 1 placed_settings_table
+settings_place = record { listed = refl; free = λ _ _. refl; whole = λ _. refl }
 
 -- the columns that a query of the settings shows, and those that their update gives
 abbrev pub settings_columns : List Term
@@ -27,44 +38,39 @@ given_columns = col 1 0 ∷ col 0 0 ∷ col 0 1 ∷ []
 abbrev pub first_settings : List Term
 first_settings = lit Null ∷ lit (Text (codes "/ports:/mystuff")) ∷ lit (Int (pos 1)) ∷ []
 
-pub content_text : (command_of (understood store_schema select_content) ≡ Select (program (over_table 0 of_file (col 1 2 ∷ []) [])) (codes "content" ∷ [])) × IsPlain (understood store_schema select_content) × (reads_listing store_schema select_content ≡ false)
+pub content_text : Queries store_schema select_content (Select (those_of file_table of_key (col 1 2 ∷ [])) (codes "content" ∷ []))
 unfolding understood everything
-content_text = (refl, (refl, refl), refl)
+content_text = ((refl, (refl, refl)), refl)
 
-pub settings_text : (command_of (understood store_schema select_settings) ≡ Select (program (over_table 2 [] settings_columns [])) (codes "path" ∷ codes "profile" ∷ [])) × IsPlain (understood store_schema select_settings) × (reads_listing store_schema select_settings ≡ false)
+pub settings_text : Queries store_schema select_settings (Select (those_of placed_settings_table [] settings_columns)
+    (codes "path" ∷ codes "profile" ∷ []))
 unfolding understood everything
-settings_text = (refl, (refl, refl), refl)
+settings_text = ((refl, (refl, refl)), refl)
 
-pub insert_file_text : (command_of (understood store_schema insert_file) ≡ Insert 0 (Values (lit Null ∷ col 0 0 ∷ col 0 1 ∷ []) 3)) × IsPlain (understood store_schema insert_file)
+pub insert_file_text : Says store_schema insert_file (Insert 0 (Values (lit Null ∷ col 0 0 ∷ col 0 1 ∷ []) 3))
 unfolding understood everything
 insert_file_text = (refl, (refl, refl))
 
-pub update_file_text : (command_of (understood store_schema update_file) ≡ Update 0 (program (over_table 0 of_file (col 1 0 ∷ col 1 0 ∷ col 1 1 ∷ col 0 1 ∷ []) []))) × IsPlain (understood store_schema update_file)
+pub update_file_text : Says store_schema update_file (Update 0 (those_of file_table of_key (col 1 0 ∷ col 1 0 ∷ col 1 1 ∷ col 0 1 ∷ [])))
 unfolding understood everything
 update_file_text = (refl, (refl, refl))
 
-pub delete_file_text : (command_of (understood store_schema delete_file) ≡ Delete 0 (program (over_table 0 of_file (col 1 0 ∷ []) []))) × IsPlain (understood store_schema delete_file)
+pub delete_file_text : Says store_schema delete_file (Delete 0 (those_of file_table of_key (col 1 0 ∷ [])))
 unfolding understood everything
 delete_file_text = (refl, (refl, refl))
 
-pub insert_settings_text : (command_of (understood store_schema insert_settings) ≡ Insert 1 (Values first_settings 3)) × IsPlain (understood store_schema insert_settings)
+pub insert_settings_text : Says store_schema insert_settings (Insert 1 (Values first_settings 3))
 unfolding understood everything
 insert_settings_text = (refl, (refl, refl))
 
-pub update_settings_text : (command_of (understood store_schema update_settings) ≡ Update 1 (program (over_table 2 [] (col 1 0 ∷ given_columns) []))) × IsPlain (understood store_schema update_settings)
+pub update_settings_text : Says store_schema update_settings (Update 1 (those_of placed_settings_table [] (col 1 0 ∷ given_columns)))
 unfolding understood everything
 update_settings_text = (refl, (refl, refl))
 
-pub create_file_text : (command_of (understood no_schema create_file) ≡ CreateTable) × (statement_of create_file (understood no_schema create_file) ≡ create_file) × (table_defined_by create_file ≡ Ok file_table) × IsPlain (understood no_schema create_file)
+pub create_file_text : Defines no_schema create_file file_table
 unfolding understood everything
 create_file_text = (refl, refl, refl, (refl, refl))
 
-pub create_settings_text : (command_of (understood file_schema create_settings) ≡ CreateTable) × (statement_of create_settings (understood file_schema create_settings) ≡ create_settings) × (table_defined_by create_settings ≡ Ok settings_table) × IsPlain (understood file_schema create_settings)
+pub create_settings_text : Defines file_schema create_settings settings_table
 unfolding understood everything
 create_settings_text = (refl, refl, refl, (refl, refl))
-
--- ---- the test
-
--- a row of `file` passes exactly where it is the file of this name
-pub passes_file : (name : List ℕ) (more : Row) (row : Row) → IsFileRow row → passes of_file (Text name ∷ more) row ≡ is_named name (file_of row)
-passes_file name more row form = ap (passes of_file (Text name ∷ more)) form.1 ∙ alone _ ∙ same_text (file_of row).name name

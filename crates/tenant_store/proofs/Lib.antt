@@ -1,5 +1,4 @@
 pub mod Answering
-pub mod Finding
 pub mod Fixed
 pub mod Making
 pub mod Creating

@@ -1,8 +1,6 @@
 -- The tables of the store, and what their rows mean.
-use Rattle.std.specs.Prelude.{◌≡◌, ℕ, ℤ, pos, ◌≤◌, Bool, codes, List, [], ◌∷◌}
+use Rattle.std.specs.Prelude.{◌≡◌, ℕ, ℤ, pos, ◌≤◌, codes, List, [], ◌∷◌}
 use Rattle.std.specs.Prelude.{length, map, Option, None, Some, get_or}
-use Rattle.std.specs.Ordering.{is_eq, nat_cmp}
-use Rattle.std.specs.Cmp.Lexicographic.{slice_cmp}
 use Rattle.sqlite_value.specs.declared.value.Value.TheVariants.{Int, Text, Blob}
 use Rattle.sqlite_value.specs.Order.{Row, column}
 use Rattle.sqlite_value.specs.Keys.{plain}
@@ -19,7 +17,7 @@ use Rattle.sqlite.specs.Held.{Held}
 use Rattle.sqlite.specs.State.{State}
 use Rattle.sqlite_trees.specs.declared.memory.MemStore.{MemStore}
 use Rattle.table_facts.specs.Tables.{filled, keyed, no_schema}
-use Rattle.table_facts.specs.Filled.{AreFilled, number_in, bytes_in}
+use Rattle.table_facts.specs.Filled.{Layout, AreFilled, number_in, bytes_in}
 use Rattle.table_facts.specs.States.{IsSettled, state_of}
 use Rattle.tenant_store.specs.Holdings.{File, Holdings, world_in}
 use Rattle.sqlite_schema.specs.declared.schema.Table.{Table}
@@ -131,11 +129,9 @@ pub record ShowSettings (rows : List Row) (settings : Settings) : Type 0 where
   pub there : 1 ≤ length rows
   pub each : (row : Row) (these : Settings) → Has rows row → AreSettings row these → these ≡ settings
 
-abbrev pub IsFileRow : Row → Type 0
-IsFileRow row = (id : ℤ) × (row ≡ Int id ∷ Text (file_of row).name ∷ Blob (file_of row).content ∷ [])
-
-abbrev pub file_key : Row → List ℕ
-file_key row = (file_of row).name
+-- the columns of `file`
+abbrev pub file_layout : Layout File
+file_layout = record { entry = file_of; key = λ f. f.name; rest = λ f. Blob f.content ∷ [] }
 
 abbrev pub IsSettingsRow : Row → Type 0
 IsSettingsRow row =
@@ -152,7 +148,7 @@ pub record IsOneRow (rows : List Row) : Type 0 where
 -- a database with the two tables, whose rows have their forms
 pub record IsFormed (db : Database) : Type 0 where
   pub schema : db.schema ≡ store_schema
-  pub files : AreFilled IsFileRow file_key (db.trees files_at)
+  pub files : AreFilled file_layout (db.trees files_at)
   pub settings : IsOneRow (db.trees settings_at)
 
 -- a database with the two tables, without a row
@@ -171,11 +167,3 @@ pub record IsKept (s : State) : Type 0 where
 pub record Holds (s : State) (world : World) : Type 0 where
   pub kept : IsKept s
   pub world_is : world_at s ≡ world
-
--- ---- the file of a name
-
-abbrev pub is_named : List ℕ → File → Bool
-is_named name f = is_eq (slice_cmp nat_cmp name f.name)
-
-abbrev pub file : List ℕ → List ℕ → File
-file name content = record { name = name; content = content }

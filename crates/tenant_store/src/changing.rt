@@ -3,8 +3,8 @@ ghost use Rattle.std.specs.Prelude.{◌≡◌, IfOk, OnOk, OnErr, map, ◌++◌,
 ghost use Rattle.mk_paths.specs.SearchPath.{IsSearchPath, trees_of, colon};
 ghost use Rattle.mk_paths.specs.World.{with_search_path, with_profile};
 ghost use Rattle.text_parts.specs.Laws.{after_marks};
-ghost use Rattle.tenant_store.specs.Tables.{Holds, IsKept, world_of};
-ghost use Rattle.table_facts.specs.States.{Stays, state_of};
+ghost use Rattle.tenant_store.specs.Tables.{IsKept, world_of};
+ghost use Rattle.table_facts.specs.States.{state_of};
 
 use crate::reading::{SettingsRow, settings_row};
 use crate::writing::update_settings;
@@ -20,9 +20,10 @@ pub(crate) fn set_path(
     path: &SearchPath,
 ) -> Result<(), Error>
     requires { IsKept (state_of conn.old) }
-    ensures path { OnOk result (Holds (state_of conn.new)
-        (with_search_path (world_of conn.old) path.now)) }
-    ensures err { OnErr result (Stays (state_of conn.old) (state_of conn.new)) }
+    ensures kept { IsKept (state_of conn.new) }
+    ensures path { OnOk result (world_of conn.new
+        ≡ with_search_path (world_of conn.old) path.now) }
+    ensures err { OnErr result (world_of conn.new ≡ world_of conn.old) }
 {
     let settings = settings_row(conn)?;
     let next = SettingsRow {
@@ -35,9 +36,9 @@ pub(crate) fn set_path(
 /// Sets the profile.
 pub(crate) fn set_profile(conn: &mut Connection<MemStore>, profile: Profile) -> Result<(), Error>
     requires { IsKept (state_of conn.old) }
-    ensures profile { OnOk result (Holds (state_of conn.new)
-        (with_profile (world_of conn.old) profile)) }
-    ensures err { OnErr result (Stays (state_of conn.old) (state_of conn.new)) }
+    ensures kept { IsKept (state_of conn.new) }
+    ensures profile { OnOk result (world_of conn.new ≡ with_profile (world_of conn.old) profile) }
+    ensures err { OnErr result (world_of conn.new ≡ world_of conn.old) }
 {
     let settings = settings_row(conn)?;
     let next = SettingsRow {

@@ -7,6 +7,7 @@ ghost use Rattle.table_facts.specs.States.{IsSettled, state_of};
 
 use sqlite::{Connection, Error, MemStore};
 use std::alloc::Global;
+use table_facts::run_alone;
 
 fn create_files(conn: &mut Connection<MemStore>) -> Result<(), Error>
     requires autocommit { (state_of conn.old).in_transaction ≡ false }
@@ -42,11 +43,11 @@ fn insert_settings(conn: &mut Connection<MemStore>) -> Result<(), Error>
     requires bare { IsBare (state_of conn.old).now }
     ensures { OnOk result (Holds (state_of conn.new) opening_world) }
 {
-    conn.execute(
+    run_alone(
+        conn,
         "INSERT INTO settings (path, profile) VALUES ('/ports:/mystuff', 1)",
         &[],
-    )?;
-    Ok(())
+    )
 }
 
 /// A database with the two tables, no file, and the first settings.

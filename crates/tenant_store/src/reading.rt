@@ -2,8 +2,8 @@
 ghost use Rattle.std.specs.Prelude.{◌≡◌, IfOk, option_map};
 ghost use Rattle.std.specs.FinMap.{get};
 ghost use Rattle.mk_paths.specs.World.{files_in};
-ghost use Rattle.table_facts.specs.States.{IsSettled, Stays, state_of};
-ghost use Rattle.tenant_store.specs.Tables.{IsFormed, IsKept, Shows, ShowSettings, IsContent, AreSettings};
+ghost use Rattle.table_facts.specs.States.{state_of};
+ghost use Rattle.tenant_store.specs.Tables.{IsKept, Shows, ShowSettings, IsContent, AreSettings};
 ghost use Rattle.tenant_store.specs.Tables.{holdings_of, world_of};
 ghost use Rattle.tenant_store.specs.SettingsRows.{AreSettingsOf, shown_settings};
 
@@ -18,11 +18,11 @@ pub(crate) struct SettingsRow {
 }
 
 fn content_rows(conn: &mut Connection<MemStore>, name: &str) -> Result<Vec<Row>, Error>
-    requires settled { IsSettled (state_of conn.old) }
-    requires formed { IsFormed (state_of conn.old).now }
+    requires { IsKept (state_of conn.old) }
     ensures rows { IfOk result (λ rows. Shows IsContent rows.items
         (get (files_in (world_of conn.old)) name.now)) }
-    ensures stays { Stays (state_of conn.old) (state_of conn.new) }
+    ensures kept { IsKept (state_of conn.new) }
+    ensures same { world_of conn.new ≡ world_of conn.old }
 {
     conn.query_all("SELECT content FROM file WHERE name = ?1", params![name])
 }
@@ -32,11 +32,11 @@ pub(crate) fn content_of(
     conn: &mut Connection<MemStore>,
     name: &str,
 ) -> Result<Option<Vec<u8>>, Error>
-    requires settled { IsSettled (state_of conn.old) }
-    requires formed { IsFormed (state_of conn.old).now }
+    requires { IsKept (state_of conn.old) }
     ensures content { IfOk result (λ found. option_map (λ bytes. bytes.items) found
         ≡ get (files_in (world_of conn.old)) name.now) }
-    ensures stays { Stays (state_of conn.old) (state_of conn.new) }
+    ensures kept { IsKept (state_of conn.new) }
+    ensures same { world_of conn.new ≡ world_of conn.old }
 {
     let rows = content_rows(conn, name)?;
     match rows.first() {
@@ -46,10 +46,10 @@ pub(crate) fn content_of(
 }
 
 fn settings_rows(conn: &mut Connection<MemStore>) -> Result<Vec<Row>, Error>
-    requires settled { IsSettled (state_of conn.old) }
-    requires formed { IsFormed (state_of conn.old).now }
+    requires { IsKept (state_of conn.old) }
     ensures rows { IfOk result (λ rows. ShowSettings rows.items (holdings_of conn.old).settings) }
-    ensures stays { Stays (state_of conn.old) (state_of conn.new) }
+    ensures kept { IsKept (state_of conn.new) }
+    ensures same { world_of conn.new ≡ world_of conn.old }
 {
     conn.query_all("SELECT path, profile FROM settings", &[])
 }
@@ -67,7 +67,8 @@ fn settings_from(row: &Row) -> Result<SettingsRow, Error>
 pub(crate) fn settings_row(conn: &mut Connection<MemStore>) -> Result<SettingsRow, Error>
     requires { IsKept (state_of conn.old) }
     ensures settings { IfOk result (AreSettingsOf (world_of conn.old)) }
-    ensures stays { Stays (state_of conn.old) (state_of conn.new) }
+    ensures kept { IsKept (state_of conn.new) }
+    ensures same { world_of conn.new ≡ world_of conn.old }
 {
     let rows = settings_rows(conn)?;
     settings_from(&rows[0])

@@ -6,7 +6,7 @@ ghost use Rattle.mk_paths.specs.World.{files_in, opening_world, with_file, witho
 ghost use Rattle.mk_paths.specs.World.{search_path_of, profile_of, with_search_path, with_profile};
 ghost use Rattle.mk_files.specs.Limits.{is_over};
 ghost use Rattle.tenant_store.specs.Tables.{IsKept, world_of};
-ghost use Rattle.table_facts.specs.States.{Stays, state_of};
+ghost use Rattle.table_facts.specs.States.{state_of};
 
 use crate::changing::{set_path, set_profile};
 use crate::faults::PutFault;
@@ -232,7 +232,8 @@ fn shared_content(
 ) -> Result<Option<Content>, FilesFault>
     requires { IsKept (state_of conn.old) }
     ensures content { IfOk result (λ content. content ≡ get (files_in (world_of conn.old)) name.now) }
-    ensures stays { Stays (state_of conn.old) (state_of conn.new) }
+    ensures kept { IsKept (state_of conn.new) }
+    ensures same { world_of conn.new ≡ world_of conn.old }
 {
     match content_of(conn, name) {
         Ok(Some(bytes)) => Ok(Some(Content::new(alloc, bytes)?)),
@@ -246,7 +247,8 @@ fn settings_of(conn: &mut Connection<MemStore>, alloc: Global) -> Result<Setting
     requires { IsKept (state_of conn.old) }
     ensures path { IfOk result (λ settings. settings.path ≡ search_path_of (world_of conn.old)) }
     ensures profile { IfOk result (λ settings. settings.profile ≡ profile_of (world_of conn.old)) }
-    ensures stays { Stays (state_of conn.old) (state_of conn.new) }
+    ensures kept { IsKept (state_of conn.new) }
+    ensures same { world_of conn.new ≡ world_of conn.old }
 {
     match settings_row(conn) {
         Ok(settings) => Ok(Settings {

@@ -4,38 +4,41 @@ ghost use Rattle.std.specs.FinMap.{get, contains_key};
 ghost use Rattle.mk_paths.specs.SearchPath.{IsSearchPath, trees_of};
 ghost use Rattle.mk_paths.specs.World.{files_in, with_file, without_file};
 ghost use Rattle.tenant_store.specs.SettingsRows.{shown_settings};
-ghost use Rattle.table_facts.specs.States.{Stays, state_of};
-ghost use Rattle.tenant_store.specs.Tables.{Holds, IsKept, world_of};
+ghost use Rattle.table_facts.specs.States.{state_of};
+ghost use Rattle.tenant_store.specs.Tables.{IsKept, world_of};
 
 use crate::reading::SettingsRow;
 use sqlite::{Connection, Error, MemStore, params};
+use table_facts::run_alone;
 
 fn insert_file(conn: &mut Connection<MemStore>, name: &str, content: &[u8]) -> Result<(), Error>
     requires kept { IsKept (state_of conn.old) }
     requires free { get (files_in (world_of conn.old)) name.now ≡ None }
-    ensures stored { OnOk result (Holds (state_of conn.new)
-        (with_file (world_of conn.old) name.now content.now)) }
-    ensures err { OnErr result (Stays (state_of conn.old) (state_of conn.new)) }
+    ensures kept { IsKept (state_of conn.new) }
+    ensures stored { OnOk result (world_of conn.new
+        ≡ with_file (world_of conn.old) name.now content.now) }
+    ensures err { OnErr result (world_of conn.new ≡ world_of conn.old) }
 {
-    conn.execute(
+    run_alone(
+        conn,
         "INSERT INTO file (name, content) VALUES (?1, ?2)",
         params![name, content],
-    )?;
-    Ok(())
+    )
 }
 
 fn update_file(conn: &mut Connection<MemStore>, name: &str, content: &[u8]) -> Result<(), Error>
     requires kept { IsKept (state_of conn.old) }
     requires there { IsTrue (contains_key (files_in (world_of conn.old)) name.now) }
-    ensures stored { OnOk result (Holds (state_of conn.new)
-        (with_file (world_of conn.old) name.now content.now)) }
-    ensures err { OnErr result (Stays (state_of conn.old) (state_of conn.new)) }
+    ensures kept { IsKept (state_of conn.new) }
+    ensures stored { OnOk result (world_of conn.new
+        ≡ with_file (world_of conn.old) name.now content.now) }
+    ensures err { OnErr result (world_of conn.new ≡ world_of conn.old) }
 {
-    conn.execute(
+    run_alone(
+        conn,
         "UPDATE file SET content = ?2 WHERE name = ?1",
         params![name, content],
-    )?;
-    Ok(())
+    )
 }
 
 /// Stores a file: in place of the one of its name if that is there, or beside the others.
@@ -47,9 +50,10 @@ pub(crate) fn write_file(
 ) -> Result<(), Error>
     requires kept { IsKept (state_of conn.old) }
     requires there { is_there ≡ contains_key (files_in (world_of conn.old)) name.now }
-    ensures stored { OnOk result (Holds (state_of conn.new)
-        (with_file (world_of conn.old) name.now content.now)) }
-    ensures err { OnErr result (Stays (state_of conn.old) (state_of conn.new)) }
+    ensures kept { IsKept (state_of conn.new) }
+    ensures stored { OnOk result (world_of conn.new
+        ≡ with_file (world_of conn.old) name.now content.now) }
+    ensures err { OnErr result (world_of conn.new ≡ world_of conn.old) }
 {
     if is_there {
         update_file(conn, name, content)
@@ -61,12 +65,11 @@ pub(crate) fn write_file(
 /// Removes a file.
 pub(crate) fn delete_file(conn: &mut Connection<MemStore>, name: &str) -> Result<(), Error>
     requires { IsKept (state_of conn.old) }
-    ensures removed { OnOk result (Holds (state_of conn.new)
-        (without_file (world_of conn.old) name.now)) }
-    ensures err { OnErr result (Stays (state_of conn.old) (state_of conn.new)) }
+    ensures kept { IsKept (state_of conn.new) }
+    ensures removed { OnOk result (world_of conn.new ≡ without_file (world_of conn.old) name.now) }
+    ensures err { OnErr result (world_of conn.new ≡ world_of conn.old) }
 {
-    conn.execute("DELETE FROM file WHERE name = ?1", params![name])?;
-    Ok(())
+    run_alone(conn, "DELETE FROM file WHERE name = ?1", params![name])
 }
 
 /// Sets the settings.
@@ -76,13 +79,14 @@ pub(crate) fn update_settings(
 ) -> Result<(), Error>
     requires kept { IsKept (state_of conn.old) }
     requires path { IsSearchPath (trees_of (string_bytes settings.now.path)) }
-    ensures set { OnOk result (Holds (state_of conn.new)
-        (files_in (world_of conn.old), shown_settings settings.now)) }
-    ensures err { OnErr result (Stays (state_of conn.old) (state_of conn.new)) }
+    ensures kept { IsKept (state_of conn.new) }
+    ensures set { OnOk result (world_of conn.new
+        ≡ (files_in (world_of conn.old), shown_settings settings.now)) }
+    ensures err { OnErr result (world_of conn.new ≡ world_of conn.old) }
 {
-    conn.execute(
+    run_alone(
+        conn,
         "UPDATE settings SET path = ?1, profile = ?2",
         params![&settings.path, settings.profile.number()],
-    )?;
-    Ok(())
+    )
 }

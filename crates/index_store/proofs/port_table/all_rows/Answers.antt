@@ -8,5 +8,7 @@ use Rattle.index_store.proofs.port_table.all_rows.Goals as goal
 pub returns : goal.returns
 returns c =
     let new = c.query_all.new.self in
-    let both = rows_end c.args.part (state_of c.args.conn.now) (state_of new) c.query_all.result c.requires refl (rw c.rows_query.ensures at (c.query_all.ensures.ok (memory_is_clean new))) (rw c.rows_query.ensures at (c.query_all.ensures.err (memory_is_clean new))) in
+    let both = rows_end c.args.part (state_of c.args.conn.now) (state_of new) c.query_all.result c.requires refl
+    (rw c.rows_query.ensures at (c.query_all.ensures.ok (memory_is_clean new)))
+    (rw c.rows_query.ensures at (c.query_all.ensures.err (memory_is_clean new))) in
     record { rows = both.0; stays = both.1 }

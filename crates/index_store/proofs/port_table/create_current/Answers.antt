@@ -6,5 +6,6 @@ use Rattle.index_store.proofs.port_table.create_current.Goals as goal
 
 pub returns : goal.returns
 returns c =
-    creates_current (state_of c.args.conn.now) (state_of c.execute.new.self) c.requires.autocommit c.requires.schema c.requires.empty c.in_ok-execute.field-0
+    creates_current (state_of c.args.conn.now) (state_of c.execute.new.self) c.requires.autocommit c.requires.schema c.requires.empty
+    c.in_ok-execute.field-0
     (c.in_ok-execute.ensures.runs (memory_is_clean c.execute.new.self))

@@ -7,6 +7,4 @@ pub returns-clause-made : goal.returns-clause-made
 returns-clause-made c =
     let old = state_of c.args.tx.now.conn.now in
     let new = state_of c.run.new.tx.conn.now in
-    let ran = rw c.delete_statement.ensures at (c.in_ok-run.ensures.ran) in
-    let made = deletes_marked c.args.part old new c.requires.formed c.in_ok-run.field-0 ran.0 in
-    record { inside = ran.1.mode; formed = made.0; are = made.1 }
+    deletes_marked c.args.part old new c.requires.formed (c.in_ok-run.field-0, rw c.delete_statement.ensures at c.in_ok-run.ensures.ran)

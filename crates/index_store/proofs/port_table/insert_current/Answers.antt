@@ -1,8 +1,6 @@
 -- What the statement makes.
 use Rattle.table_facts.specs.States.{state_of}
 use Rattle.mk_text.specs.Profiles.{profile_number}
-use Rattle.index_store.specs.declared.port_table.Part.TheVariants.{Current}
-use Rattle.index_store.proofs.Keeping.{is_free}
 use Rattle.index_store.proofs.Changing.{inserts_current}
 use Rattle.index_store.proofs.port_table.insert_current.Goals as goal
 
@@ -10,6 +8,8 @@ pub returns-clause-made : goal.returns-clause-made
 returns-clause-made c =
     let old = state_of c.args.tx.now.conn.now in
     let new = state_of c.run.new.tx.conn.now in
-    let ran = rw (c.params-to_sql.ensures, c.params-to_sql-2.ensures, c.params-to_sql-3.ensures, c.number.ensures) at (c.in_ok-run.ensures.ran) in
-    let made = inserts_current old new c.requires.open.formed c.args.path.now c.args.text.now (profile_number c.args.profile) (is_free Current c.args.path.now (old.now.trees 2) c.requires.free) c.in_ok-run.field-0 ran.0 in
-    record { inside = ran.1.mode; formed = made.0; are = made.1 }
+    inserts_current old new c.requires.open.formed c.args.path.now c.args.text.now (profile_number c.args.profile) c.requires.free (
+      c.in_ok-run.field-0,
+      rw (c.params-to_sql.ensures, c.params-to_sql-2.ensures, c.params-to_sql-3.ensures, c.number.ensures) at
+          c.in_ok-run.ensures.ran,
+    )

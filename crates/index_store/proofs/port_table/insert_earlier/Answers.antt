@@ -1,7 +1,5 @@
 -- What the statement makes.
 use Rattle.table_facts.specs.States.{state_of}
-use Rattle.index_store.specs.declared.port_table.Part.TheVariants.{Earlier}
-use Rattle.index_store.proofs.Keeping.{is_free}
 use Rattle.index_store.proofs.Changing.{inserts_earlier}
 use Rattle.index_store.proofs.port_table.insert_earlier.Goals as goal
 
@@ -9,6 +7,5 @@ pub returns-clause-made : goal.returns-clause-made
 returns-clause-made c =
     let old = state_of c.args.tx.now.conn.now in
     let new = state_of c.run.new.tx.conn.now in
-    let ran = rw (c.params-to_sql.ensures, c.params-to_sql-2.ensures) at (c.in_ok-run.ensures.ran) in
-    let made = inserts_earlier old new c.requires.open.formed c.args.path.now c.args.text.now (is_free Earlier c.args.path.now (old.now.trees 0) c.requires.free) c.in_ok-run.field-0 ran.0 in
-    record { inside = ran.1.mode; formed = made.0; are = made.1 }
+    inserts_earlier old new c.requires.open.formed c.args.path.now c.args.text.now c.requires.free
+    (c.in_ok-run.field-0, rw (c.params-to_sql.ensures, c.params-to_sql-2.ensures) at c.in_ok-run.ensures.ran)

@@ -1,22 +1,19 @@
 -- What the statement makes, and what its count says.
 use Rattle.mk_text.specs.Profiles.{profile_number}
 use Rattle.table_facts.specs.States.{state_of}
-use Rattle.index_store.proofs.Changing.{replaces, replaces_count}
-use Rattle.index_store.proofs.Keeping.{was_there}
+use Rattle.index_store.proofs.Changing.{replaces}
 use Rattle.index_store.proofs.port_table.replace_current.Goals as goal
 
 pub returns-clause-was_there : goal.returns-clause-was_there
 returns-clause-was_there c =
-    let old = state_of c.args.tx.now.conn.now in
-    let new = state_of c.run.new.tx.conn.now in
-    let ran = rw (c.params-to_sql.ensures, c.params-to_sql-2.ensures, c.params-to_sql-3.ensures, c.number.ensures) at (c.in_ok-count.ensures.ran) in
-    was_there old c.requires.formed c.args.path.now c.args.text.now (profile_number c.args.profile) c.in_ok-count.count
-    (replaces_count old new c.requires.formed c.args.path.now c.args.text.now (profile_number c.args.profile) c.in_ok-count.count ran.0)
+    let ran =
+    rw (c.params-to_sql.ensures, c.params-to_sql-2.ensures, c.params-to_sql-3.ensures, c.number.ensures) at c.in_ok-count.ensures.ran in
+    (replaces (state_of c.args.tx.now.conn.now) (state_of c.run.new.tx.conn.now) c.requires.formed c.args.path.now c.args.text.now
+    (profile_number c.args.profile) (c.in_ok-count.count, ran)).1
 
 pub returns-clause-made : goal.returns-clause-made
 returns-clause-made c =
-    let old = state_of c.args.tx.now.conn.now in
-    let new = state_of c.run.new.tx.conn.now in
-    let ran = rw (c.params-to_sql.ensures, c.params-to_sql-2.ensures, c.params-to_sql-3.ensures, c.number.ensures) at (c.in_ok-count.ensures.ran) in
-    let made = replaces old new c.requires.formed c.args.path.now c.args.text.now (profile_number c.args.profile) c.in_ok-count.count ran.0 in
-    record { inside = ran.1.mode; formed = made.0; are = made.1 }
+    let ran =
+    rw (c.params-to_sql.ensures, c.params-to_sql-2.ensures, c.params-to_sql-3.ensures, c.number.ensures) at c.in_ok-count.ensures.ran in
+    (replaces (state_of c.args.tx.now.conn.now) (state_of c.run.new.tx.conn.now) c.requires.formed c.args.path.now c.args.text.now
+    (profile_number c.args.profile) (c.in_ok-count.count, ran)).0

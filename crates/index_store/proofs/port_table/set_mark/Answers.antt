@@ -8,6 +8,8 @@ pub returns-clause-made : goal.returns-clause-made
 returns-clause-made c =
     let old = state_of c.args.tx.now.conn.now in
     let new = state_of c.run.new.tx.conn.now in
-    let ran = rw (c.mark_statement.ensures, c.params-to_sql.ensures, c.params-to_sql-2.ensures, c.number.ensures) at (c.in_ok-run.ensures.ran) in
-    let made = marks_row c.args.part old new c.requires.formed c.args.path.now (mark_number c.args.mark) c.in_ok-run.field-0 ran.0 in
-    record { inside = ran.1.mode; formed = made.0; are = made.1 }
+    marks_row c.args.part old new c.requires.formed c.args.path.now (mark_number c.args.mark) (
+      c.in_ok-run.field-0,
+      rw (c.mark_statement.ensures, c.params-to_sql.ensures, c.params-to_sql-2.ensures, c.number.ensures) at
+          c.in_ok-run.ensures.ran,
+    )

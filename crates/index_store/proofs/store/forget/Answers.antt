@@ -8,7 +8,8 @@ use Rattle.std.specs.Str.{bytes_eq}
 use Rattle.index_store.specs.Entries.{is_one_of}
 use Rattle.index_store.proofs.store.forget.Goals as goal
 
-either : (same before had now : Bool) → now ≡ (if before then false else had) → cond same false now ≡ (if before || (same || false) then false else had)
+either : (same before had now : Bool) → now ≡ (if before then false else had)
+    → cond same false now ≡ (if before || (same || false) then false else had)
 either true true had now is = refl
 either true false had now is = refl
 either false true had now is = is
@@ -21,7 +22,8 @@ loop-path-preserved c = λ other.
     let before = is_one_of other (map string_bytes passed) in
     let path = c.as_str.result.now in
     let more = ap (λ paths. is_one_of other (map string_bytes paths))
-    (take_more c.args.paths.now c.loop-path.path-index c.path-item.result c.loop-path-test.true ∙ ap (λ one. passed ++ one ∷ []) (sym c.path-item.is))
+    (take_more c.args.paths.now c.loop-path.path-index c.path-item.result c.loop-path-test.true
+    ∙ ap (λ one. passed ++ one ∷ []) (sym c.path-item.is))
     ∙ ap (is_one_of other) (map-append string_bytes passed (c.path-item.result ∷ []))
     ∙ list_any-append (λ one. bytes_eq one other) (map string_bytes passed) (string_bytes c.path-item.result ∷ [])
     ∙ ap (λ text. before || (bytes_eq text other || false)) (sym c.as_str.ensures.value) in

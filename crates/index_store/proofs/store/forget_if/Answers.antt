@@ -13,5 +13,6 @@ pub returns-then-is_new : goal.returns-then-is_new
 returns-then-is_new c = λ other.
     let had = contains_text c.args.noted.now other in
     let path = c.args.path.now in
-    btree_set_updates_text path c.args.noted.now c.remove-was_there.new.self false c.remove-was_there.ensures.updates other ∙ cond-if (bytes_eq path other) had
+    btree_set_updates_text path c.args.noted.now c.remove-was_there.new.self false c.remove-was_there.ensures.updates other
+    ∙ cond-if (bytes_eq path other) had
     ∙ sym (ap (λ (b : Bool). if b && bytes_eq path other then false else had) c.if-is_new.true)

@@ -8,5 +8,6 @@ use Rattle.index_store.proofs.writing.set_marks.Given as goal
 abbrev pub invariant-loop-path : goal.invariant-loop-path
 invariant-loop-path l = record {
   kept : KeepsCommit l.fn.tx.conn l.tx.conn;
-  made : HoldsInside (state_of l.tx.conn.now) (λ part. marked_among (mark_number l.mark) (map string_bytes (take l.path-index l.paths)) (rows_of l.fn.tx.conn.now part));
+  made : HoldsInside (state_of l.tx.conn.now) (λ part. marked_among (mark_number l.mark) (map string_bytes (take l.path-index l.paths))
+      (rows_of l.fn.tx.conn.now part));
 }

@@ -13,6 +13,8 @@ returns-clause-text c =
     let first = c.as_str.ensures.value ∙ ap string_bytes c.index-trees-0.is in
     let whole : take (length trees - 1) (drop 1 trees) ≡ drop 1 trees = grind (arith, common_steps) in
     if_ok_then c.joined.result
-    (λ text e. text_trees trees c.index-trees-0.result (string_bytes text) (subst IsSearchPath (sym c.trees-trees.ensures.trees) c.trees-trees.ensures.is_path)
-    (e ∙ ap (λ these. c.as_str.result.now ++ after_marks colon (map string_bytes these)) whole ∙ ap (λ bytes. bytes ++ after_marks colon (map string_bytes (drop 1 trees))) first) ∙ c.trees-trees.ensures.trees)
+    (λ text e. text_trees trees c.index-trees-0.result (string_bytes text)
+    (subst IsSearchPath (sym c.trees-trees.ensures.trees) c.trees-trees.ensures.is_path)
+    (e ∙ ap (λ these. c.as_str.result.now ++ after_marks colon (map string_bytes these)) whole
+    ∙ ap (λ bytes. bytes ++ after_marks colon (map string_bytes (drop 1 trees))) first) ∙ c.trees-trees.ensures.trees)
     c.joined.ensures

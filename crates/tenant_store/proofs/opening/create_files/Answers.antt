@@ -1,18 +1,16 @@
 -- The first table.
-use Rattle.sqlite.specs.Held.{state}
-use Rattle.sqlite.specs.Steps.{over_memory}
+use Rattle.std.proofs.Common.{refl}
 use Rattle.sqlite.proofs.Callers.{memory_is_clean}
-use Rattle.tenant_store.proofs.Creating.{creates_files}
+use Rattle.table_facts.specs.States.{state_of}
+use Rattle.table_facts.specs.Tables.{no_schema}
+use Rattle.table_facts.proofs.Creating.{creates}
+use Rattle.tenant_store.specs.Tables.{create_file, file_table}
+use Rattle.tenant_store.proofs.Fixed.{create_file_text}
 use Rattle.tenant_store.proofs.opening.create_files.Goals as goal
 
-pub returns-clause-autocommit : goal.returns-clause-autocommit
-returns-clause-autocommit c =
-    (creates_files (state over_memory c.args.conn.now) (state over_memory c.execute.new.self) c.requires.autocommit c.requires.schema c.in_ok-execute.field-0 (c.in_ok-execute.ensures.runs (memory_is_clean c.execute.new.self))).autocommit
-
-pub returns-clause-schema : goal.returns-clause-schema
-returns-clause-schema c =
-    (creates_files (state over_memory c.args.conn.now) (state over_memory c.execute.new.self) c.requires.autocommit c.requires.schema c.in_ok-execute.field-0 (c.in_ok-execute.ensures.runs (memory_is_clean c.execute.new.self))).schema_is
-
-pub returns-clause-empty : goal.returns-clause-empty
-returns-clause-empty c =
-    (creates_files (state over_memory c.args.conn.now) (state over_memory c.execute.new.self) c.requires.autocommit c.requires.schema c.in_ok-execute.field-0 (c.in_ok-execute.ensures.runs (memory_is_clean c.execute.new.self))).empty
+pub returns : goal.returns
+returns c =
+    let new = c.execute.new.self in
+    let it = creates create_file (state_of c.args.conn.now) (state_of new) no_schema file_table c.requires.schema c.requires.autocommit
+    create_file_text refl c.in_ok-execute.field-0 (c.in_ok-execute.ensures.runs (memory_is_clean new)) in
+    record { autocommit = it.settled.autocommit; schema = it.schema_is; empty = it.empty }

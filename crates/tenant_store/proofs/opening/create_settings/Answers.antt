@@ -1,16 +1,16 @@
 -- The second table.
-use Rattle.sqlite.specs.Held.{state}
-use Rattle.sqlite.specs.Steps.{over_memory}
+use Rattle.std.proofs.Common.{◌∙◌, refl}
 use Rattle.sqlite.proofs.Callers.{memory_is_clean}
-use Rattle.tenant_store.proofs.Creating.{creates_settings}
+use Rattle.table_facts.specs.States.{state_of}
+use Rattle.table_facts.proofs.Creating.{creates}
+use Rattle.tenant_store.specs.Tables.{create_settings, file_schema, settings_table}
+use Rattle.tenant_store.proofs.Fixed.{create_settings_text}
 use Rattle.tenant_store.proofs.opening.create_settings.Goals as goal
 
-pub returns-clause-settled : goal.returns-clause-settled
-returns-clause-settled c =
-    (creates_settings (state over_memory c.args.conn.now) (state over_memory c.execute.new.self) c.requires.autocommit c.requires.schema c.requires.empty c.in_ok-execute.field-0
-    (c.in_ok-execute.ensures.runs (memory_is_clean c.execute.new.self))).0
-
-pub returns-clause-bare : goal.returns-clause-bare
-returns-clause-bare c =
-    (creates_settings (state over_memory c.args.conn.now) (state over_memory c.execute.new.self) c.requires.autocommit c.requires.schema c.requires.empty c.in_ok-execute.field-0
-    (c.in_ok-execute.ensures.runs (memory_is_clean c.execute.new.self))).1
+pub returns : goal.returns
+returns c =
+    let new = c.execute.new.self in
+    let it =
+    creates create_settings (state_of c.args.conn.now) (state_of new) file_schema settings_table c.requires.schema c.requires.autocommit
+    create_settings_text refl c.in_ok-execute.field-0 (c.in_ok-execute.ensures.runs (memory_is_clean new)) in
+    record { settled = it.settled; bare = record { schema = it.schema_is; files = it.others.0 ∙ c.requires.empty; settings = it.empty } }

@@ -1,10 +1,9 @@
 -- The first settings.
-use Rattle.sqlite.specs.Held.{state}
-use Rattle.sqlite.specs.Steps.{over_memory}
-use Rattle.sqlite.proofs.Callers.{memory_is_clean}
+use Rattle.table_facts.proofs.Ending.{ok_then}
+use Rattle.table_facts.specs.States.{state_of}
 use Rattle.tenant_store.proofs.Creating.{inserts_settings}
 use Rattle.tenant_store.proofs.opening.insert_settings.Goals as goal
 
 pub returns : goal.returns
-returns c =
-    inserts_settings (state over_memory c.args.conn.now) (state over_memory c.execute.new.self) c.requires.settled c.requires.bare c.in_ok-execute.field-0 (c.in_ok-execute.ensures.runs (memory_is_clean c.execute.new.self))
+returns c = ok_then c.run_alone.result (inserts_settings (state_of c.args.conn.now)
+    (state_of c.run_alone.new.conn) c.requires.settled c.requires.bare) c.run_alone.ensures.ran

@@ -15,4 +15,5 @@ returns-clause-settings c =
     let rows = c.in_ok-rows.rows.items in
     let shown = c.in_ok-rows.ensures.rows in
     let has = subst (Has rows) (sym c.index.ensures) (first_has rows c.index.result.now shown.there) in
-    if_ok_then c.settings_from.result (λ a is. settings_are (held_in (state over_memory c.args.conn.now)) a c.requires.path (shown.each c.index.result.now (shown_settings a) has is)) c.settings_from.ensures
+    if_ok_then c.settings_from.result (λ a is. settings_are (held_in (state over_memory c.args.conn.now)) a c.requires.path
+    (shown.each c.index.result.now (shown_settings a) has is)) c.settings_from.ensures

@@ -1,20 +1,18 @@
--- What the statement makes, or that it has made nothing.
-use Rattle.std.proofs.Common.{refl, string_bytes}
-use Rattle.sqlite.proofs.Callers.{memory_is_clean}
-use Rattle.table_facts.proofs.Ending.{on_error}
+-- What the statement makes.
+use Rattle.std.proofs.Common.{string_bytes}
+use Rattle.table_facts.proofs.Ending.{ok_then}
 use Rattle.table_facts.specs.States.{state_of}
-use Rattle.tenant_store.proofs.Keeping.{fails_stays}
+use Rattle.tenant_store.proofs.Keeping.{ends}
 use Rattle.tenant_store.proofs.Making.{updates_settings}
 use Rattle.tenant_store.proofs.writing.update_settings.Goals as goal
 
-pub returns-clause-set : goal.returns-clause-set
-returns-clause-set c =
-    let new = c.execute.new.self in
-    let ran = rw (c.params-to_sql.ensures, c.params-to_sql-2.ensures, c.number.ensures) at (c.in_ok-execute.ensures.runs (memory_is_clean new)) in
+pub returns : goal.returns
+returns c =
     let settings = c.args.settings.now in
-    updates_settings (state_of c.args.conn.now) (state_of new) c.requires.kept (string_bytes settings.path) settings.profile c.requires.path c.in_ok-execute.field-0 ran
-
-pub returns-in_err-execute-clause-err : goal.returns-in_err-execute-clause-err
-returns-in_err-execute-clause-err c =
-    let new = c.execute.new.self in
-    on_error c.from_residual.result (fails_stays _ _ (state_of c.args.conn.now) (state_of new) _ c.requires.kept.settled refl (c.in_err-execute.ensures.runs (memory_is_clean new)))
+    let old = state_of c.args.conn.now in
+    let new = state_of c.run_alone.new.conn in
+    let ran = rw (c.params-to_sql.ensures, c.params-to_sql-2.ensures, c.number.ensures) at c.run_alone.ensures.ran in
+    let made = ok_then c.run_alone.result (updates_settings old new c.requires.kept
+    (string_bytes settings.path) settings.profile c.requires.path) ran in
+    let it = ends c.run_alone.result old new _ c.requires.kept made c.run_alone.ensures.err in
+    record { kept = it.0; set = it.1; err = it.2 }

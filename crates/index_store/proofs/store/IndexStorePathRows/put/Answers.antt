@@ -1,35 +1,26 @@
 -- What the call makes of the rows, or nothing has changed.
-use Rattle.std.proofs.Common.{◌≡◌, ◌∙◌, subst, sym, refl, not, Bool, true, false}
-use Rattle.std.proofs.lemmas.Bool.{false≢true}
+use Rattle.std.proofs.Common.{◌≡◌, ◌∙◌, ap, refl, sym, Option, Some, None}
+use Rattle.std.proofs.lemmas.Bool.{not-true}
 use Rattle.std.specs.BTreeSet.{contains_text}
-use Rattle.index_store.specs.Entries.{SameProfiles, SameRows}
-use Rattle.index_store.specs.PortTable.{entries_of, profiles_by, stored_by, stored_in}
-use Rattle.index_store.proofs.NotedLemmas.{not-noted, noted-back, noted-put}
+use Rattle.std.specs.Option.{option_or}
+use Rattle.std.specs.Prelude.{option_map}
+use Rattle.table_facts.specs.States.{state_of}
+use Rattle.index_store.specs.PortTable.{Entry, rows_of, stored_in, value_of}
+use Rattle.index_store.specs.declared.port_table.Part.TheVariants.{Earlier, Current}
+use Rattle.index_store.proofs.Answering.{all_found}
+use Rattle.index_store.proofs.NotedLemmas.{not-noted}
 use Rattle.index_store.proofs.store.IndexStorePathRows.put.Goals as goal
 
-pub returns-in-Err-clause-err : goal.returns-in-Err-clause-err
-returns-in-Err-clause-err c = subst (λ es. SameRows (stored_by es) (stored_by (entries_of c.put_row.new.conn))) c.self.view_is c.in-Err.ensures.err
+-- a path that is new has no row in the table of today
+none_current : (earlier current : Option Entry) → option_map value_of (option_or earlier current) ≡ None → current ≡ None
+none_current None None none = refl
+none_current None (Some e) none = absurd cc
+none_current (Some e) current none = absurd cc
 
-pub returns-in-Err-clause-err_profiles : goal.returns-in-Err-clause-err_profiles
-returns-in-Err-clause-err_profiles c = subst (λ es. SameProfiles (profiles_by es) (profiles_by (entries_of c.put_row.new.conn))) c.self.view_is c.in-Err.ensures.err_profiles
-
-pub put_row-requires-clause-free : goal.put_row-requires-clause-free
-put_row-requires-clause-free c is =
-    not-noted c.self.inside.paths (stored_in c.self.inside.conn) c.self.invariant.1 c.args.path.now (is_noted (contains_text c.self.inside.paths c.args.path.now) (sym c.in_ok-is_new.ensures.is_new ∙ is))
-  where
-    is_noted : (b : Bool) → not b ≡ true → b ≡ false
-    is_noted true e = absurd (false≢true e)
-    is_noted false e = refl
-
-pub invariant_of-self-in-Ok : goal.invariant_of-self-in-Ok
-invariant_of-self-in-Ok c = (
-  c.put_row.ensures.kept,
-  noted-put c.self.inside.paths (stored_in c.self.inside.conn) (stored_in c.put_row.new.conn) c.self.invariant.1 c.note.new.paths c.args.path.now c.in_ok-is_new.ensures.noted c.args.text.now c.in-Ok.ensures.ok,
-)
-
-pub invariant_of-self-in-Err : goal.invariant_of-self-in-Err
-invariant_of-self-in-Err c = (
-  c.put_row.ensures.kept,
-  noted-back c.self.inside.paths (stored_in c.self.inside.conn) (stored_in c.put_row.new.conn) c.self.invariant.1 c.note.new.paths c.args.path.now c.in_ok-is_new.ensures.noted
-      c.forget_if.new.noted c.in_ok-is_new.is_new c.in_ok-is_new.ensures.is_new c.forget_if.ensures c.in-Err.ensures.err,
-)
+pub write-requires-clause-free : goal.write-requires-clause-free
+write-requires-clause-free c is =
+    let trees = (state_of c.self.inside.conn).now.trees in
+    let none = not-noted c.self.inside.paths (stored_in c.self.inside.conn) c.self.invariant.1 c.args.path.now
+    (not-true (contains_text c.self.inside.paths c.args.path.now) (sym c.in_ok-is_new.ensures.is_new ∙ is)) in
+    none_current (rows_of c.self.inside.conn Earlier c.args.path.now) (rows_of c.self.inside.conn Current c.args.path.now)
+    (ap (option_map value_of) (sym (all_found trees c.args.path.now)) ∙ none)

@@ -10,5 +10,6 @@ use Rattle.tenant_store.proofs.store.TenantStore.names.Goals as goal
 
 pub returns : goal.returns
 returns c =
-    if_ok_then c.list_of.result (λ names is. is c.self.inside.usage (files_in (world_at (state over_memory c.self.inside.conn))) c.self.invariant.1 ∙ ap (λ (w : World). keys (files_in w)) c.self.view_is)
+    if_ok_then c.list_of.result (λ names is. is c.self.inside.usage (files_in (world_at (state over_memory c.self.inside.conn)))
+    c.self.invariant.1 ∙ ap (λ (w : World). keys (files_in w)) c.self.view_is)
     c.list_of.ensures

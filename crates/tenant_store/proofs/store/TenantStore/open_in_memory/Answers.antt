@@ -8,5 +8,6 @@ use Rattle.tenant_store.proofs.store.TenantStore.open_in_memory.Goals as goal
 pub invariant_of-result : goal.invariant_of-result
 invariant_of-result c = (
   c.in-Ok.ensures.kept,
-  subst (λ (world : World). AreNoted c.new.result (record { files = 0; bytes = 0 }) (files_in world)) (sym c.in-Ok.ensures.world_is) (none_noted c.new.result _ c.new.ensures.empty refl refl),
+  subst (λ (world : World). AreNoted c.new.result (record { files = 0; bytes = 0 }) (files_in world)) (sym c.in-Ok.ensures.world_is)
+      (none_noted c.new.result _ c.new.ensures.empty refl refl),
 )

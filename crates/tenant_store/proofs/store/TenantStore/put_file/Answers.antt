@@ -7,42 +7,46 @@ use Rattle.sqlite.specs.Held.{state}
 use Rattle.sqlite.specs.Steps.{over_memory}
 use Rattle.tenant_store.specs.Lengths.{AreNoted}
 use Rattle.tenant_store.specs.Tables.{world_at}
-use Rattle.tenant_store.proofs.Keeping.{still_kept, same_world}
-use Rattle.tenant_store.proofs.Lengths.{had_within, noted_back, noted_with, still_noted, would_be}
+use Rattle.tenant_store.proofs.Lengths.{had_within, noted_back, noted_with, would_be}
 use Rattle.tenant_store.proofs.store.TenantStore.put_file.Goals as goal
 
 pub with-requires : goal.with-requires
-with-requires c = had_within c.self.inside.lengths c.self.inside.usage (files_in (world_at (state over_memory c.self.inside.conn))) c.self.invariant.1 c.as_str-text.result.now c.copied-had.result (c.copied-had.ensures ∙ c.get.ensures.value)
+with-requires c = had_within c.self.inside.lengths c.self.inside.usage
+    (files_in (world_at (state over_memory c.self.inside.conn))) c.self.invariant.1 c.as_str-text.result.now c.copied-had.result
+    (c.copied-had.ensures ∙ c.get.ensures.value)
 
 pub returns-in_default-clause-full : goal.returns-in_default-clause-full
 returns-in_default-clause-full c _ =
-    let asked = ap₂ (λ (world : World) name. is_over (insert (files_in world) name c.args.content.now)) c.self.view_is c.as_str-text.ensures.text in
+    let asked =
+    ap₂ (λ (world : World) name. is_over (insert (files_in world) name c.args.content.now)) c.self.view_is c.as_str-text.ensures.text in
     let over = (rw c.in_default.is at c.with.ensures.over) in
-    sym asked ∙ sym (would_be c.self.inside.lengths c.self.inside.usage (files_in (world_at (state over_memory c.self.inside.conn))) c.self.invariant.1 c.as_str-text.result.now c.copied-had.result (c.copied-had.ensures ∙ c.get.ensures.value) c.args.content.now) ∙ over
+    sym asked ∙ sym (would_be c.self.inside.lengths c.self.inside.usage
+    (files_in (world_at (state over_memory c.self.inside.conn))) c.self.invariant.1 c.as_str-text.result.now c.copied-had.result
+    (c.copied-had.ensures ∙ c.get.ensures.value) c.args.content.now) ∙ over
 
 pub invariant_of-self-in-Ok : goal.invariant_of-self-in-Ok
 invariant_of-self-in-Ok c = (
-  c.in-Ok.ensures.stored.kept,
-  subst (λ (world : World). AreNoted c.note.new.lengths c.in-Some.usage (files_in world)) (sym c.in-Ok.ensures.stored.world_is)
-      (noted_with c.self.inside.lengths c.self.inside.usage (files_in (world_at (state over_memory c.self.inside.conn))) c.self.invariant.1 c.as_str-text.result.now c.copied-had.result (c.copied-had.ensures ∙ c.get.ensures.value)
+  c.write_file.ensures.kept,
+  subst (λ (world : World). AreNoted c.note.new.lengths c.in-Some.usage (files_in world)) (sym c.in-Ok.ensures.stored)
+      (noted_with c.self.inside.lengths c.self.inside.usage (files_in (world_at (state over_memory c.self.inside.conn))) c.self.invariant.1
+      c.as_str-text.result.now c.copied-had.result (c.copied-had.ensures ∙ c.get.ensures.value)
       c.args.content.now c.note.new.lengths c.in-Some.usage c.in_ok-note.ensures.noted c.in-Some.ensures.files c.in-Some.ensures.bytes),
 )
 
 pub invariant_of-self-in-Err : goal.invariant_of-self-in-Err
-invariant_of-self-in-Err c =
-    let old = state over_memory c.self.inside.conn in
-    let new = state over_memory c.write_file.new.conn in (
-      still_kept old new c.self.invariant.0 c.in-Err.ensures.err,
-      still_noted old new c.put_back.new.lengths c.self.inside.usage
-          (noted_back c.self.inside.lengths c.self.inside.usage (files_in (world_at (state over_memory c.self.inside.conn))) c.self.invariant.1 c.as_str-text.result.now c.copied-had.result (c.copied-had.ensures ∙ c.get.ensures.value)
-          c.note.new.lengths c.put_back.new.lengths (Some (length c.args.content.now)) c.in_ok-note.ensures.noted c.put_back.ensures) c.in-Err.ensures.err,
-    )
+invariant_of-self-in-Err c = (
+  c.write_file.ensures.kept,
+  subst (λ (world : World). AreNoted c.put_back.new.lengths c.self.inside.usage (files_in world)) (sym c.in-Err.ensures.err)
+      (noted_back c.self.inside.lengths c.self.inside.usage (files_in (world_at (state over_memory c.self.inside.conn))) c.self.invariant.1
+      c.as_str-text.result.now c.copied-had.result (c.copied-had.ensures ∙ c.get.ensures.value)
+      c.note.new.lengths c.put_back.new.lengths (Some (length c.args.content.now)) c.in_ok-note.ensures.noted c.put_back.ensures),
+)
 
 pub returns-in-Ok-clause-fits : goal.returns-in-Ok-clause-fits
 returns-in-Ok-clause-fits c =
-    let asked = ap₂ (λ (world : World) name. is_over (insert (files_in world) name c.args.content.now)) c.self.view_is c.as_str-text.ensures.text in
-    sym asked ∙ sym (would_be c.self.inside.lengths c.self.inside.usage (files_in (world_at (state over_memory c.self.inside.conn))) c.self.invariant.1 c.as_str-text.result.now c.copied-had.result (c.copied-had.ensures ∙ c.get.ensures.value) c.args.content.now)
+    let asked =
+    ap₂ (λ (world : World) name. is_over (insert (files_in world) name c.args.content.now)) c.self.view_is c.as_str-text.ensures.text in
+    sym asked ∙ sym (would_be c.self.inside.lengths c.self.inside.usage
+    (files_in (world_at (state over_memory c.self.inside.conn))) c.self.invariant.1 c.as_str-text.result.now c.copied-had.result
+    (c.copied-had.ensures ∙ c.get.ensures.value) c.args.content.now)
     ∙ ap₂ passes (sym c.in-Some.ensures.files) (sym c.in-Some.ensures.bytes) ∙ c.in-Some.ensures.fits
-
-pub returns-in-Err-clause-err : goal.returns-in-Err-clause-err
-returns-in-Err-clause-err c = same_world (state over_memory c.self.inside.conn) (state over_memory c.write_file.new.conn) c.in-Err.ensures.err ∙ c.self.view_is

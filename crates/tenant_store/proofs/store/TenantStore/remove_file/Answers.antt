@@ -7,14 +7,14 @@ use Rattle.sqlite.specs.Held.{state}
 use Rattle.sqlite.specs.Steps.{over_memory}
 use Rattle.tenant_store.specs.Lengths.{AreNoted}
 use Rattle.tenant_store.specs.Tables.{world_at}
-use Rattle.tenant_store.proofs.Keeping.{still_kept, same_world}
-use Rattle.tenant_store.proofs.Lengths.{has_one, had_within, noted_there, noted_without, still_noted}
+use Rattle.tenant_store.proofs.Lengths.{has_one, had_within, noted_there, noted_without}
 use Rattle.tenant_store.proofs.Worlds.{remove_absent}
 use Rattle.tenant_store.proofs.store.TenantStore.remove_file.Goals as goal
 
 pub returns-in_default-clause-removed : goal.returns-in_default-clause-removed
 returns-in_default-clause-removed c =
-    let there = noted_there c.self.inside.lengths c.self.inside.usage (files_in (world_at (state over_memory c.self.inside.conn))) c.self.invariant.1 c.as_str-text.result.now in
+    let there = noted_there c.self.inside.lengths c.self.inside.usage (files_in (world_at (state over_memory c.self.inside.conn)))
+    c.self.invariant.1 c.as_str-text.result.now in
     let asked = ap₂ (λ (world : World) name. contains_key (files_in world) name) c.self.view_is c.as_str-text.ensures.text in
     let none = ap is_some (sym c.get.ensures.value ∙ sym c.copied.ensures ∙ c.in_default.is) in
     let absent : contains_key (files_in c.args.self.now) c.args.name.now ≡ false = sym asked ∙ sym there ∙ none in
@@ -22,35 +22,29 @@ returns-in_default-clause-removed c =
 
 pub without-self-inside-requires-clause-files : goal.without-self-inside-requires-clause-files
 without-self-inside-requires-clause-files c =
-    has_one c.self.inside.lengths c.self.inside.usage (files_in (world_at (state over_memory c.self.inside.conn))) c.self.invariant.1 c.as_str-text.result.now c.copied.result (c.copied.ensures ∙ c.get.ensures.value) c.in-Some.length (sym c.in-Some.is)
+    has_one c.self.inside.lengths c.self.inside.usage (files_in (world_at (state over_memory c.self.inside.conn))) c.self.invariant.1
+    c.as_str-text.result.now c.copied.result (c.copied.ensures ∙ c.get.ensures.value) c.in-Some.length (sym c.in-Some.is)
 
 pub without-self-inside-requires-clause-bytes : goal.without-self-inside-requires-clause-bytes
 without-self-inside-requires-clause-bytes c =
     subst (λ had. unwrap_or had 0 ≤ c.self.inside.usage.bytes) c.in-Some.is
-    (had_within c.self.inside.lengths c.self.inside.usage (files_in (world_at (state over_memory c.self.inside.conn))) c.self.invariant.1 c.as_str-text.result.now c.copied.result (c.copied.ensures ∙ c.get.ensures.value))
+    (had_within c.self.inside.lengths c.self.inside.usage (files_in (world_at (state over_memory c.self.inside.conn))) c.self.invariant.1
+    c.as_str-text.result.now c.copied.result (c.copied.ensures ∙ c.get.ensures.value))
 
 pub invariant_of-self : goal.invariant_of-self
 invariant_of-self c =
     let usage = c.without-self-inside in (
-      c.in-Ok.ensures.removed.kept,
-      subst (λ (world : World). AreNoted c.forget.new.lengths usage.result (files_in world)) (sym c.in-Ok.ensures.removed.world_is)
-          (noted_without c.self.inside.lengths c.self.inside.usage (files_in (world_at (state over_memory c.self.inside.conn))) c.self.invariant.1 c.as_str-text.result.now c.copied.result (c.copied.ensures ∙ c.get.ensures.value)
+      c.delete_file.ensures.kept,
+      subst (λ (world : World). AreNoted c.forget.new.lengths usage.result (files_in world)) (sym c.in-Ok.ensures.removed)
+          (noted_without c.self.inside.lengths c.self.inside.usage (files_in (world_at (state over_memory c.self.inside.conn)))
+          c.self.invariant.1
+          c.as_str-text.result.now c.copied.result (c.copied.ensures ∙ c.get.ensures.value)
           c.in-Some.length (sym c.in-Some.is) c.forget.new.lengths usage.result c.forget.ensures usage.ensures.files usage.ensures.bytes),
-    )
-
-pub invariant_of-self-in-Err : goal.invariant_of-self-in-Err
-invariant_of-self-in-Err c =
-    let old = state over_memory c.self.inside.conn in
-    let new = state over_memory c.delete_file.new.conn in (
-      still_kept old new c.self.invariant.0 c.in-Err.ensures.err,
-      still_noted old new c.self.inside.lengths c.self.inside.usage c.self.invariant.1 c.in-Err.ensures.err,
     )
 
 pub returns-in-Ok-clause-was_there : goal.returns-in-Ok-clause-was_there
 returns-in-Ok-clause-was_there c =
-    let there = noted_there c.self.inside.lengths c.self.inside.usage (files_in (world_at (state over_memory c.self.inside.conn))) c.self.invariant.1 c.as_str-text.result.now in
+    let there = noted_there c.self.inside.lengths c.self.inside.usage (files_in (world_at (state over_memory c.self.inside.conn)))
+    c.self.invariant.1 c.as_str-text.result.now in
     let asked = ap₂ (λ (world : World) name. contains_key (files_in world) name) c.self.view_is c.as_str-text.ensures.text in
     sym (ap is_some (sym c.get.ensures.value ∙ sym c.copied.ensures ∙ c.in-Some.is)) ∙ there ∙ asked
-
-pub returns-in-Err-clause-err : goal.returns-in-Err-clause-err
-returns-in-Err-clause-err c = same_world (state over_memory c.self.inside.conn) (state over_memory c.delete_file.new.conn) c.in-Err.ensures.err ∙ c.self.view_is
