@@ -1,4 +1,3 @@
-pub mod PortBodies
 mod BodyLemmas
 mod LiteralRoutes
 pub mod NeverFails

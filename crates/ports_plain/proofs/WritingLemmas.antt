@@ -1,5 +1,5 @@
 -- Objects and lists by the tokens that were added for them.
-use Rattle.std.proofs.Common.{◌≡◌, ◌∙◌, ◌≤◌, ℕ, List, [], ◌∷◌, ◌++◌, length, map, take, refl, ap, sym, subst, append_assoc}
+use Rattle.std.proofs.Common.{◌≡◌, ◌∙◌, ◌≤◌, ℕ, List, [], ◌∷◌, ◌++◌, length, map, take, refl, ap, sym, subst, append_assoc, append-nil}
 use Rattle.std.proofs.lemmas.List.{take_all}
 use Rattle.std.proofs.lemmas.Result.{on_ok_weaker}
 use Rattle.std.proofs.lemmas.Grind.{flat_map-append}
@@ -9,13 +9,14 @@ use Rattle.json.specs.Token.{Token, begin_object, begin_array, key, end_array, e
 use Rattle.json.specs.Tree.{items_tokens, members_tokens}
 use Rattle.json.specs.Written.{Written, Writes}
 use Rattle.json.specs.Print.{print}
-use Rattle.serde_json.specs.Data.{Data, object}
+use Rattle.serde_json.specs.Data.{Data, array, object}
 use Rattle.serde_json.specs.View.{items_of}
 use Rattle.serde_json.specs.Written.{items_outline, members_outline, compact_text}
 use Rattle.serde_json.proofs.Texts.{print-outline}
 use Rattle.ports_plain.specs.ListBodies.{list_body}
 use Rattle.ports_plain.specs.declared.writing.Scalar.{Scalar}
 use Rattle.ports_plain.specs.Writing.{value_tokens, value_of, members_of, AddsTokens, Adds, AddsItems, HasItems}
+use Rattle.ports_plain.specs.Writing.{Member, tokens_of, AddsMember, HasMembers, in_object, object_of}
 
 -- the tokens of a member
 abbrev pub member_tokens : Bor (List ℕ) × Scalar → List Token
@@ -63,3 +64,40 @@ pub list_text : (name : List ℕ) (items : List Data) (tokens : List Token) → 
 list_text name items tokens is =
     ap (λ so_far. print ((so_far ++ end_array ∷ []) ++ end_object ∷ [])) is
     ∙ ap (λ list. print (begin_object ∷ key name ∷ begin_array ∷ (list ++ end_object ∷ []))) (ended_items items) ∙ print-outline (list_body name items)
+
+-- a member that is a list, once all its items are written
+pub list_added : {E X : Type 0} {r : Result (Unit {0}) E} {before between after : Written} (name : List ℕ)
+    (item : X → Data) (xs : List X) (i : ℕ) → length xs ≤ i
+    → AddsTokens before between (key name ∷ begin_array ∷ flat_map value_tokens (map item (take i xs))) → Writes r between after end_array
+    → OnOk r (AddsMember before after name (array (items_of (map item xs))))
+list_added {X = X} {r = r} {before} {between} {after} name item xs i all added written =
+    subst (λ tokens. OnOk r (AddsTokens before after (key name ∷ begin_array ∷ tokens)))
+    (ap (λ (part : List X). flat_map value_tokens (map item part) ++ end_array ∷ []) (take_all i xs all)
+    ∙ ended_items (map item xs)) (one_token_more added written)
+
+-- a member more
+pub one_member_more : {before after : Written} {members : List Member} (name : List ℕ) (value : Data) → HasMembers before members
+    → AddsMember before after name value → HasMembers after (members ++ (name, value) ∷ [])
+one_member_more {members = members} name value has adds = record {
+  start = adds.start ∙ has.start;
+  so_far = adds.grown ∙ ap (λ tokens. tokens ++ tokens_of (name, value)) has.so_far ∙ ap (λ tokens. begin_object ∷ tokens) (more members);
+} where
+  more : (members : List Member)
+      → flat_map tokens_of members ++ tokens_of (name, value) ≡ flat_map tokens_of (members ++ (name, value) ∷ [])
+  more [] = sym (append-nil (tokens_of (name, value)))
+  more (first ∷ others) = append_assoc (tokens_of first) (flat_map tokens_of others) (tokens_of (name, value))
+      ∙ ap (λ tokens. tokens_of first ++ tokens) (more others)
+
+ended_object : (members : List Member)
+    → flat_map tokens_of members ++ end_object ∷ [] ≡ members_tokens (members_outline (in_object members))
+ended_object [] = refl
+ended_object (first ∷ others) =
+    append_assoc (tokens_of first) (flat_map tokens_of others) (end_object ∷ [])
+    ∙ ap (λ tokens. tokens_of first ++ tokens) (ended_object others)
+
+-- the text of an object
+pub object_text : (members : List Member) (tokens : List Token) → tokens ≡ begin_object ∷ flat_map tokens_of members
+    → print (tokens ++ end_object ∷ []) ≡ compact_text (object_of members)
+object_text members tokens is =
+    ap (λ so_far. print (so_far ++ end_object ∷ [])) is ∙ ap (λ rest. print (begin_object ∷ rest)) (ended_object members)
+    ∙ print-outline (object_of members)

@@ -4,7 +4,7 @@ use Rattle.std.specs.Borrow.{Bor}
 use Rattle.json.specs.Token.{Token, begin_object, begin_array, key}
 use Rattle.json.specs.Tree.{json_tokens}
 use Rattle.json.specs.Written.{Written}
-use Rattle.serde_json.specs.Data.{Data, string, number, unsigned, Members, no_members, member}
+use Rattle.serde_json.specs.Data.{Data, string, number, unsigned, object, Members, no_members, member}
 use Rattle.serde_json.specs.Written.{outline}
 use Rattle.ports_plain.specs.declared.writing.Scalar.{Scalar}
 use Rattle.ports_plain.specs.declared.writing.Scalar.TheVariants.{Number, Text}
@@ -40,3 +40,29 @@ members_of (first ∷ others) = member first.0.now (value_of first.1) (members_o
 pub record HasItems (text : Written) (name : List ℕ) (items : List Data) : Type 0 where
   pub start : text.before ≡ []
   pub so_far : text.tokens ≡ (begin_object ∷ key name ∷ begin_array ∷ []) ++ flat_map value_tokens items
+
+-- a member of an object: its name and its value
+abbrev pub Member : Type 0
+Member = List ℕ × Data
+
+-- the tokens of a member
+abbrev pub tokens_of : Member → List Token
+tokens_of one = key one.0 ∷ value_tokens one.1
+
+-- to what was written, a member is added
+abbrev pub AddsMember : Written → Written → List ℕ → Data → Type 0
+AddsMember old new name value = AddsTokens old new (tokens_of (name, value))
+
+-- so far the text is an object that isn't ended, which has these members
+pub record HasMembers (text : Written) (members : List Member) : Type 0 where
+  pub start : text.before ≡ []
+  pub so_far : text.tokens ≡ begin_object ∷ flat_map tokens_of members
+
+-- these members
+abbrev pub in_object : List Member → Members
+in_object [] = no_members
+in_object (first ∷ others) = member first.0 first.1 (in_object others)
+
+-- the object of these members
+abbrev pub object_of : List Member → Data
+object_of members = object (in_object members)

@@ -1,76 +1,115 @@
-// What a port is, as a JSON value.
-ghost use Rattle.std.specs.Prelude.{◌≡◌, IfOk, map, string_bytes};
-ghost use Rattle.serde_json.specs.View.{view};
-ghost use Rattle.serde_json.specs.Data.{array};
+// What a port is, as a JSON text.
+ghost use Rattle.std.specs.Prelude.{◌≡◌, IfOk, OnOk, codes, map, string_bytes};
+ghost use Rattle.pkg_name.specs.Name.{name_text};
+ghost use Rattle.serde_json.specs.Data.{array, string};
 ghost use Rattle.serde_json.specs.View.{items_of};
-ghost use Rattle.ports_plain.specs.PortBody.{texts_body, package_body, depend_body, port_body};
+ghost use Rattle.serde_json.specs.Written.{compact_text};
+ghost use Rattle.ports_plain.specs.PortBody as bodies;
+ghost use Rattle.ports_plain.specs.Writing.{Adds, AddsMember};
 
+use crate::writing::Scalar::Text;
+use crate::writing::{begin_members, end_members, write_object};
+use json::Writer;
 use pkg_path::PkgPath;
 use port_rules::{Depend, Package, PortRecord};
-use serde_json::{Value, json};
 use std::alloc::{AllocError, Global};
 
 // The port that a path names. The path's subpackage doesn't count.
-pub fn port(alloc: Global, path: &PkgPath, port: &PortRecord) -> Result<Value, AllocError>
-    ensures { IfOk result (λ value. view value ≡ port_body path.now port.now) }
+pub fn port(alloc: Global, path: &PkgPath, port: &PortRecord) -> Result<Vec<u8>, AllocError>
+    ensures { IfOk result (λ text. text.items ≡ compact_text (bodies.port_body path.now port.now)) }
 {
     let flavors = port.flavors();
-    json!(in alloc; {
-        "categories": texts(alloc, port.categories())?,
-        "depends": depends(alloc, port.depends())?,
-        "flavor": texts(alloc, flavors.chosen())?,
-        "flavors": texts(alloc, flavors.proper())?,
-        "maintainer": port.maintainer(),
-        "packages": packages(alloc, port.packages())?,
-        "path": path.port_path(alloc)?.as_str(),
-        "pseudo": texts(alloc, flavors.pseudo())?
-    })
+    let path = path.port_path(alloc)?;
+    let mut out = begin_members(alloc)?;
+    write_texts(&mut out, "categories", port.categories())?;
+    write_depends(&mut out, port.depends())?;
+    write_texts(&mut out, "flavor", flavors.chosen())?;
+    write_texts(&mut out, "flavors", flavors.proper())?;
+    write_text(&mut out, "maintainer", port.maintainer())?;
+    write_packages(alloc, &mut out, port.packages())?;
+    write_text(&mut out, "path", path.as_str())?;
+    write_texts(&mut out, "pseudo", flavors.pseudo())?;
+    end_members(out)
 }
 
-// A list of texts.
-fn texts(alloc: Global, texts: &[String]) -> Result<Value, AllocError>
-    ensures { IfOk result (λ value. view value ≡ texts_body (map string_bytes texts.now)) }
+// Writes a member that is a text.
+fn write_text(out: &mut Writer, name: &str, text: &str) -> Result<(), AllocError>
+    ensures { OnOk result (AddsMember out.old out.new name.now (string text.now)) }
 {
-    let mut values = Vec::new(alloc);
+    out.key(name)?;
+    out.string(text)
+}
+
+// Writes a member that is a list of texts.
+fn write_texts(out: &mut Writer, name: &str, texts: &[String]) -> Result<(), AllocError>
+    ensures { OnOk result (AddsMember out.old out.new name.now
+        (bodies.texts_body (map string_bytes texts.now))) }
+{
+    out.key(name)?;
+    out.begin_array()?;
     for text in texts {
-        values.push(Value::String(String::from_str(alloc, text)?))?;
+        out.string(text)?;
     }
-    Ok(Value::Array(values))
+    out.end_array()
 }
 
-// The packages of a port.
-fn packages(alloc: Global, packages: &[Package]) -> Result<Value, AllocError>
-    ensures { IfOk result (λ value. view value ≡ array (items_of (map package_body packages.now))) }
+// Writes the packages of a port.
+fn write_packages(alloc: Global, out: &mut Writer, packages: &[Package]) -> Result<(), AllocError>
+    ensures { OnOk result (AddsMember out.old out.new (codes "packages")
+        (array (items_of (map bodies.package_body packages.now)))) }
 {
-    let mut values = Vec::new(alloc);
+    out.key("packages")?;
+    out.begin_array()?;
     for one in packages {
-        values.push(package_value(alloc, one)?)?;
+        write_package(alloc, out, one)?;
     }
-    Ok(Value::Array(values))
+    out.end_array()
 }
 
-fn package_value(alloc: Global, one: &Package) -> Result<Value, AllocError>
-    ensures { IfOk result (λ value. view value ≡ package_body one.now) }
+fn write_package(alloc: Global, out: &mut Writer, one: &Package) -> Result<(), AllocError>
+    ensures { OnOk result (Adds out.old out.new (bodies.package_body one.now)) }
 {
-    let name = one.name();
-    let name = format!(in alloc; "{name}")?;
-    json!(in alloc; {"comment": one.comment(), "name": name.as_str(), "subpackage": one.subpackage()})
+    let name = one.name().text(alloc)?;
+    write_named(out, one, name.as_str())
 }
 
-// What a port depends on.
-fn depends(alloc: Global, depends: &[Depend]) -> Result<Value, AllocError>
-    ensures { IfOk result (λ value. view value ≡ array (items_of (map depend_body depends.now))) }
+// Writes a package, given its full name.
+fn write_named<'a>(out: &mut Writer, one: &'a Package, name: &'a str) -> Result<(), AllocError>
+    requires { name.now ≡ name_text one.now.name }
+    ensures { OnOk result (Adds out.old out.new (bodies.package_body one.now)) }
 {
-    let mut values = Vec::new(alloc);
+    write_object(
+        out,
+        &[
+            ("comment", Text(one.comment())),
+            ("name", Text(name)),
+            ("subpackage", Text(one.subpackage())),
+        ],
+    )
+}
+
+// Writes what a port depends on.
+fn write_depends(out: &mut Writer, depends: &[Depend]) -> Result<(), AllocError>
+    ensures { OnOk result (AddsMember out.old out.new (codes "depends")
+        (array (items_of (map bodies.depend_body depends.now)))) }
+{
+    out.key("depends")?;
+    out.begin_array()?;
     for one in depends {
-        values.push(depend_value(alloc, one)?)?;
+        write_depend(out, one)?;
     }
-    Ok(Value::Array(values))
+    out.end_array()
 }
 
-fn depend_value(alloc: Global, one: &Depend) -> Result<Value, AllocError>
-    ensures { IfOk result (λ value. view value ≡ depend_body one.now) }
+fn write_depend(out: &mut Writer, one: &Depend) -> Result<(), AllocError>
+    ensures { OnOk result (Adds out.old out.new (bodies.depend_body one.now)) }
 {
-    let kind = one.kind().as_str();
-    json!(in alloc; {"item": one.item(), "kind": kind, "subpackage": one.subpackage()})
+    write_object(
+        out,
+        &[
+            ("item", Text(one.item())),
+            ("kind", Text(one.kind().as_str())),
+            ("subpackage", Text(one.subpackage())),
+        ],
+    )
 }

@@ -125,5 +125,5 @@ pub fn port(alloc: Global, path: &PkgPath, port: &PortRecord) -> Result<Reply, A
     ensures { IfOk result (λ reply. reply ≡ port_shown path.now port.now) }
 {
     let body = port_bodies::port(alloc, path, port)?;
-    json_reply(alloc, StatusCode::OK, &body)
+    Ok(Reply::of_bytes(StatusCode::OK, Some(Content::Json), body))
 }

@@ -1,9 +1,10 @@
-// JSON texts as they are written: objects of numbers and texts, and an object with one member, a list.
+// JSON texts as they are written: objects of numbers and texts, an object with one member, a list, and an object of
+// any members.
 ghost use Rattle.std.specs.Prelude.{◌≡◌, ℕ, List, [], IfOk, OnOk};
 ghost use Rattle.serde_json.specs.Data.{Data, object};
 ghost use Rattle.serde_json.specs.Written.{compact_text};
 ghost use Rattle.ports_plain.specs.ListBodies.{list_body};
-ghost use Rattle.ports_plain.specs.Writing.{Adds, HasItems, members_of, value_of};
+ghost use Rattle.ports_plain.specs.Writing.{Adds, HasItems, HasMembers, Member, members_of, object_of, value_of};
 
 use json::Writer;
 use std::alloc::{AllocError, Global};
@@ -53,6 +54,24 @@ pub fn end_list(mut out: Writer) -> Result<Vec<u8>, AllocError>
         → IfOk result (λ text. text.items ≡ compact_text (list_body name items)) }
 {
     out.end_array()?;
+    out.end_object()?;
+    Ok(out.into_inner())
+}
+
+// Begins an object.
+pub fn begin_members(alloc: Global) -> Result<Writer, AllocError>
+    ensures { IfOk result (λ out. HasMembers out []) }
+{
+    let mut out = Writer::new(Vec::new(alloc));
+    out.begin_object()?;
+    Ok(out)
+}
+
+// Ends such an object, which is the whole text.
+pub fn end_members(mut out: Writer) -> Result<Vec<u8>, AllocError>
+    ensures { (members : List Member) → HasMembers out members
+        → IfOk result (λ text. text.items ≡ compact_text (object_of members)) }
+{
     out.end_object()?;
     Ok(out.into_inner())
 }
