@@ -3,51 +3,59 @@ use Rattle.std.proofs.Common.{◌≡◌, ◌∙◌, ap, subst, sym, refl, ℕ, B
 use Rattle.std.proofs.lemmas.Bool.{false≢true}
 use Rattle.std.specs.List.{flat_map}
 use Rattle.std.specs.Prelude.{Vec}
-use Rattle.std.specs.Str.{bytes_eq}
-use Rattle.text_parts.specs.Ordered.{among-in_order, in_order-again}
+use Rattle.text_parts.specs.Ordered.{in_order-again}
 use Rattle.mk_paths.specs.World.{World, files_in}
 use Rattle.mk_paths.specs.declared.asking.FilesFault.{FilesFault}
 use Rattle.ports_index.specs.Filling.{is_one_of}
 use Rattle.ports_index.specs.Index.{listed_paths, needed_paths}
 use Rattle.ports_index.specs.Naming.{AreInOrder, directories, named_at}
 use Rattle.ports_index.specs.PathOutcomes.{outcome_at}
-use Rattle.ports_index.specs.Seen.{entries_in}
 use Rattle.index_store.specs.Entries.{Entries, StoredValue}
 use Rattle.index_keep.specs.Keeping.{IsAtEnd}
-use Rattle.index_keep.specs.Last.{LeavesFresh, is_fresh_of}
+use Rattle.index_keep.specs.Last.{HaveRowsAlone, LeavesFresh, is_fresh_of}
 use Rattle.index_keep.specs.Shown.{ShownRow, ShownRows, fresh, no_name, show_stored, shown}
-use Rattle.index_keep.specs.Walking.{HasOrder, row_stays, paths_of}
+use Rattle.index_keep.specs.Walking.{AreNeededBeside, HasOrder, row_stays}
 use Rattle.index_keep.specs.declared.walking.LastStage.{LastStage}
 use Rattle.index_keep.proofs.ShownLemmas.{entries-fresh}
-use Rattle.index_keep.proofs.SortLemmas.{one_of-append}
-use Rattle.index_keep.proofs.WalkLemmas.{decided-there}
+use Rattle.ports_index.proofs.MakefileLemmas.{same_by}
+use Rattle.index_keep.proofs.WalkLemmas.{decided-there, needed-has, there-fresh}
 
 and_false : (b : Bool) → (b && false) ≡ false
 and_false true = refl
 and_false false = refl
 
 module _ (world : World) (old : ShownRows) (last : LastStage) (end : IsAtEnd world old last) where
-  pub end-order : HasOrder last
-  end-order = (subst AreInOrder (sym end.far.listed) (in_order-again (flat_map (named_at (outcome_at world)) (directories (files_in world)) ++ directories (files_in world))), end.far.ordered)
+  module _ (beside : Vec (String Global) Global) (are : AreNeededBeside world beside) where
+    abbrev paths : List (List ℕ)
+    paths = map string_bytes beside.items
 
-  needed_as : (path : List ℕ) → (is_one_of path (map string_bytes last.listed.items) || is_one_of path (paths_of last.stage)) ≡ is_one_of path (needed_paths world)
-  needed_as path =
-      ap (λ listed. is_one_of path listed || is_one_of path (paths_of last.stage)) end.far.listed
-      ∙ sym (one_of-append path (listed_paths world) (paths_of last.stage))
-      ∙ sym (among-in_order (λ one. bytes_eq one path) (listed_paths world ++ paths_of last.stage))
-      ∙ ap (is_one_of path) end.far.needed
+    pub end-order : HasOrder last paths
+    end-order = (subst AreInOrder (sym end.far.listed) (in_order-again (flat_map (named_at (outcome_at world)) (directories (files_in world)) ++ directories (files_in world))), are.ordered)
 
-  -- the rows that are kept are the fresh ones of needed paths
-  pub kept-fresh : (path : List ℕ) → row_stays last path ≡ is_fresh_of (needed_paths world) old path
-  kept-fresh path =
-      ap (λ b. b && is_some (entries_in last.stage.known path)) (needed_as path)
-      ∙ ap (λ row. is_one_of path (needed_paths world) && is_some row) (entries-fresh old last.stage.known end.far.stage.knows path)
+    either : (path : List ℕ) (listed : Bool) → is_one_of path (listed_paths world) ≡ listed → (listed || is_one_of path paths) ≡ true → is_one_of path (needed_paths world) ≡ true
+    either path true e one = needed-has world path e
+    either path false e one = are.needed path one
+
+    kept_by : (path : List ℕ) (some : Bool) → is_some (fresh old path) ≡ some
+        → ((is_one_of path (listed_paths world) || is_one_of path paths) && some) ≡ (is_one_of path (needed_paths world) && some)
+    kept_by path true e =
+        ap (λ b. b && true) (same_by (is_one_of path (listed_paths world) || is_one_of path paths) (is_one_of path (needed_paths world))
+        (either path (is_one_of path (listed_paths world)) refl) (are.all path (there-fresh world old end.kept path e)))
+    kept_by path false e =
+        and_false (is_one_of path (listed_paths world) || is_one_of path paths) ∙ sym (and_false (is_one_of path (needed_paths world)))
+
+    -- the rows that are kept are the fresh ones of needed paths
+    pub kept-fresh : (path : List ℕ) → row_stays last paths path ≡ is_fresh_of (needed_paths world) old path
+    kept-fresh path =
+        ap (λ row. (is_one_of path (map string_bytes last.listed.items) || is_one_of path paths) && is_some row) (entries-fresh old last.stage.known end.far.stage.knows path)
+        ∙ ap (λ listed. (is_one_of path listed || is_one_of path paths) && is_some (fresh old path)) end.far.listed
+        ∙ kept_by path (is_some (fresh old path)) refl
 
   -- where no path has a row but needed ones that have a makefile, each row is such a one
-  module _ (are : last.are_alone ≡ true) where
+  module _ (alone : HaveRowsAlone world (needed_paths world) old) where
     each_fresh : (path : List ℕ) → is_some (old path) ≡ true → is_fresh_of (needed_paths world) old path ≡ true
     each_fresh path some =
-        let here = end.far.alone are path some in
+        let here = alone path some in
         ap (λ b. b && is_some (fresh old path)) here.0 ∙ decided-there world (fresh old) path here.1 (end.fresh path here.0)
 
     left_at : (path : List ℕ) (row : Option ShownRow) → old path ≡ row → row ≡ (if is_fresh_of (needed_paths world) old path then row else None)
@@ -67,9 +75,9 @@ module _ (world : World) (old : ShownRows) (last : LastStage) (end : IsAtEnd wor
     }
 
 -- the others are taken out
-module _ (world : World) (before after : Entries) (last : LastStage) (end : IsAtEnd world (shown no_name before) last) (others : Vec (String Global) Global)
-    (are : (path : List ℕ) → is_one_of path (map string_bytes others.items) ≡ (is_some (before path) && not (row_stays last path)))
-    (left : (path : List ℕ) → after path ≡ (if row_stays last path then before path else None)) where
+module _ (world : World) (before after : Entries) (last : LastStage) (end : IsAtEnd world (shown no_name before) last) (beside : Vec (String Global) Global) (known : AreNeededBeside world beside) (others : Vec (String Global) Global)
+    (are : (path : List ℕ) → is_one_of path (map string_bytes others.items) ≡ (is_some (before path) && not (row_stays last (map string_bytes beside.items) path)))
+    (left : (path : List ℕ) → after path ≡ (if row_stays last (map string_bytes beside.items) path then before path else None)) where
   abbrev old : ShownRows
   old = shown no_name before
 
@@ -82,19 +90,20 @@ module _ (world : World) (before after : Entries) (last : LastStage) (end : IsAt
   stored_there (Some stored) some = refl
 
   one_by : (path : List ℕ) (kept : Bool) → is_fresh_of (needed_paths world) old path ≡ kept → is_one_of path (map string_bytes others.items) ≡ (is_some (before path) && not kept)
-  one_by path kept is = are path ∙ ap (λ b. is_some (before path) && not b) (kept-fresh world old last end path ∙ is)
+  one_by path kept is = are path ∙ ap (λ b. is_some (before path) && not b) (kept-fresh world old last end beside known path ∙ is)
 
   pub leaves-others : LeavesFresh (needed_paths world) old (shown no_name after) others
   leaves-others = record {
-    left = λ path. ap (option_and_then (show_stored no_name)) (left path) ∙ shown_if (row_stays last path) (before path)
-        ∙ ap (λ (b : Bool). if b then old path else None) (kept-fresh world old last end path);
+    left = λ path. ap (option_and_then (show_stored no_name)) (left path) ∙ shown_if (row_stays last (map string_bytes beside.items) path) (before path)
+        ∙ ap (λ (b : Bool). if b then old path else None) (kept-fresh world old last end beside known path);
     apart = λ path is. one_by path true is ∙ and_false (is_some (before path));
     all = λ path is some. one_by path false is ∙ ap (λ b. b && true) (stored_there (before path) some);
   }
 
-pub leaves-taken : (world : World) (before after : Entries) (last : LastStage) → IsAtEnd world (shown no_name before) last → (result : Result (Vec (String Global) Global) FilesFault)
-    → IfOk result (λ others. (path : List ℕ) → is_one_of path (map string_bytes others.items) ≡ (is_some (before path) && not (row_stays last path)))
-    → OnOk result ((path : List ℕ) → after path ≡ (if row_stays last path then before path else None))
+pub leaves-taken : (world : World) (before after : Entries) (last : LastStage) → IsAtEnd world (shown no_name before) last → (beside : Vec (String Global) Global) → AreNeededBeside world beside
+    → (result : Result (Vec (String Global) Global) FilesFault)
+    → IfOk result (λ others. (path : List ℕ) → is_one_of path (map string_bytes others.items) ≡ (is_some (before path) && not (row_stays last (map string_bytes beside.items) path)))
+    → OnOk result ((path : List ℕ) → after path ≡ (if row_stays last (map string_bytes beside.items) path then before path else None))
     → IfOk result (LeavesFresh (needed_paths world) (shown no_name before) (shown no_name after))
-leaves-taken world before after last end (Ok others) are left = leaves-others world before after last end others are left
-leaves-taken world before after last end (Err fault) are left = tt
+leaves-taken world before after last end beside known (Ok others) are left = leaves-others world before after last end beside known others are left
+leaves-taken world before after last end beside known (Err fault) are left = tt

@@ -1,8 +1,9 @@
 -- What a change of a file, and what is known of changes, makes of rows; and what is left of a refresh.
-use Rattle.std.proofs.Common.{◌≡◌, ◌⊎◌, inl, inr, ◌∙◌, sym, ap, subst, refl, ℕ, ◌+◌, Bool, true, false, ◌||◌, ◌&&◌, if◌then◌else◌, List, [], ◌∷◌, map, Result, Ok, Err, OnOk, OnErr, Option, Some, None, IfSome, is_some, is_none, option_map, option_and_then, String, Global, string_bytes}
-use Rattle.std.proofs.lemmas.Bool.{false≢true, or_right}
+use Rattle.std.proofs.Common.{◌≡◌, ◌⊎◌, inl, inr, ◌∙◌, sym, ap, subst, refl, ℕ, ◌+◌, Bool, true, false, ◌||◌, ◌&&◌, not, if◌then◌else◌, List, [], ◌∷◌, Result, Ok, Err, OnOk, OnErr, Option, Some, None, IfSome, is_some, is_none, option_map, option_and_then, String, Global, string_bytes}
+use Rattle.std.proofs.lemmas.Bool.{false≢true, and_parts, or_right}
 use Rattle.std.proofs.lemmas.Slice.Eq.{bytes_eq-Decides}
 use Rattle.std.specs.BTreeSet.{BTreeSet, contains_text, keys}
+use Rattle.std.specs.FinMap.{contains_key}
 use Rattle.std.specs.List.{list_any, sum_by, filter}
 use Rattle.text_parts.specs.Order.{in_order}
 use Rattle.text_parts.specs.Ordered.{among-in_order}
@@ -11,13 +12,14 @@ use Rattle.std.specs.Ordering.{nat_cmp, is_eq}
 use Rattle.std.specs.Str.{bytes_eq}
 use Rattle.mk_paths.specs.World.{World, files_in}
 use Rattle.mk_paths.specs.FilesView.{Question, Reply, Presence, Contents, IsReply}
+use Rattle.mk_paths.specs.declared.search_path.Settings.{Settings}
 use Rattle.mk_eval.specs.Sharing.{Agrees}
 use Rattle.ports_index.specs.Efforts.{decided, has_makefile, is_there}
 use Rattle.ports_index.specs.declared.spending.Spent.{Spent}
 use Rattle.ports_index.specs.Filling.{is_one_of, Fills}
 use Rattle.ports_index.specs.Index.{needed_among, needed_paths}
 use Rattle.ports_index.specs.Known.{IsIndexOf}
-use Rattle.ports_index.specs.Makefiles.{DirectoriesAreFollowed, WereDirectories}
+use Rattle.ports_index.specs.Makefiles.{AreThere, SameMakefiles, SameMakefilesServe, is_makefile}
 use Rattle.ports_index.specs.declared.known_index.KnownIndex.{KnownIndex}
 use Rattle.ports_index.specs.PathLaws.{PathIsTheSameWhereAnswered}
 use Rattle.ports_index.specs.PathOutcomes.{PathOutcome, Absent, Finding, finding_at, outcome_at}
@@ -27,14 +29,15 @@ use Rattle.ports_index.specs.Naming.{listed_from}
 use Rattle.ports_index.specs.Seen.{entries_in, known_in}
 use Rattle.row_text.specs.Rows.{RowValue, row_of}
 use Rattle.index_store.specs.Entries.{StoredValue, Entries}
+use Rattle.index_keep.specs.declared.last_index.HeldIndex.{HeldIndex}
 use Rattle.index_keep.specs.declared.keeper.Progress.{Progress}
 use Rattle.index_keep.specs.declared.keeper.Progress.TheVariants.{Changed, Walking, Asking, Current, AtHand}
 use Rattle.index_keep.specs.Shown.{ShownRow, ShownRows, shown, show_row, show_stored, asked_one, no_name, fresh, fresh_outcome, said_in_row, stale_if_asked, ShowsSame}
-use Rattle.index_keep.specs.Last.{IsLast, IsLastOf, SaysAll}
+use Rattle.index_keep.specs.Last.{IsHeld, IsLast, SaysAll, Serves, needed_before}
 use Rattle.index_keep.specs.Right.{names_in, row_with, IsRightRow, AreKept, AreCurrent, HaveFresh, DifferAt, RenewsOneOf, fresh_row, is_evaluated}
 use Rattle.ports_index.specs.Spending.{no_spending}
 use Rattle.index_keep.specs.Turns.{DropsTurn, paths_left, refresh_at}
-use Rattle.index_keep.specs.Keeping.{changed_in, begun_in, last_in, DropsTo, IsKept, IsProgress, HasForgotten, Halts, Stops}
+use Rattle.index_keep.specs.Keeping.{changed_in, begun_in, last_in, stays_there, DropsTo, IsKept, IsProgress, HasForgotten, Halts, Stops, TellsPresence}
 use Rattle.index_keep.specs.declared.keeper.Keeper.{Keeper}
 use Rattle.index_keep.proofs.ShownLemmas.{shown-test}
 use Rattle.index_keep.proofs.WalkLemmas.{lacking-there, listed-has, needed-has}
@@ -117,6 +120,17 @@ AreKept-same world old new same kept = record {
   there = λ path row is fresh. kept.there path row (sym (same path) ∙ is) fresh;
 }
 
+-- a keeper whose rows store the same is still right
+pub IsKept-same : {R : Type 0} (entries : R → Entries) (world : World) (old new : R) (progress : Progress) → ((path : List ℕ) → entries new path ≡ entries old path)
+    → (let before : Keeper R = record { rows = old; progress = progress } in IsKept entries world before)
+    → (let after : Keeper R = record { rows = new; progress = progress } in IsKept entries world after)
+IsKept-same entries world old new progress same kept =
+    let stored : entries new ≡ entries old = λ i path. same path i in
+    record {
+      rows = subst (λ (e : Entries). AreKept world (shown (changed_in progress) e)) (sym stored) kept.rows;
+      progress = subst (λ (e : Entries). IsProgress world (shown (changed_in progress) e) progress) (sym stored) kept.progress;
+    }
+
 -- ---- names that are known to have changed
 
 pub none_among : (names : BTreeSet (String Global)) → keys names ≡ [] → (name : List ℕ) → contains_text names name ≡ false
@@ -146,7 +160,7 @@ shown-halted entries (Current paths) new is path = ap (λ (p : Progress). shown 
 shown-halted entries (AtHand index) new is path = ap (λ (p : Progress). shown (changed_in p) entries path) is
 
 pub IsProgress-forgotten : (world : World) (rows : ShownRows) (progress : Progress) → HasForgotten progress → IsProgress world rows progress
-IsProgress-forgotten world rows (Changed names last) none = subst (λ (l : Option KnownIndex). IfSome l (IsLastOf (contains_text names) (files_in world) rows)) (sym none.1) tt
+IsProgress-forgotten world rows (Changed names last) none = subst (λ (l : Option HeldIndex). IfSome l (IsHeld (contains_text names) world rows)) (sym none.1) tt
 IsProgress-forgotten world rows (Walking walk) none = absurd none
 IsProgress-forgotten world rows (Asking walk ask) none = absurd none
 IsProgress-forgotten world rows (Current paths) none = absurd none
@@ -157,6 +171,15 @@ pub IsProgress-stopped : (world : World) (rows new : ShownRows) (old after : Pro
 IsProgress-stopped world rows new old after (inl same) shows is =
     subst (λ (p : Progress). IsProgress world new p) (sym same) (subst (λ (r : ShownRows). IsProgress world r old) (λ i path. sym (shows path) i) is)
 IsProgress-stopped world rows new old after (inr none) shows is = IsProgress-forgotten world new after none
+
+pub IsKept-stopped : {R : Type 0} (entries : R → Entries) (world : World) (old new : R) (before after : Progress) → Stops before after
+    → ShowsSame (shown (changed_in before) (entries old)) (shown (changed_in after) (entries new))
+    → (let one : Keeper R = record { rows = old; progress = before } in IsKept entries world one)
+    → (let other : Keeper R = record { rows = new; progress = after } in IsKept entries world other)
+IsKept-stopped entries world old new before after stops shows kept = record {
+  rows = AreKept-same world (shown (changed_in before) (entries old)) (shown (changed_in after) (entries new)) shows kept.rows;
+  progress = IsProgress-stopped world (shown (changed_in before) (entries old)) (shown (changed_in after) (entries new)) before after stops shows kept.progress;
+}
 
 either-halted : (old new : Progress) → Halts old new → HasForgotten new ⊎ (new ≡ old)
 either-halted (Changed names last) new is = inr is
@@ -232,10 +255,19 @@ module _ (name : List ℕ) (one more : List ℕ → Bool) (is : (other : List �
     pub IsLast-noted : IsLast more new index
     IsLast-noted = record {
       says = λ path. last.says path ∙ sym (ap (option_map said_in_row) (noted path) ∙ shown_said (old path));
-      lists = last.lists;
-      paths = λ path some. last.paths path (sym (ap is_some (noted path) ∙ still_there (old path)) ∙ some);
+      listed = last.listed;
+      needed = λ path some. last.needed path (sym (ap is_some (noted path) ∙ still_there (old path)) ∙ some);
       stale = λ path row is. stale_at path (old path) refl row (sym (noted path) ∙ is);
     }
+
+  -- it serves over rows that are noted
+  pub Serves-noted : (world : World) (old new : ShownRows) (index : KnownIndex) → ((path : List ℕ) → new path ≡ option_map (stale_if_asked name) (old path))
+      → Serves world old index → Serves world new index
+  Serves-noted world old new index noted serves = record {
+    directories = serves.directories;
+    there = λ path some. serves.there path (sym (ap is_some (noted path) ∙ still_there (old path)) ∙ some);
+    missing = λ path one none. serves.missing path one (sym (ap is_some (noted path) ∙ still_there (old path)) ∙ none);
+  }
 
 -- ---- an index at hand is the last one, once a name has changed
 
@@ -244,9 +276,19 @@ asked_nobody [] = refl
 asked_nobody (name ∷ names) = asked_nobody names
 
 module _ (enough : KnownRowsAreEnough) (world : World) (rows : ShownRows) (index : KnownIndex) (current : AreCurrent world rows) (is : IsIndexOf world index) (says : SaysAll rows index.rows) where
-  there_if : (path : List ℕ) (need there : Bool) → is_some (if need && there then Some (fresh_row world path) else None) ≡ true → need ≡ true
-  there_if path true there some = refl
-  there_if path false there some = absurd (false≢true some)
+  need_if : (need there : Bool) (row : ShownRow) → is_some (if need && there then Some row else None) ≡ true → need ≡ true
+  need_if true there row some = refl
+  need_if false there row some = absurd (false≢true some)
+
+  there_if : (need there : Bool) (row : ShownRow) → is_some (if need && there then Some row else None) ≡ true → there ≡ true
+  there_if true true row some = refl
+  there_if true false row some = absurd (false≢true some)
+  there_if false there row some = absurd (false≢true some)
+
+  none_if : (need there : Bool) (row : ShownRow) → need ≡ true → is_some (if need && there then Some row else None) ≡ false → there ≡ false
+  none_if true true row one none = absurd (false≢true (sym none))
+  none_if true false row one none = refl
+  none_if false there row one none = absurd (false≢true one)
 
   fresh_if : (path : List ℕ) (needed : Bool) (row : ShownRow) → (if needed then Some (fresh_row world path) else None) ≡ Some row → row.stale ≡ asked_one no_name row.row
   fresh_if path true row same =
@@ -254,46 +296,100 @@ module _ (enough : KnownRowsAreEnough) (world : World) (rows : ShownRows) (index
       subst (λ (r : ShownRow). r.stale ≡ asked_one no_name r.row) one (sym (asked_nobody (fresh_row world path).row.names))
   fresh_if path false row same = absurd cc
 
+  needed_as : needed_before index ≡ needed_paths world
+  needed_as =
+      ap (needed_among (known_in (entries_in index.rows))) is.paths.listed
+      ∙ enough.needed world (entries_in index.rows) (λ path one. is.rows path (needed-has world path one))
+
   pub IsLast-current : IsLast no_name rows index
   IsLast-current = record {
     says = says;
-    lists = record {
-      listed = is.paths.listed
-          ∙ sym (ap (listed_from (known_in (entries_in index.rows))) is.paths.directories
-          ∙ enough.listed world (entries_in index.rows) (λ path one. is.rows path (needed-has world path (listed-has world path one))));
-      needed = is.paths.needed
-          ∙ sym (ap (needed_among (known_in (entries_in index.rows))) is.paths.listed
-          ∙ enough.needed world (entries_in index.rows) (λ path one. is.rows path (needed-has world path one)));
-      ordered = is.paths.ordered;
-    };
-    paths = λ path some. ap (is_one_of path) is.paths.needed
-        ∙ there_if path (is_one_of path (needed_paths world)) (has_makefile world path) (sym (ap is_some (current.each path)) ∙ some);
+    listed = is.paths.listed
+        ∙ sym (ap (listed_from (known_in (entries_in index.rows))) is.paths.directories
+        ∙ enough.listed world (entries_in index.rows) (λ path one. is.rows path (needed-has world path (listed-has world path one))));
+    needed = λ path some. ap (is_one_of path) needed_as
+        ∙ need_if (is_one_of path (needed_paths world)) (has_makefile world path) (fresh_row world path) (sym (ap is_some (current.each path)) ∙ some);
     stale = λ path row there. fresh_if path (is_evaluated world path) row (sym (current.each path) ∙ there);
   }
 
-module _ (enough : KnownRowsAreEnough) (followed : DirectoriesAreFollowed) (name : List ℕ) (world other : World) (differ : DifferAt name world other)
-    (rows noted : ShownRows) (notes : (path : List ℕ) → noted path ≡ option_map (stale_if_asked name) (rows path)) where
-  last_of : (old : Progress) → IsProgress world rows old → (more : List ℕ → Bool) → ((file : List ℕ) → more file ≡ (bytes_eq name file || changed_in old file))
-      → IfSome (last_in old) (IsLastOf more (files_in other) noted)
-  last_of (Changed names (Some index)) is more adds = record {
-    last = IsLast-noted name (contains_text names) more adds rows noted index notes is.last;
-    directories = followed.more name (contains_text names) more (files_in world) (files_in other) (map string_bytes index.paths.directories.items) adds differ.files is.directories;
+  pub Serves-current : Serves world rows index
+  Serves-current = record {
+    directories = is.paths.directories;
+    there = λ path some. there_if (is_one_of path (needed_paths world)) (has_makefile world path) (fresh_row world path) (sym (ap is_some (current.each path)) ∙ some);
+    missing = λ path one none. none_if (is_one_of path (needed_paths world)) (has_makefile world path) (fresh_row world path)
+        (ap (is_one_of path) (sym needed_as) ∙ one) (sym (ap is_some (current.each path)) ∙ none);
   }
-  last_of (Changed names None) is more adds = tt
-  last_of (Walking walk) is more adds = tt
-  last_of (Asking walk ask) is more adds = tt
-  last_of (Current paths) is more adds = tt
-  last_of (AtHand index) is more adds = record {
+
+module _ (enough : KnownRowsAreEnough) (serve : SameMakefilesServe) (name : List ℕ) (world other : World) (differ : DifferAt name world other)
+    (is_there : Bool) (tells : TellsPresence world name is_there) (rows noted : ShownRows) (notes : (path : List ℕ) → noted path ≡ option_map (stale_if_asked name) (rows path)) where
+  module _ (one more : List ℕ → Bool) (adds : (file : List ℕ) → more file ≡ (bytes_eq name file || one file))
+      (stays : stays_there name is_there ≡ true) (now : AreThere more (files_in other)) where
+    told : (there makefile : Bool) → (there || not makefile) ≡ true → makefile ≡ true → there ≡ true
+    told true makefile e f = refl
+    told false true e f = e
+    told false false e f = absurd (false≢true f)
+
+    was_there : is_makefile name ≡ true → contains_key (files_in world) name ≡ true
+    was_there makefile = tells (told is_there (is_makefile name) stays makefile)
+
+    named : (file : List ℕ) → bytes_eq name file ≡ true → more file ≡ true
+    named file same = adds file ∙ ap (λ b. b || one file) same
+
+    same_at : (file : List ℕ) (same : Bool) → bytes_eq name file ≡ same → is_makefile file ≡ true → contains_key (files_in other) file ≡ contains_key (files_in world) file
+    same_at file true same makefile =
+        now file (named file same) makefile
+        ∙ sym (ap (contains_key (files_in world)) (sym ((bytes_eq-Decides name file).0 same)) ∙ was_there (ap is_makefile ((bytes_eq-Decides name file).0 same) ∙ makefile))
+    same_at file false same makefile = ap is_some (differ.files file same)
+
+    same_makefiles : SameMakefiles (files_in world) (files_in other)
+    same_makefiles file makefile = same_at file (bytes_eq name file) refl makefile
+
+    makefiles_as : (path : List ℕ) → has_makefile other path ≡ has_makefile world path
+    makefiles_as path = by other.1 differ.settings
+      where
+        by : (settings : Settings) → settings ≡ world.1 → has_makefile (files_in other, settings) path ≡ has_makefile world path
+        by settings e = subst (λ (s : Settings). has_makefile (files_in other, s) path ≡ has_makefile world path) (sym e)
+            (serve.paths (files_in world) (files_in other) world.1 same_makefiles path)
+
+    pub Serves-still : (shows : ShownRows) (index : KnownIndex) → Serves world shows index → Serves other shows index
+    Serves-still shows index serves = record {
+      directories = serves.directories ∙ sym (serve.directories (files_in world) (files_in other) same_makefiles);
+      there = λ path some. makefiles_as path ∙ serves.there path some;
+      missing = λ path needed none. makefiles_as path ∙ serves.missing path needed none;
+    }
+
+    before_at : (file : List ℕ) (same : Bool) → bytes_eq name file ≡ same → one file ≡ true → is_makefile file ≡ true → contains_key (files_in world) file ≡ true
+    before_at file true same changed makefile =
+        ap (contains_key (files_in world)) (sym ((bytes_eq-Decides name file).0 same)) ∙ was_there (ap is_makefile ((bytes_eq-Decides name file).0 same) ∙ makefile)
+    before_at file false same changed makefile = sym (same_at file false same makefile) ∙ now file (adds file ∙ or_right (bytes_eq name file) (one file) changed) makefile
+
+    pub were_before : AreThere one (files_in world)
+    were_before file changed makefile = before_at file (bytes_eq name file) refl changed makefile
+
+  held_of : (old : Progress) → IsProgress world rows old → (more : List ℕ → Bool) → ((file : List ℕ) → more file ≡ (bytes_eq name file || changed_in old file))
+      → IfSome (last_in (stays_there name is_there) old) (IsHeld more other noted)
+  held_of (Changed names (Some held)) is more adds = record {
+    last = IsLast-noted name (contains_text names) more adds rows noted held.index notes is.last;
+    serves = λ were now.
+        let both = and_parts held.were_there (stays_there name is_there) were in
+        Serves-noted name (contains_text names) more adds other rows noted held.index notes
+        (Serves-still (contains_text names) more adds both.1 now rows held.index (is.serves both.0 (were_before (contains_text names) more adds both.1 now)));
+  }
+  held_of (Changed names None) is more adds = tt
+  held_of (Walking walk) is more adds = tt
+  held_of (Asking walk ask) is more adds = tt
+  held_of (Current paths) is more adds = tt
+  held_of (AtHand index) is more adds = record {
     last = IsLast-noted name no_name more adds rows noted index notes (IsLast-current enough world rows index is.0 is.1 is.2);
-    directories = followed.more name no_name more (files_in world) (files_in other) (map string_bytes index.paths.directories.items) adds differ.files
-        (subst (WereDirectories no_name (files_in world)) (sym is.1.paths.directories) (followed.none (files_in world)));
+    serves = λ stays now. Serves-noted name no_name more adds other rows noted index notes
+        (Serves-still no_name more adds stays now rows index (Serves-current enough world rows index is.0 is.1 is.2));
   }
 
   -- the file of a name has changed, or is about to
-  pub IsProgress-noted : (old new : Progress) → IsProgress world rows old → DropsTo old new → ((file : List ℕ) → changed_in new file ≡ (bytes_eq name file || changed_in old file))
-      → IsProgress other noted new
+  pub IsProgress-noted : (old new : Progress) → IsProgress world rows old → DropsTo (stays_there name is_there) old new
+      → ((file : List ℕ) → changed_in new file ≡ (bytes_eq name file || changed_in old file)) → IsProgress other noted new
   IsProgress-noted old (Changed names last) is drops adds =
-      subst (λ (l : Option KnownIndex). IfSome l (IsLastOf (contains_text names) (files_in other) noted)) (sym drops) (last_of old is (contains_text names) adds)
+      subst (λ (l : Option HeldIndex). IfSome l (IsHeld (contains_text names) other noted)) (sym drops) (held_of old is (contains_text names) adds)
   IsProgress-noted old (Walking walk) is drops adds = absurd drops
   IsProgress-noted old (Asking walk ask) is drops adds = absurd drops
   IsProgress-noted old (Current paths) is drops adds = absurd drops

@@ -1,30 +1,29 @@
 -- The index of before names changed, and the rows that are left of it.
-use Rattle.std.proofs.Common.{◌≡◌, ◌∙◌, ap, subst, sym, refl, ℕ, Bool, true, false, ◌||◌, if◌then◌else◌, List, map, Option, Some, None, is_some, option_map, option_and_then, string_bytes}
+use Rattle.std.proofs.Common.{◌≡◌, ◌∙◌, ap, subst, sym, refl, ℕ, Bool, true, false, ◌||◌, if◌then◌else◌, List, map, Option, Some, None, is_some, option_map, option_and_then, String, Global, string_bytes}
 use Rattle.std.proofs.lemmas.Bool.{false≢true}
 use Rattle.std.proofs.lemmas.Slice.Eq.{bytes_eq-Decides}
 use Rattle.std.specs.Option.{option_or}
+use Rattle.std.specs.Prelude.{Vec}
 use Rattle.std.specs.Str.{bytes_eq}
 use Rattle.mk_paths.specs.World.{World}
 use Rattle.ports_index.specs.Alike.{AlikeRowsListTheSame, AreAlikeAt, NameAlike}
-use Rattle.ports_index.specs.Depending.{targets_in}
-use Rattle.ports_index.specs.Efforts.{has_makefile, is_there}
+use Rattle.ports_index.specs.Efforts.{has_makefile}
 use Rattle.ports_index.specs.Filling.{is_one_of}
-use Rattle.ports_index.specs.Known.{FollowFrom}
-use Rattle.ports_index.specs.Naming.{listed_from, named_in}
+use Rattle.ports_index.specs.Index.{needed_among}
+use Rattle.ports_index.specs.Naming.{listed_from}
 use Rattle.ports_index.specs.PathOutcomes.{PathOutcome}
 use Rattle.ports_index.specs.Seen.{Said, entries_in, has_asked_for, known_in, known_row, names_in, said_in}
 use Rattle.ports_index.specs.declared.keeping.MemoryRows.{MemoryRows}
 use Rattle.ports_index.specs.declared.known_index.KnownIndex.{KnownIndex}
 use Rattle.row_text.specs.Rows.{RowValue, row_of}
 use Rattle.index_store.specs.Entries.{StoredValue, Entries}
-use Rattle.index_keep.specs.Last.{IsLast, NamesAsBefore, Recalls, RecallsLists, led_to, needed_of}
-use Rattle.index_keep.specs.Right.{AreDecided, AreKept}
+use Rattle.index_keep.specs.Last.{IsLast, NamesAsBefore, Recalls, RecallsLists, Serves, led_to, listed_in, needed_before, needed_of, paths_in}
 use Rattle.index_keep.specs.declared.last_index.LastIndex.{LastIndex}
 use Rattle.index_keep.specs.declared.last_index.LastLists.{LastLists}
 use Rattle.index_keep.specs.Walking.{HasRowMore}
 use Rattle.index_keep.proofs.ShownLemmas.{entries-fresh}
 use Rattle.index_keep.specs.Shown.{ShownRow, ShownRows, shown, show_row, show_stored, asked_one, fresh, fresh_said, said_if_fresh, said_in_row}
-use Rattle.index_keep.proofs.WalkLemmas.{decided-there, lacking-there}
+use Rattle.index_keep.proofs.WalkLemmas.{alike-same, lacking-there}
 
 module _ (test : List ℕ → Bool) (rows : ShownRows) (index : KnownIndex) (last : IsLast test rows index) where
   -- whether a path's row asked for a name that has changed
@@ -80,53 +79,39 @@ module _ (test : List ℕ → Bool) (rows : ShownRows) (index : KnownIndex) (las
     among_taken path true some = some
     among_taken path false some = absurd (false≢true some)
 
-    -- a path that has a row, and whose row is left or asked for such a name, has a makefile
-    module _ (world : World) (kept : AreKept world rows) (have : (path : List ℕ) → asked path ≡ true → has_makefile world path ≡ true) where
-      there_by : (path : List ℕ) (row : ShownRow) → rows path ≡ Some row → (b : Bool) → asked path ≡ b → has_makefile world path ≡ true
-      there_by path row is true e = have path e
-      there_by path row is false e =
-          let stale : row.stale ≡ false = last.stale path row is ∙ sym (asked-there path row is) ∙ e in
-          ap (λ (one : RowValue). is_there one.outcome) (sym (kept.right path row is stale).same) ∙ kept.there path row is stale
+    led : led_to left taken ≡ known_in (entries_in index.rows)
+    led i path = led_as_before path i
 
-      there_at : (path : List ℕ) (row : Option ShownRow) → rows path ≡ row → is_some row ≡ true → has_makefile world path ≡ true
-      there_at path None is some = absurd (false≢true some)
-      there_at path (Some row) is some = there_by path row is (asked path) refl
+    some_asked : (path : List ℕ) (row : Option ShownRow) → rows path ≡ row → asked path ≡ true → is_some row ≡ true
+    some_asked path None is one = absurd (false≢true (sym (asked_not_there path is) ∙ one))
+    some_asked path (Some row) is one = refl
 
-    follow_from : FollowFrom (led_to left taken) index.paths
-    follow_from = subst (λ outcomes. FollowFrom outcomes index.paths) (λ i path. sym (led_as_before path) i) last.lists
+    left_some : (path : List ℕ) → is_some (rows path) ≡ true → asked path ≡ false → is_some (entries_in left path) ≡ true
+    left_some path some apart =
+        ap (λ said. is_some (outcome_of said)) (leaves path ∙ ap (λ (b : Bool). if b then None else said_in index.rows path) apart)
+        ∙ said_there path (rows path) refl ∙ some
 
-    abbrev begun : LastLists
-    begun = record { listed = index.paths.listed; last = record { beside = index.paths.beside; outdated = taken } }
+    module _ (asking : Vec (String Global) Global) (asks : (path : List ℕ) → is_one_of path (map string_bytes asking.items) ≡ asked path) where
+      abbrev begun : LastLists
+      begun = record { listed = index.paths.listed; last = record { outdated = taken; paths = asking } }
 
-    pub recalls-begun : (world : World) → AreKept world rows → ((path : List ℕ) → asked path ≡ true → has_makefile world path ≡ true)
-        → RecallsLists world rows left (map string_bytes index.paths.directories.items) begun
-    recalls-begun world kept have = record {
-      listed = follow_from.listed;
-      last = record {
-        needed = follow_from.needed;
-        ordered = last.lists.ordered;
-        alone = λ path some. (last.paths path some, there_at world kept have path (rows path) refl some);
-        outdated = λ path some. sym (said_there path (rows path) refl)
-            ∙ among_taken path (asked path) (ap (λ said. is_some (outcome_of said)) (sym (takes path)) ∙ some);
-      };
-    }
+      needed_as : needed_of left (listed_in begun) begun.last ≡ needed_before index
+      needed_as = ap (λ outcomes. needed_among outcomes (listed_in begun)) led
+
+      pub recalls-begun : (world : World) → Serves world rows index → RecallsLists world rows left (map string_bytes index.paths.directories.items) begun
+      recalls-begun world serves = record {
+        listed = last.listed ∙ ap (λ outcomes. listed_from outcomes (map string_bytes index.paths.directories.items)) (sym led);
+        last = record {
+          alone = λ path some. (ap (is_one_of path) needed_as ∙ last.needed path some, serves.there path some);
+          missing = λ path one none. serves.missing path (ap (is_one_of path) (sym needed_as) ∙ one) none;
+          outdated = λ path some. sym (said_there path (rows path) refl)
+              ∙ among_taken path (asked path) (ap (λ said. is_some (outcome_of said)) (sym (takes path)) ∙ some);
+          among = λ path one. some_asked path (rows path) refl (sym (asks path) ∙ one);
+          fresh = λ path some apart. left_some path some (sym (asks path) ∙ apart);
+        };
+      }
 
 -- ---- lists that are kept
-
-alike-same : (path : List ℕ) (old new : PathOutcome) → new ≡ old → NameAlike path old new
-alike-same path old new same = record { words = ap (named_in path) same; items = ap targets_in same }
-
--- Where it is known what these paths lead to, and outdated rows are those of makefiles, fresh rows say what they lead to.
-pub alike-fresh : (world : World) (known outdated : MemoryRows) (paths : List (List ℕ)) → AreDecided world (entries_in known) paths
-    → ((path : List ℕ) → is_some (entries_in outdated path) ≡ true → has_makefile world path ≡ true)
-    → AreAlikeAt (led_to known outdated) (known_in (entries_in known)) paths
-alike-fresh world known outdated paths have there path is =
-    alike-same path (led_to known outdated path) (known_in (entries_in known) path) (by (entries_in known path) refl (entries_in outdated path) refl)
-  where
-    by : (row : Option PathOutcome) → entries_in known path ≡ row → (before : Option PathOutcome) → entries_in outdated path ≡ before → known_row row ≡ known_row (option_or row before)
-    by (Some row) e before f = refl
-    by None e None f = refl
-    by None e (Some before) f = absurd (false≢true (sym (ap is_some e) ∙ decided-there world (entries_in known) path (there path (ap is_some f)) (have path is)))
 
 module _ (law : AlikeRowsListTheSame) (world : World) (path : List ℕ) (said : Said) (old new : ShownRows) (more : HasRowMore world path said old new)
     (known after : MemoryRows) (knows : (other : List ℕ) → said_in known other ≡ fresh_said old other)
@@ -152,9 +137,12 @@ module _ (law : AlikeRowsListTheSame) (world : World) (path : List ℕ) (said : 
   alike paths other is = put_at other (bytes_eq path other) refl
 
   module _ (listed : List (List ℕ)) (recalls : Recalls world old known listed last) where
-    alone_at : (other : List ℕ) (same : Bool) → bytes_eq path other ≡ same → (same || is_some (old other)) ≡ true → (is_one_of other (needed_of listed last) ≡ true) × (has_makefile world other ≡ true)
+    needed_still : needed_of after listed last ≡ needed_of known listed last
+    needed_still = law.needed (led_to known last.outdated) (led_to after last.outdated) listed (alike listed)
+
+    alone_at : (other : List ℕ) (same : Bool) → bytes_eq path other ≡ same → (same || is_some (old other)) ≡ true → (is_one_of other (needed_of known listed last) ≡ true) × (has_makefile world other ≡ true)
     alone_at other true same some =
-        subst (λ at. (is_one_of at (needed_of listed last) ≡ true) × (has_makefile world at ≡ true)) ((bytes_eq-Decides path other).0 same)
+        subst (λ at. (is_one_of at (needed_of known listed last) ≡ true) × (has_makefile world at ≡ true)) ((bytes_eq-Decides path other).0 same)
         (recalls.alone path (recalls.outdated path (ap is_some names.was)))
     alone_at other false same some = recalls.alone other some
 
@@ -162,13 +150,26 @@ module _ (law : AlikeRowsListTheSame) (world : World) (path : List ℕ) (said : 
     still_there other true some = refl
     still_there other false some = some
 
+    not_there : (other : List ℕ) (same : Bool) → (same || is_some (old other)) ≡ false → is_some (old other) ≡ false
+    not_there other true none = absurd (false≢true (sym none))
+    not_there other false none = none
+
+    fresh_at : (other : List ℕ) (same : Bool) → bytes_eq path other ≡ same → (same || is_some (old other)) ≡ true → is_one_of other (paths_in last) ≡ false
+        → is_some (option_map (λ (one : Said). one.outcome) (if same then Some said else said_in known other)) ≡ true
+    fresh_at other true same some apart = refl
+    fresh_at other false same some apart = recalls.fresh other some apart
+
     -- the row of a path that names the same paths as the outdated one
     pub recalls-more : Recalls world new after listed last
     recalls-more = record {
-      needed = recalls.needed ∙ sym (law.needed (led_to known last.outdated) (led_to after last.outdated) listed (alike listed));
-      ordered = recalls.ordered;
-      alone = λ other some. alone_at other (bytes_eq path other) refl (sym (more.there other) ∙ some);
+      alone = λ other some.
+          let one = alone_at other (bytes_eq path other) refl (sym (more.there other) ∙ some) in
+          (ap (is_one_of other) needed_still ∙ one.0, one.1);
+      missing = λ other one none. recalls.missing other (ap (is_one_of other) (sym needed_still) ∙ one) (not_there other (bytes_eq path other) (sym (more.there other) ∙ none));
       outdated = λ other some. more.there other ∙ still_there other (bytes_eq path other) (recalls.outdated other some);
+      among = λ other one. more.there other ∙ still_there other (bytes_eq path other) (recalls.among other one);
+      fresh = λ other some apart. ap (λ row. is_some (option_map (λ (one : Said). one.outcome) row)) (puts other)
+          ∙ fresh_at other (bytes_eq path other) refl (sym (more.there other) ∙ some) apart;
     }
 
   -- then the same paths are listed below these directories

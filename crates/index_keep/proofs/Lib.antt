@@ -1,7 +1,9 @@
 pub mod ShownLemmas
 pub mod SortLemmas
 pub mod ListLemmas
+pub mod BesideLemmas
 pub mod WalkLemmas
+pub mod StageLemmas
 pub mod RowLemmas
 pub mod LastLemmas
 pub mod EndLemmas

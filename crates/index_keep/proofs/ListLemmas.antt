@@ -1,5 +1,5 @@
 -- Lists of names and paths.
-use Rattle.std.proofs.Common.{◌≡◌, ◌∙◌, sym, ap, refl, ℕ, ◌+◌, ◌<◌, Bool, true, false, cond, ◌||◌, ◌&&◌, if◌then◌else◌, List, [], ◌∷◌, ◌++◌, map, take, length, get_or, Option, Some, None, is_some, option_map, String, string_bytes, Global}
+use Rattle.std.proofs.Common.{◌≡◌, ◌∙◌, sym, ap, refl, ℕ, ◌+◌, ◌<◌, Bool, true, false, cond, ◌||◌, ◌&&◌, not, if◌then◌else◌, List, [], ◌∷◌, ◌++◌, map, take, length, get_or, Option, Some, None, is_none, is_some, option_map, String, string_bytes, Global}
 use Rattle.std.proofs.lemmas.Bool.{false≢true}
 use Rattle.std.proofs.lemmas.List.{take_more}
 use Rattle.std.proofs.lemmas.List.Folds.{list_any_at}
@@ -62,6 +62,31 @@ chosen-more chosen passed test p added is were path =
     (λ same. ap test (sym ((bytes_eq-Decides p path).0 same)) ∙ is)
     ∙ ap (λ b. b && test path) (sym (one_of-end path p passed))
 
+with_start : (added start a same t before : Bool) → before ≡ (start || (a && t)) → (same ≡ true → t ≡ added) → (if added then before || same else before) ≡ (start || ((a || same) && t))
+with_start true true a same t before was is = ap (λ b. b || same) was
+with_start false true a same t before was is = was
+with_start added false a same t before was is = step added a same t before was is
+
+-- those of some paths that pass a test, after others, with the next path
+pub added-more : (start chosen passed : List (List ℕ)) (test : List ℕ → Bool) (p : List ℕ) (added : Bool) → test p ≡ added
+    → ((path : List ℕ) → is_one_of path chosen ≡ (is_one_of path start || (is_one_of path passed && test path)))
+    → (path : List ℕ) → is_one_of path (if added then chosen ++ p ∷ [] else chosen) ≡ (is_one_of path start || (is_one_of path (passed ++ p ∷ []) && test path))
+added-more start chosen passed test p added is were path =
+    added_at chosen p path added
+    ∙ with_start added (is_one_of path start) (is_one_of path passed) (bytes_eq p path) (test path) (is_one_of path chosen) (were path)
+    (λ same. ap test (sym ((bytes_eq-Decides p path).0 same)) ∙ is)
+    ∙ ap (λ b. is_one_of path start || (b && test path)) (sym (one_of-end path p passed))
+
+-- the same with the text at the next place
+pub chosen-next : (test : List ℕ → Bool) (texts : List (String Global)) (place : ℕ) (text : String Global) (chosen : List (List ℕ)) (added : Bool)
+    → place < length texts → text ≡ get_or texts place text → test (string_bytes text) ≡ added
+    → ((path : List ℕ) → is_one_of path chosen ≡ (is_one_of path (map string_bytes (take place texts)) && test path))
+    → (path : List ℕ) → is_one_of path (if added then chosen ++ string_bytes text ∷ [] else chosen) ≡ (is_one_of path (map string_bytes (take (place + 1) texts)) && test path)
+chosen-next test texts place text chosen added inside is passes were path =
+    chosen-more chosen (map string_bytes (take place texts)) test (string_bytes text) added passes were path
+    ∙ ap (λ passed. is_one_of path passed && test path)
+    (sym (ap (map string_bytes) (take_more texts place text inside ∙ ap (λ t. take place texts ++ t ∷ []) (sym is)) ∙ map-append string_bytes (take place texts) (text ∷ [])))
+
 -- the text at a place is one of the texts
 pub one_of-place : (texts : List (String Global)) (place : ℕ) (text : String Global) → place < length texts → text ≡ get_or texts place text → is_one_of (string_bytes text) (map string_bytes texts) ≡ true
 one_of-place texts place text inside is =
@@ -86,6 +111,16 @@ passes-more test texts place text inside is passes passed path one =
 pub some-map : {X Y : Type 0} (f : X → Y) (row : Option X) → is_some (option_map f row) ≡ is_some row
 some-map f None = refl
 some-map f (Some row) = refl
+
+pub none-map : {X Y : Type 0} (f : X → Y) (row : Option X) → is_none (option_map f row) ≡ is_none row
+none-map f None = refl
+none-map f (Some row) = refl
+
+pub none-not : {X : Type 0} (row : Option X) (none : Bool) → is_some row ≡ not none → none ≡ is_none row
+none-not None true is = refl
+none-not None false is = absurd (false≢true is)
+none-not (Some row) true is = absurd (false≢true (sym is))
+none-not (Some row) false is = refl
 
 pub none-of : {X : Type 0} (row : Option X) → is_some row ≡ false → row ≡ None
 none-of None is = refl

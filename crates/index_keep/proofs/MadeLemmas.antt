@@ -190,11 +190,6 @@ pub there-found : (world : World) (found : FoundPath) → IsFoundAt world found 
 there-found world found is =
     ap (λ (finding : Finding). is_there finding.outcome) is.finding ∙ there found.makefile (flavors_of found.named) (means world found.makefile (flavors_of found.named))
 
--- a path for which a makefile was found, or not
-pub found-there : (world : World) (path : List ℕ) (found : Option FoundPath) → is_some found ≡ true → IsFoundOf world path found → has_makefile world path ≡ true
-found-there world path None some is = absurd cc
-found-there world path (Some found) some is = ap (has_makefile world) (sym is.0) ∙ there-found world found is.1
-
 -- its makefile is there
 pub one-evaluation : (world : World) (path : List ℕ) (self : PathAsk) → IsPathAsk world path self → evaluations_at world path ≡ 1
 one-evaluation world path self is =

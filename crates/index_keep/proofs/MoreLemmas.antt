@@ -1,19 +1,19 @@
 -- A walk that knows of one more fresh row.
-use Rattle.std.proofs.Common.{◌≡◌, ◌∙◌, ap, subst, sym, refl, ℕ, Bool, true, false, ◌||◌, if◌then◌else◌, List, map, take, Option, Some, None, IfSome, is_some, option_map, string_bytes}
+use Rattle.std.proofs.Common.{◌≡◌, ◌∙◌, ap, subst, sym, refl, ℕ, Bool, true, false, ◌||◌, if◌then◌else◌, List, map, take, Option, Some, None, IfSome, is_some, option_map, String, Global, string_bytes}
 use Rattle.std.proofs.lemmas.Slice.Eq.{bytes_eq-Decides}
+use Rattle.std.specs.Prelude.{Vec}
 use Rattle.std.specs.Str.{bytes_eq}
 use Rattle.mk_paths.specs.World.{World}
 use Rattle.ports_index.specs.Alike.{AlikeRowsListTheSame}
 use Rattle.ports_index.specs.Efforts.{has_makefile}
 use Rattle.ports_index.specs.Filling.{is_one_of}
 use Rattle.ports_index.specs.Index.{needed_paths}
-use Rattle.ports_index.specs.Naming.{listed_from}
 use Rattle.ports_index.specs.PathOutcomes.{Absent}
 use Rattle.ports_index.specs.Seen.{Said}
-use Rattle.index_keep.specs.Last.{HaveRowsAlone, NamesAsBefore, Recalls, led_to, listed_in}
+use Rattle.index_keep.specs.Last.{HaveRowsAlone, NamesAsBefore, Recalls, RecallsLists, listed_in}
 use Rattle.index_keep.specs.Right.{AreDecided}
 use Rattle.index_keep.specs.Shown.{ShownRows, fresh, fresh_said}
-use Rattle.index_keep.specs.Walking.{HasRowMore, IsBelow, IsListed, IsStage, KnowsRow, paths_of}
+use Rattle.index_keep.specs.Walking.{HasRowMore, IsStage, KnowsBeside, KnowsRow, Says, paths_of}
 use Rattle.index_keep.specs.declared.last_index.LastIndex.{LastIndex}
 use Rattle.index_keep.specs.declared.last_index.LastLists.{LastLists}
 use Rattle.index_keep.specs.declared.stage.Stage.{Stage}
@@ -41,38 +41,38 @@ module _ (world : World) (path : List ℕ) (said : Said) (old new : ShownRows) (
   pub decided-more : (paths : List (List ℕ)) → AreDecided world (fresh old) paths → AreDecided world (fresh new) paths
   decided-more paths known other is = decided_by other (has_makefile world other) (known other is)
 
-  pub stage-more : (paths : List (List ℕ)) → IsStage world old paths stage → IsStage world new paths after
-  stage-more paths is = record {
-    through = ap (λ names. map string_bytes names.items) knows.paths ∙ is.through;
-    knows = λ other. knows.known other ∙ ap (λ (one : Option Said). if bytes_eq path other then Some said else one) (is.knows other) ∙ sym (more.says other);
-    passed = subst (λ place. AreDecided world (fresh new) (take place paths)) (sym knows.place) (decided-more (take stage.place paths) is.passed);
-  }
-
   same_paths : paths_of after ≡ paths_of stage
   same_paths = ap (λ names. map string_bytes names.items) knows.paths
 
+  pub stage-more : (paths : List (List ℕ)) → IsStage world old paths stage → IsStage world new paths after
+  stage-more paths is = record {
+    among = λ other one. is.among other (ap (is_one_of other) (sym same_paths) ∙ one);
+    others = λ other one apart. decided_by other (has_makefile world other) (is.others other one (ap (is_one_of other) (sym same_paths) ∙ apart));
+    knows = λ other. knows.known other ∙ ap (λ (one : Option Said). if bytes_eq path other then Some said else one) (is.knows other) ∙ sym (more.says other);
+    passed = subst (λ place. AreDecided world (fresh new) (take place (paths_of after))) (sym knows.place)
+        (subst (λ at. AreDecided world (fresh new) (take stage.place at)) (sym same_paths) (decided-more (take stage.place (paths_of stage)) is.passed));
+  }
+
   -- an index of before is still recalled, if the row names the same paths as the outdated one
-  module _ (law : AlikeRowsListTheSame) (paths : List (List ℕ)) (is : IsStage world old paths stage) where
-    pub below-more : (lists kept : Option LastLists) → IfSome kept (λ (one : LastLists). (lists ≡ Some one) × NamesAsBefore path said.outcome one.last)
-        → IfSome lists (IsBelow world old stage) → IfSome kept (IsBelow world new after)
-    below-more lists None alike recalls = tt
-    below-more lists (Some one) alike recalls =
-        let before : IsBelow world old stage one = subst (λ (l : Option LastLists). IfSome l (IsBelow world old stage)) alike.0 recalls in record {
-          listed = before.listed ∙ ap (listed_from (led_to stage.known one.last.outdated)) (sym same_paths)
-              ∙ sym (listed-more law world path said old new more stage.known after.known is.knows knows.known one.last alike.1 (paths_of after));
-          last = recalls-more law world path said old new more stage.known after.known is.knows knows.known one.last alike.1 (listed_in one) before.last;
+  module _ (law : AlikeRowsListTheSame) (says : Says old stage.known) where
+    pub lists-more : (directories : List (List ℕ)) (lists kept : Option LastLists) → IfSome kept (λ (one : LastLists). (lists ≡ Some one) × NamesAsBefore path said.outcome one.last)
+        → IfSome lists (RecallsLists world old stage.known directories) → IfSome kept (RecallsLists world new after.known directories)
+    lists-more directories lists None alike recalls = tt
+    lists-more directories lists (Some one) alike recalls =
+        let before : RecallsLists world old stage.known directories one = subst (λ (l : Option LastLists). IfSome l (RecallsLists world old stage.known directories)) alike.0 recalls in record {
+          listed = before.listed ∙ sym (listed-more law world path said old new more stage.known after.known says knows.known one.last alike.1 directories);
+          last = recalls-more law world path said old new more stage.known after.known says knows.known one.last alike.1 (listed_in one) before.last;
         }
 
-    pub listed-kept : (last kept : Option LastIndex) → IfSome kept (λ (one : LastIndex). (last ≡ Some one) × NamesAsBefore path said.outcome one)
-        → IfSome last (IsListed world old stage) → IfSome kept (IsListed world new after)
-    listed-kept last None alike recalls = tt
-    listed-kept last (Some one) alike recalls =
-        let before : IsListed world old stage one = subst (λ (l : Option LastIndex). IfSome l (IsListed world old stage)) alike.0 recalls in
-        subst (λ (listed : List (List ℕ)). Recalls world new after.known listed one) (sym same_paths)
-        (recalls-more law world path said old new more stage.known after.known is.knows knows.known one alike.1 (paths_of stage) before)
+    pub last-more : (listed : List (List ℕ)) (last kept : Option LastIndex) → IfSome kept (λ (one : LastIndex). (last ≡ Some one) × NamesAsBefore path said.outcome one)
+        → IfSome last (Recalls world old stage.known listed) → IfSome kept (Recalls world new after.known listed)
+    last-more listed last None alike recalls = tt
+    last-more listed last (Some one) alike recalls =
+        recalls-more law world path said old new more stage.known after.known says knows.known one alike.1 listed
+        (subst (λ (l : Option LastIndex). IfSome l (Recalls world old stage.known listed)) alike.0 recalls)
 
 -- rows of needed paths are still alone
-pub alone-more : (world : World) (path : List ℕ) (said : Said) (old new : ShownRows) → HasRowMore world path said old new → HaveRowsAlone world (needed_paths world) old → HaveRowsAlone world (needed_paths world) new
+alone-more : (world : World) (path : List ℕ) (said : Said) (old new : ShownRows) → HasRowMore world path said old new → HaveRowsAlone world (needed_paths world) old → HaveRowsAlone world (needed_paths world) new
 alone-more world path said old new more alone other some = alone_at (bytes_eq path other) refl (sym (more.there other) ∙ some)
   where
     alone_at : (same : Bool) → bytes_eq path other ≡ same → (same || is_some (old other)) ≡ true → (is_one_of other (needed_paths world) ≡ true) × (has_makefile world other ≡ true)
@@ -80,3 +80,9 @@ alone-more world path said old new more alone other some = alone_at (bytes_eq pa
         subst (λ at. (is_one_of at (needed_paths world) ≡ true) × (has_makefile world at ≡ true)) ((bytes_eq-Decides path other).0 e)
         (more.lacking.needed, (lacking-there world (fresh old) path more.lacking.lacking).0)
     alone_at false e there = alone other there
+
+-- so it is known of the paths beside the listed ones what was known
+pub beside-more : (world : World) (path : List ℕ) (said : Said) (old new : ShownRows) → HasRowMore world path said old new
+    → (beside : Option (Vec (String Global) Global)) → KnowsBeside world old beside → KnowsBeside world new beside
+beside-more world path said old new more (Some beside) known = known
+beside-more world path said old new more None alone = alone-more world path said old new more alone

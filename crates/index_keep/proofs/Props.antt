@@ -1,5 +1,6 @@
 -- That a keeper is right about a world has one proof at most.
-use Rattle.std.proofs.Common.{ℕ, List}
+use Rattle.std.proofs.Common.{ℕ, List, Option, Some, None, String, Global}
+use Rattle.std.specs.Prelude.{Vec}
 use Rattle.std.proofs.Props.{props}
 use Rattle.mk_paths.specs.World.{World}
 use Rattle.row_text.specs.Rows.{RowValue}
@@ -13,7 +14,7 @@ use Rattle.index_keep.specs.declared.walking.Walk.TheVariants.{Directories, List
 use Rattle.index_keep.specs.Shown.{ShownRows}
 use Rattle.index_keep.specs.Right.{IsRightRow, AreKept, AreCurrent}
 use Rattle.index_keep.specs.Paths.{IsPathAsk}
-use Rattle.index_keep.specs.Walking.{IsWalk}
+use Rattle.index_keep.specs.Walking.{IsWalk, KnowsBeside}
 use Rattle.index_keep.specs.declared.evaluating.PathAsk.{PathAsk}
 use Rattle.index_keep.specs.Keeping.{IsProgress, IsKept}
 
@@ -26,10 +27,14 @@ AreKept-prop world rows = hlevel (props, IsRightRow-prop)
 AreCurrent-prop : (world : World) (rows : ShownRows) → IsProp (AreCurrent world rows)
 AreCurrent-prop world rows = hlevel props
 
+KnowsBeside-prop : (world : World) (rows : ShownRows) (beside : Option (Vec (String Global) Global)) → IsProp (KnowsBeside world rows beside)
+KnowsBeside-prop world rows None = hlevel props
+KnowsBeside-prop world rows (Some beside) = hlevel props
+
 IsWalk-prop : (world : World) (rows : ShownRows) (walk : Walk) → IsProp (IsWalk world rows walk)
-IsWalk-prop world rows (Directories stage last) = hlevel props
-IsWalk-prop world rows (Listed listed) = hlevel props
-IsWalk-prop world rows (Needed last) = hlevel props
+IsWalk-prop world rows (Directories first) = hlevel props
+IsWalk-prop world rows (Listed next) = hlevel props
+IsWalk-prop world rows (Needed last) = hlevel (props, KnowsBeside-prop)
 
 IsPathAsk-prop : (world : World) (path : List ℕ) (ask : PathAsk) → IsProp (IsPathAsk world path ask)
 IsPathAsk-prop world path ask = hlevel (props, Agrees-prop, HasComeTo-prop)

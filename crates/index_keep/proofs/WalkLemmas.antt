@@ -1,28 +1,31 @@
 -- A refresh that goes through paths.
-use Rattle.std.proofs.Common.{Global, String, string_bytes, map, ◌≡◌, ◌∙◌, sym, ap, subst, refl, ℕ, Bool, true, false, ◌||◌, ◌&&◌, if◌then◌else◌, List, ◌++◌, take, Option, Some, None, is_some, option_and_then, option_map}
-use Rattle.std.proofs.lemmas.Bool.{false≢true, or_right}
+use Rattle.std.proofs.Common.{Global, String, string_bytes, map, ◌≡◌, ◌∙◌, sym, ap, subst, refl, ℕ, Bool, true, false, ◌||◌, ◌&&◌, if◌then◌else◌, List, ◌++◌, take, Option, Some, None, is_none, is_some, option_and_then, option_map}
+use Rattle.std.proofs.lemmas.Bool.{false≢true, and_parts, or_right}
 use Rattle.std.proofs.lemmas.Slice.Eq.{bytes_eq-Decides}
 use Rattle.std.specs.List.{filter_map, flat_map}
 use Rattle.std.specs.Prelude.{Vec}
 use Rattle.std.specs.Str.{bytes_eq}
 use Rattle.text_parts.specs.Ordered.{among-in_order}
 use Rattle.mk_paths.specs.World.{World, files_in}
-use Rattle.ports_index.specs.Depending.{items_among, target_of}
+use Rattle.ports_index.specs.Alike.{AlikeRowsListTheSame, AreAlikeAt, NameAlike}
+use Rattle.ports_index.specs.Depending.{items_among, target_of, targets_in}
 use Rattle.ports_index.specs.Efforts.{decided, has_makefile, is_there}
 use Rattle.ports_index.specs.Filling.{is_one_of}
 use Rattle.ports_index.specs.Index.{listed_paths, needed_among, needed_paths}
-use Rattle.ports_index.specs.Known.{needed_with}
-use Rattle.ports_index.specs.Naming.{directories, listed_from, named_at}
+use Rattle.ports_index.specs.Naming.{directories, listed_from, named_at, named_in}
 use Rattle.ports_index.specs.Pairs.{pair_at}
 use Rattle.ports_index.specs.PathOutcomes.{PathOutcome, Absent, Faulty, Port, BadPort, Lists, BadList, FlavoredList, Other, cost_at, outcome_at}
 use Rattle.ports_index.specs.Spending.{SpendsOnPath, no_spending}
 use Rattle.ports_index.specs.declared.spending.Spent.{Spent}
 use Rattle.row_text.specs.Rows.{RowValue}
-use Rattle.ports_index.specs.RowLaws.{KnownRowsAreEnough, SayAll}
+use Rattle.ports_index.specs.RowLaws.{KnownRowsAreEnough, NeededAreNamed, SayAll, is_target_among}
 use Rattle.ports_index.specs.Seen.{Said, entries_in, known_in, known_row, said_in}
 use Rattle.ports_index.specs.declared.keeping.MemoryRows.{MemoryRows}
-use Rattle.index_keep.specs.Last.{HaveRowsAlone, LeavesFresh, SaysAll, is_fresh_of}
+use Rattle.index_keep.specs.Beside.{AreBeside, is_there_at}
+use Rattle.index_keep.specs.Last.{HaveRowsAlone, LeavesFresh, Recalls, SaysAll, is_fresh_of, led_to, needed_of, paths_in}
 use Rattle.index_keep.specs.declared.evaluating.FoundPath.{FoundPath}
+use Rattle.index_keep.specs.declared.last_index.LastIndex.{LastIndex}
+use Rattle.index_keep.specs.declared.walking.DirectoryStage.{DirectoryStage}
 use Rattle.index_keep.specs.declared.walking.ListedStage.{ListedStage}
 use Rattle.index_keep.specs.declared.stage.Stage.{Stage}
 use Rattle.index_keep.specs.declared.walking.LastStage.{LastStage}
@@ -32,10 +35,11 @@ use Rattle.index_keep.specs.Keeping.{IsReadyFor}
 use Rattle.eval_ask.specs.Asking.{IsShort, MakesInTime}
 use Rattle.index_keep.specs.Paths.{IsMade}
 use Rattle.index_keep.specs.Turns.{Evaluates, refresh_at, spent_in_all}
-use Rattle.index_keep.specs.Walking.{HasPassed, HasRowMore, IsLacking, IsLastStage, IsListedStage, IsStage, LacksNone, LacksRow, ListsPaths, NeedsPaths, paths_of}
+use Rattle.index_keep.specs.Walking.{AreNeededBeside, HasListed, HasPassed, HasRowMore, IsDirectoryStage, IsLacking, IsLastStage, IsListedStage, IsStage, LacksNone, LacksRow, ListsPaths, Says, listed_of, paths_of}
 use Rattle.index_keep.specs.declared.evaluating.MadeRow.{MadeRow}
 use Rattle.index_keep.specs.declared.walking.Walk.{Walk}
 use Rattle.row_text.specs.Seen.{row_seen}
+use Rattle.std.specs.Option.{option_or}
 use Rattle.index_keep.proofs.MadeLemmas.{there-found}
 use Rattle.index_keep.proofs.ShownLemmas.{entries-fresh}
 use Rattle.index_keep.proofs.SortLemmas.{one_of-append}
@@ -59,11 +63,6 @@ listed-has world = listed-from (outcome_at world) (directories (files_in world))
 
 pub needed-has : (world : World) (path : List ℕ) → is_one_of path (listed_paths world) ≡ true → is_one_of path (needed_paths world) ≡ true
 needed-has world = needed-among (outcome_at world) (listed_paths world)
-
-pub needed-has-beside : (world : World) (listed beside : List (List ℕ)) → needed_with listed beside ≡ needed_paths world → (path : List ℕ) → is_one_of path beside ≡ true → is_one_of path (needed_paths world) ≡ true
-needed-has-beside world listed beside needed path is =
-    ap (is_one_of path) (sym needed) ∙ among-in_order (λ one. bytes_eq one path) (listed ++ beside)
-    ∙ one_of-append path listed beside ∙ or_right (is_one_of path listed) (is_one_of path beside) is
 
 -- ---- what is known of paths
 
@@ -109,6 +108,28 @@ module _ (world : World) (entries : List ℕ → Option PathOutcome) (path : Lis
 pub decided-same : (world : World) (one other : List ℕ → Option PathOutcome) → ((path : List ℕ) → one path ≡ other path) → (paths : List (List ℕ)) → AreDecided world one paths → AreDecided world other paths
 decided-same world one other same paths known path is =
     ap (λ row. is_some (if has_makefile world path then row else Some Absent)) (sym (same path)) ∙ known path is
+
+-- the same of one path
+pub decided-one : (world : World) (one other : List ℕ → Option PathOutcome) → ((path : List ℕ) → one path ≡ other path) → (path : List ℕ)
+    → is_some (decided world one path) ≡ true → is_some (decided world other path) ≡ true
+decided-one world one other same path known = ap (λ row. is_some (if has_makefile world path then row else Some Absent)) (sym (same path)) ∙ known
+
+-- ---- rows that name the same paths
+
+pub alike-same : (path : List ℕ) (old new : PathOutcome) → new ≡ old → NameAlike path old new
+alike-same path old new same = record { words = ap (named_in path) same; items = ap targets_in same }
+
+-- Where it is known what these paths lead to, and outdated rows are those of makefiles, fresh rows say what they lead to.
+pub alike-fresh : (world : World) (known outdated : MemoryRows) (paths : List (List ℕ)) → AreDecided world (entries_in known) paths
+    → ((path : List ℕ) → is_some (entries_in outdated path) ≡ true → has_makefile world path ≡ true)
+    → AreAlikeAt (led_to known outdated) (known_in (entries_in known)) paths
+alike-fresh world known outdated paths have there path is =
+    alike-same path (led_to known outdated path) (known_in (entries_in known) path) (by (entries_in known path) refl (entries_in outdated path) refl)
+  where
+    by : (row : Option PathOutcome) → entries_in known path ≡ row → (before : Option PathOutcome) → entries_in outdated path ≡ before → known_row row ≡ known_row (option_or row before)
+    by (Some row) e before f = refl
+    by None e None f = refl
+    by None e (Some before) f = absurd (false≢true (sym (ap is_some e) ∙ decided-there world (entries_in known) path (there path (ap is_some f)) (have path is)))
 
 -- ---- rows that are right
 
@@ -206,60 +227,23 @@ module _ (world : World) (rows : ShownRows) (kept : AreKept world rows) where
     pub said-put : (other : List ℕ) → fresh_said new other ≡ (if bytes_eq path other then Some (said_by (right_row world path)) else fresh_said rows other)
     said-put other = ap (option_and_then said_if_fresh) (put other) ∙ said_cases other (bytes_eq path other)
 
-  -- ---- one stage after another
+  -- ---- what the rows of a stage say that is at its end
 
-  module _ (enough : KnownRowsAreEnough) (before : Stage) (none : LacksNone world before)
-      (says : (path : List ℕ) → said_in before.known path ≡ fresh_said rows path) where
-    knows : (path : List ℕ) → entries_in before.known path ≡ fresh rows path
-    knows = entries-fresh rows before.known says
+  module _ (enough : KnownRowsAreEnough) (known : MemoryRows) (says : Says rows known) where
+    same_known : entries_in known ≡ fresh rows
+    same_known i path = entries-fresh rows known says path i
 
-    same_known : entries_in before.known ≡ fresh rows
-    same_known i path = knows path i
+    -- the rows of directories say which paths are listed
+    pub listed-said : AreDecided world (fresh rows) (directories (files_in world)) → listed_from (known_in (entries_in known)) (directories (files_in world)) ≡ listed_paths world
+    listed-said are =
+        ap (λ entries. listed_from (known_in entries) (directories (files_in world))) same_known
+        ∙ enough.listed world (fresh rows) (say-all (directories (files_in world)) are)
 
-    pub all-known : (paths : List (List ℕ)) → paths_of before ≡ paths → AreDecided world (fresh rows) paths
-    all-known paths are = subst (AreDecided world (fresh rows)) are (decided-same world (entries_in before.known) (fresh rows) knows (paths_of before) none)
-
-    paths_after : (listed : ListedStage) → paths_of before ≡ directories (files_in world) → ListsPaths world rows before listed → paths_of listed.stage ≡ listed_paths world
-    paths_after listed are lists =
-        lists.paths ∙ ap (λ known. listed_from (known_in known) (paths_of before)) same_known ∙ ap (listed_from (known_in (fresh rows))) are
-        ∙ enough.listed world (fresh rows) (say-all (directories (files_in world)) (all-known (directories (files_in world)) are))
-
-    pub IsListedStage-after : (listed : ListedStage) → paths_of before ≡ directories (files_in world) → ListsPaths world rows before listed → IsListedStage world rows listed
-    IsListedStage-after listed are lists = record {
-      stage = record {
-        through = paths_after listed are lists;
-        knows = λ path. lists.known path ∙ says path;
-        passed = subst (λ at. AreDecided world (fresh rows) (take listed.stage.place at)) (paths_after listed are lists)
-            (decided-same world (entries_in listed.stage.known) (fresh rows) (entries-fresh rows listed.stage.known (λ path. lists.known path ∙ says path))
-            (take listed.stage.place (paths_of listed.stage)) lists.passed);
-      };
-      directories = lists.directories ∙ are;
-      last = lists.last;
-    }
-
-    pub IsStage-needed : (needed : List (List ℕ)) → paths_of before ≡ listed_paths world → needed ≡ needed_among (known_in (entries_in before.known)) (paths_of before) → needed ≡ needed_paths world
-    IsStage-needed needed are is =
-        is ∙ ap (λ known. needed_among (known_in known) (paths_of before)) same_known ∙ ap (needed_among (known_in (fresh rows))) are
-        ∙ enough.needed world (fresh rows) (say-all (listed_paths world) (all-known (listed_paths world) are))
-
--- the last stage comes after that of the listed paths
-pub IsLastStage-after : (world : World) (rows : ShownRows) → AreKept world rows → KnownRowsAreEnough → (before : ListedStage) (last : LastStage) → LacksNone world before.stage
-    → IsListedStage world rows before → NeedsPaths world rows before last → IsLastStage world rows last
-IsLastStage-after world rows kept enough before last none is needs =
-    let same = IsStage-needed world rows kept enough before.stage none is.stage.knows (needed_with (paths_of before.stage) (paths_of last.stage)) is.stage.through needs.paths in
-    record {
-      stage = record {
-        through = refl;
-        knows = λ path. needs.known path ∙ is.stage.knows path;
-        passed = λ path one. absurd (false≢true (sym (ap (λ n. is_one_of path (take n (paths_of last.stage))) needs.place) ∙ one));
-      };
-      directories = ap (λ (names : Vec (String Global) Global). map string_bytes names.items) needs.directories ∙ is.directories;
-      listed = needs.listed ∙ is.stage.through;
-      needed = ap (λ listed. needed_with listed (paths_of last.stage)) (sym is.stage.through) ∙ same;
-      ordered = needs.ordered;
-      known = all-known world rows kept enough before.stage none is.stage.knows (listed_paths world) is.stage.through;
-      alone = λ are. subst (λ paths. HaveRowsAlone world paths rows) same (needs.alone are);
-    }
+    -- the rows of listed paths say which are needed
+    pub needed-said : AreDecided world (fresh rows) (listed_paths world) → needed_among (known_in (entries_in known)) (listed_paths world) ≡ needed_paths world
+    needed-said are =
+        ap (λ entries. needed_among (known_in entries) (listed_paths world)) same_known
+        ∙ enough.needed world (fresh rows) (say-all (listed_paths world) are)
 
 -- ---- rows that are current
 
@@ -326,16 +310,15 @@ module _ (world : World) (rows : ShownRows) (paths : List (List ℕ)) (stage : S
   -- what a stage has passed by its own rows
   pub passed-known : HasPassed world stage stage.place
   passed-known =
-      decided-same world (fresh rows) (entries_in stage.known) (λ path. sym (entries-fresh rows stage.known is.knows path)) (take stage.place (paths_of stage))
-      (subst (λ at. AreDecided world (fresh rows) (take stage.place at)) (sym is.through) is.passed)
+      decided-same world (fresh rows) (entries_in stage.known) (λ path. sym (entries-fresh rows stage.known is.knows path)) (take stage.place (paths_of stage)) is.passed
 
   -- a stage that has come to a place
   pub stage-at : (place : ℕ) → HasPassed world stage place → (more : Stage) → more ≡ record stage { place = place } → IsStage world rows paths more
   stage-at place passed more same = subst (IsStage world rows paths) (sym same) (record {
-    through = is.through;
+    among = is.among;
+    others = is.others;
     knows = is.knows;
-    passed = subst (λ at. AreDecided world (fresh rows) (take place at)) is.through
-        (decided-same world (entries_in stage.known) (fresh rows) (entries-fresh rows stage.known is.knows) (take place (paths_of stage)) passed);
+    passed = decided-same world (entries_in stage.known) (fresh rows) (entries-fresh rows stage.known is.knows) (take place (paths_of stage)) passed;
   })
 
   pub lacking-at : ((path : List ℕ) → is_one_of path paths ≡ true → is_one_of path (needed_paths world) ≡ true)
@@ -343,39 +326,171 @@ module _ (world : World) (rows : ShownRows) (paths : List (List ℕ)) (stage : S
   lacking-at needed found lacks =
       let path = string_bytes found.path in
       record {
-        needed = needed path (ap (is_one_of path) (sym is.through) ∙ lacks.among);
+        needed = needed path (is.among path lacks.among);
         lacking = lacking-of world (fresh rows) path (there-found world found lacks.found) (sym (entries-fresh rows stage.known is.knows path) ∙ lacks.lacking);
       }
 
+  decided_by : LacksNone world stage → (path : List ℕ) → is_one_of path paths ≡ true → (among : Bool) → is_one_of path (paths_of stage) ≡ among → is_some (decided world (fresh rows) path) ≡ true
+  decided_by none path one true e = decided-same world (entries_in stage.known) (fresh rows) (entries-fresh rows stage.known is.knows) (paths_of stage) none path e
+  decided_by none path one false e = is.others path one e
+
+  -- at its end, it is known of all paths what they lead to
+  pub all-decided : LacksNone world stage → AreDecided world (fresh rows) paths
+  all-decided none path one = decided_by none path one (is_one_of path (paths_of stage)) refl
+
+-- a stage that begins
+pub none-passed : (world : World) (entries : List ℕ → Option PathOutcome) (place : ℕ) (paths : List (List ℕ)) → place ≡ 0 → AreDecided world entries (take place paths)
+none-passed world entries place paths begins path one = absurd (false≢true (sym (ap (λ n. is_one_of path (take n paths)) begins) ∙ one))
+
+-- the stage of listed paths comes after that of directories
+pub IsListedStage-after : (world : World) (rows : ShownRows) → AreKept world rows → KnownRowsAreEnough → (first : DirectoryStage) (next : ListedStage)
+    → IsDirectoryStage world rows first → AreDecided world (fresh rows) (directories (files_in world)) → ListsPaths world rows first next → IsListedStage world rows next
+IsListedStage-after world rows kept enough first next is are lists =
+    let knows = subst (Says rows) (sym lists.known) is.stage.knows in
+    let listed : listed_of next ≡ listed_paths world =
+    lists.listed ∙ ap (listed_from (known_in (entries_in first.stage.known))) is.directories
+    ∙ listed-said world rows kept enough first.stage.known is.stage.knows are in
+    record {
+      stage = record {
+        among = λ path one. ap (is_one_of path) (sym listed) ∙ lists.among path one;
+        others = λ path one apart. decided-one world (entries_in next.stage.known) (fresh rows) (entries-fresh rows next.stage.known knows) path
+            (lists.others path (ap (is_one_of path) listed ∙ one) apart);
+        knows = knows;
+        passed = none-passed world (fresh rows) next.stage.place (paths_of next.stage) lists.place;
+      };
+      directories = ap (λ (names : Vec (String Global) Global). map string_bytes names.items) lists.directories ∙ is.directories;
+      listed = listed;
+      last = lists.last;
+    }
+
 -- ---- the last stage
 
-module _ (world : World) (rows : ShownRows) (last : LastStage) (is : IsLastStage world rows last) where
-  -- it has come to a place
-  pub last-at : (place : ℕ) → HasPassed world last.stage place → (more : Stage) → more ≡ record last.stage { place = place } → IsLastStage world rows (record last { stage = more })
-  last-at place passed more same =
-      let come : Stage = record last.stage { place = place } in
-      subst (λ (s : Stage). IsLastStage world rows (record last { stage = s })) (sym same) (record {
-        stage = stage-at world rows (paths_of last.stage) last.stage is.stage place passed come refl;
-        directories = is.directories;
-        listed = is.listed;
-        needed = is.needed;
-        ordered = is.ordered;
-        known = is.known;
-        alone = is.alone;
-      })
+module _ (law : AlikeRowsListTheSame) (enough : KnownRowsAreEnough) (world : World) (rows : ShownRows) (next : ListedStage) (has : HasListed world rows next) where
+  known_listed : AreDecided world (entries_in next.stage.known) (listed_of next)
+  known_listed = subst (AreDecided world (entries_in next.stage.known)) (sym has.far.listed)
+      (decided-same world (fresh rows) (entries_in next.stage.known) (λ path. sym (entries-fresh rows next.stage.known has.far.stage.knows path)) (listed_paths world) has.known)
 
-  fresh_by : LacksNone world last.stage → (path : List ℕ) (listed : Bool) → is_one_of path (listed_paths world) ≡ listed → (listed || is_one_of path (paths_of last.stage)) ≡ true
-      → is_some (decided world (fresh rows) path) ≡ true
-  fresh_by none path true e one = is.known path e
-  fresh_by none path false e one =
-      decided-same world (entries_in last.stage.known) (fresh rows) (entries-fresh rows last.stage.known is.stage.knows) (paths_of last.stage) none path one
+  pub needed-listed : needed_among (known_in (entries_in next.stage.known)) (listed_of next) ≡ needed_paths world
+  needed-listed =
+      ap (needed_among (known_in (entries_in next.stage.known))) has.far.listed
+      ∙ needed-said world rows has.kept enough next.stage.known has.far.stage.knows has.known
 
-  -- at its end, each needed path with a makefile has a fresh row
-  pub last-fresh : LacksNone world last.stage → HaveFresh world rows
-  last-fresh none path one =
-      fresh_by none path (is_one_of path (listed_paths world)) refl
-      (sym (one_of-append path (listed_paths world) (paths_of last.stage))
-      ∙ sym (among-in_order (λ one. bytes_eq one path) (listed_paths world ++ paths_of last.stage)) ∙ ap (is_one_of path) is.needed ∙ one)
+  -- the lists of the index of before are kept
+  module _ (last : LastIndex) (recalls : Recalls world rows next.stage.known (listed_of next) last) where
+    needed_same : needed_of next.stage.known (listed_of next) last ≡ needed_paths world
+    needed_same =
+        sym (law.needed (led_to next.stage.known last.outdated) (known_in (entries_in next.stage.known)) (listed_of next)
+        (alike-fresh world next.stage.known last.outdated (listed_of next) known_listed (λ path some. (recalls.alone path (recalls.outdated path some)).1)))
+        ∙ needed-listed
+
+    other_at : (path : List ℕ) → is_one_of path (needed_paths world) ≡ true → is_one_of path (paths_in last) ≡ false → (some : Bool) → is_some (rows path) ≡ some
+        → is_some (decided world (fresh rows) path) ≡ true
+    other_at path one apart true e =
+        decided-known world (fresh rows) path (ap is_some (sym (entries-fresh rows next.stage.known has.far.stage.knows path)) ∙ recalls.fresh path e apart)
+    other_at path one apart false e = decided-absent world (fresh rows) path (recalls.missing path (ap (is_one_of path) needed_same ∙ one) e)
+
+    pub last-kept : (stage : Stage) → stage ≡ record { paths = last.paths; place = 0; known = next.stage.known }
+        → IsLastStage world rows (record { stage = stage; directories = next.directories; listed = next.listed; beside = None })
+    last-kept stage same = record {
+      stage = subst (IsStage world rows (needed_paths world)) (sym same) (record {
+        among = λ path one. ap (is_one_of path) (sym needed_same) ∙ (recalls.alone path (recalls.among path one)).0;
+        others = λ path one apart. other_at path one apart (is_some (rows path)) refl;
+        knows = has.far.stage.knows;
+        passed = none-passed world (fresh rows) 0 (paths_in last) refl;
+      });
+      directories = has.far.directories;
+      listed = has.far.listed;
+      beside = subst (λ paths. HaveRowsAlone world paths rows) needed_same recalls.alone;
+    }
+
+  -- the paths beside the listed ones are looked for
+  module _ (named : NeededAreNamed) (beside : Vec (String Global) Global) (are : AreBeside world next.stage.known (listed_of next) (map string_bytes beside.items)) where
+    abbrev paths : List (List ℕ)
+    paths = map string_bytes beside.items
+
+    abbrev is_target : List ℕ → Bool
+    is_target = is_target_among (known_in (entries_in next.stage.known)) (listed_of next)
+
+    abbrev there : List ℕ → Bool
+    there = is_there_at world next.stage.known
+
+    needed_is : (path : List ℕ) → is_one_of path (needed_paths world) ≡ (is_one_of path (listed_of next) || is_target path)
+    needed_is path = ap (is_one_of path) (sym needed-listed) ∙ named (known_in (entries_in next.stage.known)) (listed_of next) path
+
+    one_then : (l t h : Bool) → (l || (t && h)) ≡ true → (l || t) ≡ true
+    one_then true t h e = refl
+    one_then false true h e = refl
+    one_then false false h e = e
+
+    all_then : (l t h : Bool) → h ≡ true → (l || t) ≡ true → (l || (t && h)) ≡ true
+    all_then true t h e f = refl
+    all_then false true h e f = e
+    all_then false false h e f = f
+
+    needed_one : (path : List ℕ) → is_one_of path paths ≡ true → is_one_of path (needed_paths world) ≡ true
+    needed_one path one =
+        needed_is path ∙ one_then (is_one_of path (listed_of next)) (is_target path) (there path)
+        (sym (are.are path) ∙ or_right (is_one_of path (listed_of next)) (is_one_of path paths) one)
+
+    among_all : (path : List ℕ) → there path ≡ true → is_one_of path (needed_paths world) ≡ true → (is_one_of path (listed_of next) || is_one_of path paths) ≡ true
+    among_all path is one =
+        are.are path ∙ all_then (is_one_of path (listed_of next)) (is_target path) (there path) is (sym (needed_is path) ∙ one)
+
+    there_makefile : (path : List ℕ) → has_makefile world path ≡ true → there path ≡ true
+    there_makefile path makefile = or_right (is_some (entries_in next.stage.known path)) (has_makefile world path) makefile
+
+    pub needed-beside : AreNeededBeside world beside
+    needed-beside = record {
+      ordered = are.ordered;
+      needed = needed_one;
+      all = λ path makefile one. ap (λ listed. is_one_of path listed || is_one_of path paths) (sym has.far.listed) ∙ among_all path (there_makefile path makefile) one;
+    }
+
+    module _ (lacking : Vec (String Global) Global)
+        (lacks : (path : List ℕ) → is_one_of path (map string_bytes lacking.items) ≡ (is_one_of path paths && is_none (entries_in next.stage.known path))) where
+      known_at : (path : List ℕ) (row : Option PathOutcome) → entries_in next.stage.known path ≡ row → (true && is_none row) ≡ false → is_some (decided world (entries_in next.stage.known) path) ≡ true
+      known_at path None e out = absurd (false≢true (sym out))
+      known_at path (Some row) e out = decided-known world (entries_in next.stage.known) path (ap is_some e)
+
+      known_by_list : (path : List ℕ) (listed : Bool) → is_one_of path (listed_of next) ≡ listed → (listed || is_one_of path paths) ≡ true
+          → (is_one_of path paths && is_none (entries_in next.stage.known path)) ≡ false → is_some (decided world (entries_in next.stage.known) path) ≡ true
+      known_by_list path true e one out = known_listed path e
+      known_by_list path false e one out =
+          known_at path (entries_in next.stage.known path) refl (ap (λ b. b && is_none (entries_in next.stage.known path)) (sym one) ∙ out)
+
+      other_of : (path : List ℕ) → is_one_of path (needed_paths world) ≡ true → is_one_of path (map string_bytes lacking.items) ≡ false → (makefile : Bool) → has_makefile world path ≡ makefile
+          → is_some (decided world (fresh rows) path) ≡ true
+      other_of path one out false e = decided-absent world (fresh rows) path e
+      other_of path one out true e =
+          decided-one world (entries_in next.stage.known) (fresh rows) (entries-fresh rows next.stage.known has.far.stage.knows) path
+          (known_by_list path (is_one_of path (listed_of next)) refl (among_all path (there_makefile path e) one) (sym (lacks path) ∙ out))
+
+      among_of : (path : List ℕ) → is_one_of path (map string_bytes lacking.items) ≡ true → is_one_of path paths ≡ true
+      among_of path one = (and_parts (is_one_of path paths) (is_none (entries_in next.stage.known path)) (sym (lacks path) ∙ one)).0
+
+      pub last-looked : (stage : Stage) → stage ≡ record { paths = lacking; place = 0; known = next.stage.known }
+          → IsLastStage world rows (record { stage = stage; directories = next.directories; listed = next.listed; beside = Some beside })
+      last-looked stage same = record {
+        stage = subst (IsStage world rows (needed_paths world)) (sym same) (record {
+          among = λ path one. needed_one path (among_of path one);
+          others = λ path one out. other_of path one out (has_makefile world path) refl;
+          knows = has.far.stage.knows;
+          passed = none-passed world (fresh rows) 0 (map string_bytes lacking.items) refl;
+        });
+        directories = has.far.directories;
+        listed = has.far.listed;
+        beside = needed-beside;
+      }
+
+-- the last stage has come to a place
+pub last-at : (world : World) (rows : ShownRows) (last : LastStage) → IsLastStage world rows last → (place : ℕ) → HasPassed world last.stage place
+    → (more : Stage) → more ≡ record last.stage { place = place } → IsLastStage world rows (record last { stage = more })
+last-at world rows last is place passed more same = record {
+  stage = stage-at world rows (needed_paths world) last.stage is.stage place passed more same;
+  directories = is.directories;
+  listed = is.listed;
+  beside = is.beside;
+}
 
 -- ---- the row of a path is made, and written
 

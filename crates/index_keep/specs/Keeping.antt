@@ -1,8 +1,11 @@
 -- What a keeper of rows has, and when it is right about a world.
-use Rattle.std.specs.Prelude.{◌≡◌, ◌⊎◌, ℕ, Bool, true, List, [], Option, Some, None, IfSome, is_some, string_bytes}
+use Rattle.std.specs.Prelude.{◌≡◌, ◌⊎◌, ◌||◌, ◌&&◌, not, ℕ, Bool, true, List, [], Option, Some, None, IfSome, is_some, option_map}
+use Rattle.std.specs.Prelude.{string_bytes}
 use Rattle.std.specs.BTreeSet.{contains_text, keys}
+use Rattle.std.specs.FinMap.{contains_key}
 use Rattle.mk_paths.specs.World.{World, files_in}
 use Rattle.ports_index.specs.Known.{ArePathsOf, IsIndexOf}
+use Rattle.ports_index.specs.Makefiles.{is_makefile}
 use Rattle.ports_index.specs.Seen.{size_of}
 use Rattle.index_store.specs.Entries.{Entries}
 use Rattle.index_keep.specs.declared.keeper.Progress.{Progress}
@@ -11,9 +14,9 @@ use Rattle.index_keep.specs.declared.keeper.Keeper.{Keeper}
 use Rattle.index_keep.specs.declared.keeper.Refreshed.{Refreshed}
 use Rattle.index_keep.specs.declared.keeper.Refreshed.TheVariants.{Done}
 use Rattle.index_keep.specs.Shown.{ShownRows, shown, no_name}
-use Rattle.index_keep.specs.Last.{IsLastOf, SaysAll}
+use Rattle.index_keep.specs.Last.{IsHeld, SaysAll}
+use Rattle.index_keep.specs.declared.last_index.HeldIndex.{HeldIndex}
 use Rattle.ports_index.specs.Spending.{no_spending}
-use Rattle.ports_index.specs.declared.known_index.KnownIndex.{KnownIndex}
 use Rattle.ports_index.specs.declared.spending.Spent.{Spent}
 use Rattle.index_keep.specs.declared.evaluating.PathAsk.{PathAsk}
 use Rattle.index_keep.specs.declared.walking.LastStage.{LastStage}
@@ -32,7 +35,7 @@ path_in ask = string_bytes ask.found.path
 -- The index that was at hand before files changed is so still. Or a refresh goes on where it stopped. Or the rows are
 -- current, and the paths of the index are known, or the whole index.
 abbrev pub IsProgress : World → ShownRows → Progress → Type 0
-IsProgress world rows (Changed names last) = IfSome last (IsLastOf (contains_text names) (files_in world) rows)
+IsProgress world rows (Changed names last) = IfSome last (IsHeld (contains_text names) world rows)
 IsProgress world rows (Walking walk) = IsWalk world rows walk
 IsProgress world rows (Asking walk ask) =
     IsWalk world rows walk × IsLacking world rows (path_in ask) × IsPathAsk world (path_in ask) ask
@@ -122,16 +125,28 @@ pub record TurnsKeeper {R : Type 0} (entries : R → Entries) (world : World) (u
   pub turn : TakesTurn world units old (refresh_of entries new) turned
   pub done : turned ≡ Done → IsDone new
 
+-- it is told of a file before a change that it is there only if it is
+abbrev pub TellsPresence : World → List ℕ → Bool → Type 0
+TellsPresence world name is_there = is_there ≡ true → contains_key (files_in world) name ≡ true
+
+-- a file is there before a change, or is no makefile
+abbrev pub stays_there : List ℕ → Bool → Bool
+stays_there name is_there = is_there || not (is_makefile name)
+
+-- an index of before, after one more change
+abbrev pub held_after : Bool → HeldIndex → HeldIndex
+held_after stays held = record held { were_there = held.were_there && stays }
+
 -- the index that is in memory from before a change
-abbrev pub last_in : Progress → Option KnownIndex
-last_in (Changed names last) = last
-last_in (Walking walk) = None
-last_in (Asking walk ask) = None
-last_in (Current paths) = None
-last_in (AtHand index) = Some index
+abbrev pub last_in : Bool → Progress → Option HeldIndex
+last_in stays (Changed names last) = option_map (held_after stays) last
+last_in stays (Walking walk) = None
+last_in stays (Asking walk ask) = None
+last_in stays (Current paths) = None
+last_in stays (AtHand index) = Some (record { index = index; were_there = stays })
 
 -- no refresh is under way or done, and this index is in memory from before a change
-abbrev pub IsDropped : Option KnownIndex → Progress → Type 0
+abbrev pub IsDropped : Option HeldIndex → Progress → Type 0
 IsDropped before (Changed names last) = last ≡ before
 IsDropped before (Walking walk) = ⊥
 IsDropped before (Asking walk ask) = ⊥
@@ -139,8 +154,8 @@ IsDropped before (Current paths) = ⊥
 IsDropped before (AtHand index) = ⊥
 
 -- a refresh is under way or done no more, and an index that was in memory still is
-abbrev pub DropsTo : Progress → Progress → Type 0
-DropsTo old new = IsDropped (last_in old) new
+abbrev pub DropsTo : Bool → Progress → Progress → Type 0
+DropsTo stays old new = IsDropped (last_in stays old) new
 
 -- no name is known to have changed since, and no refresh is under way or done
 abbrev pub HasForgotten : Progress → Type 0

@@ -1,5 +1,6 @@
 pub mod Shown
 pub mod Last
+pub mod Beside
 pub mod Right
 pub mod Judging
 pub mod Paths

@@ -1,17 +1,18 @@
 -- A refresh that goes through paths.
-use Rattle.std.specs.Prelude.{◌≡◌, ℕ, ◌||◌, ◌&&◌, Bool, true, if◌then◌else◌, List, map, take, string_bytes}
+use Rattle.std.specs.Global.{Global}
+use Rattle.std.specs.Prelude.{◌≡◌, ℕ, ◌||◌, ◌&&◌, Bool, true, false, if◌then◌else◌, List, map, take, string_bytes, String, Vec}
 use Rattle.std.specs.Prelude.{Option, Some, None, is_some, IfSome}
 use Rattle.std.specs.Str.{bytes_eq}
 use Rattle.mk_paths.specs.World.{World, files_in}
 use Rattle.ports_index.specs.Efforts.{decided, has_makefile}
 use Rattle.ports_index.specs.Filling.{is_one_of}
-use Rattle.ports_index.specs.Index.{listed_paths, needed_among, needed_paths}
-use Rattle.ports_index.specs.Known.{needed_with}
+use Rattle.ports_index.specs.Index.{listed_paths, needed_paths}
 use Rattle.ports_index.specs.Naming.{AreInOrder, directories, listed_from}
 use Rattle.ports_index.specs.Seen.{Said, entries_in, known_in, said_in}
+use Rattle.ports_index.specs.declared.keeping.MemoryRows.{MemoryRows}
+use Rattle.index_keep.specs.declared.beginning.Begun.{Begun}
 use Rattle.index_keep.specs.declared.stage.Stage.{Stage}
-use Rattle.index_keep.specs.declared.last_index.LastIndex.{LastIndex}
-use Rattle.index_keep.specs.declared.last_index.LastLists.{LastLists}
+use Rattle.index_keep.specs.declared.walking.DirectoryStage.{DirectoryStage}
 use Rattle.index_keep.specs.declared.walking.ListedStage.{ListedStage}
 use Rattle.index_keep.specs.declared.walking.LastStage.{LastStage}
 use Rattle.index_keep.specs.declared.walking.Next.{Next}
@@ -24,67 +25,84 @@ use Rattle.index_keep.specs.Paths.{IsFoundAt}
 use Rattle.index_keep.specs.Right.{AreDecided, AreKept, HaveFresh}
 use Rattle.index_keep.specs.declared.evaluating.FoundPath.{FoundPath}
 
--- A stage of a refresh goes through these paths. Those that it has passed have fresh rows, or no makefile, and it knows
--- what all fresh rows say.
-pub record IsStage (world : World) (rows : ShownRows) (paths : List (List ℕ)) (stage : Stage) : Type 0 where
-  pub through : map string_bytes stage.paths.items ≡ paths
-  pub knows : (path : List ℕ) → said_in stage.known path ≡ fresh_said rows path
-  pub passed : AreDecided world (fresh rows) (take stage.place paths)
+-- rows in memory say what fresh rows say
+abbrev pub Says : ShownRows → MemoryRows → Type 0
+Says rows known = (path : List ℕ) → said_in known path ≡ fresh_said rows path
 
 -- the paths of a stage
 abbrev pub paths_of : Stage → List (List ℕ)
 paths_of stage = map string_bytes stage.paths.items
 
--- the lists of the index of before may be kept, and its directories are the paths of this stage
-abbrev pub IsBelow : World → ShownRows → Stage → LastLists → Type 0
-IsBelow world rows stage lists = RecallsLists world rows stage.known (paths_of stage) lists
+-- A stage of a refresh goes through those of these paths that may lack a fresh row. It is known of the others what they
+-- lead to, and of those that the stage has passed. It knows what all fresh rows say.
+pub record IsStage (world : World) (rows : ShownRows) (paths : List (List ℕ)) (stage : Stage) : Type 0 where
+  pub among : (path : List ℕ) → is_one_of path (paths_of stage) ≡ true → is_one_of path paths ≡ true
+  pub others : (path : List ℕ) → is_one_of path paths ≡ true → is_one_of path (paths_of stage) ≡ false
+      → is_some (decided world (fresh rows) path) ≡ true
+  pub knows : Says rows stage.known
+  pub passed : AreDecided world (fresh rows) (take stage.place (paths_of stage))
 
--- the index of before may be kept, and its listed paths are those of this stage
-abbrev pub IsListed : World → ShownRows → Stage → LastIndex → Type 0
-IsListed world rows stage last = Recalls world rows stage.known (paths_of stage) last
+-- the directories that a stage of directories has
+abbrev pub directories_in : DirectoryStage → List (List ℕ)
+directories_in first = map string_bytes first.directories.items
 
--- the index of before may be kept, if it is there
-abbrev pub MayBeKept : World → ShownRows → ListedStage → Type 0
-MayBeKept world rows listed = IfSome listed.last (IsListed world rows listed.stage)
+-- the listed paths that a stage of them has
+abbrev pub listed_of : ListedStage → List (List ℕ)
+listed_of next = map string_bytes next.listed.items
 
--- the stage of the listed paths
-pub record IsListedStage (world : World) (rows : ShownRows) (listed : ListedStage) : Type 0 where
-  pub stage : IsStage world rows (listed_paths world) listed.stage
-  pub directories : map string_bytes listed.directories.items ≡ directories (files_in world)
-  pub last : MayBeKept world rows listed
+-- the stage of the directories, with all of them; the lists of the index of before may be kept, if they are there
+pub record IsDirectoryStage (world : World) (rows : ShownRows) (first : DirectoryStage) : Type 0 where
+  pub stage : IsStage world rows (directories (files_in world)) first.stage
+  pub directories : directories_in first ≡ directories (files_in world)
+  pub lists : IfSome first.lists (RecallsLists world rows first.stage.known (directories_in first))
 
--- The last stage, of the paths beside the listed ones, with the directories and the listed paths. It is known of these what
--- they lead to. If it is known that no rows have to go, no path has a row but needed ones that have a makefile.
+-- the same of the listed paths
+pub record IsListedStage (world : World) (rows : ShownRows) (next : ListedStage) : Type 0 where
+  pub stage : IsStage world rows (listed_paths world) next.stage
+  pub directories : map string_bytes next.directories.items ≡ directories (files_in world)
+  pub listed : listed_of next ≡ listed_paths world
+  pub last : IfSome next.last (Recalls world rows next.stage.known (listed_of next))
+
+-- With the listed paths, these are needed, and each needed path with a makefile is one of both. They are in order.
+pub record AreNeededBeside (world : World) (beside : Vec (String Global) Global) : Type 0 where
+  pub ordered : AreInOrder (map string_bytes beside.items)
+  pub needed : (path : List ℕ) → is_one_of path (map string_bytes beside.items) ≡ true → is_one_of path (needed_paths world) ≡ true
+  pub all : (path : List ℕ) → has_makefile world path ≡ true → is_one_of path (needed_paths world) ≡ true
+      → (is_one_of path (listed_paths world) || is_one_of path (map string_bytes beside.items)) ≡ true
+
+-- the paths beside the listed ones are known; or no path has a row but needed ones that have a makefile
+abbrev pub KnowsBeside : World → ShownRows → Option (Vec (String Global) Global) → Type 0
+KnowsBeside world rows (Some beside) = AreNeededBeside world beside
+KnowsBeside world rows None = HaveRowsAlone world (needed_paths world) rows
+
+-- the last stage, of needed paths, with the directories and the listed paths
 pub record IsLastStage (world : World) (rows : ShownRows) (last : LastStage) : Type 0 where
-  pub stage : IsStage world rows (paths_of last.stage) last.stage
+  pub stage : IsStage world rows (needed_paths world) last.stage
   pub directories : map string_bytes last.directories.items ≡ directories (files_in world)
   pub listed : map string_bytes last.listed.items ≡ listed_paths world
-  pub needed : needed_with (listed_paths world) (paths_of last.stage) ≡ needed_paths world
-  pub ordered : AreInOrder (paths_of last.stage)
-  pub known : AreDecided world (fresh rows) (listed_paths world)
-  pub alone : last.are_alone ≡ true → HaveRowsAlone world (needed_paths world) rows
+  pub beside : KnowsBeside world rows last.beside
 
--- the listed paths are in order, and those of the last stage
-abbrev pub HasOrder : LastStage → Type 0
-HasOrder last = AreInOrder (map string_bytes last.listed.items) × AreInOrder (paths_of last.stage)
+-- the listed paths are in order, and so are those beside them
+abbrev pub HasOrder : LastStage → List (List ℕ) → Type 0
+HasOrder last beside = AreInOrder (map string_bytes last.listed.items) × AreInOrder beside
 
--- the row of a path stays at the end of a last stage: the path is a listed one or one of the stage, and has a fresh row
-abbrev pub row_stays : LastStage → List ℕ → Bool
-row_stays last path =
-    (is_one_of path (map string_bytes last.listed.items) || is_one_of path (paths_of last.stage))
-    && is_some (entries_in last.stage.known path)
+-- the row of a path stays at the end of a last stage: the path is a listed one or one beside them, and has a fresh row
+abbrev pub row_stays : LastStage → List (List ℕ) → List ℕ → Bool
+row_stays last beside path =
+    (is_one_of path (map string_bytes last.listed.items) || is_one_of path beside) && is_some (entries_in last.stage.known path)
 
 -- A refresh that is under way goes through directories first, then through listed paths, then through those beside them on
 -- which the index depends. In the first two, it may recall the index of before.
 abbrev pub IsWalk : World → ShownRows → Walk → Type 0
-IsWalk world rows (Directories stage lists) =
-    IsStage world rows (directories (files_in world)) stage × IfSome lists (IsBelow world rows stage)
-IsWalk world rows (Listed listed) = IsListedStage world rows listed
+IsWalk world rows (Directories first) = IsDirectoryStage world rows first
+IsWalk world rows (Listed next) = IsListedStage world rows next
 IsWalk world rows (Needed last) = IsLastStage world rows last
 
--- each of these paths has a makefile
-abbrev pub HaveMakefiles : World → List (List ℕ) → Type 0
-HaveMakefiles world paths = (path : List ℕ) → is_one_of path paths ≡ true → has_makefile world path ≡ true
+-- a refresh may begin with the lists of the index of before
+pub record MayFollow (world : World) (rows : ShownRows) (begun : Begun) : Type 0 where
+  pub says : Says rows begun.known
+  pub directories : map string_bytes begun.directories.items ≡ directories (files_in world)
+  pub lists : RecallsLists world rows begun.known (map string_bytes begun.directories.items) begun.lists
 
 -- the rows are right, and a refresh is so far
 pub record IsOnTheWay (world : World) (rows : ShownRows) (walk : Walk) : Type 0 where
@@ -140,23 +158,25 @@ pub record KnowsRow (path : List ℕ) (said : Said) (old new : Stage) : Type 0 w
   pub place : new.place ≡ old.place
   pub known : (other : List ℕ) → said_in new.known other ≡ (if bytes_eq path other then Some said else said_in old.known other)
 
--- A stage of listed paths comes after that of directories, which are kept. It has the paths that the rows of these say,
--- and knows the same. It may have passed them all, since they are the directories.
-pub record ListsPaths (world : World) (rows : ShownRows) (before : Stage) (listed : ListedStage) : Type 0 where
-  pub paths : paths_of listed.stage ≡ listed_from (known_in (entries_in before.known)) (paths_of before)
-  pub passed : HasPassed world listed.stage listed.stage.place
-  pub known : (path : List ℕ) → said_in listed.stage.known path ≡ said_in before.known path
-  pub directories : map string_bytes listed.directories.items ≡ paths_of before
-  pub last : MayBeKept world rows listed
+-- a stage of directories is at its end
+pub record HasDirectories (world : World) (rows : ShownRows) (first : DirectoryStage) : Type 0 where
+  pub known : AreDecided world (entries_in first.stage.known) (directories_in first)
+  pub lists : IfSome first.lists (RecallsLists world rows first.stage.known (directories_in first))
 
--- The last stage, of the paths beside the listed ones, comes after that of the listed ones. These and the directories are
--- kept.
-pub record NeedsPaths (world : World) (rows : ShownRows) (before : ListedStage) (last : LastStage) : Type 0 where
-  pub paths : needed_with (paths_of before.stage) (paths_of last.stage)
-      ≡ needed_among (known_in (entries_in before.stage.known)) (paths_of before.stage)
-  pub ordered : AreInOrder (paths_of last.stage)
-  pub place : last.stage.place ≡ 0
-  pub known : (path : List ℕ) → said_in last.stage.known path ≡ said_in before.stage.known path
-  pub directories : last.directories ≡ before.directories
-  pub listed : map string_bytes last.listed.items ≡ paths_of before.stage
-  pub alone : last.are_alone ≡ true → HaveRowsAlone world (needed_with (paths_of before.stage) (paths_of last.stage)) rows
+-- A stage of listed paths comes after that of directories, which are kept. The listed paths are those that the rows of these
+-- say. The stage knows the same.
+pub record ListsPaths (world : World) (rows : ShownRows) (first : DirectoryStage) (next : ListedStage) : Type 0 where
+  pub listed : listed_of next ≡ listed_from (known_in (entries_in first.stage.known)) (directories_in first)
+  pub directories : next.directories ≡ first.directories
+  pub known : next.stage.known ≡ first.stage.known
+  pub place : next.stage.place ≡ 0
+  pub among : (path : List ℕ) → is_one_of path (paths_of next.stage) ≡ true → is_one_of path (listed_of next) ≡ true
+  pub others : (path : List ℕ) → is_one_of path (listed_of next) ≡ true → is_one_of path (paths_of next.stage) ≡ false
+      → is_some (decided world (entries_in next.stage.known) path) ≡ true
+  pub last : IfSome next.last (Recalls world rows next.stage.known (listed_of next))
+
+-- a stage of listed paths is at its end
+pub record HasListed (world : World) (rows : ShownRows) (next : ListedStage) : Type 0 where
+  pub kept : AreKept world rows
+  pub far : IsListedStage world rows next
+  pub known : AreDecided world (fresh rows) (listed_paths world)

@@ -9,9 +9,7 @@ ghost use Rattle.index_store.specs.Entries.{Entries, SameRows, AreRowsOf, stored
 ghost use Rattle.index_store.specs.Entries.{SameProfiles};
 ghost use Rattle.row_text.specs.Seen.{row_seen};
 ghost use Rattle.index_keep.specs.Shown.{ShownRows, shown, no_name, ShowsSame, fresh_said, said_by};
-ghost use Rattle.index_keep.specs.Last.{IsLast, RecallsLists};
-ghost use Rattle.index_keep.specs.Right.{AreKept};
-ghost use Rattle.index_keep.specs.Walking.{HaveMakefiles};
+ghost use Rattle.index_keep.specs.Last.{IsLast, RecallsLists, Serves, paths_in};
 ghost use Rattle.mk_paths.specs.World.{World};
 ghost use Rattle.index_keep.specs.Judging as judging;
 
@@ -61,10 +59,8 @@ pub(crate) struct Begun {
     pub(crate) known: MemoryRows,
     /// The directories of that index.
     pub(crate) directories: Vec<String>,
-    /// Its other lists, and its outdated rows.
+    /// Its listed paths, and its outdated rows.
     pub(crate) lists: LastLists,
-    /// The paths of the outdated rows.
-    pub(crate) outdated: Vec<String>,
 }
 
 /// What a refresh begins with by what all rows said before files of these names changed. It fails only if memory runs
@@ -77,12 +73,11 @@ pub(crate) fn begin_over(
     ensures known { (rows : ShownRows) → IsLast (contains_text changed.now) rows last
         → IfOk result (λ begun. (path : List ℕ) → said_in begun.known path ≡ fresh_said rows path) }
     ensures directories { IfOk result (λ begun. begun.directories ≡ last.paths.directories) }
-    ensures outdated { IfOk result (λ begun. (path : List ℕ) → is_one_of path (map string_bytes begun.outdated.items)
+    ensures outdated { IfOk result (λ begun. (path : List ℕ) → is_one_of path (paths_in begun.lists.last)
         ≡ has_asked_for (contains_text changed.now) (names_in last.rows path)) }
     ensures recalls { (world : World) (rows : ShownRows) → IsLast (contains_text changed.now) rows last
-        → AreKept world rows
-        → IfOk result (λ begun. HaveMakefiles world (map string_bytes begun.outdated.items)
-        → RecallsLists world rows begun.known (map string_bytes begun.directories.items) begun.lists) }
+        → Serves world rows last → IfOk result (λ begun. RecallsLists world rows begun.known
+        (map string_bytes begun.directories.items) begun.lists) }
 {
     let KnownIndex {
         paths,
@@ -94,17 +89,15 @@ pub(crate) fn begin_over(
     let IndexPaths {
         directories,
         listed,
-        beside,
     } = paths;
     let last = LastIndex {
-        beside,
         outdated: taken,
+        paths: asking,
     };
     Ok(Begun {
         known: left,
         directories,
         lists: LastLists { listed, last },
-        outdated: asking,
     })
 }
 

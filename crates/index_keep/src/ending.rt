@@ -30,10 +30,10 @@ pub(crate) fn leave_needed<R: PathRows>(
     ensures err { OnErr result (SameRows (R.entries rows.old) (R.entries rows.new)) }
     ensures profiles { (profile : kinds.Profile) → WritesIn profile (R.profiles rows.old) (R.profiles rows.new) }
 {
-    if last.are_alone {
-        return Ok(Vec::new(alloc));
+    match &last.beside {
+        Some(beside) => take_out_others(alloc, rows, last, beside),
+        None => Ok(Vec::new(alloc)),
     }
-    take_out_others(alloc, rows, last)
 }
 
 // Takes out all rows but the fresh ones of needed paths, and gives the paths of the rows that it took out. If it fails, all
@@ -42,18 +42,19 @@ fn take_out_others<R: PathRows>(
     alloc: Global,
     rows: &mut R,
     last: &LastStage,
+    beside: &[String],
 ) -> Result<Vec<String>, FilesFault>
-    ensures others { walking.HasOrder last.now
+    ensures others { walking.HasOrder last.now (map string_bytes beside.now)
         → IfOk result (λ others. (path : List ℕ) → is_one_of path (map string_bytes others.items)
-        ≡ (is_some (R.entries rows.old path) && not (walking.row_stays last.now path))) }
-    ensures ok { walking.HasOrder last.now
+        ≡ (is_some (R.entries rows.old path) && not (walking.row_stays last.now (map string_bytes beside.now) path))) }
+    ensures ok { walking.HasOrder last.now (map string_bytes beside.now)
         → OnOk result ((path : List ℕ) → R.entries rows.new path
-        ≡ (if walking.row_stays last.now path then R.entries rows.old path else None)) }
+        ≡ (if walking.row_stays last.now (map string_bytes beside.now) path then R.entries rows.old path else None)) }
     ensures err { OnErr result (SameRows (R.entries rows.old) (R.entries rows.new)) }
     ensures profiles { (profile : kinds.Profile) → WritesIn profile (R.profiles rows.old) (R.profiles rows.new) }
 {
     let paths = rows.paths(alloc)?;
-    let others = others(alloc, paths, last)?;
+    let others = others(alloc, paths, last, beside)?;
     if !others.is_empty() {
         rows.take_out(&others)?;
     }
@@ -61,14 +62,20 @@ fn take_out_others<R: PathRows>(
 }
 
 // Those of these paths whose rows aren't fresh ones of needed paths.
-fn others(alloc: Global, paths: Vec<String>, last: &LastStage) -> Result<Vec<String>, AllocError>
-    ensures { walking.HasOrder last.now
+fn others(
+    alloc: Global,
+    paths: Vec<String>,
+    last: &LastStage,
+    beside: &[String],
+) -> Result<Vec<String>, AllocError>
+    ensures { walking.HasOrder last.now (map string_bytes beside.now)
         → IfOk result (λ others. (path : List ℕ) → is_one_of path (map string_bytes others.items)
-        ≡ (is_one_of path (map string_bytes paths.items) && not (walking.row_stays last.now path))) }
+        ≡ (is_one_of path (map string_bytes paths.items)
+        && not (walking.row_stays last.now (map string_bytes beside.now) path))) }
 {
     let mut others = Vec::new(alloc);
     for path in paths {
-        if !is_kept(last, path.as_str()) {
+        if !is_kept(last, beside, path.as_str()) {
             others.push(path)?;
         }
     }
@@ -76,9 +83,10 @@ fn others(alloc: Global, paths: Vec<String>, last: &LastStage) -> Result<Vec<Str
 }
 
 // Whether the row of a path is a fresh one of a needed path.
-fn is_kept(last: &LastStage, path: &str) -> bool
-    ensures { walking.HasOrder last.now → result ≡ walking.row_stays last.now path.now }
+fn is_kept(last: &LastStage, beside: &[String], path: &str) -> bool
+    ensures { walking.HasOrder last.now (map string_bytes beside.now)
+        → result ≡ walking.row_stays last.now (map string_bytes beside.now) path.now }
 {
-    let is_needed = is_found_in(&last.listed, path) || is_found_in(&last.stage.paths, path);
+    let is_needed = is_found_in(&last.listed, path) || is_found_in(beside, path);
     is_needed && last.stage.known.get(path).is_some()
 }

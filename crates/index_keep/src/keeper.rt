@@ -10,17 +10,19 @@ ghost use Rattle.index_keep.specs.Profiles.{profiles_of};
 ghost use Rattle.index_keep.specs.Shown.{ShowsSame, made_stale, stale_if_asked};
 ghost use Rattle.index_keep.specs.Right.{DifferAt};
 ghost use Rattle.index_keep.specs.Keeping.{rows_of, refresh_of, begun_in, changed_in, size_at_hand, HasEdges, IsKept, IsDone};
-ghost use Rattle.index_keep.specs.Keeping.{DropsTo, HasForgotten, Halts, Stops};
+ghost use Rattle.index_keep.specs.Keeping.{DropsTo, HasForgotten, Halts, Stops, TellsPresence, last_in};
+ghost use Rattle.index_keep.specs.Keeping as keeping;
 
 use crate::beginning::begin;
 use crate::evaluating::PathAsk;
+use crate::last_index::HeldIndex;
 use crate::names::insert_name;
 use crate::walking::Walk;
 use index_store::PathRows;
 use mk_paths::{FilesFault, Name};
 use ports_index::{
-    IndexPaths, KnownIndex, Spent, directories_are_followed, known_rows_are_enough,
-    path_is_the_same_where_answered,
+    IndexPaths, KnownIndex, Spent, is_makefile, known_rows_are_enough,
+    path_is_the_same_where_answered, same_makefiles_serve,
 };
 use std::alloc::{AllocError, Global};
 use std::collections::BTreeSet;
@@ -45,7 +47,7 @@ pub enum Refreshed {
 #[derive(Drop)]
 pub(crate) enum Progress {
     /// Files of these names have changed since a refresh began. The index before that may still be in memory.
-    Changed(BTreeSet<String>, Option<KnownIndex>),
+    Changed(BTreeSet<String>, Option<HeldIndex>),
     /// A refresh is under way, and is between two paths.
     Walking(Walk),
     /// A refresh is under way, and a path is evaluated.
@@ -77,27 +79,33 @@ impl<R: PathRows + Drop> Keeper<R> {
 
     /// Notes that the file of this name is about to change, or to appear, or to go. The rows that asked for
     /// the name are stale from now on, and no other row changes. So the rows are right in the world before
-    /// the change and in the one after it.
+    /// the change and in the one after it. Whether the file is there before the change, or may not be, is told with it.
     ///
     /// It fails if the rows fail, or if memory runs out. Then no row changes.
-    pub fn note_change(&mut self, alloc: Global, name: &Name) -> Result<(), FilesFault>
+    pub fn note_change(
+        &mut self,
+        alloc: Global,
+        name: &Name,
+        is_there: bool,
+    ) -> Result<(), FilesFault>
         ensures rows { OnOk result ((path : List ℕ) → rows_of R.entries self.new path
             ≡ option_map (stale_if_asked name.now) (rows_of R.entries self.old path)) }
         ensures begun { OnOk result (begun_in self.new.progress ≡ no_spending) }
         ensures err { OnErr result (ShowsSame (rows_of R.entries self.old) (rows_of R.entries self.new)) }
-        ensures kept { (world : World) → IsKept R.entries world self.old → IsKept R.entries world self.new }
+        ensures kept { (world : World) → TellsPresence world name.now is_there
+            → IsKept R.entries world self.old → IsKept R.entries world self.new }
         ensures other { OnOk result ((world other : World) → DifferAt name.now world other
-            → IsKept R.entries world self.old → IsKept R.entries other self.new) }
+            → TellsPresence world name.now is_there → IsKept R.entries world self.old → IsKept R.entries other self.new) }
         ensures profiles { SameProfiles (profiles_of R.profiles self.old) (profiles_of R.profiles self.new) }
     {
         path_is_the_same_where_answered();
         known_rows_are_enough();
-        directories_are_followed();
+        same_makefiles_serve();
         if self.is_full() {
             self.write_marks(alloc)?;
         }
         let name = String::from_str(alloc, name.as_str())?;
-        self.progress.add_change(alloc, name)?;
+        self.progress.add_change(alloc, name, is_there)?;
         Ok(())
     }
 
@@ -241,27 +249,53 @@ impl Progress {
         }
     }
 
-    // The file of this name has changed too. A refresh that is under way is dropped. An index at hand stays in memory.
-    // If memory runs out, nothing changes.
-    fn add_change(&mut self, alloc: Global, name: String) -> Result<(), AllocError>
+    // The file of this name has changed too, and may have been there before. A refresh that is under way is dropped. An
+    // index at hand stays in memory. If memory runs out, nothing changes.
+    fn add_change(&mut self, alloc: Global, name: String, is_there: bool) -> Result<(), AllocError>
         ensures changed { OnOk result ((other : List ℕ) → changed_in self.new other
             ≡ (bytes_eq (string_bytes name) other || changed_in self.old other)) }
-        ensures dropped { OnOk result (DropsTo self.old self.new) }
+        ensures dropped { OnOk result (DropsTo (keeping.stays_there (string_bytes name) is_there) self.old self.new) }
         ensures err { OnErr result (self.new ≡ self.old) }
     {
-        if let Progress::Changed(names, _last) = self {
-            return insert_name(names, name);
+        let stays = stays_there(name.as_str(), is_there);
+        if let Progress::Changed(names, last) = self {
+            insert_name(names, name)?;
+            if let Some(held) = last {
+                held.were_there = held.were_there && stays;
+            }
+            return Ok(());
         }
         let mut names = BTreeSet::new(alloc);
         insert_name(&mut names, name)?;
-        let last = match mem::replace(self, Progress::nothing(alloc)) {
-            Progress::AtHand(index) => Some(index),
-            Progress::Changed(_, _)
-            | Progress::Walking(_)
-            | Progress::Asking(_, _)
-            | Progress::Current(_) => None,
-        };
+        let last = mem::replace(self, Progress::nothing(alloc)).into_held(stays);
         *self = Progress::Changed(names, last);
         Ok(())
     }
+
+    // The index that is in memory, after a change of which it is told whether the file stays there.
+    fn into_held(self, stays: bool) -> Option<HeldIndex>
+        ensures { result ≡ last_in stays self }
+    {
+        match self {
+            Progress::AtHand(index) => Some(HeldIndex {
+                index,
+                were_there: stays,
+            }),
+            Progress::Changed(_, last) => {
+                let held = last?;
+                Some(HeldIndex {
+                    index: held.index,
+                    were_there: held.were_there && stays,
+                })
+            }
+            Progress::Walking(_) | Progress::Asking(_, _) | Progress::Current(_) => None,
+        }
+    }
+}
+
+// Whether a file is there before a change, or is no makefile.
+fn stays_there(name: &str, is_there: bool) -> bool
+    ensures { result ≡ keeping.stays_there name.now is_there }
+{
+    is_there || !is_makefile(name)
 }

@@ -3,13 +3,21 @@ ghost use Rattle.std.specs.Prelude.{◌≡◌, true, Some, IfSome};
 ghost use Rattle.ports_index.specs.Seen.{row_seen};
 ghost use Rattle.index_keep.specs.Last.{NamesAsBefore};
 
-use ports_index::{MemoryRows, Row, name_alike};
+use ports_index::{KnownIndex, MemoryRows, Row, name_alike};
 
-/// The paths beside the listed ones of the index before files changed, and its outdated rows.
+/// The index that was at hand before files changed.
+#[derive(Drop)]
+pub(crate) struct HeldIndex {
+    pub(crate) index: KnownIndex,
+    /// Whether each makefile that has changed since was there before.
+    pub(crate) were_there: bool,
+}
+
+/// The outdated rows of that index, and their paths.
 #[derive(Debug, Drop)]
 pub(crate) struct LastIndex {
-    pub(crate) beside: Vec<String>,
     pub(crate) outdated: MemoryRows,
+    pub(crate) paths: Vec<String>,
 }
 
 /// The same, with its listed paths.

@@ -3,6 +3,7 @@
 #![tactic(auto)]
 
 mod beginning;
+mod beside;
 mod ending;
 mod evaluating;
 mod keeper;

@@ -1,22 +1,24 @@
 //! A stage of a refresh: paths, one after another, until each has its row.
-ghost use Rattle.std.specs.Prelude.{◌≡◌, map, string_bytes, IfOk, OnOk};
+ghost use Rattle.std.specs.Prelude.{◌≡◌, ◌&&◌, ℕ, List, is_none, map, string_bytes, IfOk, OnOk};
 ghost use Rattle.std.specs.Result.{result_err};
 ghost use Rattle.mk_paths.specs.FilesView.{world_of};
 ghost use Rattle.mk_paths.specs.World.{World};
+ghost use Rattle.ports_index.specs.Filling.{is_one_of};
+ghost use Rattle.ports_index.specs.Naming.{AreInOrder};
 ghost use Rattle.ports_index.specs.Seen.{entries_in};
 ghost use Rattle.ports_index.specs.Seen as seen;
 ghost use Rattle.read_trace.specs.Recording.{view_of};
-ghost use Rattle.index_keep.specs.Right.{AreDecided, LeavesFiles};
+ghost use Rattle.index_keep.specs.Right.{LeavesFiles};
 ghost use Rattle.index_keep.specs.Walking as walking;
 
 use crate::evaluating::FoundPath;
 use mk_files::Files;
 use mk_paths::{FilesFault, Settings};
-use ports_index::{KnownRow, MemoryRows, are_same};
+use ports_index::{KnownRow, MemoryRows, is_found_in};
 use read_trace::Recorder;
 use std::alloc::{AllocError, Global};
 
-/// The paths of a stage, how many of them have been passed, and what the fresh rows say.
+/// Paths that may lack a fresh row, how many of them have been passed, and what the fresh rows say.
 #[derive(Debug, Drop)]
 pub(crate) struct Stage {
     pub(crate) paths: Vec<String>,
@@ -32,26 +34,6 @@ impl Stage {
         Stage {
             paths,
             place: 0,
-            known,
-        }
-    }
-
-    /// A stage of these paths after one of other paths, of which it is known what they lead to. If they are the same, the
-    /// stage is at its end.
-    pub(crate) fn after(before: &[String], paths: Vec<String>, known: MemoryRows) -> Stage
-        ensures paths { result.paths ≡ paths }
-        ensures known { result.known ≡ known }
-        ensures passed { (world : World) → AreDecided world (entries_in known) (map string_bytes before.now)
-            → walking.HasPassed world result result.place }
-    {
-        let place = if are_same(before, &paths) {
-            paths.len()
-        } else {
-            0
-        };
-        Stage {
-            paths,
-            place,
             known,
         }
     }
@@ -88,13 +70,9 @@ impl Stage {
             → IfOk result (walking.FindsNext (world_of (view_of F.view files.old) settings.now) self.now) }
         ensures leaves { LeavesFiles (result_err result) (view_of F.view files.old) (view_of F.view files.new) }
     {
-        let Some(first) = self.paths.get(self.place) else {
-            return Ok(None);
-        };
-        let mut finder = self.known.finder_from(first);
         for place in self.place..self.paths.len() {
             let path = self.paths[place].as_str();
-            if finder.get(path).is_some() {
+            if self.known.get(path).is_some() {
                 continue;
             }
             if let Some(found) = FoundPath::find(alloc, files, settings, path)? {
@@ -110,4 +88,42 @@ impl Stage {
     {
         self.known.put(path, row)
     }
+}
+
+/// Those of these paths that have no row.
+pub(crate) fn lacking_among(
+    alloc: Global,
+    paths: &[String],
+    known: &MemoryRows,
+) -> Result<Vec<String>, AllocError>
+    ensures { IfOk result (λ lacking. (path : List ℕ) → is_one_of path (map string_bytes lacking.items)
+        ≡ (is_one_of path (map string_bytes paths.now) && is_none (entries_in known.now path))) }
+{
+    let mut lacking = Vec::new(alloc);
+    let mut finder = known.finder();
+    for path in paths {
+        if finder.get(path).is_none() {
+            lacking.push(String::from_str(alloc, path.as_str())?)?;
+        }
+    }
+    Ok(lacking)
+}
+
+/// Those of these paths that are among others, which are in the order of their bytes.
+pub(crate) fn found_among(
+    alloc: Global,
+    paths: &[String],
+    others: &[String],
+) -> Result<Vec<String>, AllocError>
+    ensures { AreInOrder (map string_bytes others.now)
+        → IfOk result (λ found. (path : List ℕ) → is_one_of path (map string_bytes found.items)
+        ≡ (is_one_of path (map string_bytes paths.now) && is_one_of path (map string_bytes others.now))) }
+{
+    let mut found = Vec::new(alloc);
+    for path in paths {
+        if is_found_in(others, path) {
+            found.push(String::from_str(alloc, path.as_str())?)?;
+        }
+    }
+    Ok(found)
 }

@@ -15,7 +15,7 @@ ghost use Rattle.ports_index.specs.Spending.{no_spending};
 ghost use Rattle.row_text.specs.Seen.{row_seen};
 ghost use Rattle.eval_ask.specs.Asking.{HasBegun, spent_in};
 ghost use Rattle.index_keep.specs.Shown.{ShownRows, shown, no_name, said_by, ShowsSame};
-ghost use Rattle.index_keep.specs.Last.{IsLastOf};
+ghost use Rattle.index_keep.specs.Last.{IsHeld};
 ghost use Rattle.index_keep.specs.Profiles.{WritesIn, profiles_of};
 ghost use Rattle.index_keep.specs.Right.{AreKept, LeavesFiles};
 ghost use Rattle.index_keep.specs.Paths.{IsUpTo, TurnsPath};
@@ -28,6 +28,7 @@ use crate::beginning::{fresh_rows, known_row, without};
 use crate::ending::leave_needed;
 use crate::evaluating::{MadeRow, PathAsk, PathTurned};
 use crate::keeper::{Keeper, Progress, Refreshed};
+use crate::last_index::HeldIndex;
 use crate::walking::{LastStage, Next, Walk, begin_walk};
 use eval_ask::spent_since;
 use eval_cache::EvalCache;
@@ -229,13 +230,11 @@ impl<R: PathRows + Drop> Keeper<R> {
             listed,
             ..
         } = last;
-        let paths = IndexPaths {
-            directories,
-            listed,
-            beside: stage.paths,
-        };
         self.progress = Progress::AtHand(KnownIndex {
-            paths,
+            paths: IndexPaths {
+                directories,
+                listed,
+            },
             rows: without(stage.known, &others),
             edges: None,
         });
@@ -275,12 +274,12 @@ impl<R: PathRows + Drop> Keeper<R> {
         alloc: Global,
         files: &mut Recorder<F>,
         settings: &Settings,
-        last: Option<KnownIndex>,
+        last: Option<HeldIndex>,
         names: BTreeSet<String>,
     ) -> Result<Walk, FilesFault>
         requires kept { AreKept (world_of (view_of F.view files.old) settings.now)
             (shown (contains_text names) (R.entries self.old.rows)) }
-        requires last { IfSome last (IsLastOf (contains_text names) (view_of F.view files.old).files
+        requires last { IfSome last (IsHeld (contains_text names) (world_of (view_of F.view files.old) settings.now)
             (shown (contains_text names) (R.entries self.old.rows))) }
         ensures walk { IfOk result (IsWalk
             (world_of (view_of F.view files.old) settings.now) (shown no_name (R.entries self.new.rows))) }

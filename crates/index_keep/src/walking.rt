@@ -1,62 +1,72 @@
 //! A refresh: the paths on which the index depends, one after another, until each has its row.
-ghost use Rattle.std.specs.Prelude.{◌≡◌, ℕ, List, true, map, string_bytes};
-ghost use Rattle.std.specs.Prelude.{IfOk, IfSome, OnOk, OnErr, unwrap_or};
+ghost use Rattle.std.specs.Prelude.{◌≡◌, true, map, string_bytes};
+ghost use Rattle.std.specs.Prelude.{IfOk, IfSome, OnOk, OnErr};
 ghost use Rattle.std.specs.Result.{result_err};
 ghost use Rattle.mk_paths.specs.FilesView.{world_of};
 ghost use Rattle.mk_paths.specs.World.{World, files_in};
-ghost use Rattle.ports_index.specs.Makefiles.{WereDirectories};
 ghost use Rattle.ports_index.specs.Naming as naming;
-ghost use Rattle.ports_index.specs.Seen.{said_in};
 ghost use Rattle.ports_index.specs.Seen as seen;
 ghost use Rattle.read_trace.specs.Recording.{view_of};
 ghost use Rattle.std.specs.BTreeSet.{contains_text};
 ghost use Rattle.index_store.specs.Entries.{SameRows, SameProfiles};
-ghost use Rattle.index_keep.specs.Shown.{ShownRows, shown, no_name, ShowsSame, fresh_said};
+ghost use Rattle.index_keep.specs.Shown.{ShownRows, shown, no_name, ShowsSame};
 ghost use Rattle.index_keep.specs.Right.{AreKept, LeavesFiles};
-ghost use Rattle.index_keep.specs.Last.{IsLastOf, RecallsLists};
+ghost use Rattle.index_keep.specs.Last.{IsHeld};
 ghost use Rattle.index_keep.specs.Walking as walking;
 ghost use Rattle.index_keep.specs.declared.walking.Walk.TheVariants.{Directories, Listed, Needed};
 
 use crate::beginning::{Begun, begin, begin_over};
+use crate::beside::paths_beside;
 use crate::evaluating::FoundPath;
-use crate::last_index::{LastIndex, LastLists, if_alike, lists_if_alike};
-use crate::stage::Stage;
+use crate::last_index::{HeldIndex, LastIndex, LastLists, if_alike, lists_if_alike};
+use crate::stage::{Stage, found_among, lacking_among};
 use index_store::PathRows;
 use mk_files::{Files, Listing};
 use mk_paths::{FilesFault, Settings};
 use ports_index::{
-    IndexPaths, KnownIndex, KnownRow, MemoryRows, alike_rows_list_the_same, are_still_directories,
-    directories, known_rows_are_enough, listed, paths_beside,
+    KnownRow, alike_rows_list_the_same, directories, known_rows_are_enough, listed,
+    makefiles_are_there, needed_are_named,
 };
 use read_trace::Recorder;
 use std::alloc::{AllocError, Global};
 use std::collections::BTreeSet;
+use text_parts::clones_of;
 
-/// The stage of the listed paths, the directories, which are kept for the end, and the index of before, if it may still
-/// have the same lists.
+/// The stage of the directories, all of them, and the lists of the index of before, if it may still have the same.
+#[derive(Debug, Drop)]
+pub(crate) struct DirectoryStage {
+    pub(crate) stage: Stage,
+    pub(crate) directories: Vec<String>,
+    pub(crate) lists: Option<LastLists>,
+}
+
+/// The stage of the listed paths, all of them, the directories, and the index of before, if it may still have the same
+/// lists.
 #[derive(Debug, Drop)]
 pub(crate) struct ListedStage {
     pub(crate) stage: Stage,
     pub(crate) directories: Vec<String>,
+    pub(crate) listed: Vec<String>,
     pub(crate) last: Option<LastIndex>,
 }
 
 /// The last stage, that of the paths beside the listed ones on which the index depends, and the directories and the listed
-/// paths, which are kept for the end.
+/// paths.
 #[derive(Debug, Drop)]
 pub(crate) struct LastStage {
     pub(crate) stage: Stage,
     pub(crate) directories: Vec<String>,
     pub(crate) listed: Vec<String>,
-    /// Whether it is known that no rows have to go, since the lists of the index of before are kept.
-    pub(crate) are_alone: bool,
+    /// The paths beside the listed ones that have a makefile. They aren't known if the lists of the index of before are
+    /// kept, since no rows have to go then.
+    pub(crate) beside: Option<Vec<String>>,
 }
 
 /// A refresh that is under way.
 #[derive(Debug, Drop)]
 pub(crate) enum Walk {
-    /// It goes through the directories. The index of before may still have the same lists.
-    Directories(Stage, Option<LastLists>),
+    /// It goes through the directories.
+    Directories(DirectoryStage),
     /// It goes through the listed paths: directories, and what lists among them name.
     Listed(ListedStage),
     /// It goes through the other paths on which the index depends.
@@ -79,12 +89,12 @@ pub(crate) fn begin_walk<F: Listing + Drop, R: PathRows>(
     files: &mut Recorder<F>,
     settings: &Settings,
     rows: &mut R,
-    last: Option<KnownIndex>,
+    last: Option<HeldIndex>,
     changed: &BTreeSet<String>,
 ) -> Result<Walk, FilesFault>
     requires kept { AreKept (world_of (view_of F.view files.old) settings.now)
         (shown (contains_text changed.now) (R.entries rows.old)) }
-    requires last { IfSome last (IsLastOf (contains_text changed.now) (view_of F.view files.old).files
+    requires last { IfSome last (IsHeld (contains_text changed.now) (world_of (view_of F.view files.old) settings.now)
         (shown (contains_text changed.now) (R.entries rows.old))) }
     ensures walk { IfOk result (walking.IsWalk
         (world_of (view_of F.view files.old) settings.now) (shown no_name (R.entries rows.new))) }
@@ -95,84 +105,84 @@ pub(crate) fn begin_walk<F: Listing + Drop, R: PathRows>(
     ensures leaves { LeavesFiles (result_err result) (view_of F.view files.old) (view_of F.view files.new) }
 {
     match last {
-        Some(last) => {
-            let others = other_directories(alloc, files, &last.paths, changed)?;
-            let begun = begin_over(alloc, last, changed)?;
-            let are_there = have_makefiles(alloc, files, settings, &begun.outdated)?;
-            rows.mark(&begun.outdated)?;
-            Ok(first_walk(begun, others, are_there))
+        Some(held) => {
+            let HeldIndex { index, were_there } = held;
+            let are_there = makefiles_are_there(alloc, files, changed)?;
+            let begun = begin_over(alloc, index, changed)?;
+            let outdated = clones_of(alloc, &begun.lists.last.paths)?;
+            let serves = were_there && are_there;
+            let first = first_stage(alloc, files, begun, serves)?;
+            rows.mark(&outdated)?;
+            Ok(Walk::Directories(first))
         }
         None => {
-            let paths = directories(alloc, files)?;
+            let directories = directories(alloc, files)?;
+            let paths = clones_of(alloc, &directories)?;
             let known = begin(alloc, rows, changed)?;
-            Ok(Walk::Directories(Stage::new(paths, known), None))
+            Ok(Walk::Directories(DirectoryStage {
+                stage: Stage::new(paths, known),
+                directories,
+                lists: None,
+            }))
         }
     }
 }
 
-// The walk that begins so: through other directories, if there are some; or through those of before. If each outdated path
-// still has a makefile, the lists of before may be kept.
-fn first_walk(begun: Begun, others: Option<Vec<String>>, are_there: bool) -> Walk
-    ensures { (world : World) (rows : ShownRows)
-        → map string_bytes (unwrap_or others begun.directories).items ≡ naming.directories (files_in world)
-        → ((path : List ℕ) → said_in begun.known path ≡ fresh_said rows path)
-        → (are_there ≡ true → RecallsLists world rows begun.known (map string_bytes begun.directories.items) begun.lists)
-        → walking.IsWalk world rows result }
+// The stage with which a walk begins over the index of before: over its directories if that serves, or else over those that
+// are there.
+fn first_stage<F: Listing + Drop>(
+    alloc: Global,
+    files: &mut Recorder<F>,
+    begun: Begun,
+    serves: bool,
+) -> Result<DirectoryStage, FilesFault>
+    ensures stage { (world : World) (rows : ShownRows) → files_in world ≡ (view_of F.view files.old).files
+        → walking.Says rows begun.known → (serves ≡ true → walking.MayFollow world rows begun)
+        → IfOk result (walking.IsDirectoryStage world rows) }
+    ensures leaves { LeavesFiles (result_err result) (view_of F.view files.old) (view_of F.view files.new) }
+{
+    if serves {
+        return Ok(kept_stage(alloc, begun)?);
+    }
+    let directories = directories(alloc, files)?;
+    Ok(other_stage(alloc, directories, begun)?)
+}
+
+// The stage of the directories of before, whose lists may be kept.
+fn kept_stage(alloc: Global, begun: Begun) -> Result<DirectoryStage, AllocError>
+    ensures { (world : World) (rows : ShownRows) → walking.MayFollow world rows begun
+        → IfOk result (walking.IsDirectoryStage world rows) }
 {
     let Begun {
         known,
         directories,
         lists,
-        ..
     } = begun;
-    match others {
-        Some(others) => Walk::Directories(Stage::new(others, known), None),
-        None if are_there => Walk::Directories(Stage::new(directories, known), Some(lists)),
-        None => Walk::Directories(Stage::new(directories, known), None),
-    }
+    let paths = found_among(alloc, &lists.last.paths, &directories)?;
+    Ok(DirectoryStage {
+        stage: Stage::new(paths, known),
+        directories,
+        lists: Some(lists),
+    })
 }
 
-// Whether each of these paths has a makefile.
-fn have_makefiles<F: Files + Drop>(
+// The stage of other directories.
+fn other_stage(
     alloc: Global,
-    files: &mut Recorder<F>,
-    settings: &Settings,
-    paths: &[String],
-) -> Result<bool, FilesFault>
-    ensures have { IfOk result (λ have. have ≡ true
-        → walking.HaveMakefiles (world_of (view_of F.view files.old) settings.now) (map string_bytes paths.now)) }
-    ensures leaves { LeavesFiles (result_err result) (view_of F.view files.old) (view_of F.view files.new) }
+    directories: Vec<String>,
+    begun: Begun,
+) -> Result<DirectoryStage, AllocError>
+    ensures { (world : World) (rows : ShownRows) → walking.Says rows begun.known
+        → map string_bytes directories.items ≡ naming.directories (files_in world)
+        → IfOk result (walking.IsDirectoryStage world rows) }
 {
-    for path in paths {
-        if FoundPath::find(alloc, files, settings, path)?.is_none() {
-            return Ok(false);
-        }
-    }
-    Ok(true)
-}
-
-// The directories in which a makefile may be, if they are others than before files of these names changed. They are looked
-// for only if they may be.
-fn other_directories<F: Listing + Drop>(
-    alloc: Global,
-    files: &mut Recorder<F>,
-    before: &IndexPaths,
-    changed: &BTreeSet<String>,
-) -> Result<Option<Vec<String>>, FilesFault>
-    ensures ok { WereDirectories (contains_text changed.now) (view_of F.view files.old).files
-        (map string_bytes before.now.directories.items)
-        → IfOk result (λ others. map string_bytes (unwrap_or others before.now.directories).items
-        ≡ naming.directories (view_of F.view files.old).files) }
-    ensures leaves { LeavesFiles (result_err result) (view_of F.view files.old) (view_of F.view files.new) }
-{
-    if are_still_directories(alloc, files, &before.directories, changed)? {
-        return Ok(None);
-    }
-    let found = directories(alloc, files)?;
-    if before.are_below(&found) {
-        return Ok(None);
-    }
-    Ok(Some(found))
+    let known = begun.known;
+    let paths = lacking_among(alloc, &directories, &known)?;
+    Ok(DirectoryStage {
+        stage: Stage::new(paths, known),
+        directories,
+        lists: None,
+    })
 }
 
 impl Walk {
@@ -189,9 +199,7 @@ impl Walk {
         ensures leaves { LeavesFiles (result_err result) (view_of F.view files.old) (view_of F.view files.new) }
     {
         match self {
-            Walk::Directories(stage, lists) => {
-                next_directory(alloc, files, settings, stage, lists)
-            }
+            Walk::Directories(first) => next_directory(alloc, files, settings, first),
             Walk::Listed(listed) => next_listed(alloc, files, settings, listed),
             Walk::Needed(last) => next_needed(alloc, files, settings, last),
         }
@@ -205,23 +213,33 @@ impl Walk {
     {
         alike_rows_list_the_same();
         match self {
-            Walk::Directories(stage, lists) => {
-                let mut stage = stage;
+            Walk::Directories(first) => {
+                let DirectoryStage {
+                    mut stage,
+                    directories,
+                    lists,
+                } = first;
                 let lists = lists_if_alike(lists, path.as_str(), &row.row);
                 stage.know(path, row)?;
-                Ok(Walk::Directories(stage, lists))
+                Ok(Walk::Directories(DirectoryStage {
+                    stage,
+                    directories,
+                    lists,
+                }))
             }
-            Walk::Listed(listed) => {
+            Walk::Listed(next) => {
                 let ListedStage {
                     mut stage,
                     directories,
+                    listed,
                     last,
-                } = listed;
+                } = next;
                 let last = if_alike(last, path.as_str(), &row.row);
                 stage.know(path, row)?;
                 Ok(Walk::Listed(ListedStage {
                     stage,
                     directories,
+                    listed,
                     last,
                 }))
             }
@@ -238,52 +256,51 @@ fn next_directory<F: Files + Drop>(
     alloc: Global,
     files: &mut Recorder<F>,
     settings: &Settings,
-    stage: Stage,
-    lists: Option<LastLists>,
+    first: DirectoryStage,
 ) -> Result<Next, FilesFault>
     ensures next { (rows : ShownRows)
-        → walking.IsOnTheWay (world_of (view_of F.view files.old) settings.now) rows (Directories stage lists)
+        → walking.IsOnTheWay (world_of (view_of F.view files.old) settings.now) rows (Directories first)
         → IfOk result (walking.IsNext (world_of (view_of F.view files.old) settings.now) rows) }
     ensures leaves { LeavesFiles (result_err result) (view_of F.view files.old) (view_of F.view files.new) }
 {
     known_rows_are_enough();
-    let mut stage = stage;
-    match stage.pass(alloc, files, settings)? {
-        Some(found) => Ok(Next::Lacks(Walk::Directories(stage, lists), found)),
-        None => next_listed(alloc, files, settings, listed_stage(alloc, stage, lists)?),
+    let mut first = first;
+    match first.stage.pass(alloc, files, settings)? {
+        Some(found) => Ok(Next::Lacks(Walk::Directories(first), found)),
+        None => next_listed(alloc, files, settings, listed_stage(alloc, first)?),
     }
 }
 
 // The stage of the listed paths, after that of the directories. The list of the index of before is kept, if it may be.
-fn listed_stage(
-    alloc: Global,
-    stage: Stage,
-    lists: Option<LastLists>,
-) -> Result<ListedStage, AllocError>
-    ensures { (world : World) (rows : ShownRows) → walking.LacksNone world stage
-        → IfSome lists (walking.IsBelow world rows stage)
-        → IfOk result (walking.ListsPaths world rows stage) }
+fn listed_stage(alloc: Global, first: DirectoryStage) -> Result<ListedStage, AllocError>
+    ensures { (world : World) (rows : ShownRows) → walking.HasDirectories world rows first
+        → IfOk result (walking.ListsPaths world rows first) }
 {
     alike_rows_list_the_same();
-    let Stage {
-        paths: directories,
-        known,
-        ..
-    } = stage;
+    let DirectoryStage {
+        stage,
+        directories,
+        lists,
+    } = first;
+    let known = stage.known;
     match lists {
         Some(lists) => {
             let LastLists { listed, last } = lists;
+            let paths = found_among(alloc, &last.paths, &listed)?;
             Ok(ListedStage {
-                stage: Stage::after(&directories, listed, known),
+                stage: Stage::new(paths, known),
                 directories,
+                listed,
                 last: Some(last),
             })
         }
         None => {
             let listed = listed(alloc, &directories, &known)?;
+            let paths = lacking_among(alloc, &listed, &known)?;
             Ok(ListedStage {
-                stage: Stage::after(&directories, listed, known),
+                stage: Stage::new(paths, known),
                 directories,
+                listed,
                 last: None,
             })
         }
@@ -305,42 +322,49 @@ fn next_listed<F: Files + Drop>(
     let mut listed = listed;
     match listed.stage.pass(alloc, files, settings)? {
         Some(found) => Ok(Next::Lacks(Walk::Listed(listed), found)),
-        None => next_needed(alloc, files, settings, last_stage(alloc, listed)?),
+        None => {
+            let last = last_stage(alloc, files, settings, listed)?;
+            next_needed(alloc, files, settings, last)
+        }
     }
 }
 
-// The stage of the paths beside the listed ones, after that of these. The list of the index of before is kept, if it may
-// be.
-fn last_stage(alloc: Global, listed: ListedStage) -> Result<LastStage, AllocError>
-    ensures { (world : World) (rows : ShownRows) → walking.LacksNone world listed.stage
-        → walking.MayBeKept world rows listed
-        → IfOk result (walking.NeedsPaths world rows listed) }
+// The stage of the paths beside the listed ones, after that of these.
+fn last_stage<F: Files + Drop>(
+    alloc: Global,
+    files: &mut Recorder<F>,
+    settings: &Settings,
+    next: ListedStage,
+) -> Result<LastStage, FilesFault>
+    ensures last { (rows : ShownRows) → walking.HasListed (world_of (view_of F.view files.old) settings.now) rows next
+        → IfOk result (walking.IsLastStage (world_of (view_of F.view files.old) settings.now) rows) }
+    ensures leaves { LeavesFiles (result_err result) (view_of F.view files.old) (view_of F.view files.new) }
 {
     alike_rows_list_the_same();
+    known_rows_are_enough();
+    needed_are_named();
     let ListedStage {
         stage,
         directories,
+        listed,
         last,
-    } = listed;
-    let Stage {
-        paths: listed,
-        known,
-        ..
-    } = stage;
+    } = next;
+    let known = stage.known;
     match last {
         Some(last) => Ok(LastStage {
-            stage: Stage::new(last.beside, known),
+            stage: Stage::new(last.paths, known),
             directories,
             listed,
-            are_alone: true,
+            beside: None,
         }),
         None => {
-            let beside = paths_beside(alloc, &listed, &known)?;
+            let beside = paths_beside(alloc, files, settings, &listed, &known)?;
+            let paths = lacking_among(alloc, &beside, &known)?;
             Ok(LastStage {
-                stage: Stage::new(beside, known),
+                stage: Stage::new(paths, known),
                 directories,
                 listed,
-                are_alone: false,
+                beside: Some(beside),
             })
         }
     }

@@ -1,3 +1,4 @@
 pub mod Kept
 pub mod Filled
 pub mod WorkLemmas
+pub mod BesideLemmas

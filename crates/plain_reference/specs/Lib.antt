@@ -1,2 +1,3 @@
+pub mod Needed
 pub mod Work
 pub mod Right

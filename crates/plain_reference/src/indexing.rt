@@ -12,13 +12,12 @@ ghost use Rattle.ports_index.specs.Known.{IsIndexOf};
 ghost use Rattle.ports_index.specs.Naming as naming;
 ghost use Rattle.ports_index.specs.Seen.{entries_in};
 
+use crate::beside::paths_beside;
 use crate::effort::Effort;
 use crate::filling::fill;
 use mk_files::Listing;
 use mk_paths::{FilesFault, Settings};
-use ports_index::{
-    IndexPaths, KnownIndex, MemoryRows, directories, known_rows_are_enough, listed, paths_beside,
-};
+use ports_index::{IndexPaths, KnownIndex, MemoryRows, directories, known_rows_are_enough, listed};
 use std::alloc::Global;
 
 /// The ports of a ports tree, and their dependencies.
@@ -67,7 +66,6 @@ pub fn index_files<F: Listing>(
             paths: IndexPaths {
                 directories,
                 listed: paths,
-                beside,
             },
             rows,
             edges: None,

@@ -3,6 +3,7 @@
 #![tactic(auto)]
 
 mod answering;
+mod beside;
 mod effort;
 mod evaluating;
 mod filling;

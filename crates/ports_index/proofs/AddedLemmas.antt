@@ -76,8 +76,3 @@ added-in_order paths before others same =
     within path more =
         among-in_order (eq_by_cmp by_bytes path) (paths ++ more) ∙ ap (λ (p : List ℕ → Bool). list_any p (paths ++ more)) (tie path)
         ∙ list_any-append (λ one. bytes_eq one path) paths more
-
--- so do others in order
-pub ordered-in_order : (paths others : List (List ℕ)) → in_order (paths ++ in_order others) ≡ in_order (paths ++ others)
-ordered-in_order paths others =
-    added-in_order paths others (in_order others) (λ path. ap (λ b. is_one_of path paths || b) (among-in_order (λ one. bytes_eq one path) others))

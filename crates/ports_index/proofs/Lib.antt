@@ -4,6 +4,7 @@ pub mod Filled
 pub mod Totals
 pub mod EffortLemmas
 pub mod PairLemmas
+pub mod PlaceLemmas
 pub mod More
 pub mod Lookups
 pub mod Names

@@ -1,21 +1,21 @@
--- Directories that are known while files change.
-use Rattle.std.proofs.Common.{◌≡◌, ◌∙◌, ap, sym, refl, ℕ, Bool, true, false, ◌||◌, List, [], ◌∷◌, Option, Some, None, is_some, map, String, Global, string_bytes}
+-- Directories by the names of makefiles.
+use Rattle.std.proofs.Common.{◌≡◌, ◌∙◌, ap, sym, refl, ℕ, ◌-◌, Bool, true, false, ◌||◌, if◌then◌else◌, List, [], ◌∷◌, Option, Some, None, map, take, length, codes, nat_eq, option_map, option_and_then, String, Global, string_bytes}
 use Rattle.std.proofs.lemmas.Bool.{false≢true, or_right}
 use Rattle.std.proofs.lemmas.Cmp.{nat_list_eq_equiv}
 use Rattle.std.proofs.lemmas.Map.Text.{is_eq-slice_cmp}
 use Rattle.std.proofs.lemmas.Slice.Eq.{bytes_eq-Decides}
 use Rattle.std.specs.BTreeSet.{BTreeSet, contains_text, keys as names_of}
 use Rattle.std.specs.FinMap.{contains_key, contains_key-keys, keys}
-use Rattle.std.specs.List.{cons_option, filter_map, list_any}
+use Rattle.std.specs.List.{cons_option, ends_with, filter_map, list_any}
 use Rattle.std.specs.Ordering.{eq_by_cmp}
 use Rattle.std.specs.Str.{bytes_eq}
 use Rattle.general_facts.specs.Lists.{list_any-map}
-use Rattle.text_parts.specs.Order.{in_order}
-use Rattle.text_parts.specs.Ordered.{among, among-in_order, by_bytes, in_order-again, in_order-sorted, same_in_order}
+use Rattle.text_parts.specs.Ordered.{among, among-in_order, by_bytes, in_order-sorted, same_in_order}
 use Rattle.mk_paths.specs.World.{FileMap}
 use Rattle.ports_index.specs.Filling.{is_one_of}
-use Rattle.ports_index.specs.Makefiles.{DirectoriesAreFollowed, NoneIsMakefileOf, PassesToo, SameElsewhere, StaysBelow, WereDirectories}
-use Rattle.ports_index.specs.Naming.{directories, directory_of}
+use Rattle.ports_index.specs.Makefiles.{SameMakefiles, SameMakefilesServe, is_makefile}
+use Rattle.ports_index.specs.Naming.{after_slash, directories, directory_below, directory_of, if_directory}
+use Rattle.ports_index.proofs.PlaceLemmas.{makefiles-same}
 
 -- booleans that follow from each other are the same
 pub same_by : (a b : Bool) → (a ≡ true → b ≡ true) → (b ≡ true → a ≡ true) → a ≡ b
@@ -91,57 +91,35 @@ module _ (path : List ℕ) where
   there-directory files one =
       makefile-of (keys files) (sym (among-in_order (λ one. bytes_eq one path) (filter_map directory_of (keys files))) ∙ one)
 
--- ---- one more name has changed
+-- ---- the same makefiles are there
 
-module _ (name : List ℕ) (one other : List ℕ → Bool) (passes : PassesToo name one other) (path : List ℕ) (none : NoneIsMakefileOf path other) where
-  none-before : NoneIsMakefileOf path one
-  none-before file is makefile = none file (passes file ∙ or_right (bytes_eq name file) (one file) is) makefile
+named_by : (name path text : List ℕ) (ends : Bool) → ends_with nat_eq name (codes "/Makefile") ≡ ends
+    → option_and_then if_directory (option_map directory_below (option_and_then after_slash (if ends then Some text else None))) ≡ Some path → is_makefile name ≡ true
+named_by name path text true e is = e
+named_by name path text false e is = absurd cc
 
-  not-changed : (file : List ℕ) (same : Bool) → bytes_eq name file ≡ same → directory_of file ≡ Some path → bytes_eq name file ≡ false
-  not-changed file true e makefile = absurd (none file (passes file ∙ ap (λ b. b || one file) e) makefile)
-  not-changed file false e makefile = e
+-- a name of which a directory is known is a makefile's
+makefile-named : (name path : List ℕ) → directory_of name ≡ Some path → is_makefile name ≡ true
+unfolding directory_of
+makefile-named name path is = named_by name path (take (length name - length (codes "/Makefile")) name) (ends_with nat_eq name (codes "/Makefile")) refl is
 
-  still-directory : (old new : FileMap) → SameElsewhere name old new → is_one_of path (directories old) ≡ true → is_one_of path (directories new) ≡ true
-  still-directory old new same is =
+module _ (old new : FileMap) (same : SameMakefiles old new) where
+  still-directory : (path : List ℕ) → is_one_of path (directories old) ≡ true → is_one_of path (directories new) ≡ true
+  still-directory path is =
       let found = there-directory path old is in
-      directory-there path found.name found.is new
-      (ap is_some (same found.name (not-changed found.name (bytes_eq name found.name) refl found.is)) ∙ there-named old found.name ∙ found.one)
+      directory-there path found.name found.is new (same found.name (makefile-named found.name path found.is) ∙ there-named old found.name ∙ found.one)
 
-  same-directory : (old new : FileMap) → SameElsewhere name old new → is_one_of path (directories old) ≡ is_one_of path (directories new)
-  same-directory old new same =
-      same_by (is_one_of path (directories old)) (is_one_of path (directories new)) (still-directory old new same)
-      (still-directory new old (λ file apart. sym (same file apart)))
+same-directories : (old new : FileMap) → SameMakefiles old new → directories new ≡ directories old
+same-directories old new same =
+    same_in_order (directories new) (directories old) (in_order-sorted (filter_map directory_of (keys new))) (in_order-sorted (filter_map directory_of (keys old)))
+    (λ path. tied path (directories new)
+    ∙ same_by (is_one_of path (directories new)) (is_one_of path (directories old)) (still-directory new old (λ name is. sym (same name is)) path) (still-directory old new same path)
+    ∙ sym (tied path (directories old)))
 
-pub directories-followed : DirectoriesAreFollowed
-directories-followed = record {
-  none = λ files. record { ordered = in_order-again (filter_map directory_of (keys files)); others = λ path none. refl };
-  more = λ name one other old new known passes same were. record {
-    ordered = were.ordered;
-    others = λ path none. were.others path (none-before name one other passes path none) ∙ same-directory name one other passes path none old new same;
-  };
-}
+pub same-makefiles : SameMakefilesServe
+same-makefiles = record { directories = same-directories; paths = makefiles-same }
 
--- ---- each changed makefile is there, in a directory that is known
+-- ---- names that have changed
 
-module _ (changed : BTreeSet (String Global)) (files : FileMap) (known : List (List ℕ)) where
-  changed-named : (name : List ℕ) → contains_text changed name ≡ is_one_of name (map string_bytes (names_of changed))
-  changed-named name = sym (list_any-map (eq_by_cmp by_bytes name) string_bytes (names_of changed)) ∙ tied name (map string_bytes (names_of changed))
-
-  module _ (stay : (name : List ℕ) → is_one_of name (map string_bytes (names_of changed)) ≡ true → StaysBelow files known name)
-      (were : WereDirectories (contains_text changed) files known) where
-    by_makefile : (path : List ℕ) (some : Bool) → is_one_of path (filter_map directory_of (map string_bytes (names_of changed))) ≡ some
-        → is_one_of path known ≡ is_one_of path (directories files)
-    by_makefile path true is =
-        let found = makefile-of path (map string_bytes (names_of changed)) is in
-        let stays = stay found.name found.one path found.is in
-        stays.0 ∙ sym (directory-there path found.name found.is files stays.1)
-    by_makefile path false is =
-        were.others path (λ name there makefile. absurd (false≢true (sym is ∙ one_of-makefile path name makefile (map string_bytes (names_of changed)) (sym (changed-named name) ∙ there))))
-
-    -- then the directories that are known are those of the files
-    pub still-directories : known ≡ directories files
-    still-directories =
-        sym were.ordered
-        ∙ same_in_order (in_order known) (directories files) (in_order-sorted known) (in_order-sorted (filter_map directory_of (keys files)))
-        (λ path. ap (among path) were.ordered ∙ tied path known
-        ∙ by_makefile path (is_one_of path (filter_map directory_of (map string_bytes (names_of changed)))) refl ∙ sym (tied path (directories files)))
+pub changed-named : (changed : BTreeSet (String Global)) (name : List ℕ) → contains_text changed name ≡ is_one_of name (map string_bytes (names_of changed))
+changed-named changed name = sym (list_any-map (eq_by_cmp by_bytes name) string_bytes (names_of changed)) ∙ tied name (map string_bytes (names_of changed))

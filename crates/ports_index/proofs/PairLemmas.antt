@@ -43,7 +43,7 @@ kind_there makefile flavors evaluated kinds.Port = port_there evaluated.cost (re
 kind_there makefile flavors evaluated kinds.List = after_there makefile flavors evaluated
 kind_there makefile flavors evaluated kinds.Other = refl
 
-evaluation_there : (makefile : List ℕ) (flavors : Option (List (List ℕ))) (end : Result Evaluated Failed) → is_there (finding_of_evaluation makefile flavors end).outcome ≡ true
+pub evaluation_there : (makefile : List ℕ) (flavors : Option (List (List ℕ))) (end : Result Evaluated Failed) → is_there (finding_of_evaluation makefile flavors end).outcome ≡ true
 evaluation_there makefile flavors (Ok evaluated) = kind_there makefile flavors evaluated evaluated.kind
 evaluation_there makefile flavors (Err failed) = refl
 

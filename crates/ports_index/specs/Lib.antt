@@ -17,3 +17,4 @@ pub mod NamedPaths
 pub mod Known
 pub mod Alike
 pub mod Makefiles
+pub mod ListedItems

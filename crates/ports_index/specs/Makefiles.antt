@@ -1,37 +1,26 @@
--- Makefiles that have changed, and directories that were those of files before.
-use Rattle.std.specs.Prelude.{◌≡◌, ℕ, ◌||◌, Bool, true, false, List, Some}
-use Rattle.std.specs.FinMap.{contains_key, get}
-use Rattle.std.specs.Str.{bytes_eq}
-use Rattle.text_parts.specs.Order.{in_order}
+-- Makefiles, and what stays as it was while the same ones are there.
+use Rattle.std.specs.Prelude.{◌≡◌, ℕ, nat_eq, Bool, true, List, codes}
+use Rattle.std.specs.FinMap.{contains_key}
+use Rattle.std.specs.List.{ends_with}
 use Rattle.mk_paths.specs.World.{FileMap}
-use Rattle.ports_index.specs.Filling.{is_one_of}
-use Rattle.ports_index.specs.Naming.{directories, directory_of}
+use Rattle.mk_paths.specs.declared.search_path.Settings.{Settings}
+use Rattle.ports_index.specs.Efforts.{has_makefile}
+use Rattle.ports_index.specs.Naming.{directories}
 
--- no name that passes this test is a makefile of this directory
-abbrev pub NoneIsMakefileOf : List ℕ → (List ℕ → Bool) → Type 0
-NoneIsMakefileOf directory test = (name : List ℕ) → test name ≡ true → directory_of name ≡ Some directory → ⊥
+-- a name ends as that of a directory's makefile does
+abbrev pub is_makefile : List ℕ → Bool
+is_makefile name = ends_with nat_eq name (codes "/Makefile")
 
--- These were the directories before the files changed whose names pass this test. They are in order, each once. Of each
--- directory of which no such name is a makefile, they say whether it is one of the files' directories.
-pub record WereDirectories (test : List ℕ → Bool) (files : FileMap) (known : List (List ℕ)) : Type 0 where
-  pub ordered : in_order known ≡ known
-  pub others : (path : List ℕ) → NoneIsMakefileOf path test → is_one_of path known ≡ is_one_of path (directories files)
+-- each makefile whose name passes this test is one of the files
+abbrev pub AreThere : (List ℕ → Bool) → FileMap → Type 0
+AreThere test files = (name : List ℕ) → test name ≡ true → is_makefile name ≡ true → contains_key files name ≡ true
 
--- if a name is a makefile of a directory, its file is there, and the directory is one of these
-abbrev pub StaysBelow : FileMap → List (List ℕ) → List ℕ → Type 0
-StaysBelow files known name =
-    (directory : List ℕ) → directory_of name ≡ Some directory → (is_one_of directory known ≡ true) × (contains_key files name ≡ true)
+-- the same makefiles are there
+abbrev pub SameMakefiles : FileMap → FileMap → Type 0
+SameMakefiles old new = (name : List ℕ) → is_makefile name ≡ true → contains_key new name ≡ contains_key old name
 
--- one more name passes the other test
-abbrev pub PassesToo : List ℕ → (List ℕ → Bool) → (List ℕ → Bool) → Type 0
-PassesToo name one other = (file : List ℕ) → other file ≡ (bytes_eq name file || one file)
-
--- all files but the one of this name are the same
-abbrev pub SameElsewhere : List ℕ → FileMap → FileMap → Type 0
-SameElsewhere name old new = (file : List ℕ) → bytes_eq name file ≡ false → get new file ≡ get old file
-
--- the directories of files are known while files change
-pub record DirectoriesAreFollowed : Type 0 where
-  pub none : (files : FileMap) → WereDirectories (λ name. false) files (directories files)
-  pub more : (name : List ℕ) (one other : List ℕ → Bool) (old new : FileMap) (known : List (List ℕ)) → PassesToo name one other
-      → SameElsewhere name old new → WereDirectories one old known → WereDirectories other new known
+-- where the same makefiles are there, the directories are the same, and the same paths have a makefile
+pub record SameMakefilesServe : Type 0 where
+  pub directories : (old new : FileMap) → SameMakefiles old new → directories new ≡ directories old
+  pub paths : (old new : FileMap) (settings : Settings) → SameMakefiles old new
+      → (path : List ℕ) → has_makefile (new, settings) path ≡ has_makefile (old, settings) path

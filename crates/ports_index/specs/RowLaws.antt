@@ -1,9 +1,10 @@
 -- What follows from the rows of paths.
-use Rattle.std.specs.Prelude.{◌≡◌, ℕ, ◌+◌, true, List, ◌∷◌, [], Option, None, sum_by}
+use Rattle.std.specs.Prelude.{◌≡◌, ℕ, ◌+◌, ◌||◌, Bool, true, List, ◌∷◌, [], Option, None, sum_by}
+use Rattle.std.specs.List.{list_any}
 use Rattle.mk_paths.specs.World.{World, files_in}
 use Rattle.ports_index.specs.PathOutcomes.{PathOutcome, outcome_at}
 use Rattle.ports_index.specs.Naming.{directories, listed_from}
-use Rattle.ports_index.specs.Depending.{roots_among, edges_among}
+use Rattle.ports_index.specs.Depending.{roots_among, edges_among, targets_in}
 use Rattle.ports_index.specs.Index.{listed_paths, needed_among, needed_paths, roots, edges}
 use Rattle.ports_index.specs.Filling.{is_one_of, Fills}
 use Rattle.ports_index.specs.Efforts.{lacking}
@@ -26,6 +27,16 @@ pub record KnownRowsAreEnough : Type 0 where
       → roots_among (known_in entries) (listed_paths world) ≡ roots world
   pub edges : (world : World) (entries : List ℕ → Option PathOutcome) → SayAll world entries (needed_paths world)
       → edges_among (known_in entries) (listed_paths world) ≡ edges world
+
+-- the path is named by an item of a port at one of these paths, by what each path leads to
+abbrev pub is_target_among : (List ℕ → PathOutcome) → List (List ℕ) → List ℕ → Bool
+is_target_among outcomes paths path = list_any (λ one. is_one_of path (targets_in (outcomes one))) paths
+
+-- A path is needed if it is listed, or if an item of a port at a listed path names it.
+abbrev pub NeededAreNamed : Type 0
+NeededAreNamed =
+    (outcomes : List ℕ → PathOutcome) (listed : List (List ℕ)) (path : List ℕ)
+    → is_one_of path (needed_among outcomes listed) ≡ (is_one_of path listed || is_target_among outcomes listed path)
 
 -- One of these paths, which had no row, gets its own. Whatever is counted for each path that has no row, what
 -- is counted for this one is what the others are fewer by.

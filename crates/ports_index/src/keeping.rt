@@ -58,24 +58,10 @@ impl MemoryRows {
     }
 
     /// What finds rows by their paths.
-    pub(crate) fn finder(&self) -> RowFinder<'_>
+    pub fn finder(&self) -> RowFinder<'_>
         ensures { IsFinderOf self.now result }
     {
-        self.finder_of(self.rows.range(..))
-    }
-
-    /// What finds the rows of this path and of those after it in one pass; any other path is looked up.
-    pub fn finder_from(&self, path: &String) -> RowFinder<'_>
-        ensures { IsFinderOf self.now result }
-    {
-        self.finder_of(self.rows.range(path..))
-    }
-
-    // What finds rows by their paths: those that are left in one pass, and any other row by a look-up.
-    fn finder_of<'a>(&'a self, mut left: Range<'a, String, KnownRow>) -> RowFinder<'a>
-        requires { All (IsEntryOf self.now) left }
-        ensures { IsFinderOf self.now result }
-    {
+        let mut left = self.rows.range(..);
         RowFinder {
             rows: self,
             ahead: left.next(),
@@ -139,8 +125,8 @@ impl MemoryRows {
     }
 }
 
-/// Finds rows by their paths. For paths in the order of their bytes, from the path at which it begins, all take one pass
-/// over the rows; any other path is looked up.
+/// Finds rows by their paths. For paths in the order of their bytes, all take one pass over the rows; any other path is
+/// looked up.
 #[derive(Drop)]
 pub struct RowFinder<'a> {
     rows: &'a MemoryRows,

@@ -1,10 +1,9 @@
 //! An index whose rows are known.
-ghost use Rattle.std.specs.Prelude.{◌≡◌, true, map, string_bytes, is_some, IfOk, OnOk};
+ghost use Rattle.std.specs.Prelude.{◌≡◌, true, is_some, IfOk, OnOk};
 ghost use Rattle.mk_paths.specs.World.{World};
 ghost use Rattle.ports_index.specs.Index as indexed;
 ghost use Rattle.ports_index.specs.Known.{IsIndexOf, IsSameIndex};
 
-use crate::alike::are_same;
 use crate::depending::{edges_among, roots_among};
 use crate::keeping::MemoryRows;
 use crate::laws::known_rows_are_enough;
@@ -18,18 +17,6 @@ pub struct IndexPaths {
     pub directories: Vec<String>,
     /// Those that are listed.
     pub listed: Vec<String>,
-    /// Those beside the listed ones on which the index depends, in the order of their bytes, each once.
-    pub beside: Vec<String>,
-}
-
-impl IndexPaths {
-    /// Whether its directories are these, in the same order.
-    pub fn are_below(&self, directories: &[String]) -> bool
-        ensures { result ≡ true
-            → map string_bytes self.now.directories.items ≡ map string_bytes directories.now }
-    {
-        are_same(directories, &self.directories)
-    }
 }
 
 /// The index of a ports tree, with what each path leads to on which it depends.

@@ -1,8 +1,8 @@
 //! What holds of all paths. The functions do nothing else: their clauses are the laws.
 ghost use Rattle.ports_index.specs.Alike.{AlikeRowsListTheSame};
-ghost use Rattle.ports_index.specs.Makefiles.{DirectoriesAreFollowed};
+ghost use Rattle.ports_index.specs.Makefiles.{SameMakefilesServe};
 ghost use Rattle.ports_index.specs.PathLaws.{PathIsTheSameWhereAnswered, ListedPathsCostNoMore, MakefilesAreEvaluated};
-ghost use Rattle.ports_index.specs.RowLaws.{KnownRowsAreEnough, OneRowMoreLeavesLess};
+ghost use Rattle.ports_index.specs.RowLaws.{KnownRowsAreEnough, NeededAreNamed, OneRowMoreLeavesLess};
 
 use mk_eval::same_where_answered;
 
@@ -42,7 +42,12 @@ pub fn alike_rows_list_the_same()
     ensures { AlikeRowsListTheSame }
 {}
 
-/// The directories of files are known while files change, but for those of which a changed file is a makefile.
-pub fn directories_are_followed()
-    ensures { DirectoriesAreFollowed }
+/// Where the same makefiles are there, the directories are the same, and the same paths have a makefile.
+pub fn same_makefiles_serve()
+    ensures { SameMakefilesServe }
+{}
+
+/// A path is needed if it is listed, or if an item of a port at a listed path names it.
+pub fn needed_are_named()
+    ensures { NeededAreNamed }
 {}

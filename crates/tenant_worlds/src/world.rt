@@ -236,11 +236,13 @@ impl Tenant {
     {
         match change {
             Change::PutFile(name, content) => {
-                self.keeper.note_change(alloc, &name)?; // first, since the write may fail
+                let is_there = self.store.has_file(&name);
+                self.keeper.note_change(alloc, &name, is_there)?; // first, since the write may fail
                 self.store.put_file(&name, content.as_slice())
             }
             Change::RemoveFile(name) => {
-                self.keeper.note_change(alloc, &name)?;
+                let is_there = self.store.has_file(&name);
+                self.keeper.note_change(alloc, &name, is_there)?;
                 let _was_there = self.store.remove_file(&name)?;
                 Ok(())
             }

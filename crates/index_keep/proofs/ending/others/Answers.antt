@@ -7,7 +7,7 @@ use Rattle.index_keep.proofs.ending.others.Goals as goal
 
 pub loop-path-preserved-in-Continue-1 : goal.loop-path-preserved-in-Continue-1
 loop-path-preserved-in-Continue-1 c = λ order path.
-    let kept = row_stays c.args.last.now in
+    let kept = row_stays c.args.last.now (map string_bytes c.args.beside.now) in
     let p = string_bytes c.in-Some.path in
     let apart : not (kept p) ≡ true = ap not (sym (c.is_kept.ensures order ∙ ap kept c.as_str.ensures.value) ∙ c.if-not-is_kept.true) in
     ap (λ items. is_one_of path (map string_bytes items)) c.in_ok-push.ensures.items
@@ -17,7 +17,7 @@ loop-path-preserved-in-Continue-1 c = λ order path.
 
 pub loop-path-preserved : goal.loop-path-preserved
 loop-path-preserved c = λ order path.
-    let kept = row_stays c.args.last.now in
+    let kept = row_stays c.args.last.now (map string_bytes c.args.beside.now) in
     let p = string_bytes c.in-Some.path in
     let there : not (kept p) ≡ false = ap not (sym (c.is_kept.ensures order ∙ ap kept c.as_str.ensures.value) ∙ c.if-not-is_kept.false) in
     chosen-more (map string_bytes c.loop-path.others.items) (map string_bytes c.loop-path.yielded) (λ at. not (kept at)) p false there (c.loop-path.invariant order) path

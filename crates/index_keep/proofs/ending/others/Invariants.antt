@@ -5,5 +5,5 @@ use Rattle.index_keep.specs.Walking.{HasOrder, row_stays}
 use Rattle.index_keep.proofs.ending.others.Given as goal
 
 abbrev pub invariant-loop-path : goal.invariant-loop-path
-invariant-loop-path l = HasOrder l.fn.last → (path : List ℕ) → is_one_of path (map string_bytes l.others.items)
-    ≡ (is_one_of path (map string_bytes l.yielded) && not (row_stays l.fn.last path))
+invariant-loop-path l = HasOrder l.fn.last (map string_bytes l.fn.beside) → (path : List ℕ) → is_one_of path (map string_bytes l.others.items)
+    ≡ (is_one_of path (map string_bytes l.yielded) && not (row_stays l.fn.last (map string_bytes l.fn.beside) path))

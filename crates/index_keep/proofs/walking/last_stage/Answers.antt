@@ -1,30 +1,29 @@
--- The needed paths of before are those that the rows say.
-use Rattle.std.proofs.Common.{◌∙◌, ap, refl, subst, sym, IfSome}
-use Rattle.ports_index.specs.Known.{needed_with}
-use Rattle.ports_index.specs.Naming.{AreInOrder}
-use Rattle.ports_index.specs.Seen.{entries_in, known_in, said_in}
-use Rattle.index_keep.specs.Last.{HaveRowsAlone, led_to}
-use Rattle.index_keep.specs.Walking.{IsListed, paths_of}
-use Rattle.index_keep.specs.declared.stage.Stage.{Stage}
-use Rattle.index_keep.proofs.LastLemmas.{alike-fresh}
+-- The paths beside the listed ones: the outdated ones, or those that the rows of listed paths name.
+use Rattle.ports_index.specs.Filling.{is_one_of}
+use Rattle.ports_index.specs.Seen.{entries_in}
+use Rattle.std.proofs.Common.{◌&&◌, is_none, List, ℕ, ◌∙◌, ap, subst, IfSome, map, string_bytes}
+use Rattle.mk_paths.specs.FilesView.{world_of}
+use Rattle.mk_paths.specs.World.{World}
+use Rattle.read_trace.specs.Recording.{view_of}
+use Rattle.index_keep.specs.Beside.{AreBeside}
+use Rattle.index_keep.specs.Last.{Recalls}
+use Rattle.index_keep.specs.Walking.{listed_of}
+use Rattle.index_keep.proofs.WalkLemmas.{last-kept, last-looked}
 use Rattle.index_keep.proofs.walking.last_stage.Goals as goal
 
-pub returns-in-Some : goal.returns-in-Some
-returns-in-Some c = λ world rows none may.
-    let stage = c.args.listed.stage in
-    let last = c.in-Some.last in
-    let is = subst (λ (l : _). IfSome l (IsListed world rows stage)) c.in-Some.is may in
-    let led = led_to stage.known last.outdated in
-    let fresh = known_in (entries_in stage.known) in
-    let paths = ap paths_of c.new.ensures in
-    record {
-      paths = ap (needed_with (paths_of stage)) paths ∙ is.needed
-          ∙ sym (c.alike_rows_list_the_same.ensures.needed led fresh (paths_of stage)
-          (alike-fresh world stage.known last.outdated (paths_of stage) none (λ path some. (is.alone path (is.outdated path some)).1)));
-      ordered = subst AreInOrder (sym paths) is.ordered;
-      place = ap (λ (s : Stage). s.place) c.new.ensures;
-      known = λ path. ap (λ (s : Stage). said_in s.known path) c.new.ensures;
-      directories = refl;
-      listed = refl;
-      alone = λ are. subst (λ beside. HaveRowsAlone world (needed_with (paths_of stage) beside) rows) (sym paths) is.alone;
-    }
+pub returns-in-Some-clause-last : goal.returns-in-Some-clause-last
+returns-in-Some-clause-last g c = λ rows has.
+    let world : World = world_of (view_of g.F.Names.view c.args.files.now) c.args.settings.now in
+    let next = c.args.next in
+    last-kept c.alike_rows_list_the_same.ensures c.known_rows_are_enough.ensures world rows next has c.in-Some.last
+    (subst (λ (l : _). IfSome l (Recalls world rows next.stage.known (listed_of next))) c.in-Some.is has.far.last) c.new.result c.new.ensures
+
+pub returns-clause-last : goal.returns-clause-last
+returns-clause-last g c = λ rows has.
+    let world : World = world_of (view_of g.F.Names.view c.args.files.now) c.args.settings.now in
+    let next = c.args.next in
+    let beside = c.in_ok-beside-in-None.beside in
+    last-looked c.alike_rows_list_the_same.ensures c.known_rows_are_enough.ensures world rows next has c.needed_are_named.ensures beside
+    (subst (λ items. AreBeside world next.stage.known (map string_bytes items) (map string_bytes beside.items)) c.deref.ensures.value c.in_ok-beside-in-None.ensures.beside)
+    c.in_ok-paths-in-None.paths (λ (path : List ℕ). c.in_ok-paths-in-None.ensures path ∙ ap (λ items. is_one_of path (map string_bytes items) && is_none (entries_in next.stage.known path)) c.deref-in-None.ensures.value)
+    c.new-in-None.result c.new-in-None.ensures

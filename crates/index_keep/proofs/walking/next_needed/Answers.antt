@@ -3,20 +3,20 @@ use Rattle.std.proofs.Common.{subst, sym}
 use Rattle.mk_paths.specs.FilesView.{world_of}
 use Rattle.mk_paths.specs.World.{World}
 use Rattle.read_trace.specs.Recording.{view_of}
-use Rattle.ports_index.specs.Index.{listed_paths}
-use Rattle.index_keep.specs.Walking.{IsLastStage, PassesStage, paths_of}
+use Rattle.ports_index.specs.Index.{needed_paths}
+use Rattle.index_keep.specs.Walking.{IsLastStage, PassesStage}
 use Rattle.index_keep.specs.declared.stage.Stage.{Stage}
-use Rattle.index_keep.proofs.WalkLemmas.{lacking-at, last-at, last-fresh, needed-has-beside, passed-known}
+use Rattle.index_keep.proofs.WalkLemmas.{all-decided, lacking-at, last-at, passed-known}
 use Rattle.index_keep.proofs.walking.next_needed.Goals as goal
 
 pub returns-in-Some-clause-next : goal.returns-in-Some-clause-next
 returns-in-Some-clause-next g c = λ rows way.
     let world : World = world_of (view_of g.F.Names.view c.args.files.now) c.args.settings.now in
     let last = c.args.last in
-    let paths = paths_of last.stage in
+    let paths = needed_paths world in
     let passes = subst (PassesStage world last.stage c.pass.new.self) c.in-Some.is (c.in_ok-found.ensures.passes (passed-known world rows paths last.stage way.far.stage)) in (
       last-at world rows last way.far c.pass.new.self.place passes.1 c.pass.new.self passes.0,
-      lacking-at world rows paths last.stage way.far.stage (needed-has-beside world (listed_paths world) paths way.far.needed) c.in-Some.found passes.2,
+      lacking-at world rows paths last.stage way.far.stage (λ path is. is) c.in-Some.found passes.2,
       passes.2.found,
     )
 
@@ -24,7 +24,8 @@ pub returns-in-None-clause-next : goal.returns-in-None-clause-next
 returns-in-None-clause-next g c = λ rows way.
     let world : World = world_of (view_of g.F.Names.view c.args.files.now) c.args.settings.now in
     let last = c.args.last in
-    let passes = subst (PassesStage world last.stage c.pass.new.self) c.in-None.is (c.in_ok-found.ensures.passes (passed-known world rows (paths_of last.stage) last.stage way.far.stage)) in (
+    let paths = needed_paths world in
+    let passes = subst (PassesStage world last.stage c.pass.new.self) c.in-None.is (c.in_ok-found.ensures.passes (passed-known world rows paths last.stage way.far.stage)) in (
       subst (λ (s : Stage). IsLastStage world rows (record last { stage = s })) (sym passes.0) way.far,
-      last-fresh world rows last way.far passes.1,
+      all-decided world rows paths last.stage way.far.stage passes.1,
     )

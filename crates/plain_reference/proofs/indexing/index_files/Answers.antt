@@ -4,7 +4,7 @@ use Rattle.mk_paths.specs.World.{FileMap, World}
 use Rattle.ports_index.specs.Efforts.{lacking}
 use Rattle.ports_index.specs.Filling.{Fills}
 use Rattle.ports_index.specs.Index.{listed_paths, needed_among, needed_paths}
-use Rattle.ports_index.specs.Known.{needed_with}
+use Rattle.plain_reference.specs.Needed.{needed_with}
 use Rattle.ports_index.specs.Seen.{Said, known_in, entries_in}
 use Rattle.ports_index.proofs.Filled.{Entries, one_of-append, one_of-in_order}
 use Rattle.plain_reference.specs.Work.{both, effort_over}
@@ -33,7 +33,7 @@ returns-clause-known g c =
     let first = c.in_ok-directories.ensures.fills in
     let listed_are : map string_bytes c.deref.result.now ≡ listed_paths world = ap (map string_bytes) c.deref.ensures.value ∙ c.in_ok-directories.ensures.listed in
     let needed_are : needed_with (listed_paths world) beside ≡ needed_paths world =
-    subst (λ listed. needed_with listed beside ≡ needed_among (known_in middle) listed) listed_are c.in_ok-beside.ensures.needed
+    subst (λ listed. needed_with listed beside ≡ needed_among (known_in middle) listed) listed_are c.in_ok-beside.ensures
     ∙ c.known_rows_are_enough.ensures.needed world middle (say-filled world (listed_paths world) start middle first) in
     let second : Fills world beside middle end =
     subst (λ paths. Fills world paths middle end) (ap (map string_bytes) c.deref-2.ensures.value)
@@ -42,8 +42,6 @@ returns-clause-known g c =
       paths = record {
         directories = c.in_ok-directories.ensures.directories;
         listed = c.in_ok-directories.ensures.listed;
-        needed = ap (λ listed. needed_with listed beside) c.in_ok-directories.ensures.listed ∙ needed_are;
-        ordered = c.in_ok-beside.ensures.ordered;
       };
       rows = say-filled world (needed_paths world) start end (needed-filled world beside start middle end needed_are first second);
       edges = tt;
@@ -60,7 +58,7 @@ returns-clause-effort g c =
     let first = c.in_ok-directories.ensures.fills in
     let listed_are : map string_bytes c.deref.result.now ≡ listed_paths world = ap (map string_bytes) c.deref.ensures.value ∙ c.in_ok-directories.ensures.listed in
     let needed_are : needed_with (listed_paths world) beside ≡ needed_paths world =
-    subst (λ listed. needed_with listed beside ≡ needed_among (known_in middle) listed) listed_are c.in_ok-beside.ensures.needed
+    subst (λ listed. needed_with listed beside ≡ needed_among (known_in middle) listed) listed_are c.in_ok-beside.ensures
     ∙ c.known_rows_are_enough.ensures.needed world middle (say-filled world (listed_paths world) start middle first) in
     let more = λ (files : FileMap) (paths : List (List ℕ)). effort_over (files, settings) (lacking middle paths) in
     c.and.ensures

@@ -2,10 +2,8 @@
 use Rattle.std.proofs.Common.{◌∙◌, ap, refl, None, if◌then◌else◌, map, string_bytes}
 use Rattle.ports_index.specs.Filling.{is_one_of}
 use Rattle.ports_index.specs.Index.{needed_paths}
-use Rattle.ports_index.specs.Known.{needed_with}
 use Rattle.ports_index.specs.Seen.{said_in}
 use Rattle.index_keep.specs.Shown.{shown, no_name}
-use Rattle.index_keep.specs.Walking.{paths_of}
 use Rattle.index_keep.proofs.WalkLemmas.{AreCurrent-left, AreKept-left, have-said, said-left, says-current}
 use Rattle.index_keep.proofs.keeper.Keeper.end.Goals as goal
 
@@ -38,8 +36,6 @@ returns-clause-kept g c = λ world way.
           paths = record {
             directories = way.far.directories;
             listed = way.far.listed;
-            needed = ap (λ listed. needed_with listed (paths_of c.args.last.stage)) way.far.listed ∙ way.far.needed;
-            ordered = way.far.ordered;
           };
           rows = have-said world new current c.without.result says;
           edges = tt;

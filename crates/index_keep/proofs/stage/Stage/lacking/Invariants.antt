@@ -1,7 +1,6 @@
 -- It is known of the paths up to here what they lead to, and the files are the same.
 use Rattle.std.proofs.Common.{None}
 use Rattle.mk_paths.specs.FilesView.{world_of}
-use Rattle.ports_index.specs.Finding.{IsFinderOf}
 use Rattle.read_trace.specs.Recording.{view_of}
 use Rattle.index_keep.specs.Right.{LeavesFiles}
 use Rattle.index_keep.specs.Walking.{HasPassed}
@@ -11,6 +10,5 @@ abbrev pub invariant-loop-place : goal.invariant-loop-place
 invariant-loop-place g l = record {
   passed : HasPassed (world_of (view_of g.F.Names.view l.initial.files) l.settings) l.self l.self.place
       → HasPassed (world_of (view_of g.F.Names.view l.initial.files) l.settings) l.self l.place;
-  finder : IsFinderOf l.self.known l.finder;
   leaves : LeavesFiles None (view_of g.F.Names.view l.initial.files) (view_of g.F.Names.view l.files);
 }

@@ -1,0 +1,45 @@
+-- Paths that rows name beside the listed ones.
+use Rattle.std.proofs.Common.{◌≡◌, ◌∙◌, sym, ap, refl, ℕ, ◌+◌, ◌<◌, Bool, true, false, ◌||◌, ◌&&◌, List, [], ◌∷◌, ◌++◌, map, take, length, get_or, Option, Some, None, is_some, String, string_bytes, Global}
+use Rattle.std.proofs.lemmas.List.{take_more}
+use Rattle.std.proofs.lemmas.List.Folds.{list_any-append}
+use Rattle.mk_paths.specs.World.{World}
+use Rattle.ports_index.specs.Depending.{targets_in}
+use Rattle.ports_index.specs.Efforts.{has_makefile}
+use Rattle.ports_index.specs.Filling.{is_one_of}
+use Rattle.ports_index.specs.PathOutcomes.{PathOutcome}
+use Rattle.ports_index.specs.RowLaws.{is_target_among}
+use Rattle.index_keep.specs.Paths.{IsFoundOf}
+use Rattle.index_keep.specs.declared.evaluating.FoundPath.{FoundPath}
+use Rattle.index_keep.proofs.ListLemmas.{map-append}
+use Rattle.index_keep.proofs.MadeLemmas.{there-found}
+use Rattle.index_keep.proofs.SortLemmas.{or-none}
+
+-- a path is named by the rows up to the next place
+pub target-next : (outcomes : List ℕ → PathOutcome) (texts : List (String Global)) (place : ℕ) (text : String Global) (path : List ℕ) → place < length texts → text ≡ get_or texts place text
+    → is_target_among outcomes (map string_bytes (take (place + 1) texts)) path
+    ≡ (is_target_among outcomes (map string_bytes (take place texts)) path || is_one_of path (targets_in (outcomes (string_bytes text))))
+target-next outcomes texts place text path inside is =
+    ap (λ ts. is_target_among outcomes (map string_bytes ts) path) (take_more texts place text inside ∙ ap (λ t. take place texts ++ t ∷ []) (sym is))
+    ∙ ap (λ ps. is_target_among outcomes ps path) (map-append string_bytes (take place texts) (text ∷ []))
+    ∙ list_any-append (λ one. is_one_of path (targets_in (outcomes one))) (map string_bytes (take place texts)) (string_bytes text ∷ [])
+    ∙ ap (λ b. is_target_among outcomes (map string_bytes (take place texts)) path || b) (or-none (is_one_of path (targets_in (outcomes (string_bytes text)))))
+
+-- those that are there are added
+pub added-there : (listed beside target there named more : Bool) → (listed || beside) ≡ (listed || (target && there)) → (listed || named) ≡ (listed || more)
+    → (listed || (beside || (named && there))) ≡ (listed || ((target || more) && there))
+added-there true beside target there named more is same = refl
+added-there false beside target there named more is same = (λ i. is i || (same i && there)) ∙ by target more there
+  where
+    by : (a b c : Bool) → ((a && c) || (b && c)) ≡ ((a || b) && c)
+    by true true true = refl
+    by true true false = refl
+    by true false true = refl
+    by true false false = refl
+    by false b true = refl
+    by false true false = refl
+    by false false false = refl
+
+-- a path's makefile is found if it is there
+pub found-some : (world : World) (path : List ℕ) (found : Option FoundPath) → IsFoundOf world path found → is_some found ≡ has_makefile world path
+found-some world path None is = sym is
+found-some world path (Some found) is = sym (ap (has_makefile world) (sym is.0) ∙ there-found world found is.1)
