@@ -1,5 +1,6 @@
 -- The items of one port more are looked at.
-use Rattle.std.proofs.Common.{◌≡◌, ◌∙◌, ap, subst, sym, List, ℕ, ◌++◌, map, string_bytes, take}
+use Rattle.std.proofs.Common.{◌≡◌, ◌∙◌, ap, subst, sym, List, ℕ, ◌++◌, map, String, Global, string_bytes, take, take_all}
+use Rattle.std.proofs.lemmas.List.{map-append}
 use Rattle.std.specs.List.{flat_map}
 use Rattle.text_parts.specs.Order.{in_order}
 use Rattle.ports_index.specs.Adding.{AddSame}
@@ -36,6 +37,9 @@ loop-path-preserved c =
 pub returns : goal.returns
 returns c =
     let listed = map string_bytes c.args.listed.now in
+    let beside = map string_bytes c.loop-path.beside.items in
     let known = known_in (entries_in c.args.rows.now) in
-    added-in_order listed (flat_map (λ path. targets_in (known path)) listed) (map string_bytes c.loop-path.beside.items) c.loop-path.invariant.beside
-    ∙ ap (λ targets. in_order (listed ++ targets)) (targets-among known listed)
+    let targets = λ (path : List ℕ). targets_in (known path) in
+    let all = subst (λ (texts : List (String Global)). AddSame listed (flat_map targets (map string_bytes texts)) beside)
+    (take_all c.loop-path.path-index c.args.listed.now c.loop-path-test.false) c.loop-path.invariant.beside in
+    added-in_order listed (flat_map targets listed) beside all ∙ ap (λ others. in_order (listed ++ others)) (targets-among known listed)
