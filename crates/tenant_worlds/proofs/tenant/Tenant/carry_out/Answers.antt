@@ -12,8 +12,8 @@ returns-in_ok-note_change-in-PutFile-clause-right c =
     idle_right new c.args.self.now.settings c.note_change.new.self c.args.self.now.job c.requires.idle.none
     (c.requires.right.settings ∙ settings_of_put c.put_file.result old new _ _ c.put_file.ensures.stored c.put_file.ensures.err)
     (kept_by_put c.put_file.result old new _ _ c.note_change.new.self c.put_file.ensures.stored c.put_file.ensures.err
-    (λ other differs. c.in_ok-note_change-in-PutFile.ensures.other old other differs (λ there. sym c.has_file.ensures ∙ there) c.requires.right.keeper)
-    (c.note_change.ensures.kept old (λ there. sym c.has_file.ensures ∙ there) c.requires.right.keeper))
+    (λ other differs. c.in_ok-note_change-in-PutFile.ensures.other old other differs (λ there. sym c.has_file-is_there.ensures ∙ there) c.requires.right.keeper)
+    (c.note_change.ensures.kept old (λ there. sym c.has_file-is_there.ensures ∙ there) c.requires.right.keeper))
 
 pub returns-in_ok-_was_there-in-RemoveFile-clause-right : goal.returns-in_ok-_was_there-in-RemoveFile-clause-right
 returns-in_ok-_was_there-in-RemoveFile-clause-right c =
@@ -22,7 +22,7 @@ returns-in_ok-_was_there-in-RemoveFile-clause-right c =
     idle_right new c.args.self.now.settings _ c.args.self.now.job c.requires.idle.none
     (c.requires.right.settings ∙ sym (ap (λ (w : World). w.1) c.in_ok-_was_there-in-RemoveFile.ensures.removed))
     (c.in_ok-note_change-in-RemoveFile.ensures.other old new (removed_differs old new _ c.in_ok-_was_there-in-RemoveFile.ensures.removed)
-    (λ there. sym c.has_file-in-RemoveFile.ensures ∙ there) c.requires.right.keeper)
+    (λ there. sym c.has_file-is_there-in-RemoveFile.ensures ∙ there) c.requires.right.keeper)
 
 pub returns-in_ok-set_path-in-SetPath-clause-right : goal.returns-in_ok-set_path-in-SetPath-clause-right
 returns-in_ok-set_path-in-SetPath-clause-right c =
