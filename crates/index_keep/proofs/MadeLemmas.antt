@@ -1,5 +1,5 @@
 -- The row of a path, made of what was found and asked.
-use Rattle.std.proofs.Common.{Result, Ok, Err, codes, ◌≡◌, ◌≤◌, ◌<◌, ◌∙◌, sym, ap, ap₂, subst, refl, inr, arith, ℕ, zero, suc, ◌+◌, ◌-◌, Bool, true, false, if◌then◌else◌, List, [], ◌∷◌, ◌++◌, Option, Some, None, is_some, option_map, option_and_then, string_bytes}
+use Rattle.std.proofs.Common.{Result, Ok, Err, codes, ◌≡◌, ◌≤◌, ◌<◌, ◌∙◌, sym, ap, ap₂, subst, refl, inr, arith, ℕ, zero, suc, ◌+◌, ◌-◌, Bool, true, false, if◌then◌else◌, List, [], ◌∷◌, ◌++◌, Option, Some, None, option_map, option_and_then, string_bytes}
 use Rattle.std.proofs.lemmas.Slice.Eq.{bytes_eq-Decides}
 use Rattle.std.specs.Str.{bytes_eq}
 use Rattle.mk_paths.specs.World.{World, FileMap, files_in, search_path_of}
@@ -32,7 +32,7 @@ use Rattle.row_text.specs.Rows.{RowValue}
 use Rattle.row_text.specs.Seen.{row_seen}
 use Rattle.eval_ask.specs.Asking.{AsksOn, EvaluatesInTime, HasComeTo, HasLooked, IsAnswerTo, IsShort, IsUpBy, IsUpFrom, MakesInTime, spent_in, spent_on, total_of}
 use Rattle.mk_base.specs.declared.metering.TheConstants.{UNITS}
-use Rattle.index_keep.specs.Paths.{directory_of, flavors_of, row_made, IsNamed, IsFoundAt, IsFoundOf, IsPathAsk, IsMade}
+use Rattle.index_keep.specs.Paths.{directory_of, flavors_of, row_made, IsNamed, IsFoundAt, IsPathAsk, IsMade}
 use Rattle.index_keep.specs.Right.{row_with, IsRightRow}
 use Rattle.eval_ask.specs.declared.asking.Asked.{Asked}
 use Rattle.eval_ask.specs.declared.asking.AskTurned.{AskTurned}

@@ -5,6 +5,7 @@ pub mod Right
 pub mod Judging
 pub mod Paths
 pub mod Walking
+pub mod StayingRows
 pub mod Turns
 pub mod Keeping
 pub mod Profiles

@@ -9,12 +9,14 @@ ghost use Rattle.index_keep.specs.Keeping.{IsAtEnd};
 ghost use Rattle.index_keep.specs.Last.{LeavesFresh};
 ghost use Rattle.index_keep.specs.Profiles.{WritesIn};
 ghost use Rattle.index_keep.specs.Shown.{shown, no_name};
+ghost use Rattle.index_keep.specs.StayingRows.{FindsStaying};
 ghost use Rattle.index_keep.specs.Walking as walking;
+ghost use Rattle.index_keep.specs.declared.walking.LastStage.{LastStage};
 
 use crate::walking::LastStage;
 use index_store::PathRows;
 use mk_paths::FilesFault;
-use ports_index::is_found_in;
+use ports_index::{PathFinder, RowFinder};
 use std::alloc::{AllocError, Global};
 
 /// Takes out all rows but the fresh ones of needed paths, at the end of a walk, and gives the paths of the rows that it took
@@ -74,19 +76,43 @@ fn others(
         && not (walking.row_stays last.now (map string_bytes beside.now) path))) }
 {
     let mut others = Vec::new(alloc);
+    let mut staying = StayingRows::new(last, beside);
     for path in paths {
-        if !is_kept(last, beside, path.as_str()) {
+        if !staying.has(path.as_str()) {
             others.push(path)?;
         }
     }
     Ok(others)
 }
 
-// Whether the row of a path is a fresh one of a needed path.
-fn is_kept(last: &LastStage, beside: &[String], path: &str) -> bool
-    ensures { walking.HasOrder last.now (map string_bytes beside.now)
-        → result ≡ walking.row_stays last.now (map string_bytes beside.now) path.now }
-{
-    let is_needed = is_found_in(&last.listed, path) || is_found_in(beside, path);
-    is_needed && last.stage.known.get(path).is_some()
+// What finds out which rows stay at the end of a walk. For paths in the order of their bytes, all take one pass.
+#[derive(Drop)]
+struct StayingRows<'a> {
+    listed: PathFinder<'a>,
+    beside: PathFinder<'a>,
+    known: RowFinder<'a>,
+}
+
+impl<'a> StayingRows<'a> {
+    // The fresh rows of needed paths.
+    fn new(last: &'a LastStage, beside: &'a [String]) -> StayingRows<'a>
+        ensures { FindsStaying last.now (map string_bytes beside.now) result }
+    {
+        StayingRows {
+            listed: PathFinder::new(&last.listed),
+            beside: PathFinder::new(beside),
+            known: last.stage.known.finder(),
+        }
+    }
+
+    // Whether the row of a path is a fresh one of a needed path.
+    fn has(&mut self, path: &str) -> bool
+        ensures stays { (last : LastStage) (beside : List (List ℕ)) → FindsStaying last beside self.old
+            → walking.HasOrder last beside → result ≡ walking.row_stays last beside path.now }
+        ensures finder { (last : LastStage) (beside : List (List ℕ)) → FindsStaying last beside self.old
+            → FindsStaying last beside self.new }
+    {
+        let is_needed = self.listed.has(path) || self.beside.has(path);
+        is_needed && self.known.get(path).is_some()
+    }
 }

@@ -16,12 +16,11 @@ ghost use Rattle.index_keep.specs.Keeping as keeping;
 use crate::beginning::begin;
 use crate::evaluating::PathAsk;
 use crate::last_index::HeldIndex;
-use crate::names::insert_name;
 use crate::walking::Walk;
 use index_store::PathRows;
 use mk_paths::{FilesFault, Name};
 use ports_index::{
-    IndexPaths, KnownIndex, Spent, is_makefile, known_rows_are_enough,
+    IndexPaths, KnownIndex, Spent, insert_text, is_makefile, known_rows_are_enough,
     path_is_the_same_where_answered, same_makefiles_serve,
 };
 use std::alloc::{AllocError, Global};
@@ -259,14 +258,14 @@ impl Progress {
     {
         let stays = stays_there(name.as_str(), is_there);
         if let Progress::Changed(names, last) = self {
-            insert_name(names, name)?;
+            insert_text(names, name)?;
             if let Some(held) = last {
                 held.were_there = held.were_there && stays;
             }
             return Ok(());
         }
         let mut names = BTreeSet::new(alloc);
-        insert_name(&mut names, name)?;
+        insert_text(&mut names, name)?;
         let last = mem::replace(self, Progress::nothing(alloc)).into_held(stays);
         *self = Progress::Changed(names, last);
         Ok(())

@@ -9,7 +9,6 @@ mod evaluating;
 mod keeper;
 mod last_index;
 mod laws;
-mod names;
 mod stage;
 mod turning;
 mod walking;

@@ -20,7 +20,7 @@ unfolding path_of
 is_empty text none = ap (λ b. cond b (Err Empty) (cond (has_two_subpackages (elements_of text)) (Err TwoSubpackages) (cond (is_well_written text) (Ok (value_of (elements_of text))) (Err BadCharacter)))) none
 
 -- a text with elements
-cut : (text directory : List ℕ) (choices : List (List ℕ)) → eqb (length text) 0 ≡ false → directory ∷ choices ≡ elements_of text
+pub cut : (text directory : List ℕ) (choices : List (List ℕ)) → eqb (length text) 0 ≡ false → directory ∷ choices ≡ elements_of text
     → path_of text ≡ cond (ltb 1 (length (filter is_subpackage choices))) (Err TwoSubpackages) (cond (is_well_cut text directory choices) (Ok (value_of (directory ∷ choices))) (Err BadCharacter))
 unfolding path_of
 cut text directory choices some e =

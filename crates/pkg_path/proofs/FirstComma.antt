@@ -4,7 +4,7 @@ use Rattle.std.proofs.lemmas.List.Splits.{slice_split-cons_no, slice_split_first
 use Rattle.std.specs.List.{slice_split, position_or_len, before_first, after_first, onto_first}
 use Rattle.pkg_path.specs.Paths.{elements_of}
 
-abbrev is_comma : ℕ → Bool
+abbrev pub is_comma : ℕ → Bool
 is_comma = λ byte. eqb byte 44
 
 whole_from : (byte : ℕ) (text : List ℕ) (b : Bool) → eqb byte 44 ≡ b → cond (not b) (1 + position_or_len is_comma text) 0 ≡ suc (length text)

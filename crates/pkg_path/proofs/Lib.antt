@@ -1,3 +1,4 @@
+pub mod Bare
 pub mod Cutting
 pub mod FirstComma
 pub mod Rereading

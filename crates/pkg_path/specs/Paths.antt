@@ -2,7 +2,7 @@
 -- subpackage, as in `editors/vim,gtk3,-lang`. That flavors and subpackage may come in any order, and what is
 -- refused, is this project's choice.
 use Rattle.std.specs.Prelude.{◌≡◌, ℕ, ◌==◌, nat_lt, nat_le, ◌&&◌, ◌||◌, if◌then◌else◌, Bool, false, not, List, []}
-use Rattle.std.specs.Prelude.{◌∷◌, ◌++◌, length, filter, find, Option, Some, None, Result, Ok, Err, option_to_list}
+use Rattle.std.specs.Prelude.{◌∷◌, ◌++◌, length, filter, find, Option, Some, None, Result, Ok, Err, is_none, option_to_list}
 use Rattle.std.specs.Prelude.{codes}
 use Rattle.std.specs.List.{slice_split, flat_map, list_all, list_any}
 use Rattle.std.specs.Result.{result_ok}
@@ -102,6 +102,18 @@ path_of text =
 -- the path that a text names, if it names one
 abbrev pub path_if_one : List ℕ → Option PathValue
 path_if_one text = result_ok (path_of text)
+
+-- a path that chooses no flavors and names no subpackage
+abbrev pub names_directory : PathValue → Bool
+names_directory path = is_none path.flavors && is_none path.subpackage
+
+abbrev pub is_bare_path : Option PathValue → Bool
+is_bare_path None = false
+is_bare_path (Some path) = names_directory path
+
+-- a text that names such a path: a directory alone
+abbrev pub is_bare : List ℕ → Bool
+is_bare text = is_bare_path (path_if_one text)
 
 -- the number of a refusal; running out of memory has none
 abbrev pub refusal_number : PkgPathFault → Option ℕ

@@ -9,4 +9,4 @@ mod path;
 
 pub use faults::PkgPathFault;
 pub use laws::{canonical_names_the_path, same_text_same_path, stays_a_path};
-pub use path::PkgPath;
+pub use path::{PkgPath, is_bare};

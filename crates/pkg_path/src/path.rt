@@ -5,7 +5,7 @@ ghost use Rattle.std.specs.Option.{option_copied};
 ghost use Rattle.std.specs.Str.{bytes_eq};
 ghost use Rattle.std.specs.Cmp.{partial_equiv_from_equiv};
 ghost use Rattle.std.proofs.lemmas.Cmp.{on_equiv, nat_list_eq_equiv};
-ghost use Rattle.pkg_path.specs.Paths.{path_of, path_if_one, canonical, port_path, IsPath, without_subpackage};
+ghost use Rattle.pkg_path.specs.Paths.{path_of, path_if_one, is_bare, canonical, port_path, IsPath, without_subpackage};
 
 use crate::elements::{
     count_subpackages, cut_into_elements, flavors_of, is_well_written, subpackage_of,
@@ -46,6 +46,16 @@ impl Model for PkgPath {
       flavors = flavors_seen path.flavors;
       subpackage = option_map string_bytes path.subpackage;
     }) };
+}
+
+/// Whether a text is a path that chooses no flavors and names no subpackage: a directory alone. It takes no memory.
+pub fn is_bare(text: &str) -> bool
+    ensures { result ≡ is_bare text.now }
+{
+    match text.split_once(',') {
+        Some(_) => false,
+        None => !text.is_empty() && is_well_written(text, text, &[]),
+    }
 }
 
 impl PkgPath {

@@ -6,7 +6,7 @@ use Rattle.std.specs.List.{All}
 use Rattle.std.specs.Option.{option_to_list}
 use Rattle.ports_index.specs.Finding.{IsEntryOf, IsFinderOf, ahead_of}
 use Rattle.ports_index.specs.Seen.{Said, entries_in, known_seen, row_seen}
-use Rattle.ports_index.specs.declared.keeping.KnownRow.{KnownRow}
+use Rattle.ports_index.specs.declared.noted_rows.KnownRow.{KnownRow}
 use Rattle.ports_index.specs.declared.keeping.MemoryRows.{MemoryRows}
 use Rattle.ports_index.specs.declared.keeping.RowFinder.{RowFinder}
 

@@ -15,4 +15,7 @@ pub mod AlikeLemmas
 pub mod MakefileLemmas
 pub mod AskingLemmas
 pub mod FindingLemmas
+pub mod NotedLemmas
+pub mod RowsFirst
+pub mod PortsThat
 pub mod SearchLemmas

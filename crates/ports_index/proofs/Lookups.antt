@@ -2,7 +2,7 @@
 use Rattle.std.proofs.Common.{◌≡◌, refl, Bool, true, false, cond, if◌then◌else◌, Option, Some, option_map}
 use Rattle.ports_index.specs.PathOutcomes.{PathOutcome}
 use Rattle.ports_index.specs.Seen.{Said, known_seen}
-use Rattle.ports_index.specs.declared.keeping.KnownRow.{KnownRow}
+use Rattle.ports_index.specs.declared.noted_rows.KnownRow.{KnownRow}
 
 pub known-cases : (same : Bool) (one other : Option KnownRow) → option_map known_seen (cond same one other) ≡ (if same then option_map known_seen one else option_map known_seen other)
 known-cases true one other = refl

@@ -1,5 +1,7 @@
 -- The ports at listed paths, and their dependencies, by what each path leads to.
-use Rattle.std.specs.Prelude.{ℕ, List, [], Option, Some, None, option_map, map, Result, Ok, Err}
+use Rattle.std.specs.Prelude.{◌≡◌, ℕ, Bool, false, List, [], Option, Some, None, option_map, map, Result, Ok, Err}
+use Rattle.std.specs.Borrow.{Bor}
+use Rattle.std.specs.Fn.{FnReturnsAt, Shared}
 use Rattle.std.specs.List.{filter_map, flat_map}
 use Rattle.mk_base.specs.FaultAt.{FaultAt}
 use Rattle.pkg_path.specs.Paths.{port_path}
@@ -33,6 +35,18 @@ root_at outcomes path = root_with path (state_of (outcomes path))
 
 abbrev pub roots_among : (List ℕ → PathOutcome) → List (List ℕ) → List RootValue
 roots_among outcomes paths = filter_map (root_at outcomes) paths
+
+-- whether a root is a port that passes a test
+abbrev pub passes_state : (PortValue → Bool) → Result PortValue FaultAt → Bool
+passes_state test (Ok port) = test port
+passes_state test (Err fault) = false
+
+abbrev pub is_port_that : (PortValue → Bool) → RootValue → Bool
+is_port_that test root = passes_state test root.state
+
+-- whatever a closure answers about a port is what the test says of it
+abbrev pub TestsPorts : {F : Type 0} → Shared F (Bor PortValue × Unit {0}) Bool → F → (PortValue → Bool) → Type 0
+TestsPorts calls closure test = (port : PortValue) (answer : Bool) → FnReturnsAt calls closure port answer → answer ≡ test port
 
 -- an item of the port at a path
 pub record RootItemValue : Type 0 where

@@ -1,12 +1,13 @@
--- What finds rows by their paths.
-use Rattle.std.specs.Prelude.{◌≡◌, List, ◌++◌, Some, String, string_bytes, option_map}
+-- What finds rows by their paths, and what finds paths.
+use Rattle.std.specs.Prelude.{◌≡◌, ℕ, List, ◌++◌, map, Some, String, string_bytes, option_map}
 use Rattle.std.specs.BTreeMap.{get_by_text}
 use Rattle.std.specs.Global.{Global}
 use Rattle.std.specs.List.{All}
 use Rattle.std.specs.Option.{option_to_list}
-use Rattle.ports_index.specs.declared.keeping.KnownRow.{KnownRow}
+use Rattle.ports_index.specs.declared.noted_rows.KnownRow.{KnownRow}
 use Rattle.ports_index.specs.declared.keeping.MemoryRows.{MemoryRows}
 use Rattle.ports_index.specs.declared.keeping.RowFinder.{RowFinder}
+use Rattle.ports_index.specs.declared.path_finder.PathFinder.{PathFinder}
 
 -- the rows that it hasn't passed, by their paths
 abbrev pub ahead_of : RowFinder → List (String Global × KnownRow)
@@ -14,9 +15,13 @@ ahead_of finder = option_to_list (option_map (λ entry. (entry.0.now, entry.1.no
 
 -- an entry of these rows, which is found under its path
 abbrev pub IsEntryOf : MemoryRows → String Global × KnownRow → Type 0
-IsEntryOf rows entry = get_by_text rows.rows (string_bytes entry.0) ≡ Some entry.1
+IsEntryOf rows entry = get_by_text rows.noted.rows (string_bytes entry.0) ≡ Some entry.1
 
 -- It finds these rows, and what it hasn't passed is of them.
 pub record IsFinderOf (rows : MemoryRows) (finder : RowFinder) : Type 0 where
   pub finds : finder.rows.now ≡ rows
   pub ahead : All (IsEntryOf rows) (ahead_of finder)
+
+-- it finds these paths
+abbrev pub FindsPaths : List (List ℕ) → PathFinder → Type 0
+FindsPaths paths finder = map string_bytes finder.paths.now ≡ paths

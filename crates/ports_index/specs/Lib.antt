@@ -11,6 +11,7 @@ pub mod Adding
 pub mod Efforts
 pub mod Pairs
 pub mod Seen
+pub mod AskedNames
 pub mod RowLaws
 pub mod Spending
 pub mod NamedPaths

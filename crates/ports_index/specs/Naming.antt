@@ -1,14 +1,14 @@
 -- The paths of a ports tree: the directories in which a makefile may be, and the paths that
 -- lists of directories name (SUBDIR of bsd.port.subdir.mk(5)). Paths are in their canonical
 -- form, without subpackages.
-use Rattle.std.specs.Prelude.{◌≡◌, ℕ, ◌-◌, ◌==◌, nat_eq, ◌&&◌, ◌||◌, if◌then◌else◌, Bool, false, List, [], ◌∷◌, ◌++◌, length, take}
-use Rattle.std.specs.Prelude.{Option, Some, None, option_and_then, option_map, unwrap_or, is_none, codes}
+use Rattle.std.specs.Prelude.{◌≡◌, ℕ, ◌-◌, ◌==◌, nat_eq, ◌||◌, if◌then◌else◌, Bool, List, [], ◌∷◌, ◌++◌, length, take}
+use Rattle.std.specs.Prelude.{Option, Some, None, option_and_then, option_map, unwrap_or, codes}
 use Rattle.std.specs.List.{filter_map, flat_map, list_any, ends_with, after_first}
 use Rattle.std.specs.FinMap.{keys}
 use Rattle.std.specs.Str.{bytes_eq}
 use Rattle.text_parts.specs.Order.{in_order}
 use Rattle.mk_paths.specs.World.{FileMap}
-use Rattle.pkg_path.specs.Paths.{PathValue, path_if_one, port_path, slash, comma}
+use Rattle.pkg_path.specs.Paths.{path_if_one, is_bare, port_path, slash, comma}
 use Rattle.ports_index.specs.PathOutcomes.{PathOutcome, Lists, own_directory}
 
 abbrev pub is_slash : ℕ → Bool
@@ -30,17 +30,6 @@ directory_below place = unwrap_or (after_slash place) own_directory
 -- the trees' own directory
 abbrev pub makefile_directory : List ℕ → Option (List ℕ)
 makefile_directory name = option_map directory_below (option_and_then after_slash (without_end (codes "/Makefile") name))
-
--- a path that chooses no flavors and names no subpackage
-abbrev pub names_directory : PathValue → Bool
-names_directory path = is_none path.flavors && is_none path.subpackage
-
-abbrev pub is_bare_path : Option PathValue → Bool
-is_bare_path None = false
-is_bare_path (Some path) = names_directory path
-
-abbrev pub is_bare : List ℕ → Bool
-is_bare text = is_bare_path (path_if_one text)
 
 -- this directory, if a path names it or it is the trees' own
 abbrev pub if_directory : List ℕ → Option (List ℕ)

@@ -9,7 +9,7 @@ use Rattle.ports_index.specs.Depending.{RootItemValue}
 use Rattle.ports_index.specs.declared.evaluating.Row.{Row}
 use Rattle.ports_index.specs.declared.evaluating.Row.TheVariants.{Absent, Faulty, Port, BadPort, Lists, BadList, FlavoredList, Other}
 use Rattle.ports_index.specs.declared.evaluating.Finding.{Finding}
-use Rattle.ports_index.specs.declared.keeping.KnownRow.{KnownRow}
+use Rattle.ports_index.specs.declared.noted_rows.KnownRow.{KnownRow}
 use Rattle.ports_index.specs.declared.keeping.MemoryRows.{MemoryRows}
 use Rattle.ports_index.specs.declared.depending.RootItem.{RootItem}
 
@@ -43,7 +43,7 @@ known_seen known = record { outcome = row_seen known.row; names = names_seen kno
 
 -- what rows in memory say of each path
 abbrev pub said_in : MemoryRows → List ℕ → Option Said
-said_in rows path = option_map known_seen (get_by_text rows.rows path)
+said_in rows path = option_map known_seen (get_by_text rows.noted.rows path)
 
 -- what each path leads to by these
 abbrev pub entries_in : MemoryRows → List ℕ → Option PathOutcome

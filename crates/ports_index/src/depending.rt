@@ -1,13 +1,20 @@
 //! The ports of a ports tree, and what they depend on, by the rows of its paths.
-ghost use Rattle.std.specs.Prelude.{◌≡◌, ◌++◌, map, string_bytes, IfOk, OnOk, option_map, option_to_list};
+ghost use Rattle.std.specs.Prelude.{◌≡◌, ◌++◌, ◌∷◌, [], Bool, ℕ, List, if◌then◌else◌, filter, map, string_bytes, IfOk, OnOk};
+ghost use Rattle.std.specs.Prelude.{option_map, option_to_list};
 ghost use Rattle.std.specs.Option.{option_copied};
+ghost use Rattle.port_rules.specs.Ports.{PortValue};
 ghost use Rattle.port_deps.specs.Roots.{state_lent};
 ghost use Rattle.port_deps.specs.Seen.{found_seen};
 ghost use Rattle.ports_index.specs.Depending as depending;
+ghost use Rattle.ports_index.specs.Depending.{TestsPorts};
+ghost use Rattle.ports_index.specs.Filling.{is_one_of};
+ghost use Rattle.ports_index.specs.Finding.{FindsPaths};
+ghost use Rattle.ports_index.specs.Naming.{AreInOrder};
 ghost use Rattle.ports_index.specs.Seen.{row_seen, known_row, known_in, entries_in, item_seen};
 
 use crate::evaluating::Row;
 use crate::keeping::MemoryRows;
+use crate::path_finder::PathFinder;
 use mk_base::Fault;
 use port_deps::{Found, Item, Root, RootEdge, Wanted, items, resolve};
 use port_rules::PortRecord;
@@ -175,6 +182,50 @@ fn add_root<'a>(
 {
     if let Some(state) = state_of(row) {
         found.push(Root::new(path, state))?;
+    }
+    Ok(())
+}
+
+/// The ports at these paths that pass a test, in the order of the paths, which is that of their bytes. They are lent by
+/// the paths and the rows. It goes through the rows, so paths whose row doesn't pass the test aren't looked at. It
+/// fails only if memory runs out.
+pub(crate) fn ports_among<'a, F: Fn(&PortRecord) -> bool>(
+    alloc: Global,
+    paths: &'a [String],
+    rows: &'a MemoryRows,
+    passes: F,
+) -> Result<Vec<Root<'a>>, AllocError>
+    requires { F.IsAlwaysCallable passes }
+    ensures { (test : PortValue → Bool) → TestsPorts F.Fn passes test → AreInOrder (map string_bytes paths.now)
+        → IfOk result (λ found. found.items ≡ filter (depending.is_port_that test)
+        (depending.roots_among (known_in (entries_in rows.now)) (map string_bytes paths.now))) }
+{
+    let mut found = Vec::new(alloc);
+    let mut finder = PathFinder::new(paths);
+    for (path, known) in &rows.noted.rows {
+        if let Row::Port(port) = &known.row {
+            if passes(port) {
+                add_port(&mut found, &mut finder, path, port)?;
+            }
+        }
+    }
+    Ok(found)
+}
+
+// Adds the port at a path, if that is found.
+fn add_port<'a>(
+    found: &mut Vec<Root<'a>>,
+    finder: &mut PathFinder<'_>,
+    path: &'a str,
+    port: &'a PortRecord,
+) -> Result<(), AllocError>
+    ensures added { (paths : List (List ℕ)) → FindsPaths paths finder.old → AreInOrder paths
+        → OnOk result (found.new.items ≡ found.old.items ++ (if is_one_of path.now paths
+        then record { path = path.now; state = Ok port.now } ∷ [] else [])) }
+    ensures finder { (paths : List (List ℕ)) → FindsPaths paths finder.old → FindsPaths paths finder.new }
+{
+    if finder.has(path) {
+        found.push(Root::new(path, Ok(port)))?;
     }
     Ok(())
 }

@@ -11,27 +11,17 @@ ghost use Rattle.ports_index.specs.PathOutcomes.{PathOutcome, counted};
 ghost use Rattle.ports_index.specs.Seen.{entries_in, has_asked_for, known_seen, names_in, names_seen, row_seen, said_in, size_of};
 
 use crate::evaluating::Row;
+use crate::noted_rows::{KnownRow, NotedRows, has_name};
 use std::alloc::{AllocError, Global};
 use std::cmp::Ordering;
+use std::collections::BTreeSet;
 use std::collections::btree_map::Range;
-use std::collections::{BTreeMap, BTreeSet};
-
-/// A row that is known.
-#[derive(Debug, Drop)]
-pub struct KnownRow {
-    /// What the path leads to.
-    pub row: Row,
-    /// The names of the files that were asked for to learn that.
-    pub names: Vec<String>,
-    /// How many bytes the row has where it is stored.
-    pub size: u64,
-}
 
 /// Rows in memory, by the canonical paths that lead to them, and their size: the bytes of all rows that were put. It
 /// stops at 2^64 - 1.
 #[derive(Debug, Drop)]
 pub struct MemoryRows {
-    rows: BTreeMap<String, KnownRow>,
+    pub(crate) noted: NotedRows,
     size: u64,
 }
 
@@ -42,7 +32,7 @@ impl MemoryRows {
         ensures size { size_of result ≡ 0 }
     {
         MemoryRows {
-            rows: BTreeMap::new(alloc),
+            noted: NotedRows::new(alloc),
             size: 0,
         }
     }
@@ -51,7 +41,7 @@ impl MemoryRows {
     pub fn get(&self, path: &str) -> Option<&Row>
         ensures { option_map (λ row. row_seen row.now) result ≡ entries_in self.now path.now }
     {
-        match self.rows.get(path) {
+        match self.noted.rows.get(path) {
             Some(known) => Some(&known.row),
             None => None,
         }
@@ -61,7 +51,7 @@ impl MemoryRows {
     pub fn finder(&self) -> RowFinder<'_>
         ensures { IsFinderOf self.now result }
     {
-        let mut left = self.rows.range(..);
+        let mut left = self.noted.rows.range(..);
         RowFinder {
             rows: self,
             ahead: left.next(),
@@ -78,13 +68,7 @@ impl MemoryRows {
         ensures { IfOk result (λ paths. (path : List ℕ) → is_one_of path (map string_bytes paths.items)
             ≡ has_asked_for (contains_text names.now) (names_in self.now path)) }
     {
-        let mut paths = Vec::new(alloc);
-        for (path, known) in &self.rows {
-            if is_one_among(&known.names, names) {
-                paths.push(String::from_str(alloc, path.as_str())?)?;
-            }
-        }
-        Ok(paths)
+        self.noted.paths_asking(alloc, names)
     }
 
     /// How many bytes all rows have that were put.
@@ -105,13 +89,9 @@ impl MemoryRows {
         ensures err_size { OnErr result (size_of self.new ≡ size_of self.old) }
     {
         let size = known.size;
-        match self.rows.insert(path, known) {
-            Ok(_before) => {
-                self.size = self.size.saturating_add(size);
-                Ok(())
-            }
-            Err(failed) => Err(failed.into()),
-        }
+        self.noted.put(path, known)?;
+        self.size = self.size.saturating_add(size);
+        Ok(())
     }
 
     /// Takes out the row of this path, if it has one, and gives it.
@@ -121,7 +101,7 @@ impl MemoryRows {
             ≡ (if bytes_eq path.now other then None else said_in self.old other) }
         ensures size { size_of self.new ≡ size_of self.old }
     {
-        self.rows.remove(path)
+        self.noted.take_out(path)
     }
 }
 
@@ -141,6 +121,21 @@ impl<'a> RowFinder<'a> {
             → option_map (λ row. row_seen row.now) result ≡ entries_in rows path.now }
         ensures finder { (rows : MemoryRows) → IsFinderOf rows self.old → IsFinderOf rows self.new }
     {
+        if let Some((key, known)) = self.ahead {
+            if key.as_str() == path {
+                self.ahead = self.left.next();
+                return Some(&known.row);
+            }
+        }
+        self.search(path)
+    }
+
+    // The same for a path that needn't be the next one.
+    fn search(&mut self, path: &str) -> Option<&'a Row>
+        ensures row { (rows : MemoryRows) → IsFinderOf rows self.old
+            → option_map (λ row. row_seen row.now) result ≡ entries_in rows path.now }
+        ensures finder { (rows : MemoryRows) → IsFinderOf rows self.old → IsFinderOf rows self.new }
+    {
         while let Some((key, known)) = self.ahead {
             match key.as_str().cmp(path) {
                 Ordering::Less => self.ahead = self.left.next(),
@@ -148,7 +143,7 @@ impl<'a> RowFinder<'a> {
                     self.ahead = self.left.next();
                     return Some(&known.row);
                 }
-                Ordering::Greater => return self.rows.get(path),
+                Ordering::Greater => break,
             }
         }
         self.rows.get(path)
@@ -163,11 +158,4 @@ pub fn is_one_among(names: &[String], others: &BTreeSet<String>) -> bool
         Some(only) if others.len() == 1 => has_name(names, only.as_str()),
         _ => names.iter().any(|name| others.contains(name.as_str())),
     }
-}
-
-// Whether a name is one of these.
-fn has_name(names: &[String], name: &str) -> bool
-    ensures { result ≡ list_any (λ one. bytes_eq (string_bytes one) name.now) names.now }
-{
-    names.iter().any(|one| one.as_str() == name)
 }

@@ -1,13 +1,16 @@
 //! An index whose rows are known.
-ghost use Rattle.std.specs.Prelude.{◌≡◌, true, is_some, IfOk, OnOk};
+ghost use Rattle.std.specs.Prelude.{◌≡◌, Bool, true, filter, is_some, IfOk, OnOk};
 ghost use Rattle.mk_paths.specs.World.{World};
+ghost use Rattle.port_rules.specs.Ports.{PortValue};
+ghost use Rattle.ports_index.specs.Depending.{TestsPorts, is_port_that};
 ghost use Rattle.ports_index.specs.Index as indexed;
 ghost use Rattle.ports_index.specs.Known.{IsIndexOf, IsSameIndex};
 
-use crate::depending::{edges_among, roots_among};
+use crate::depending::{edges_among, ports_among, roots_among};
 use crate::keeping::MemoryRows;
 use crate::laws::known_rows_are_enough;
 use port_deps::{Root, RootEdge};
+use port_rules::PortRecord;
 use std::alloc::{AllocError, Global};
 
 /// The paths of an index.
@@ -39,6 +42,20 @@ impl KnownIndex {
     {
         known_rows_are_enough();
         roots_among(alloc, &self.paths.listed, &self.rows)
+    }
+
+    /// The ports that pass a test, in the same order. It fails only if memory runs out.
+    pub fn ports_that<F: Fn(&PortRecord) -> bool>(
+        &self,
+        alloc: Global,
+        passes: F,
+    ) -> Result<Vec<Root<'_>>, AllocError>
+        requires { F.IsAlwaysCallable passes }
+        ensures { (world : World) (test : PortValue → Bool) → TestsPorts F.Fn passes test → IsIndexOf world self.now
+            → IfOk result (λ ports. ports.items ≡ filter (is_port_that test) (indexed.roots world)) }
+    {
+        known_rows_are_enough();
+        ports_among(alloc, &self.paths.listed, &self.rows, passes)
     }
 
     /// The dependencies of all ports, in the order of the ports, and those of each port in the order of its items. It

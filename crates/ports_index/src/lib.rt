@@ -3,6 +3,7 @@
 #![tactic(auto)]
 
 mod alike;
+mod asked_names;
 mod depending;
 mod evaluating;
 mod keeping;
@@ -11,11 +12,14 @@ mod laws;
 mod listed_items;
 mod makefiles;
 mod naming;
+mod noted_rows;
+mod path_finder;
 mod spending;
 
 pub use alike::{are_same, name_alike};
+pub use asked_names::insert_text;
 pub use evaluating::{Finding, Row, finding_of};
-pub use keeping::{KnownRow, MemoryRows, RowFinder, is_one_among};
+pub use keeping::{MemoryRows, RowFinder, is_one_among};
 pub use known_index::{IndexPaths, KnownIndex};
 pub use laws::{
     alike_rows_list_the_same, known_rows_are_enough, listed_paths_cost_no_more,
@@ -25,4 +29,6 @@ pub use laws::{
 pub use listed_items::ListedItems;
 pub use makefiles::{is_makefile, makefiles_are_there};
 pub use naming::{directories, is_found_in, listed};
+pub use noted_rows::KnownRow;
+pub use path_finder::PathFinder;
 pub use spending::Spent;

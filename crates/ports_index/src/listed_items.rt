@@ -131,9 +131,9 @@ fn depends_of(row: Option<&Row>) -> &[Depend]
     }
 }
 
-// The place of an item, by how many bytes it has and by the last eight of them.
+// The place of an item, by how many bytes it has and, if these are eight or more, by the last eight of them.
 fn place_of(item: &str) -> usize
-    ensures { result < 4096 }
+    ensures { result < PLACES }
 {
     let last = match item.as_bytes().last_chunk::<8>() {
         Some(last) => u64::from_le_bytes(*last),

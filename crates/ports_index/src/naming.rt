@@ -13,7 +13,7 @@ use crate::evaluating::Row;
 use crate::keeping::MemoryRows;
 use mk_files::Listing;
 use mk_paths::FilesFault;
-use pkg_path::PkgPath;
+use pkg_path::{PkgPath, is_bare};
 use std::alloc::{AllocError, Global};
 use std::cmp::Ordering;
 use text_parts::{clones_of, put_in_order};
@@ -62,7 +62,7 @@ pub(crate) fn directory_of(alloc: Global, name: &str) -> Result<Option<String>, 
     let Some(directory) = makefile_directory(name) else {
         return Ok(None);
     };
-    if directory == "." || is_bare(alloc, directory)? {
+    if directory == "." || is_bare(directory) {
         return Ok(Some(String::from_str(alloc, directory)?));
     }
     Ok(None)
@@ -86,23 +86,6 @@ fn after_slash(text: &str) -> Option<&str>
 {
     let (_before, after) = text.split_once('/')?;
     Some(after)
-}
-
-// Whether a text is a path that chooses no flavors and names no subpackage.
-fn is_bare(alloc: Global, text: &str) -> Result<bool, AllocError>
-    ensures { IfOk result (λ is. is ≡ naming.is_bare text.now) }
-{
-    match PkgPath::read_if_one(alloc, text)? {
-        Some(path) => Ok(names_directory(&path)),
-        None => Ok(false),
-    }
-}
-
-// Whether a path chooses no flavors and names no subpackage.
-fn names_directory(path: &PkgPath) -> bool
-    ensures { result ≡ naming.names_directory path.now }
-{
-    path.flavors().is_none() && path.subpackage().is_none()
 }
 
 /// These directories, and the paths that the lists among them name, by their rows: in the order of their

@@ -10,3 +10,4 @@ mod SpendingLemmas
 mod LanguageLemmas
 mod MakefileNames
 mod NeededOnce
+pub mod MatchLemmas

@@ -25,7 +25,7 @@ use Rattle.mk_paths.specs.FileName.{slash, parts_of}
 use Rattle.mk_paths.specs.Place.{place}
 use Rattle.mk_paths.specs.SearchPath.{IsSearchPath, is_tree}
 use Rattle.mk_paths.specs.World.{World, files_in, search_path_of}
-use Rattle.pkg_path.specs.Paths.{PathValue, path_of, path_if_one, canonical, without_subpackage, port_path, elements_of, directory_of, choices_of, choices_text, flavor_choices, flavors_of, is_flavor, is_subpackage, comma, is_directory, is_well_written, has_two_subpackages, value_of, is_bare_dash, may_occur}
+use Rattle.pkg_path.specs.Paths.{is_bare, is_bare_path, PathValue, path_of, path_if_one, canonical, without_subpackage, port_path, elements_of, directory_of, choices_of, choices_text, flavor_choices, flavors_of, is_flavor, is_subpackage, comma, is_directory, is_well_written, has_two_subpackages, value_of, is_bare_dash, may_occur}
 use Rattle.pkg_path.specs.declared.faults.PkgPathFault.TheVariants.{Empty, TwoSubpackages, BadCharacter}
 use Rattle.pkg_path.proofs.Rereading.{path_of-IsPath, without-IsPath}
 use Rattle.port_rules.specs.Depends.{DependValue}
@@ -34,7 +34,7 @@ use Rattle.port_deps.specs.Reading as reading
 use Rattle.ports_index.specs.Depending.{target_by, targets_in, target_of, items_among}
 use Rattle.ports_index.specs.Index.{needed_paths, listed_paths}
 use Rattle.ports_index.specs.Naming as naming
-use Rattle.ports_index.specs.Naming.{if_directory, directories, makefile_directory, is_bare, is_bare_path, path_of_word, named_at, path_below, named_in as named_in_list}
+use Rattle.ports_index.specs.Naming.{if_directory, directories, makefile_directory, path_of_word, named_at, path_below, named_in as named_in_list}
 use Rattle.ports_index.specs.Pairs.{Pair, pair_in, pair_named, pair_at, pairs_at}
 use Rattle.ports_index.specs.PathOutcomes.{PathOutcome, Absent, Faulty, Port, BadPort, Lists, BadList, FlavoredList, Other, outcome_at, own_directory}
 use Rattle.ports_index.proofs.TargetLemmas.{targets-among}

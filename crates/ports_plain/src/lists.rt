@@ -4,15 +4,17 @@ ghost use Rattle.mk_paths.specs.World.{World};
 ghost use Rattle.ports_index.specs.Known.{IsIndexOf};
 ghost use Rattle.ports_plain.specs.IndexRoutes as routes;
 ghost use Rattle.ports_plain.specs.Questions as questions;
+ghost use Rattle.ports_query.specs.Listing.{admits_one};
 
 use crate::index_questions::IndexQuestion;
 use crate::list_bodies;
 use crate::parameters::{optional, parameter};
 use crate::questions::Question;
 use pkg_spec::{Spec, SpecFault};
+use port_rules::PortRecord;
 use ports_http::{Content, Reply, StatusCode};
 use ports_index::KnownIndex;
-use ports_query::{Listed, Query, QueryFault, admitted, answer};
+use ports_query::{Listed, Query, QueryFault, admits_one, admitted, answer};
 use std::alloc::{AllocError, Global};
 
 // The question about the packages that meet the conditions that the query gives.
@@ -62,8 +64,13 @@ pub fn match_reply(alloc: Global, index: &KnownIndex, spec: &Spec) -> Result<Rep
     ensures { (world : World) → IsIndexOf world index.now
         → IfOk result (λ reply. reply ≡ routes.match_reply world spec.now) }
 {
-    let roots = index.roots(alloc)?;
-    let packages = admitted(alloc, spec, &roots)?;
+    let ports = index.ports_that(
+        alloc,
+        |port: &PortRecord| -> bool
+            ensures { result ≡ admits_one spec.entry.now port.now }
+        { admits_one(spec, port) },
+    )?;
+    let packages = admitted(alloc, spec, &ports)?;
     packages_reply(alloc, &packages)
 }
 

@@ -1,6 +1,6 @@
 -- Which packages are listed.
 use Rattle.std.specs.Prelude.{ℕ, Bool, List, [], map, filter, find, Option, Result, Ok, Err}
-use Rattle.std.specs.List.{flat_map}
+use Rattle.std.specs.List.{flat_map, list_any}
 use Rattle.std.specs.Str.{bytes_eq}
 use Rattle.mk_base.specs.FaultAt.{FaultAt}
 use Rattle.pkg_name.specs.Name.{name_text}
@@ -43,6 +43,10 @@ answer_of conditions roots = listed_packages (meets_all conditions) roots
 -- the test that a package passes if the spec of this text admits it
 abbrev pub admits : List ℕ → PackageTest
 admits spec path port found = admitted_by spec found.name
+
+-- the spec of this text admits a package of a port
+abbrev pub admits_one : List ℕ → PortValue → Bool
+admits_one spec port = list_any (λ (found : PackageValue). admitted_by spec found.name) port.packages
 
 abbrev pub admitted_of : List ℕ → List RootValue → List ListedValue
 admitted_of spec roots = listed_packages (admits spec) roots

@@ -84,6 +84,15 @@ pub fn admitted<'a>(
     list(alloc, Test::Admitted(spec), roots)
 }
 
+/// Whether a spec admits a package of a port.
+pub fn admits_one(spec: &Spec, port: &PortRecord) -> bool
+    ensures { result ≡ listing.admits_one spec.now port.now }
+{
+    port.packages()
+        .iter()
+        .any(|found| spec.matches(found.name()))
+}
+
 /// The packages of these roots that pass a test.
 fn list<'a>(
     alloc: Global,

@@ -4,7 +4,7 @@ use Rattle.port_rules.specs.Depends.{DependValue}
 use Rattle.port_rules.specs.Flavors.{FlavorsValue}
 use Rattle.port_rules.specs.Packages.{PackageValue}
 use Rattle.port_rules.specs.Ports.{PortValue}
-use Rattle.serde_json.specs.Data.{Data, array, string}
+use Rattle.serde_json.specs.Data.{array, string}
 use Rattle.serde_json.specs.View.{items_of}
 use Rattle.serde_json.specs.Written.{compact_text}
 use Rattle.ports_plain.specs.PortBody.{texts_body, depend_body, package_body, port_body}

@@ -1,5 +1,5 @@
+-- The other rows are as they were.
 use Rattle.std.proofs.Common.{◌∙◌, ap, None, option_map}
-use Rattle.std.proofs.lemmas.Map.Text.{btree_map_updates_text}
 use Rattle.std.specs.BTreeMap.{get_by_text}
 use Rattle.std.specs.Str.{bytes_eq}
 use Rattle.ports_index.specs.Seen.{known_seen}
@@ -8,5 +8,5 @@ use Rattle.ports_index.proofs.keeping.MemoryRows.take_out.Goals as goal
 
 pub returns-clause-others : goal.returns-clause-others
 returns-clause-others c = λ other.
-    ap (option_map known_seen) (btree_map_updates_text c.args.path.now c.args.self.now.rows c.remove.new.self None c.remove.ensures.updates other)
-    ∙ known-cases (bytes_eq c.args.path.now other) None (get_by_text c.args.self.now.rows other)
+    ap (option_map known_seen) (c.take_out.ensures.others other)
+    ∙ known-cases (bytes_eq c.args.path.now other) None (get_by_text c.args.self.now.noted.rows other)

@@ -2,7 +2,7 @@
 use Rattle.std.proofs.Common.{length}
 use Rattle.ports_index.specs.Finding.{IsFinderOf, ahead_of}
 use Rattle.ports_index.specs.declared.keeping.MemoryRows.{MemoryRows}
-use Rattle.ports_index.proofs.keeping.RowFinder.get.Given as goal
+use Rattle.ports_index.proofs.keeping.RowFinder.search.Given as goal
 
 abbrev pub invariant-loop-self : goal.invariant-loop-self
 invariant-loop-self l = (rows : MemoryRows) → IsFinderOf rows l.initial.self → IsFinderOf rows l.self

@@ -1,0 +1,43 @@
+//! Paths that are searched for one after another.
+ghost use Rattle.std.specs.Prelude.{◌≡◌, List, ℕ, map, string_bytes};
+ghost use Rattle.ports_index.specs.Filling.{is_one_of};
+ghost use Rattle.ports_index.specs.Finding.{FindsPaths};
+ghost use Rattle.ports_index.specs.Naming.{AreInOrder};
+
+use crate::naming::is_found_in;
+
+/// Finds paths among these, which are in the order of their bytes. If paths are asked for in that order, all take one pass;
+/// any other path is searched.
+#[derive(Debug, Drop)]
+pub struct PathFinder<'a> {
+    paths: &'a [String],
+    place: usize,
+}
+
+impl<'a> PathFinder<'a> {
+    /// What finds paths among these.
+    pub fn new(paths: &'a [String]) -> PathFinder<'a>
+        ensures { FindsPaths (map string_bytes paths.now) result }
+    {
+        PathFinder { paths, place: 0 }
+    }
+
+    /// Whether this path is one of them.
+    pub fn has(&mut self, path: &str) -> bool
+        ensures has { (paths : List (List ℕ)) → FindsPaths paths self.old → AreInOrder paths
+            → result ≡ is_one_of path.now paths }
+        ensures finder { (paths : List (List ℕ)) → FindsPaths paths self.old → FindsPaths paths self.new }
+    {
+        while self.place < self.paths.len() {
+            let ahead = self.paths[self.place].as_str();
+            if ahead == path {
+                return true;
+            }
+            if ahead > path {
+                break;
+            }
+            self.place += 1;
+        }
+        is_found_in(self.paths, path)
+    }
+}
