@@ -2,6 +2,10 @@
 use Rattle.std.proofs.Common.{◌≡◌, ◌∙◌, sym, ap, refl, ℕ, ◌+◌, ◌<◌, Bool, true, false, ◌||◌, ◌&&◌, List, [], ◌∷◌, ◌++◌, map, take, length, get_or, Option, Some, None, is_some, String, string_bytes, Global}
 use Rattle.std.proofs.lemmas.List.{take_more}
 use Rattle.std.proofs.lemmas.List.Folds.{list_any-append}
+use Rattle.std.proofs.lemmas.Map.Views.{any-filter_same}
+use Rattle.std.proofs.lemmas.Slice.Eq.{bytes_eq-Decides}
+use Rattle.std.specs.List.{filter}
+use Rattle.std.specs.Str.{bytes_eq}
 use Rattle.mk_paths.specs.World.{World}
 use Rattle.ports_index.specs.Depending.{targets_in}
 use Rattle.ports_index.specs.Efforts.{has_makefile}
@@ -24,20 +28,21 @@ target-next outcomes texts place text path inside is =
     ∙ list_any-append (λ one. is_one_of path (targets_in (outcomes one))) (map string_bytes (take place texts)) (string_bytes text ∷ [])
     ∙ ap (λ b. is_target_among outcomes (map string_bytes (take place texts)) path || b) (or-none (is_one_of path (targets_in (outcomes (string_bytes text)))))
 
--- those that are there are added
-pub added-there : (listed beside target there named more : Bool) → (listed || beside) ≡ (listed || (target && there)) → (listed || named) ≡ (listed || more)
-    → (listed || (beside || (named && there))) ≡ (listed || ((target || more) && there))
-added-there true beside target there named more is same = refl
-added-there false beside target there named more is same = (λ i. is i || (same i && there)) ∙ by target more there
+-- those with a comma that are there are added
+pub added-there : (comma target there named more : Bool) → named ≡ (comma && more)
+    → ((comma && target && there) || (named && there)) ≡ (comma && (target || more) && there)
+added-there comma target there named more is = ap (λ n. (comma && target && there) || (n && there)) is ∙ by comma target there more
   where
-    by : (a b c : Bool) → ((a && c) || (b && c)) ≡ ((a || b) && c)
-    by true true true = refl
-    by true true false = refl
-    by true false true = refl
-    by true false false = refl
-    by false b true = refl
-    by false true false = refl
-    by false false false = refl
+    by : (c t h m : Bool) → ((c && t && h) || ((c && m) && h)) ≡ (c && (t || m) && h)
+    by false t h m = refl
+    by true true true m = refl
+    by true true false true = refl
+    by true true false false = refl
+    by true false h m = refl
+
+-- a path is one of those that pass a test if it passes, and is one of them
+pub one-filter : (test : List ℕ → Bool) (path : List ℕ) (paths : List (List ℕ)) → is_one_of path (filter test paths) ≡ (test path && is_one_of path paths)
+one-filter test path paths = any-filter_same (λ one. bytes_eq one path) test (test path) (λ one same. ap test ((bytes_eq-Decides one path).0 same)) paths
 
 -- a path's makefile is found if it is there
 pub found-some : (world : World) (path : List ℕ) (found : Option FoundPath) → IsFoundOf world path found → is_some found ≡ has_makefile world path

@@ -1,17 +1,19 @@
 -- A refresh that goes through paths.
 use Rattle.std.proofs.Common.{Global, String, string_bytes, map, ◌≡◌, ◌∙◌, sym, ap, subst, refl, ℕ, Bool, true, false, ◌||◌, ◌&&◌, if◌then◌else◌, List, ◌++◌, take, Option, Some, None, is_none, is_some, option_and_then, option_map}
-use Rattle.std.proofs.lemmas.Bool.{false≢true, and_parts, or_right}
+use Rattle.std.proofs.lemmas.Bool.{false≢true, and_from, and_parts, or_right}
 use Rattle.std.proofs.lemmas.Slice.Eq.{bytes_eq-Decides}
 use Rattle.std.specs.List.{filter_map, flat_map}
 use Rattle.std.specs.Prelude.{Vec}
 use Rattle.std.specs.Str.{bytes_eq}
 use Rattle.text_parts.specs.Ordered.{among-in_order}
 use Rattle.mk_paths.specs.World.{World, files_in}
+use Rattle.port_deps.specs.Reading.{has_comma}
 use Rattle.ports_index.specs.Alike.{AlikeRowsListTheSame, AreAlikeAt, NameAlike}
 use Rattle.ports_index.specs.Depending.{items_among, target_of, targets_in}
 use Rattle.ports_index.specs.Efforts.{decided, has_makefile, is_there}
 use Rattle.ports_index.specs.Filling.{is_one_of}
 use Rattle.ports_index.specs.Index.{listed_paths, needed_among, needed_paths}
+use Rattle.ports_index.specs.Makefiles.{AreOfDirectories}
 use Rattle.ports_index.specs.Naming.{directories, listed_from, named_at, named_in}
 use Rattle.ports_index.specs.Pairs.{pair_at}
 use Rattle.ports_index.specs.PathOutcomes.{PathOutcome, Absent, Faulty, Port, BadPort, Lists, BadList, FlavoredList, Other, cost_at, outcome_at}
@@ -404,7 +406,7 @@ module _ (law : AlikeRowsListTheSame) (enough : KnownRowsAreEnough) (world : Wor
     }
 
   -- the paths beside the listed ones are looked for
-  module _ (named : NeededAreNamed) (beside : Vec (String Global) Global) (are : AreBeside world next.stage.known (listed_of next) (map string_bytes beside.items)) where
+  module _ (named : NeededAreNamed) (of_directories : AreOfDirectories world) (beside : Vec (String Global) Global) (are : AreBeside world next.stage.known (listed_of next) (map string_bytes beside.items)) where
     abbrev paths : List (List ℕ)
     paths = map string_bytes beside.items
 
@@ -417,33 +419,37 @@ module _ (law : AlikeRowsListTheSame) (enough : KnownRowsAreEnough) (world : Wor
     needed_is : (path : List ℕ) → is_one_of path (needed_paths world) ≡ (is_one_of path (listed_of next) || is_target path)
     needed_is path = ap (is_one_of path) (sym needed-listed) ∙ named (known_in (entries_in next.stage.known)) (listed_of next) path
 
-    one_then : (l t h : Bool) → (l || (t && h)) ≡ true → (l || t) ≡ true
-    one_then true t h e = refl
-    one_then false true h e = refl
-    one_then false false h e = e
+    one_then : (l c t h : Bool) → (c && t && h) ≡ true → (l || t) ≡ true
+    one_then true c t h e = refl
+    one_then false true t h e = (and_parts t h e).0
+    one_then false false t h e = absurd (false≢true e)
 
-    all_then : (l t h : Bool) → h ≡ true → (l || t) ≡ true → (l || (t && h)) ≡ true
-    all_then true t h e f = refl
-    all_then false true h e f = e
-    all_then false false h e f = f
+    all_then : (l c t h : Bool) → (c ≡ false → l ≡ true) → h ≡ true → (l || t) ≡ true → (l || (c && t && h)) ≡ true
+    all_then true c t h plain e f = refl
+    all_then false false t h plain e f = plain refl
+    all_then false true t h plain e f = and_from t h f e
 
     needed_one : (path : List ℕ) → is_one_of path paths ≡ true → is_one_of path (needed_paths world) ≡ true
-    needed_one path one =
-        needed_is path ∙ one_then (is_one_of path (listed_of next)) (is_target path) (there path)
-        (sym (are.are path) ∙ or_right (is_one_of path (listed_of next)) (is_one_of path paths) one)
-
-    among_all : (path : List ℕ) → there path ≡ true → is_one_of path (needed_paths world) ≡ true → (is_one_of path (listed_of next) || is_one_of path paths) ≡ true
-    among_all path is one =
-        are.are path ∙ all_then (is_one_of path (listed_of next)) (is_target path) (there path) is (sym (needed_is path) ∙ one)
+    needed_one path one = needed_is path ∙ one_then (is_one_of path (listed_of next)) (has_comma path) (is_target path) (there path) (sym (are.are path) ∙ one)
 
     there_makefile : (path : List ℕ) → has_makefile world path ≡ true → there path ≡ true
     there_makefile path makefile = or_right (is_some (entries_in next.stage.known path)) (has_makefile world path) makefile
+
+    -- without a comma, a path with a makefile is a directory, and so is listed
+    listed_plain : (path : List ℕ) → has_makefile world path ≡ true → has_comma path ≡ false → is_one_of path (listed_of next) ≡ true
+    listed_plain path makefile plain =
+        ap (is_one_of path) has.far.listed ∙ listed-from (outcome_at world) (directories (files_in world)) path (of_directories path plain makefile)
+
+    among_all : (path : List ℕ) → has_makefile world path ≡ true → is_one_of path (needed_paths world) ≡ true → (is_one_of path (listed_of next) || is_one_of path paths) ≡ true
+    among_all path makefile one =
+        ap (λ b. is_one_of path (listed_of next) || b) (are.are path)
+        ∙ all_then (is_one_of path (listed_of next)) (has_comma path) (is_target path) (there path) (listed_plain path makefile) (there_makefile path makefile) (sym (needed_is path) ∙ one)
 
     pub needed-beside : AreNeededBeside world beside
     needed-beside = record {
       ordered = are.ordered;
       needed = needed_one;
-      all = λ path makefile one. ap (λ listed. is_one_of path listed || is_one_of path paths) (sym has.far.listed) ∙ among_all path (there_makefile path makefile) one;
+      all = λ path makefile one. ap (λ listed. is_one_of path listed || is_one_of path paths) (sym has.far.listed) ∙ among_all path makefile one;
     }
 
     module _ (lacking : Vec (String Global) Global)
@@ -463,7 +469,7 @@ module _ (law : AlikeRowsListTheSame) (enough : KnownRowsAreEnough) (world : Wor
       other_of path one out false e = decided-absent world (fresh rows) path e
       other_of path one out true e =
           decided-one world (entries_in next.stage.known) (fresh rows) (entries-fresh rows next.stage.known has.far.stage.knows) path
-          (known_by_list path (is_one_of path (listed_of next)) refl (among_all path (there_makefile path e) one) (sym (lacks path) ∙ out))
+          (known_by_list path (is_one_of path (listed_of next)) refl (among_all path e one) (sym (lacks path) ∙ out))
 
       among_of : (path : List ℕ) → is_one_of path (map string_bytes lacking.items) ≡ true → is_one_of path paths ≡ true
       among_of path one = (and_parts (is_one_of path paths) (is_none (entries_in next.stage.known path)) (sym (lacks path) ∙ one)).0

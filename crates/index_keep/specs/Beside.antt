@@ -1,6 +1,7 @@
 -- The paths beside the listed ones on which the index depends.
 use Rattle.std.specs.Prelude.{◌≡◌, ◌&&◌, ◌||◌, ℕ, Bool, List, is_some}
 use Rattle.mk_paths.specs.World.{World}
+use Rattle.port_deps.specs.Reading.{has_comma}
 use Rattle.ports_index.specs.Efforts.{has_makefile}
 use Rattle.ports_index.specs.Filling.{is_one_of}
 use Rattle.ports_index.specs.Naming.{AreInOrder}
@@ -12,9 +13,9 @@ use Rattle.ports_index.specs.declared.keeping.MemoryRows.{MemoryRows}
 abbrev pub is_there_at : World → MemoryRows → List ℕ → Bool
 is_there_at world known path = is_some (entries_in known path) || has_makefile world path
 
--- With listed paths, they are these and those that have a row or a makefile and that items of ports at listed paths name,
--- by the rows of these. They are in order, each once.
+-- They are those with a comma that have a row or a makefile and that items of ports at listed paths name, by the rows of
+-- these. They are in order, each once.
 pub record AreBeside (world : World) (known : MemoryRows) (listed beside : List (List ℕ)) : Type 0 where
   pub ordered : AreInOrder beside
-  pub are : (path : List ℕ) → (is_one_of path listed || is_one_of path beside)
-      ≡ (is_one_of path listed || (is_target_among (known_in (entries_in known)) listed path && is_there_at world known path))
+  pub are : (path : List ℕ) → is_one_of path beside
+      ≡ (has_comma path && is_target_among (known_in (entries_in known)) listed path && is_there_at world known path)

@@ -10,13 +10,14 @@ ghost use Rattle.index_keep.specs.Beside.{AreBeside, is_there_at};
 use crate::evaluating::FoundPath;
 use mk_files::Files;
 use mk_paths::{FilesFault, Settings};
-use ports_index::{ListedItems, MemoryRows};
+use ports_index::{MemoryRows, flavored_targets};
 use read_trace::Recorder;
 use std::alloc::Global;
 use text_parts::put_in_order;
 
-/// The paths that have a makefile and that items of ports at listed paths name, by the rows of these, but for items that are
-/// known to name a listed path: in the order of their bytes, each once. It fails if the files fail, or if memory runs out.
+/// The paths with flavors that have a makefile and that items of ports at listed paths name, by the rows of these: in the
+/// order of their bytes, each once. Any other path with a makefile is a directory, and so is listed. It fails if the files
+/// fail, or if memory runs out.
 pub(crate) fn paths_beside<F: Files + Drop>(
     alloc: Global,
     files: &mut Recorder<F>,
@@ -30,9 +31,8 @@ pub(crate) fn paths_beside<F: Files + Drop>(
 {
     let mut beside = Vec::new(alloc);
     let mut finder = known.finder();
-    let mut items = ListedItems::new(alloc, listed)?;
     for path in listed {
-        let named = items.named_beside(alloc, finder.get(path))?;
+        let named = flavored_targets(alloc, finder.get(path))?;
         add_there(alloc, files, settings, known, named, &mut beside)?;
     }
     put_in_order(&mut beside);

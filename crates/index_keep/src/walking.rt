@@ -25,7 +25,7 @@ use mk_files::{Files, Listing};
 use mk_paths::{FilesFault, Settings};
 use ports_index::{
     KnownRow, alike_rows_list_the_same, directories, known_rows_are_enough, listed,
-    makefiles_are_there, needed_are_named,
+    makefiles_are_of_directories, makefiles_are_there, needed_are_named,
 };
 use read_trace::Recorder;
 use std::alloc::{AllocError, Global};
@@ -358,6 +358,7 @@ fn last_stage<F: Files + Drop>(
             beside: None,
         }),
         None => {
+            makefiles_are_of_directories(settings);
             let beside = paths_beside(alloc, files, settings, &listed, &known)?;
             let paths = lacking_among(alloc, &beside, &known)?;
             Ok(LastStage {

@@ -1,4 +1,3 @@
 pub mod Kept
 pub mod Filled
 pub mod WorkLemmas
-pub mod BesideLemmas

@@ -1,10 +1,14 @@
 //! The paths beside the listed ones on which an index depends.
-ghost use Rattle.std.specs.Prelude.{◌≡◌, ◌++◌, map, string_bytes, IfOk, OnOk};
+ghost use Rattle.std.specs.Prelude.{◌≡◌, ◌++◌, map, string_bytes, IfOk, OnOk, option_map};
+ghost use Rattle.std.specs.List.{filter_map};
+ghost use Rattle.ports_index.specs.Depending.{target_by, targets_in};
 ghost use Rattle.ports_index.specs.Index.{needed_among};
-ghost use Rattle.ports_index.specs.Seen.{known_in, entries_in};
+ghost use Rattle.ports_index.specs.Seen.{known_in, known_row, entries_in, row_seen};
 ghost use Rattle.plain_reference.specs.Needed.{needed_with};
 
-use ports_index::{ListedItems, MemoryRows};
+use port_deps::read_wanted;
+use port_rules::Depend;
+use ports_index::{MemoryRows, Row};
 use std::alloc::{AllocError, Global};
 
 /// The paths on which the index depends beside the listed ones, by the rows of these: those that the items of ports
@@ -19,19 +23,33 @@ pub(crate) fn paths_beside(
 {
     let mut beside = Vec::new(alloc);
     let mut finder = rows.finder();
-    let mut items = ListedItems::new(alloc, listed)?;
     for path in listed {
-        append(&mut beside, items.named_beside(alloc, finder.get(path))?)?;
+        add_targets(alloc, &mut beside, finder.get(path))?;
     }
     Ok(beside)
 }
 
-// Adds more paths after these.
-fn append(paths: &mut Vec<String>, more: Vec<String>) -> Result<(), AllocError>
-    ensures { OnOk result (paths.new.items ≡ paths.old.items ++ more.items) }
+// Adds the paths that the items of the port in this row name, without subpackages. Without a row, or if the row is no port,
+// it adds none.
+fn add_targets(alloc: Global, paths: &mut Vec<String>, row: Option<&Row>) -> Result<(), AllocError>
+    ensures { OnOk result (map string_bytes paths.new.items ≡ map string_bytes paths.old.items
+        ++ targets_in (known_row (option_map (λ row. row_seen row.now) row.entry))) }
 {
-    for path in more {
-        paths.push(path)?;
+    match row {
+        Some(Row::Port(port)) => add_named(alloc, paths, port.depends()),
+        _ => Ok(()),
+    }
+}
+
+// Adds the paths that the items of these dependencies name, without subpackages. An item that can't be read names none.
+fn add_named(alloc: Global, paths: &mut Vec<String>, depends: &[Depend]) -> Result<(), AllocError>
+    ensures { OnOk result (map string_bytes paths.new.items ≡ map string_bytes paths.old.items
+        ++ filter_map target_by depends.now) }
+{
+    for depend in depends {
+        if let Some(wanted) = read_wanted(alloc, depend.item())? {
+            paths.push(wanted.path().port_path(alloc)?)?;
+        }
     }
     Ok(())
 }

@@ -1,4 +1,4 @@
 mod AnyPackage
 mod Signs
 mod Colons
-mod PlainTargets
+pub mod PlainPaths

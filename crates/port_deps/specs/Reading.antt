@@ -1,7 +1,7 @@
 -- Items of dependencies, `[pkgspec:]pkgpath[:target]` (BUILD_DEPENDS of bsd.port.mk(5), pkgpath(7),
 -- packages-specs(7)). Which items can't be read, and how a spec is distinguished from a path, is this
 -- project's choice.
-use Rattle.std.specs.Prelude.{◌≡◌, ℕ, ◌==◌, ◌||◌, not, if◌then◌else◌, Bool, List, [], ◌∷◌, ◌++◌, length, take, drop}
+use Rattle.std.specs.Prelude.{◌≡◌, ℕ, ◌==◌, ◌||◌, not, if◌then◌else◌, Bool, false, List, [], ◌∷◌, ◌++◌, length, take, drop}
 use Rattle.std.specs.Prelude.{Option, Some, None, IfSome, option_and_then, is_ok, position, codes}
 use Rattle.std.specs.List.{slice_split, list_any, prefix_len}
 use Rattle.text_parts.specs.Cuts.{Cut}
@@ -99,14 +99,10 @@ wanted_in parts = wanted_at (at_sign parts.path) parts.spec
 abbrev pub wanted_of : List ℕ → Option WantedValue
 wanted_of text = option_and_then wanted_in (named_parts (parts_of text))
 
--- a text without a comma
-abbrev pub plain_text : List ℕ → Option (List ℕ)
-plain_text text = if list_any (λ byte. byte == comma) text then None else Some text
+-- a text has a comma
+abbrev pub has_comma : List ℕ → Bool
+has_comma text = list_any (λ byte. byte == comma) text
 
--- the text of the path that an item names, if it has no comma
-abbrev pub plain_target : List ℕ → Option (List ℕ)
-plain_target item = option_and_then (λ (parts : PartsValue). plain_text (at_sign parts.path).before) (named_parts (parts_of item))
-
--- an item names this path, if it can be read
-abbrev pub NamesAtMost : List ℕ → List ℕ → Type 0
-NamesAtMost item path = IfSome (wanted_of item) (λ wanted. port_path wanted.path ≡ path)
+-- the path that an item names, if the item can be read, has no comma: it chooses no flavors
+abbrev pub NamesPlainPath : List ℕ → Type 0
+NamesPlainPath item = IfSome (wanted_of item) (λ wanted. has_comma (port_path wanted.path) ≡ false)

@@ -10,6 +10,6 @@ mod wanting;
 
 pub use edges::{Edge, resolve};
 pub use lists::{Root, RootEdge};
-pub use reading::{plain_target, read_wanted};
+pub use reading::{has_comma, read_wanted};
 pub use statuses::{Found, Status};
 pub use wanting::{Item, Wanted, items};

@@ -1,5 +1,5 @@
 //! How the text of an item is read.
-ghost use Rattle.std.specs.Prelude.{◌≡◌, ◌==◌, ◌++◌, ◌∷◌, ℕ, List, IfOk, IfSome, codes, option_map, position};
+ghost use Rattle.std.specs.Prelude.{◌≡◌, ◌==◌, ◌++◌, ◌∷◌, ℕ, List, false, IfOk, codes, option_map, position};
 ghost use Rattle.std.specs.List.{list_any};
 ghost use Rattle.std.specs.Option.{option_copied};
 ghost use Rattle.port_deps.specs.Reading as reading;
@@ -28,15 +28,13 @@ pub fn read_wanted(alloc: Global, text: &str) -> Result<Option<Wanted>, AllocErr
     }
 }
 
-/// The text of the path that an item names, if that has no comma and so chooses no flavors and names no subpackage. Whether
-/// the item can be read isn't looked at. It takes no memory.
-pub fn plain_target(item: &str) -> Option<&str>
-    ensures is { option_copied result ≡ reading.plain_target item.now }
-    ensures names { IfSome result (λ path. reading.NamesAtMost item.now path.now) }
+/// Whether a text has a comma. If an item has none, the path that it names has none, and so chooses no flavors. It takes no
+/// memory.
+pub fn has_comma(text: &str) -> bool
+    ensures has { result ≡ reading.has_comma text.now }
+    ensures plain { result ≡ false → reading.NamesPlainPath text.now }
 {
-    let parts = named_parts(behind_colons(item))?;
-    let (path, _versions) = cut_at_sign(parts.path);
-    if holds(path, b',') { None } else { Some(path) }
+    holds(text, b',')
 }
 
 /// An item without the colons that come first.

@@ -1,4 +1,3 @@
-pub mod AddedLemmas
 pub mod Known
 pub mod Filled
 pub mod Totals
@@ -13,6 +12,10 @@ pub mod RowLemmas
 pub mod TargetLemmas
 pub mod AlikeLemmas
 pub mod MakefileLemmas
+pub mod MakefileNames
+pub mod PathReading
+pub mod DirectoryLemmas
+pub mod FlavoredLemmas
 pub mod AskingLemmas
 pub mod FindingLemmas
 pub mod NotedLemmas

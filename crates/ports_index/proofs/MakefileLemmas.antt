@@ -82,7 +82,7 @@ module _ (path : List ℕ) where
     one_of-makefile (other ∷ names) one = in_first other names (bytes_eq other name) refl one (one_of-makefile names)
 
     -- the directory of a makefile that is there is one of the files' directories
-    directory-there : (files : FileMap) → contains_key files name ≡ true → is_one_of path (directories files) ≡ true
+    pub directory-there : (files : FileMap) → contains_key files name ≡ true → is_one_of path (directories files) ≡ true
     directory-there files there =
         among-in_order (λ one. bytes_eq one path) (filter_map directory_of (keys files)) ∙ one_of-makefile (keys files) (sym (there-named files name) ∙ there)
 

@@ -49,14 +49,14 @@ unfolding kept_parts
 kept-end kept [] = refl
 kept-end kept (part ∷ parts) = kept_by parts (λ next. kept-end next parts) (with_part kept part)
 
-joined-end : (parts : List (List ℕ)) → joined (parts ++ last ∷ []) ≡ joined parts ++ codes "/Makefile"
+pub joined-end : (parts : List (List ℕ)) → joined (parts ++ last ∷ []) ≡ joined parts ++ codes "/Makefile"
 joined-end [] = refl
 joined-end (part ∷ parts) = ap (λ rest. slash ∷ part ++ rest) (joined-end parts) ∙ sym (append_assoc (slash ∷ part) (joined parts) (codes "/Makefile"))
 
 drop-front : (text end : List ℕ) → drop (length (text ++ end) - length end) (text ++ end) ≡ end
 drop-front text end = ap (λ n. drop n (text ++ end)) (omega (arith, length-append text end)) ∙ drop-append_seam text end
 
-ends-so : (text : List ℕ) → ends_with nat_eq (text ++ codes "/Makefile") (codes "/Makefile") ≡ true
+pub ends-so : (text : List ℕ) → ends_with nat_eq (text ++ codes "/Makefile") (codes "/Makefile") ≡ true
 ends-so text = ap (pointwise nat_eq (codes "/Makefile")) (drop-front text (codes "/Makefile"))
 
 is_name : (fits : Bool) (parts : List (List ℕ)) (name : List ℕ) → ◌≡◌ {A = Result (List ℕ) NameFault} (if fits then Ok (joined (parts ++ last ∷ [])) else Err BadName) (Ok name) → name ≡ joined (parts ++ last ∷ [])

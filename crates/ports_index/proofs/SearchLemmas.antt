@@ -3,7 +3,7 @@ use Rattle.std.proofs.Common.{arith, ◌<◌, ◌+◌, ◌≡◌, ◌∙◌, ap,
 use Rattle.std.proofs.lemmas.Bool.{cases_lt}
 use Rattle.std.proofs.lemmas.Cmp.{nat_list_cmp_total}
 use Rattle.std.proofs.lemmas.List.{get_or-map, length-map}
-use Rattle.std.proofs.lemmas.List.Folds.{list_any_none}
+use Rattle.std.proofs.lemmas.List.Folds.{list_any_at, list_any_none}
 use Rattle.std.proofs.lemmas.List.Sorted.{searchable_from_sorted}
 use Rattle.std.proofs.lemmas.Map.Keys.{Less-from_sorted}
 use Rattle.std.proofs.lemmas.Map.Text.{is_eq-slice_cmp}
@@ -13,9 +13,15 @@ use Rattle.std.specs.Str.{bytes_eq}
 use Rattle.std.specs.declared.cmp.Ordering.TheVariants.{Less, Equal, Greater}
 use Rattle.general_facts.specs.Lists.{list_any-map}
 use Rattle.text_parts.specs.Ordered.{by_bytes, in_order-sorted}
-use Rattle.ports_index.proofs.AddedLemmas.{one_of-place}
 use Rattle.ports_index.specs.Filling.{is_one_of}
 use Rattle.ports_index.specs.Naming.{AreInOrder}
+
+-- a path at a place among these is one of them
+pub one_of-place : (paths : List (String Global)) (place : ℕ) (one : String Global) (path : List ℕ) → place < length paths → one ≡ get_or paths place one → bytes_eq (string_bytes one) path ≡ true
+    → is_one_of path (map string_bytes paths) ≡ true
+one_of-place paths place one path inside at same =
+    list_any-map (λ other. bytes_eq other path) string_bytes paths
+    ∙ list_any_at (λ other. bytes_eq (string_bytes other) path) paths place one inside (ap (λ other. bytes_eq (string_bytes other) path) (sym at) ∙ same)
 
 module _ (paths : List (String Global)) (path : List ℕ) where
   -- what each path compares to rises along them

@@ -6,8 +6,8 @@ pub mod Naming
 pub mod Depending
 pub mod Index
 pub mod Filling
+pub mod Flavored
 pub mod Finding
-pub mod Adding
 pub mod Efforts
 pub mod Pairs
 pub mod Seen
@@ -18,4 +18,3 @@ pub mod NamedPaths
 pub mod Known
 pub mod Alike
 pub mod Makefiles
-pub mod ListedItems

@@ -1,10 +1,12 @@
 -- Makefiles, and what stays as it was while the same ones are there.
-use Rattle.std.specs.Prelude.{◌≡◌, ℕ, nat_eq, Bool, true, List, codes}
+use Rattle.std.specs.Prelude.{◌≡◌, ℕ, nat_eq, Bool, true, false, List, codes}
 use Rattle.std.specs.FinMap.{contains_key}
 use Rattle.std.specs.List.{ends_with}
-use Rattle.mk_paths.specs.World.{FileMap}
+use Rattle.mk_paths.specs.World.{FileMap, World, files_in}
 use Rattle.mk_paths.specs.declared.search_path.Settings.{Settings}
+use Rattle.port_deps.specs.Reading.{has_comma}
 use Rattle.ports_index.specs.Efforts.{has_makefile}
+use Rattle.ports_index.specs.Filling.{is_one_of}
 use Rattle.ports_index.specs.Naming.{directories}
 
 -- a name ends as that of a directory's makefile does
@@ -18,6 +20,11 @@ AreThere test files = (name : List ℕ) → test name ≡ true → is_makefile n
 -- the same makefiles are there
 abbrev pub SameMakefiles : FileMap → FileMap → Type 0
 SameMakefiles old new = (name : List ℕ) → is_makefile name ≡ true → contains_key new name ≡ contains_key old name
+
+-- If it has no comma, a path has a makefile only if it is one of the files' directories.
+abbrev pub AreOfDirectories : World → Type 0
+AreOfDirectories world = (path : List ℕ) → has_comma path ≡ false → has_makefile world path ≡ true
+    → is_one_of path (directories (files_in world)) ≡ true
 
 -- where the same makefiles are there, the directories are the same, and the same paths have a makefile
 pub record SameMakefilesServe : Type 0 where

@@ -8,7 +8,8 @@ use Rattle.std.specs.FinMap.{keys}
 use Rattle.std.specs.Str.{bytes_eq}
 use Rattle.text_parts.specs.Order.{in_order}
 use Rattle.mk_paths.specs.World.{FileMap}
-use Rattle.pkg_path.specs.Paths.{path_if_one, is_bare, port_path, slash, comma}
+use Rattle.pkg_path.specs.Paths.{path_if_one, is_bare, port_path, slash}
+use Rattle.port_deps.specs.Reading.{has_comma}
 use Rattle.ports_index.specs.PathOutcomes.{PathOutcome, Lists, own_directory}
 
 abbrev pub is_slash : ℕ → Bool
@@ -50,7 +51,7 @@ path_below directory word = if bytes_eq directory own_directory then word else d
 -- the path that a word of a directory's SUBDIR names; only a word with a comma names one
 abbrev pub path_of_word : List ℕ → List ℕ → Option (List ℕ)
 path_of_word directory word =
-    if list_any (λ byte. byte == comma) word then option_map port_path (path_if_one (path_below directory word)) else None
+    if has_comma word then option_map port_path (path_if_one (path_below directory word)) else None
 
 -- the paths that a directory names, by what it leads to
 abbrev pub named_in : List ℕ → PathOutcome → List (List ℕ)

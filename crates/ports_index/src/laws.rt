@@ -1,10 +1,12 @@
 //! What holds of all paths. The functions do nothing else: their clauses are the laws.
+ghost use Rattle.mk_paths.specs.World.{FileMap};
 ghost use Rattle.ports_index.specs.Alike.{AlikeRowsListTheSame};
-ghost use Rattle.ports_index.specs.Makefiles.{SameMakefilesServe};
+ghost use Rattle.ports_index.specs.Makefiles.{AreOfDirectories, SameMakefilesServe};
 ghost use Rattle.ports_index.specs.PathLaws.{PathIsTheSameWhereAnswered, ListedPathsCostNoMore, MakefilesAreEvaluated};
 ghost use Rattle.ports_index.specs.RowLaws.{KnownRowsAreEnough, NeededAreNamed, OneRowMoreLeavesLess};
 
 use mk_eval::same_where_answered;
+use mk_paths::Settings;
 
 /// Take any world with the same settings that gives the answers on which it depends what a path leads to.
 /// In it the path leads to the same, at the same cost, and this depends on the same answers.
@@ -46,6 +48,13 @@ pub fn alike_rows_list_the_same()
 pub fn same_makefiles_serve()
     ensures { SameMakefilesServe }
 {}
+
+/// Under any settings, a path without a comma has a makefile only if it is one of the files' directories.
+pub fn makefiles_are_of_directories(settings: &Settings)
+    ensures { (files : FileMap) → AreOfDirectories (files, settings.now) }
+{
+    let _trees = settings.path.trees();
+}
 
 /// A path is needed if it is listed, or if an item of a port at a listed path names it.
 pub fn needed_are_named()

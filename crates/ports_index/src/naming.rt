@@ -14,6 +14,7 @@ use crate::keeping::MemoryRows;
 use mk_files::Listing;
 use mk_paths::FilesFault;
 use pkg_path::{PkgPath, is_bare};
+use port_deps::has_comma;
 use std::alloc::{AllocError, Global};
 use std::cmp::Ordering;
 use text_parts::{clones_of, put_in_order};
@@ -196,13 +197,6 @@ fn path_of_word(alloc: Global, directory: &str, word: &str) -> Result<Option<Str
         Some(path) => Ok(Some(path.port_path(alloc)?)),
         None => Ok(None),
     }
-}
-
-// Whether a text has a comma.
-fn has_comma(text: &str) -> bool
-    ensures { result ≡ list_any (λ byte. byte == 44) text.now }
-{
-    text.bytes().any(|byte| byte == b',')
 }
 
 // The text of a word below a directory. In the trees' own directory it is the word alone.

@@ -8,6 +8,5 @@ mod TrimmingLemmas
 mod WritingLemmas
 mod SpendingLemmas
 mod LanguageLemmas
-mod MakefileNames
 mod NeededOnce
 pub mod MatchLemmas

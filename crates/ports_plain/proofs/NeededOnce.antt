@@ -37,12 +37,13 @@ use Rattle.ports_index.specs.Naming as naming
 use Rattle.ports_index.specs.Naming.{if_directory, directories, makefile_directory, path_of_word, named_at, path_below, named_in as named_in_list}
 use Rattle.ports_index.specs.Pairs.{Pair, pair_in, pair_named, pair_at, pairs_at}
 use Rattle.ports_index.specs.PathOutcomes.{PathOutcome, Absent, Faulty, Port, BadPort, Lists, BadList, FlavoredList, Other, outcome_at, own_directory}
+use Rattle.ports_index.proofs.PathReading.{has_directory, ok_if, read_as}
 use Rattle.ports_index.proofs.TargetLemmas.{targets-among}
 use Rattle.ports_plain.specs.Questions.{question_of}
 use Rattle.ports_plain.specs.Resting.{rests_for, RestsOnEachOnce}
 use Rattle.ports_plain.specs.declared.questions.Question.{Question}
 use Rattle.ports_plain.specs.declared.questions.Question.TheVariants.{Settled, OfFile, OfPort, OfIndex}
-use Rattle.ports_plain.proofs.MakefileNames.{IsNamedBy, one_stem, named_in, named_own, in_tree}
+use Rattle.ports_index.proofs.MakefileNames.{IsNamedBy, one_stem, named_in, named_own, in_tree}
 
 -- what is of each element, through the lists that are made
 
@@ -118,34 +119,10 @@ record IsBarePath (path : List ℕ) : Type 0 where
 abbrev MayBeNeeded : List ℕ → Type 0
 MayBeNeeded path = (path ≡ own_directory) ⊎ IsBarePath path
 
-ok_if : {T E : Type 0} (r : Result T E) (x : T) → result_ok r ≡ Some x → r ≡ Ok x
-ok_if (Ok y) x e = cc
-ok_if (Err fault) x e = absurd cc
-
 port_is_bare : (text : List ℕ) (path : PathValue) → path_if_one text ≡ Some path → IsBarePath (port_path path)
 port_is_bare text path e =
     let is = without-IsPath path (path_of-IsPath text path (ok_if (path_of text) path e)) in
     record { value = without_subpackage path; read = is.itself; written = refl; bare = refl }
-
--- a text is read as the value of its elements, and its directory is one
-read_by : (none two written : Bool) (text : List ℕ) (path : PathValue) → is_well_written text ≡ written
-    → cond none (Err Empty) (cond two (Err TwoSubpackages) (cond written (Ok (value_of (elements_of text))) (Err BadCharacter))) ≡ Ok path
-    → (value_of (elements_of text) ≡ path) × (is_directory (directory_of (elements_of text)) ≡ true)
-read_by true two written text path is e = absurd cc
-read_by false true written text path is e = absurd cc
-read_by false false false text path is e = absurd cc
-read_by false false true text path is e =
-    let t = and_parts (list_all may_occur text && is_directory (directory_of (elements_of text))) (not (list_any is_bare_dash (choices_of (elements_of text)))) is in
-    (cc, (and_parts (list_all may_occur text) (is_directory (directory_of (elements_of text))) t.0).1)
-
-read_as : (text : List ℕ) (path : PathValue) → path_of text ≡ Ok path → (value_of (elements_of text) ≡ path) × (is_directory (directory_of (elements_of text)) ≡ true)
-unfolding path_of
-read_as text path e = read_by (length text == 0) (has_two_subpackages (elements_of text)) (is_well_written text) text path refl e
-
-has_directory : (text : List ℕ) (path : PathValue) → path_of text ≡ Ok path → is_directory path.directory ≡ true
-has_directory text path e =
-    let r = read_as text path e in
-    subst (λ (path : PathValue). is_directory path.directory ≡ true) r.0 r.1
 
 -- a path without choices is its directory
 

@@ -1,9 +1,9 @@
--- With the listed paths, those so far are what the rows up to here name and is there. The files are the same.
-use Rattle.std.proofs.Common.{◌≡◌, ◌&&◌, ◌||◌, ℕ, List, None, map, take, string_bytes}
+-- Those so far are what the rows up to here name with a comma and is there. The files are the same.
+use Rattle.std.proofs.Common.{◌≡◌, ◌&&◌, ℕ, List, None, map, take, string_bytes}
 use Rattle.mk_paths.specs.FilesView.{world_of}
+use Rattle.port_deps.specs.Reading.{has_comma}
 use Rattle.ports_index.specs.Filling.{is_one_of}
 use Rattle.ports_index.specs.Finding.{IsFinderOf}
-use Rattle.ports_index.specs.ListedItems.{KnowsItems}
 use Rattle.ports_index.specs.RowLaws.{is_target_among}
 use Rattle.ports_index.specs.Seen.{entries_in, known_in}
 use Rattle.read_trace.specs.Recording.{view_of}
@@ -14,10 +14,8 @@ use Rattle.index_keep.proofs.beside.paths_beside.Given as goal
 abbrev pub invariant-loop-path : goal.invariant-loop-path
 invariant-loop-path g l = record {
   finder : IsFinderOf l.known l.finder;
-  items : KnowsItems (map string_bytes l.listed) l.items;
   leaves : LeavesFiles None (view_of g.F.Names.view l.initial.files) (view_of g.F.Names.view l.files);
-  are : (path : List ℕ) → (is_one_of path (map string_bytes l.listed) || is_one_of path (map string_bytes l.beside.items))
-      ≡ (is_one_of path (map string_bytes l.listed)
-      || (is_target_among (known_in (entries_in l.known)) (map string_bytes (take l.path-index l.listed)) path
-      && is_there_at (world_of (view_of g.F.Names.view l.initial.files) l.settings) l.known path));
+  are : (path : List ℕ) → is_one_of path (map string_bytes l.beside.items)
+      ≡ (has_comma path && is_target_among (known_in (entries_in l.known)) (map string_bytes (take l.path-index l.listed)) path
+      && is_there_at (world_of (view_of g.F.Names.view l.initial.files) l.settings) l.known path);
 }

@@ -1,16 +1,13 @@
--- To the listed paths, those so far add the same as all that the items of the ports up to here name.
-use Rattle.std.proofs.Common.{map, take, string_bytes}
+-- Those so far are all that the items of the ports up to here name.
+use Rattle.std.proofs.Common.{◌≡◌, map, take, string_bytes}
 use Rattle.std.specs.List.{flat_map}
-use Rattle.ports_index.specs.Adding.{AddSame}
 use Rattle.ports_index.specs.Depending.{targets_in}
 use Rattle.ports_index.specs.Finding.{IsFinderOf}
-use Rattle.ports_index.specs.ListedItems.{KnowsItems}
 use Rattle.ports_index.specs.Seen.{entries_in, known_in}
 use Rattle.plain_reference.proofs.beside.paths_beside.Given as goal
 
 abbrev pub invariant-loop-path : goal.invariant-loop-path
 invariant-loop-path l = record {
   finder : IsFinderOf l.rows l.finder;
-  items : KnowsItems (map string_bytes l.listed) l.items;
-  beside : AddSame (map string_bytes l.listed) (flat_map (λ path. targets_in (known_in (entries_in l.rows) path)) (map string_bytes (take l.path-index l.listed))) (map string_bytes l.beside.items);
+  beside : map string_bytes l.beside.items ≡ flat_map (λ path. targets_in (known_in (entries_in l.rows) path)) (map string_bytes (take l.path-index l.listed));
 }

@@ -4,8 +4,7 @@ use Rattle.std.proofs.lemmas.Fn.{always_returns_same}
 use Rattle.std.proofs.lemmas.List.{take_all}
 use Rattle.std.specs.Str.{bytes_eq}
 use Rattle.text_parts.specs.Ordered.{by_bytes}
-use Rattle.ports_index.proofs.AddedLemmas.{one_of-place}
-use Rattle.ports_index.proofs.SearchLemmas.{one_of-found, one_of-missed}
+use Rattle.ports_index.proofs.SearchLemmas.{one_of-found, one_of-missed, one_of-place}
 use Rattle.ports_index.proofs.naming.is_found_in.Goals as goal
 
 pub returns-in-Ok-clause-found : goal.returns-in-Ok-clause-found

@@ -2,7 +2,7 @@
 use Rattle.std.proofs.Common.{◌∙◌, ap, sym, map, string_bytes, Bor, List, String, Global}
 use Rattle.std.specs.Str.{bytes_eq}
 use Rattle.ports_index.specs.Filling.{is_one_of}
-use Rattle.ports_index.proofs.AddedLemmas.{one_of-place}
+use Rattle.ports_index.proofs.SearchLemmas.{one_of-place}
 use Rattle.ports_index.proofs.path_finder.PathFinder.has.Goals as goal
 
 pub returns-then-eq-clause-has : goal.returns-then-eq-clause-has

@@ -81,7 +81,7 @@ resolved_by true true None name e = absurd cc
 resolved_by true true (Some kept) name e = (refl, λ other is. ok_of _ (joined kept) name e ∙ ap (λ parts. joined (elim parts as (λ _. List (List ℕ)) [ None ↦ [] | Some parts ↦ parts ])) is)
 
 -- the last part of a makefile's name
-abbrev last : List ℕ
+abbrev pub last : List ℕ
 last = codes "Makefile"
 
 -- the parts of its name: that of the tree, those of the directory, and the last

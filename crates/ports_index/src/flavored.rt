@@ -1,0 +1,69 @@
+//! Paths with flavors that items name.
+ghost use Rattle.std.specs.Prelude.{◌≡◌, filter, map, string_bytes, IfOk, option_map};
+ghost use Rattle.std.specs.List.{filter_map};
+ghost use Rattle.port_deps.specs.Reading.{has_comma};
+ghost use Rattle.ports_index.specs.Depending as depending;
+ghost use Rattle.ports_index.specs.Flavored as flavored;
+ghost use Rattle.ports_index.specs.Seen.{row_seen, known_row};
+
+use crate::depending::target_of;
+use crate::evaluating::Row;
+use crate::naming::add_found;
+use port_deps::{has_comma, read_wanted};
+use port_rules::Depend;
+use std::alloc::{AllocError, Global};
+
+/// The paths with a comma that the items of the port in this row name, without subpackages: those that choose flavors.
+/// Without a row, or if the row is no port, there are none. An item that can't be read names none. It fails only if memory
+/// runs out.
+pub fn flavored_targets(alloc: Global, row: Option<&Row>) -> Result<Vec<String>, AllocError>
+    ensures { IfOk result (λ found. map string_bytes found.items ≡ filter has_comma
+        (depending.targets_in (known_row (option_map (λ row. row_seen row.now) row.entry)))) }
+{
+    let mut found = Vec::new(alloc);
+    for depend in depends_of(row) {
+        add_found(&mut found, flavored_target(alloc, depend)?)?;
+    }
+    Ok(found)
+}
+
+// What the port in this row depends on. Without a row, or if the row is no port, that is nothing.
+fn depends_of(row: Option<&Row>) -> &[Depend]
+    ensures { filter_map depending.target_by result.now
+        ≡ depending.targets_in (known_row (option_map (λ row. row_seen row.now) row.entry)) }
+{
+    match row {
+        Some(Row::Port(port)) => port.depends(),
+        _ => &[],
+    }
+}
+
+// The path that the item of a dependency names, without a subpackage, if the item can be read and the path has a comma.
+fn flavored_target(alloc: Global, depend: &Depend) -> Result<Option<String>, AllocError>
+    ensures { IfOk result (λ path. option_map string_bytes path ≡ flavored.flavored_target depend.now) }
+{
+    if !has_comma(depend.item()) {
+        return Ok(None);
+    }
+    Ok(if_flavored(target_by(alloc, depend)?))
+}
+
+// The path that the item of a dependency names, without a subpackage, if the item can be read.
+fn target_by(alloc: Global, depend: &Depend) -> Result<Option<String>, AllocError>
+    ensures { IfOk result (λ path. option_map string_bytes path ≡ depending.target_by depend.now) }
+{
+    let wanted = read_wanted(alloc, depend.item())?;
+    target_of(alloc, wanted.as_ref())
+}
+
+// This path, if it has a comma.
+fn if_flavored(path: Option<String>) -> Option<String>
+    ensures { option_map string_bytes result ≡ flavored.if_flavored (option_map string_bytes path) }
+{
+    let path = path?;
+    if has_comma(path.as_str()) {
+        Some(path)
+    } else {
+        None
+    }
+}
