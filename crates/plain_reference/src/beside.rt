@@ -1,5 +1,5 @@
 //! The paths beside the listed ones on which an index depends.
-ghost use Rattle.std.specs.Prelude.{◌≡◌, ◌++◌, map, string_bytes, IfOk, OnOk, option_map};
+ghost use Rattle.std.specs.Prelude.{◌≡◌, ◌++◌, map, string_bytes, IfOk, OnOk, option_map, option_to_list};
 ghost use Rattle.std.specs.List.{filter_map};
 ghost use Rattle.ports_index.specs.Depending.{target_by, targets_in};
 ghost use Rattle.ports_index.specs.Index.{needed_among};
@@ -41,15 +41,35 @@ fn add_targets(alloc: Global, paths: &mut Vec<String>, row: Option<&Row>) -> Res
     }
 }
 
-// Adds the paths that the items of these dependencies name, without subpackages. An item that can't be read names none.
+// Adds the paths that the items of these dependencies name, without subpackages.
 fn add_named(alloc: Global, paths: &mut Vec<String>, depends: &[Depend]) -> Result<(), AllocError>
     ensures { OnOk result (map string_bytes paths.new.items ≡ map string_bytes paths.old.items
         ++ filter_map target_by depends.now) }
 {
     for depend in depends {
-        if let Some(wanted) = read_wanted(alloc, depend.item())? {
-            paths.push(wanted.path().port_path(alloc)?)?;
-        }
+        add_target(alloc, paths, depend)?;
     }
     Ok(())
+}
+
+// Adds the path that the item of a dependency names, without a subpackage, if the item can be read.
+fn add_target(alloc: Global, paths: &mut Vec<String>, depend: &Depend) -> Result<(), AllocError>
+    ensures { OnOk result (map string_bytes paths.new.items ≡ map string_bytes paths.old.items
+        ++ option_to_list (target_by depend.now)) }
+{
+    if let Some(target) = target_of(alloc, depend)? {
+        paths.push(target)?;
+    }
+    Ok(())
+}
+
+// That path.
+fn target_of(alloc: Global, depend: &Depend) -> Result<Option<String>, AllocError>
+    ensures { IfOk result (λ path. option_map string_bytes path ≡ target_by depend.now) }
+{
+    let wanted = read_wanted(alloc, depend.item())?;
+    match wanted.as_ref() {
+        Some(wanted) => Ok(Some(wanted.path().port_path(alloc)?)),
+        None => Ok(None),
+    }
 }
