@@ -21,4 +21,5 @@ pub mod FindingLemmas
 pub mod NotedLemmas
 pub mod RowsFirst
 pub mod PortsThat
+pub mod OnePath
 pub mod SearchLemmas

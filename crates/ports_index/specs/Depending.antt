@@ -1,8 +1,9 @@
 -- The ports at listed paths, and their dependencies, by what each path leads to.
-use Rattle.std.specs.Prelude.{◌≡◌, ℕ, Bool, false, List, [], Option, Some, None, option_map, map, Result, Ok, Err}
+use Rattle.std.specs.Prelude.{◌≡◌, ℕ, Bool, false, List, [], Option, Some, None, filter, find, option_map, map, Result, Ok, Err}
 use Rattle.std.specs.Borrow.{Bor}
 use Rattle.std.specs.Fn.{FnReturnsAt, Shared}
 use Rattle.std.specs.List.{filter_map, flat_map}
+use Rattle.std.specs.Str.{bytes_eq}
 use Rattle.mk_base.specs.FaultAt.{FaultAt}
 use Rattle.pkg_path.specs.Paths.{port_path}
 use Rattle.port_rules.specs.Ports.{PortValue}
@@ -35,6 +36,10 @@ root_at outcomes path = root_with path (state_of (outcomes path))
 
 abbrev pub roots_among : (List ℕ → PathOutcome) → List (List ℕ) → List RootValue
 roots_among outcomes paths = filter_map (root_at outcomes) paths
+
+-- of the roots at these paths, the one at a path, if there is one
+abbrev pub root_among : (List ℕ → PathOutcome) → List (List ℕ) → List ℕ → Option RootValue
+root_among outcomes paths path = find (λ (root : RootValue). bytes_eq root.path path) (roots_among outcomes paths)
 
 -- whether a root is a port that passes a test
 abbrev pub passes_state : (PortValue → Bool) → Result PortValue FaultAt → Bool
@@ -105,3 +110,7 @@ edge_at outcomes rooted = record { root = rooted.root; edge = edge_of rooted.ite
 
 abbrev pub edges_among : (List ℕ → PathOutcome) → List (List ℕ) → List RootEdgeValue
 edges_among outcomes paths = map (edge_at outcomes) (items_among outcomes paths)
+
+-- of the dependencies of the ports at these paths, those of the port at a path
+abbrev pub edges_from : (List ℕ → PathOutcome) → List (List ℕ) → List ℕ → List RootEdgeValue
+edges_from outcomes paths path = filter (λ (edge : RootEdgeValue). bytes_eq edge.root path) (edges_among outcomes paths)

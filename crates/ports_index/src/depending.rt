@@ -14,6 +14,7 @@ ghost use Rattle.ports_index.specs.Seen.{row_seen, known_row, known_in, entries_
 
 use crate::evaluating::Row;
 use crate::keeping::MemoryRows;
+use crate::naming::is_found_in;
 use crate::path_finder::PathFinder;
 use mk_base::Fault;
 use port_deps::{Found, Item, Root, RootEdge, Wanted, items, resolve};
@@ -152,6 +153,52 @@ pub(crate) fn edges_among(
     edges_of_all(alloc, items, rows)
 }
 
+/// The dependencies of the port at a path, if that is one of these, in the order of its items. Of all rows, it looks at the
+/// port's own, and at those of the paths that its items name. It fails only if memory runs out.
+pub(crate) fn edges_from(
+    alloc: Global,
+    path: &str,
+    paths: &[String],
+    rows: &MemoryRows,
+) -> Result<Vec<RootEdge>, AllocError>
+    ensures { AreInOrder (map string_bytes paths.now) → IfOk result (λ found. found.items
+        ≡ depending.edges_from (known_in (entries_in rows.now)) (map string_bytes paths.now) path.now) }
+{
+    if !is_found_in(paths, path) {
+        return Ok(Vec::new(alloc));
+    }
+    let mut items = Vec::new(alloc);
+    add_items(alloc, &mut items, path, rows.get(path))?;
+    edges_of_all(alloc, items, rows)
+}
+
+/// The root at a path, if that is one of these and there is a root. It takes no memory.
+pub(crate) fn root_among<'a>(
+    path: &'a str,
+    paths: &[String],
+    rows: &'a MemoryRows,
+) -> Option<Root<'a>>
+    ensures { AreInOrder (map string_bytes paths.now) → result
+        ≡ depending.root_among (known_in (entries_in rows.now)) (map string_bytes paths.now) path.now }
+{
+    if is_found_in(paths, path) {
+        root_with(path, rows.get(path))
+    } else {
+        None
+    }
+}
+
+// The root at a path with this row, if there is one.
+fn root_with<'a>(path: &'a str, row: Option<&'a Row>) -> Option<Root<'a>>
+    ensures { result ≡ depending.root_with path.now
+        (depending.state_of (known_row (option_map (λ row. row_seen row.now) row.entry))) }
+{
+    match state_of(row) {
+        Some(state) => Some(Root::new(path, state)),
+        None => None,
+    }
+}
+
 /// The roots at these paths, in their order: the ports, and the faults there. They are lent by the paths and the
 /// rows. It fails only if memory runs out.
 pub(crate) fn roots_among<'a>(
@@ -180,8 +227,8 @@ fn add_root<'a>(
         ++ option_to_list (depending.root_with path.now
         (depending.state_of (known_row (option_map (λ row. row_seen row.now) row.entry))))) }
 {
-    if let Some(state) = state_of(row) {
-        found.push(Root::new(path, state))?;
+    if let Some(root) = root_with(path, row) {
+        found.push(root)?;
     }
     Ok(())
 }

@@ -6,7 +6,7 @@ ghost use Rattle.ports_index.specs.Depending.{TestsPorts, is_port_that};
 ghost use Rattle.ports_index.specs.Index as indexed;
 ghost use Rattle.ports_index.specs.Known.{IsIndexOf, IsSameIndex};
 
-use crate::depending::{edges_among, ports_among, roots_among};
+use crate::depending::{edges_among, edges_from, ports_among, root_among, roots_among};
 use crate::keeping::MemoryRows;
 use crate::laws::known_rows_are_enough;
 use port_deps::{Root, RootEdge};
@@ -44,7 +44,25 @@ impl KnownIndex {
         roots_among(alloc, &self.paths.listed, &self.rows)
     }
 
-    /// The ports that pass a test, in the same order. It fails only if memory runs out.
+    /// The root at a path, if there is one. It looks at one row, and takes no memory.
+    pub fn root_at<'a>(&'a self, path: &'a str) -> Option<Root<'a>>
+        ensures { (world : World) → IsIndexOf world self.now → result ≡ indexed.root_of world path.now }
+    {
+        known_rows_are_enough();
+        root_among(path, &self.paths.listed, &self.rows)
+    }
+
+    /// The dependencies of the port at a path, in the order of its items. Of all rows, it looks at the port's own, and at
+    /// those of the paths that its items name. It fails only if memory runs out.
+    pub fn edges_from(&self, alloc: Global, path: &str) -> Result<Vec<RootEdge>, AllocError>
+        ensures { (world : World) → IsIndexOf world self.now
+            → IfOk result (λ edges. edges.items ≡ indexed.edges_of world path.now) }
+    {
+        known_rows_are_enough();
+        edges_from(alloc, path, &self.paths.listed, &self.rows)
+    }
+
+    /// The ports that pass a test, in the order of their paths. It fails only if memory runs out.
     pub fn ports_that<F: Fn(&PortRecord) -> bool>(
         &self,
         alloc: Global,

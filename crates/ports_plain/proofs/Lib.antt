@@ -9,4 +9,5 @@ mod WritingLemmas
 mod SpendingLemmas
 mod LanguageLemmas
 mod NeededOnce
+mod FirstEdges
 pub mod MatchLemmas

@@ -1,5 +1,5 @@
 -- No makefile is twice, with the same flavors, among those on which an answer rests.
-use Rattle.std.proofs.Common.{◌≡◌, ◌≢◌, ◌∙◌, ◌⊎◌, inl, inr, sym, ap, subst, refl, ℕ, ◌<◌, Bool, true, false, cond, not, ◌&&◌, ◌||◌, ◌==◌, List, [], ◌∷◌, ◌++◌, length, Option, Some, None, Result, Ok, Err, arith}
+use Rattle.std.proofs.Common.{◌≡◌, ◌≢◌, ◌∙◌, ◌⊎◌, inl, inr, sym, ap, subst, refl, ℕ, ◌<◌, Bool, true, false, cond, not, ◌&&◌, ◌||◌, ◌==◌, List, [], ◌∷◌, ◌++◌, length, Option, Some, None, Ok, arith}
 use Rattle.std.proofs.lemmas.Bool.{and_parts, false≢true}
 use Rattle.std.proofs.lemmas.Grind.{common_steps}
 use Rattle.std.proofs.lemmas.Cmp.{tied_itself, nat_list_cmp_total}
@@ -25,8 +25,7 @@ use Rattle.mk_paths.specs.FileName.{slash, parts_of}
 use Rattle.mk_paths.specs.Place.{place}
 use Rattle.mk_paths.specs.SearchPath.{IsSearchPath, is_tree}
 use Rattle.mk_paths.specs.World.{World, files_in, search_path_of}
-use Rattle.pkg_path.specs.Paths.{is_bare, is_bare_path, PathValue, path_of, path_if_one, canonical, without_subpackage, port_path, elements_of, directory_of, choices_of, choices_text, flavor_choices, flavors_of, is_flavor, is_subpackage, comma, is_directory, is_well_written, has_two_subpackages, value_of, is_bare_dash, may_occur}
-use Rattle.pkg_path.specs.declared.faults.PkgPathFault.TheVariants.{Empty, TwoSubpackages, BadCharacter}
+use Rattle.pkg_path.specs.Paths.{is_bare, is_bare_path, PathValue, path_of, path_if_one, canonical, without_subpackage, port_path, elements_of, directory_of, choices_of, choices_text, flavor_choices, flavors_of, is_flavor, is_subpackage, comma}
 use Rattle.pkg_path.proofs.Rereading.{path_of-IsPath, without-IsPath}
 use Rattle.port_rules.specs.Depends.{DependValue}
 use Rattle.port_deps.specs.Reading.{WantedValue, PartsValue, wanted_of, wanted_in, wanted_at, wanted_by, spec_if_one, spec_text, at_sign, named_parts}

@@ -12,6 +12,10 @@ use Rattle.ports_plain.specs.declared.files.FileQuestion.{FileQuestion}
 use Rattle.ports_plain.specs.declared.files.FileQuestion.TheVariants.{Show, Remove}
 use Rattle.ports_plain.specs.declared.port_questions.PortQuestion.{PortQuestion}
 use Rattle.ports_plain.specs.declared.port_questions.PortQuestion.TheVariants.{Variable, Record}
+use Rattle.ports_plain.specs.declared.dependencies.Direction.{Direction}
+use Rattle.ports_plain.specs.declared.dependencies.Direction.TheVariants.{Dependencies, Dependents}
+use Rattle.ports_plain.specs.declared.depth.Depth.{Depth}
+use Rattle.ports_plain.specs.declared.depth.Depth.TheVariants.{Direct, All}
 use Rattle.ports_plain.specs.declared.index_questions.IndexQuestion.{IndexQuestion}
 use Rattle.ports_plain.specs.declared.index_questions.IndexQuestion.TheVariants as index
 use Rattle.ports_plain.specs.IndexRoutes.{list_reply, match_reply, get_faults, dependency_reply}
@@ -47,12 +51,18 @@ index_reply world (index.Match spec) = match_reply world spec
 index_reply world index.Faults = get_faults world
 index_reply world (index.Dependencies direction asked) = dependency_reply world direction asked
 
--- a question about all ports is about their dependencies
+-- following dependencies this way, so far, takes those of all ports: but for those of one port itself
+abbrev pub follows_all : Direction → Depth → Bool
+follows_all Dependencies Direct = false
+follows_all Dependencies All = true
+follows_all Dependents depth = true
+
+-- a question looks at the dependencies of all ports
 abbrev pub follows_edges : IndexQuestion → Bool
 follows_edges (index.List conditions) = false
 follows_edges (index.Match spec) = false
 follows_edges index.Faults = false
-follows_edges (index.Dependencies direction asked) = true
+follows_edges (index.Dependencies direction asked) = follows_all direction asked.depth
 
 -- the answer to a question over a world
 abbrev pub answer_to : World → Question → Answer

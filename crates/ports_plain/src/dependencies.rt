@@ -2,11 +2,13 @@
 ghost use Rattle.std.specs.Prelude.{◌≡◌, IfOk, Ok};
 ghost use Rattle.mk_paths.specs.World.{World};
 ghost use Rattle.serde_json.specs.Written.{compact_text};
+ghost use Rattle.pkg_path.specs.Paths.{port_path};
 ghost use Rattle.ports_index.specs.Index as indexed;
 ghost use Rattle.ports_index.specs.Known.{IsIndexOf};
 ghost use Rattle.ports_query.specs.Kinds.{kinds_of};
 ghost use Rattle.ports_plain.specs.IndexRoutes as routes;
 ghost use Rattle.ports_plain.specs.Questions as questions;
+ghost use Rattle.ports_plain.specs.declared.depth.Depth.TheVariants.{Direct, All};
 
 use crate::depth::Depth;
 use crate::index_questions::IndexQuestion;
@@ -16,10 +18,10 @@ use crate::port_questions::has_named;
 use crate::questions::Question;
 use crate::replies::{faulty, refusal};
 use pkg_path::PkgPath;
-use port_deps::{Root, RootEdge};
+use port_deps::RootEdge;
 use ports_http::{Content, Reply, StatusCode};
 use ports_index::KnownIndex;
-use ports_query::{Kinds, edges_to, first_edges, reached, reaching, root_at};
+use ports_query::{Kinds, edges_to, first_edges, reached, reaching};
 use std::alloc::{AllocError, Global};
 
 /// Which way dependencies are followed.
@@ -98,50 +100,26 @@ pub fn dependency_reply(
     ensures { (world : World) → IsIndexOf world index.now
         → IfOk result (λ reply. reply ≡ routes.dependency_reply world direction question.now) }
 {
-    match &index.edges {
-        Some(edges) => reply_over(alloc, index, edges, direction, question),
-        None => {
-            let edges = index.make_edges(alloc)?;
-            reply_over(alloc, index, &edges, direction, question)
-        }
-    }
-}
-
-// The same, given the dependencies of all ports.
-fn reply_over(
-    alloc: Global,
-    index: &KnownIndex,
-    edges: &[RootEdge],
-    direction: Direction,
-    question: &DependencyQuestion,
-) -> Result<Reply, AllocError>
-    ensures { (world : World) → IsIndexOf world index.now → edges.now ≡ indexed.edges world
-        → IfOk result (λ reply. reply ≡ routes.dependency_reply world direction question.now) }
-{
     match direction {
-        Direction::Dependencies => {
-            let roots = index.roots(alloc)?;
-            dependencies_in(alloc, &roots, edges, question)
-        }
+        Direction::Dependencies => dependencies_reply(alloc, index, question),
         Direction::Dependents => {
-            let body = dependents_body(alloc, edges, question)?;
+            let body = dependents_body(alloc, index, question)?;
             Ok(Reply::of_bytes(StatusCode::OK, Some(Content::Json), body))
         }
     }
 }
 
 // What a port depends on. The port must have the subpackage, if one is named.
-fn dependencies_in(
+fn dependencies_reply(
     alloc: Global,
-    roots: &[Root<'_>],
-    edges: &[RootEdge],
+    index: &KnownIndex,
     question: &DependencyQuestion,
 ) -> Result<Reply, AllocError>
-    ensures { IfOk result (λ reply. reply
-        ≡ routes.dependencies_in roots.now edges.now question.now) }
+    ensures { (world : World) → IsIndexOf world index.now → IfOk result (λ reply. reply
+        ≡ routes.dependencies_in (indexed.roots world) (indexed.edges world) question.now) }
 {
     let path = question.path.port_path(alloc)?;
-    let Some(root) = root_at(path.as_str(), roots) else {
+    let Some(root) = index.root_at(path.as_str()) else {
         return refusal(alloc, StatusCode::NOT_FOUND, "NoPort");
     };
     match root.state() {
@@ -150,33 +128,85 @@ fn dependencies_in(
             refusal(alloc, StatusCode::NOT_FOUND, "NoSubpackage")
         }
         Ok(_port) => {
-            let body = dependencies_body(alloc, edges, question)?;
+            let body = dependencies_body(alloc, index, path.as_str(), question)?;
             Ok(Reply::of_bytes(StatusCode::OK, Some(Content::Json), body))
         }
     }
 }
 
+// The dependencies of the port at the question's path, which is this one without its subpackage: its own, or all ports that
+// it reaches.
 fn dependencies_body(
+    alloc: Global,
+    index: &KnownIndex,
+    path: &str,
+    question: &DependencyQuestion,
+) -> Result<Vec<u8>, AllocError>
+    ensures { (world : World) → IsIndexOf world index.now → path.now ≡ port_path question.now.path
+        → IfOk result (λ text. text.items
+        ≡ compact_text (routes.dependencies_body_of (indexed.edges world) question.now)) }
+{
+    match question.depth {
+        Depth::Direct => {
+            let edges = index.edges_from(alloc, path)?;
+            first_body(alloc, &edges, question)
+        }
+        Depth::All => match &index.edges {
+            Some(edges) => reached_body(alloc, edges, question),
+            None => {
+                let edges = index.make_edges(alloc)?;
+                reached_body(alloc, &edges, question)
+            }
+        },
+    }
+}
+
+// The dependencies of the port at the question's path, by these.
+fn first_body(
     alloc: Global,
     edges: &[RootEdge],
     question: &DependencyQuestion,
 ) -> Result<Vec<u8>, AllocError>
     ensures { IfOk result (λ text. text.items
-        ≡ compact_text (routes.dependencies_body_of edges.now question.now)) }
+        ≡ compact_text (routes.dependencies_at edges.now question.now.path question.now.kinds Direct)) }
 {
-    match question.depth {
-        Depth::Direct => {
-            let first = first_edges(alloc, question.kinds, &question.path, edges)?;
-            list_bodies::dependencies(alloc, &first)
-        }
-        Depth::All => {
-            let paths = reached(alloc, question.kinds, &question.path, edges)?;
-            list_bodies::reached(alloc, &paths)
+    let first = first_edges(alloc, question.kinds, &question.path, edges)?;
+    list_bodies::dependencies(alloc, &first)
+}
+
+// The ports that the port at the question's path reaches over these dependencies.
+fn reached_body(
+    alloc: Global,
+    edges: &[RootEdge],
+    question: &DependencyQuestion,
+) -> Result<Vec<u8>, AllocError>
+    ensures { IfOk result (λ text. text.items
+        ≡ compact_text (routes.dependencies_at edges.now question.now.path question.now.kinds All)) }
+{
+    let paths = reached(alloc, question.kinds, &question.path, edges)?;
+    list_bodies::reached(alloc, &paths)
+}
+
+// What depends on the port at the question's path.
+fn dependents_body(
+    alloc: Global,
+    index: &KnownIndex,
+    question: &DependencyQuestion,
+) -> Result<Vec<u8>, AllocError>
+    ensures { (world : World) → IsIndexOf world index.now → IfOk result (λ text. text.items
+        ≡ compact_text (routes.dependents_body_of (indexed.edges world) question.now)) }
+{
+    match &index.edges {
+        Some(edges) => dependents_over(alloc, edges, question),
+        None => {
+            let edges = index.make_edges(alloc)?;
+            dependents_over(alloc, &edges, question)
         }
     }
 }
 
-fn dependents_body(
+// The same, given the dependencies of all ports.
+fn dependents_over(
     alloc: Global,
     edges: &[RootEdge],
     question: &DependencyQuestion,

@@ -2,9 +2,10 @@
 ghost use Rattle.std.specs.Prelude.{◌≡◌, IfOk};
 ghost use Rattle.mk_paths.specs.World.{World};
 ghost use Rattle.ports_index.specs.Known.{IsIndexOf};
-ghost use Rattle.ports_plain.specs.Answers.{follows_edges, index_reply};
+ghost use Rattle.ports_plain.specs.Answers.{follows_all, follows_edges, index_reply};
 
 use crate::dependencies::{DependencyQuestion, Direction, dependency_reply};
+use crate::depth::Depth;
 use crate::lists::{faults_reply, list_reply, match_reply};
 use pkg_spec::Spec;
 use ports_http::Reply;
@@ -26,11 +27,14 @@ pub enum IndexQuestion {
 }
 
 impl IndexQuestion {
-    /// Whether it is about dependencies, and so looks at those of all ports.
+    /// Whether it looks at the dependencies of all ports. A question about the dependencies of one port alone doesn't.
     pub fn follows_edges(&self) -> bool
         ensures { result ≡ follows_edges self.now }
     {
-        matches!(self, IndexQuestion::Dependencies(_, _))
+        match self {
+            IndexQuestion::Dependencies(direction, asked) => follows_all(*direction, asked.depth),
+            IndexQuestion::List(_) | IndexQuestion::Match(_) | IndexQuestion::Faults => false,
+        }
     }
 
     /// The reply, by the index of a world. It fails only if memory runs out.
@@ -46,5 +50,15 @@ impl IndexQuestion {
                 dependency_reply(alloc, index, *direction, asked)
             }
         }
+    }
+}
+
+// Whether dependencies that are followed this way, so far, are those of all ports.
+fn follows_all(direction: Direction, depth: Depth) -> bool
+    ensures { result ≡ follows_all direction depth }
+{
+    match direction {
+        Direction::Dependencies => matches!(depth, Depth::All),
+        Direction::Dependents => true,
     }
 }

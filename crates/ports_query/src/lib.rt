@@ -16,6 +16,6 @@ mod reach;
 pub use edges::{edges_to, first_edges};
 pub use faults::QueryFault;
 pub use kinds::Kinds;
-pub use listing::{Listed, admits_one, admitted, answer, root_at};
+pub use listing::{Listed, admits_one, admitted, answer};
 pub use query::Query;
 pub use reach::{reached, reaching};

@@ -1,6 +1,5 @@
 //! Packages that are listed.
 ghost use Rattle.std.specs.Prelude.{◌≡◌, ◌++◌, IfOk, OnOk, map, filter, if◌then◌else◌, [], ◌∷◌};
-ghost use Rattle.std.specs.Option.{option_copied};
 ghost use Rattle.pkg_name.specs.Name.{name_text};
 ghost use Rattle.ports_query.specs.Listing as listing;
 
@@ -171,11 +170,4 @@ fn passes(alloc: Global, test: Test<'_>, candidate: Candidate<'_>) -> Result<boo
         Test::Meets(query) => meets_all(alloc, query.conditions(), candidate),
         Test::Admitted(spec) => Ok(spec.matches(candidate.found.name())),
     }
-}
-
-/// The root at a canonical path, if there is one.
-pub fn root_at<'r, 'a>(path: &str, roots: &'r [Root<'a>]) -> Option<&'r Root<'a>>
-    ensures { option_copied result ≡ listing.root_named roots.now path.now }
-{
-    roots.iter().find(|root| root.path() == path)
 }
