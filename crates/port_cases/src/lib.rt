@@ -7,6 +7,7 @@ mod looking;
 mod paths;
 mod records;
 mod refreshing;
+mod told_turns;
 
 use case_lines::{Answer, Trouble};
 use make_cases::Setup;

@@ -8,6 +8,7 @@ ghost use Rattle.read_trace.specs.Recording.{view_of};
 ghost use Rattle.index_keep.specs.Keeping.{IsDone, IsKept};
 ghost use Rattle.index_keep.specs.Right.{LeavesFiles};
 
+use crate::told_turns::tell_turns;
 use case_lines::{Answer, Trouble, as_number};
 use eval_cache::EvalCache;
 use index_keep::{Keeper, Refreshed};
@@ -15,7 +16,6 @@ use index_store::IndexStore;
 use make_cases::{Asking, FailingFiles, World, failing_answer};
 use mk_files::{Listing, MemoryFiles};
 use mk_paths::{FilesFault, Settings};
-use ports_index::Spent;
 use read_trace::{Recorder, Trace};
 use std::alloc::Global;
 
@@ -73,21 +73,41 @@ fn refresh(
         settings,
         ..
     } = world;
+    let (turns, roots) = refresh_files(alloc, cache, files, settings, units)?;
+    tell_turns(answer, &turns);
+    answer.number(roots);
+    Ok(())
+}
+
+/// What each turn of a refresh tells that is given so many units, and how many roots the index has then, which is new. It
+/// is `NoCase` if the refresh has no end.
+fn refresh_files(
+    alloc: Global,
+    cache: &mut EvalCache,
+    files: &mut MemoryFiles,
+    settings: &Settings,
+    units: u64,
+) -> Result<(Vec<Refreshed>, u64), Trouble> {
     let mut keeper = new_keeper(alloc)?;
     let mut recorder = Recorder::new(alloc, files, Trace::new(alloc));
-    let turns = turns_of(
-        alloc,
-        cache,
-        &mut keeper,
-        &mut recorder,
-        settings,
-        units,
-        Limit::Never,
-    )?;
-    let count = count_roots(alloc, cache, &mut keeper, &mut recorder, settings)?;
-    tell_turns(answer, &turns.ok_or(Trouble::NoCase)?);
-    answer.number(count);
-    Ok(())
+    refresh_keeper(alloc, cache, &mut keeper, &mut recorder, settings, units)
+}
+
+/// The same of an index that is there.
+fn refresh_keeper<F: Listing + Drop>(
+    alloc: Global,
+    cache: &mut EvalCache,
+    keeper: &mut Keeper<IndexStore>,
+    files: &mut Recorder<F>,
+    settings: &Settings,
+    units: u64,
+) -> Result<(Vec<Refreshed>, u64), Trouble>
+    requires { IsKept stored_by (world_of (view_of F.view files.old) settings.now) keeper.old }
+{
+    let turns = turns_of(alloc, cache, keeper, files, settings, units, Limit::Never)?;
+    let roots = count_roots(alloc, cache, keeper, files, settings)?;
+    let turns = turns.ok_or(Trouble::NoCase)?;
+    Ok((turns, roots))
 }
 
 /// `put away by UNITS`: what each turn of a refresh tells that is given so many units, and the paths of the roots that the
@@ -376,24 +396,4 @@ fn turn_within<F: Listing + Drop>(
 {
     keeper.limit_steps(steps);
     keeper.refresh_turn(alloc, cache, files, settings, units)
-}
-
-fn tell_turns(answer: &mut Answer, turns: &[Refreshed]) {
-    for turn in turns {
-        tell(answer, *turn);
-    }
-}
-
-fn tell(answer: &mut Answer, turn: Refreshed) {
-    match turn {
-        Refreshed::More(spent) => tell_spent(answer, "more", spent),
-        Refreshed::Evaluated(spent) => tell_spent(answer, "row", spent),
-        Refreshed::Done => answer.word("done"),
-    }
-}
-
-fn tell_spent(answer: &mut Answer, what: &'static str, spent: Spent) {
-    answer.word(what);
-    answer.number(spent.units);
-    answer.number(spent.checks);
 }
