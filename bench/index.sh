@@ -4,8 +4,8 @@
 # scripts' times, each the best of three runs. Beside the first list is the time of a plain program
 # (plain_tree.rs, built by rustc) that evaluates the same makefiles, makes the same records and writes the
 # same list; what both list is compared. Beside what comes after a first list is the time of a plain program that keeps
-# the records in memory (plain_index.rs). If COUNT is `instructions`, valgrind counts the instructions of one
-# run in place of the time, and nothing is compared.
+# the records in memory (plain_index.rs). If COUNT is `instructions` or `allocations`, valgrind counts these of one run in
+# place of the time, and nothing is compared.
 set -euo pipefail
 top=$(cd "$(dirname "$0")/.." && pwd)
 source "$top/bench/ports_tree.sh"
@@ -75,11 +75,11 @@ best() { # best SCRIPT
 # it takes the plain program, if that does the same
 tell() {
     local unit=ms per=1000 plain=
-    if [ "$count" = time ]; then
-        plain=$(awk -v name="$2" '$1 == name { print $2 }' "$work/plain")
-    else
-        unit="million instructions" && per=1000000
-    fi
+    case $count in
+    time) plain=$(awk -v name="$2" '$1 == name { print $2 }' "$work/plain") ;;
+    instructions) unit="million instructions" && per=1000000 ;;
+    allocations) unit="thousand allocations" ;;
+    esac
     awk -v name="$1" -v whole="$(best "$2")" -v before="$(best "$3")" -v times="$4" -v per=$per -v unit="$unit" -v plain="$plain" '
         BEGIN {
             ours = (whole - before) / times / per

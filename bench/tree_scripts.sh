@@ -38,19 +38,33 @@ repeat() { # repeat TIMES COMMAND..: what the command prints, so many times; eac
 asks() { get "$1" 1; }
 uploads_one() { new_version "$2" "$1"; }
 
-run() { # run SCRIPT: runs it once, and prints the microseconds or the instructions that this took
+counted() { # counted SCRIPT TOOL..: runs it by valgrind with this tool, which writes what it counts to $work/counted
+    local script=$1
+    shift
+    valgrind "$@" "$portsd" replay alpha <"$script" 2>"$work/counted" >"$work/out"
+}
+
+run() { # run SCRIPT: runs it once, and prints the microseconds, the instructions or the allocations that this took
     local from to
-    if [ "$count" = instructions ]; then
-        valgrind --tool=callgrind --callgrind-out-file=/dev/null "$portsd" replay alpha <"$1" 2>"$work/counted" >"$work/out"
-        if ! awk '/Collected/ { print $NF }' "$work/counted" | grep .; then
-            echo "valgrind has counted nothing" >&2
-            return 1
-        fi
-    else
+    case $count in
+    instructions)
+        counted "$1" --tool=callgrind --callgrind-out-file=/dev/null
+        awk '/Collected/ { print $NF }' "$work/counted" >"$work/number"
+        ;;
+    allocations)
+        counted "$1" --tool=memcheck --undef-value-errors=no --leak-check=no
+        awk '/total heap usage/ { gsub(",", ""); print $5 }' "$work/counted" >"$work/number"
+        ;;
+    *)
         from=$(date +%s%N)
         "$portsd" replay alpha <"$1" >"$work/out"
         to=$(date +%s%N)
-        echo $(((to - from) / 1000))
+        echo $(((to - from) / 1000)) >"$work/number"
+        ;;
+    esac
+    if ! grep . "$work/number"; then
+        echo "valgrind has counted nothing" >&2
+        return 1
     fi
     if [ "$(grep -c '^piece' "$1")" != "$(grep -c ' told 0 0 200$' "$work/out")" ]; then
         echo "a request of $1 wasn't answered by 200" >&2

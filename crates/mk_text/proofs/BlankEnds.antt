@@ -1,14 +1,14 @@
 -- What `trim_start_matches` and `trim_end_matches` give at blanks.
-use Rattle.std.proofs.Common.{◌≡◌, ℕ, ◌-◌, ◌<◌, Bool, true, false, ◌||◌, eqb, ◌⊎◌, ⊎_elim, inl, inr, List, [], ◌∷◌, ◌++◌, reverse, length, take, drop, Option, Some, None, IfSome, refl, sym, ap, ap₂, subst, ◌∙◌, arith, take-append-drop, eqb-true, eq-eqb, ne_eqb}
+use Rattle.std.proofs.Common.{◌≡◌, ℕ, ◌-◌, ◌<◌, ◌≤◌, Bool, true, false, ◌||◌, eqb, ◌⊎◌, ⊎_elim, inl, inr, List, [], ◌∷◌, ◌++◌, reverse, length, take, drop, Option, Some, None, IfSome, refl, sym, ap, ap₂, subst, ◌∙◌, arith, take-append-drop, eqb-true, eq-eqb, ne_eqb}
 use Rattle.std.proofs.Math.Seq.{drop-length}
 use Rattle.std.proofs.lemmas.Bool.{cases_Bool, cases_eq, both_ways, or_cases, cond-true, cond-false}
-use Rattle.std.proofs.lemmas.List.{reverse-append, reverse-reverse}
+use Rattle.std.proofs.lemmas.List.{length-reverse, reverse-append, reverse-reverse}
 use Rattle.std.proofs.lemmas.Str.{encode_ascii, len_utf8_bounds}
 use Rattle.std.proofs.lemmas.Str.Pattern.{drop_at_char}
 use Rattle.std.specs.Char.{IsScalar, char_set_contains}
 use Rattle.std.specs.Str.Pattern.{FindsPrefixBy, FindsSuffixBy, HasPassingCharAt, CutsPrefixes, CutsSuffixes, IsTrimStartMatches, IsTrimEndMatches}
 use Rattle.std.proofs.Math.Bool.{or-false}
-use Rattle.mk_text.specs.Blanks.{is_blank, skip_blanks}
+use Rattle.mk_text.specs.Blanks.{is_blank, skip_blanks, trim_blanks}
 
 flip : (a b : ℕ) → eqb a b ≡ eqb b a
 flip a b =
@@ -94,3 +94,33 @@ back_done (b ∷ rest) r e (Some n) gives none =
 pub back_trimmed : (s r : List ℕ) → IsTrimEndMatches Suffixes s r → r ≡ reverse (skip_blanks (reverse s))
 back_trimmed s r h =
     sym (ap reverse (back_cut s r h.0.0 h.0.1 ∙ back_done (reverse r) r (sym (reverse-reverse r)) h.1.0 h.1.1 h.1.2) ∙ reverse-reverse r)
+
+-- ---- a text that is as long without its blanks has none
+
+skip_short : (s : List ℕ) → length (skip_blanks s) ≤ length s
+skip_short [] = omega arith
+skip_short (b ∷ rest) =
+    ⊎_elim
+    (λ t. let shorter = skip_short rest in let front = ap length (skip_more b rest t) in omega (arith, shorter, front))
+    (λ f. let front = ap length (skip_stops b rest f) in omega (arith, front))
+    (cases_Bool (is_blank b))
+
+skip_same : (s : List ℕ) → length s ≤ length (skip_blanks s) → skip_blanks s ≡ s
+skip_same [] h = refl
+skip_same (b ∷ rest) h =
+    ⊎_elim
+    (λ t. absurd (let shorter = skip_short rest in let front = ap length (skip_more b rest t) in omega (arith, shorter, front, h)))
+    (λ f. skip_stops b rest f)
+    (cases_Bool (is_blank b))
+
+pub trim_same : (s : List ℕ) → length (trim_blanks s) ≡ length s → trim_blanks s ≡ s
+unfolding trim_blanks
+trim_same s same =
+    let back = reverse (skip_blanks s) in
+    let as_long = length-reverse (skip_blanks s) in
+    let whole = length-reverse (skip_blanks back) in
+    let less = skip_short back in
+    let shorter = skip_short s in
+    let front : skip_blanks s ≡ s = skip_same s (omega (arith, same, as_long, whole, less, shorter)) in
+    let end : skip_blanks back ≡ back = skip_same back (omega (arith, same, as_long, whole, less, shorter)) in
+    ap reverse end ∙ reverse-reverse (skip_blanks s) ∙ front

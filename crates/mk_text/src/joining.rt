@@ -1,6 +1,7 @@
 //! Logical lines: a source line that ends in a backslash is joined to the next.
 ghost use Rattle.std.specs.Prelude.{◌≡◌, ◌++◌, IfOk, string_bytes};
-ghost use Rattle.mk_text.specs.Lines.{goes_on, unmarked, continued, line_at, logical_lines};
+ghost use Rattle.mk_text.specs.Blanks.{trim_blanks};
+ghost use Rattle.mk_text.specs.Lines.{goes_on, unmarked, continued, line_at, logical_lines, without_comment};
 
 use crate::blanks::{skip_blanks, trim_blanks};
 use crate::comments::without_comment;
@@ -91,13 +92,37 @@ impl Run {
                 command: true,
             });
         }
-        let plain = without_comment(alloc, joined.as_str())?;
         Ok(Logical {
-            text: String::from_str(alloc, trim_blanks(plain.as_str()))?,
+            text: plain_text(alloc, joined)?,
             line,
             command: false,
         })
     }
+}
+
+/// A joined line that is no command line, without its comment and without blanks at its ends. If it has neither, it is
+/// not copied.
+fn plain_text(alloc: Global, joined: String) -> Result<String, AllocError>
+    ensures { IfOk result (λ text. string_bytes text
+        ≡ trim_blanks (without_comment (string_bytes joined))) }
+{
+    if joined.as_str().contains('#') {
+        let plain = without_comment(alloc, joined.as_str())?;
+        return trimmed(alloc, plain);
+    }
+    trimmed(alloc, joined)
+}
+
+/// A text without the blanks at its ends. If it has none there, it is not copied.
+fn trimmed(alloc: Global, text: String) -> Result<String, AllocError>
+    ensures { IfOk result (λ kept. string_bytes kept ≡ trim_blanks (string_bytes text)) }
+{
+    let whole = text.as_str();
+    let kept = trim_blanks(whole);
+    if kept.len() == whole.len() {
+        return Ok(text);
+    }
+    String::from_str(alloc, kept)
 }
 
 /// Whether a source line goes on in the next: whether it ends in a backslash.

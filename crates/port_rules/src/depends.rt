@@ -1,5 +1,6 @@
 //! What a port depends on.
-ghost use Rattle.std.specs.Prelude.{◌≡◌, ◌++◌, [], map, string_bytes, OnOk};
+ghost use Rattle.std.specs.Prelude.{◌≡◌, ◌++◌, [], map, string_bytes, IfOk, OnOk};
+ghost use Rattle.std.specs.Rc.{rc_str_bytes};
 ghost use Rattle.mk_base.specs.Outcome.{each};
 ghost use Rattle.mk_base.specs.Stopping.{GivesPurely};
 ghost use Rattle.port_rules.specs.Depends as depends;
@@ -9,6 +10,7 @@ use mk_base::{Budget, FaultKind, PureStop};
 use mk_env::Env;
 use std::alloc::{AllocError, Global};
 use std::marker::Model;
+use std::rc::RcStr;
 
 /// What a dependency is for (bsd.port.mk(5)).
 #[derive(Clone, Copy, Debug, PartialEq, Eq)]
@@ -37,11 +39,11 @@ impl DependKind {
     }
 }
 
-/// A dependency of a port, as it is written.
+/// A dependency of a port, as it is written. Dependencies of one package share its name.
 #[derive(Debug, Drop)]
 pub struct Depend {
     kind: DependKind,
-    subpackage: String,
+    subpackage: RcStr,
     item: String,
 }
 
@@ -51,20 +53,30 @@ impl Model for Depend {
 
     ghost Value = { DependValue };
 
-    ghost view = { λ d. record { kind = d.kind; subpackage = string_bytes d.subpackage; item = string_bytes d.item } };
+    ghost use Rattle.std.specs.Rc.{rc_str_bytes};
+
+    ghost view = { λ d. record { kind = d.kind; subpackage = rc_str_bytes d.subpackage; item = string_bytes d.item } };
 }
 
 impl Depend {
-    /// The dependency of this kind, of the package of this name (empty if it is the port as a whole), on
-    /// what this text says.
-    pub fn new(kind: DependKind, subpackage: String, item: String) -> Depend
-        ensures { result ≡ depends.make_depend kind (string_bytes subpackage) (string_bytes item) }
+    /// The dependency of this kind, of the package of this name (empty if it is the port as a whole), on what this text
+    /// says. It shares the name with the dependency before it, if that is of the same package. It fails only if memory
+    /// runs out.
+    pub fn new(
+        alloc: Global,
+        before: Option<&Depend>,
+        kind: DependKind,
+        subpackage: &str,
+        item: String,
+    ) -> Result<Depend, AllocError>
+        ensures { IfOk result (λ depend. depend
+            ≡ depends.make_depend kind subpackage.now (string_bytes item)) }
     {
-        Depend {
+        Ok(Depend {
             kind,
-            subpackage,
+            subpackage: shared_name(alloc, before, subpackage)?,
             item,
-        }
+        })
     }
 
     /// What it is for.
@@ -88,6 +100,22 @@ impl Depend {
     {
         self.item.as_str()
     }
+}
+
+// The name of a package: that of the dependency before it, if it is the same.
+fn shared_name(
+    alloc: Global,
+    before: Option<&Depend>,
+    subpackage: &str,
+) -> Result<RcStr, AllocError>
+    ensures { IfOk result (λ name. rc_str_bytes name ≡ subpackage.now) }
+{
+    if let Some(before) = before {
+        if before.subpackage() == subpackage {
+            return before.subpackage.clone();
+        }
+    }
+    RcStr::from_str(alloc, subpackage)
 }
 
 /// The dependencies of a port with these packages: to be built, then of each package, then to be tested.
@@ -159,8 +187,8 @@ fn put_depends(
         ++ depends.depends kind subpackage.now (map string_bytes items.items)) }
 {
     for item in items {
-        let subpackage = String::from_str(alloc, subpackage)?;
-        found.push(Depend::new(kind, subpackage, item))?;
+        let depend = Depend::new(alloc, found.last(), kind, subpackage, item)?;
+        found.push(depend)?;
     }
     Ok(())
 }

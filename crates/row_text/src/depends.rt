@@ -4,7 +4,9 @@ ghost use Rattle.row_text.specs.Reads.{items, list};
 ghost use Rattle.row_text.specs.Ports.{depend_number, depend_kind_of, depend_kind, depend};
 ghost use Rattle.row_text.specs.Answers.{Gives, Adds};
 
-use crate::fields::{read_byte, read_number, read_text, write_byte, write_number, write_text};
+use crate::fields::{
+    read_byte, read_number, read_str, read_text, write_byte, write_number, write_text,
+};
 use crate::unread::Unread;
 use port_rules::{Depend, DependKind};
 use std::alloc::{AllocError, Global};
@@ -47,15 +49,20 @@ fn read_kind(bytes: &[u8]) -> Result<(DependKind, &[u8]), Unread>
     }
 }
 
-/// A dependency.
+/// A dependency, which comes after that one.
 #[tactic(auto, unfolding(crate::specs::Ports::depend))]
-fn read_depend(alloc: Global, bytes: &[u8]) -> Result<(Depend, &[u8]), Unread>
+fn read_depend<'b>(
+    alloc: Global,
+    before: Option<&Depend>,
+    bytes: &'b [u8],
+) -> Result<(Depend, &'b [u8]), Unread>
     ensures { Gives (λ x. (x.0, x.1.now)) result (depend bytes.now) }
 {
     let (kind, rest) = read_kind(bytes)?;
-    let (subpackage, rest) = read_text(alloc, rest)?;
+    let (subpackage, rest) = read_str(rest)?;
     let (item, rest) = read_text(alloc, rest)?;
-    Ok((Depend::new(kind, subpackage, item), rest))
+    let depend = Depend::new(alloc, before, kind, subpackage, item)?;
+    Ok((depend, rest))
 }
 
 /// A list of dependencies.
@@ -74,7 +81,7 @@ fn depends_in(alloc: Global, count: u64, bytes: &[u8]) -> Result<(Vec<Depend>, &
     let mut found = Vec::with_capacity(alloc, usize::min(count as usize, bytes.len()))?;
     let mut rest = bytes;
     for _ in 0..count {
-        let (depend, after) = read_depend(alloc, rest)?;
+        let (depend, after) = read_depend(alloc, found.last(), rest)?;
         found.push(depend)?;
         rest = after;
     }

@@ -10,6 +10,7 @@ use changes::{Change, file_answer, put, settings_answer};
 use make_cases::given_name;
 use mk_paths::Name;
 use std::alloc::Global;
+use std::num::NonZeroUsize;
 use tenant_store::TenantStore;
 
 /// The most limits of steps that a call is stopped by in turn.
@@ -18,11 +19,15 @@ pub const MOST_LIMITS: u64 = 10_000;
 /// How many tenants the cases of stores have.
 const TENANTS: usize = 4;
 
+/// How many contents each store keeps in memory: fewer than the cases read.
+const CONTENTS: usize = 2;
+
 /// `empty stores`: those of four tenants.
 pub fn empty(alloc: Global) -> Result<Vec<TenantStore>, Trouble> {
+    let contents = NonZeroUsize::new(CONTENTS).unwrap_or(NonZeroUsize::MIN);
     let mut stores = Vec::new(alloc);
     for _ in 0..TENANTS {
-        stores.push(TenantStore::open_in_memory(alloc)?)?;
+        stores.push(TenantStore::open_in_memory(alloc, contents)?)?;
     }
     Ok(stores)
 }

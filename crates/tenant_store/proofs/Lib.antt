@@ -7,3 +7,4 @@ pub mod Remapping
 pub mod Keeping
 pub mod Paths
 pub mod Lengths
+pub mod ContentLemmas

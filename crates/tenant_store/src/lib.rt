@@ -3,6 +3,7 @@
 
 mod asking;
 mod changing;
+mod contents;
 mod faults;
 mod lent_files;
 mod noting;

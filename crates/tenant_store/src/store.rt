@@ -9,11 +9,13 @@ ghost use Rattle.tenant_store.specs.Tables.{IsKept, world_of};
 ghost use Rattle.table_facts.specs.States.{state_of};
 
 use crate::changing::{set_path, set_profile};
+use crate::contents::{keep_content, kept_content};
 use crate::faults::PutFault;
 use crate::noting::{forget, list_of, note, put_back, without};
 use crate::opening::open;
 use crate::reading::{content_of, settings_row};
 use crate::writing::{delete_file, write_file};
+use lru::LruCache;
 use mk_files::{Content, Usage};
 use mk_paths::{FilesFault, Name, PathFault, SearchPath, Settings};
 use mk_text::Profile;
@@ -21,6 +23,7 @@ use sqlite::{Connection, MemStore};
 use std::alloc::{AllocError, Global};
 use std::collections::BTreeMap;
 use std::marker::Model;
+use std::num::NonZeroUsize;
 use table_facts::Sqlite;
 
 /// The files, the search path and the profile of one tenant, in a database in memory of its own. Clauses see the world
@@ -33,12 +36,15 @@ pub struct TenantStore {
     lengths: BTreeMap<String, usize>,
     // How many files there are, and the sum of their lengths.
     usage: Usage,
+    // The contents of the files that were read last, by their names. None is kept over a write.
+    contents: LruCache<String, Content>,
 }
 
 impl Model for TenantStore {
     ghost use Rattle.mk_paths.specs.World.{World, files_in, world_code};
     ghost use Rattle.sqlite.specs.Held.{state};
     ghost use Rattle.sqlite.specs.Steps.{over_memory};
+    ghost use Rattle.tenant_store.specs.Contents.{AreContents};
     ghost use Rattle.tenant_store.specs.Lengths.{AreNoted};
     ghost use Rattle.tenant_store.specs.Tables.{world_at, IsKept};
 
@@ -49,22 +55,26 @@ impl Model for TenantStore {
     ghost view = { λ store. world_at (state over_memory store.conn) };
 
     ghost invariant = { λ store. IsKept (state over_memory store.conn)
-        × AreNoted store.lengths store.usage (files_in (world_at (state over_memory store.conn))) };
+        × AreNoted store.lengths store.usage (files_in (world_at (state over_memory store.conn)))
+        × AreContents store.contents.entries (files_in (world_at (state over_memory store.conn))) };
 }
 
 impl TenantStore {
-    /// A store without a file, with the path `/ports:/mystuff` and the first profile.
+    /// A store without a file, with the path `/ports:/mystuff` and the first profile. It keeps so many contents at most
+    /// in memory beside the database: of the files that were read last since the last write.
     ///
     /// The error is `Store` if the database refuses a statement, and `Memory` if memory runs out.
-    pub fn open_in_memory(alloc: Global) -> Result<TenantStore, FilesFault>
+    pub fn open_in_memory(alloc: Global, contents: NonZeroUsize) -> Result<TenantStore, FilesFault>
         ensures { IfOk result (λ store. store ≡ opening_world) }
     {
+        let contents = LruCache::sparse(alloc, contents)?;
         match open(alloc) {
             Ok(conn) => Ok(TenantStore {
                 conn,
                 alloc,
                 lengths: BTreeMap::new(alloc),
                 usage: Usage { files: 0, bytes: 0 },
+                contents,
             }),
             Err(error) => Err(FilesFault::of_statement::<Sqlite>(&error)),
         }
@@ -94,6 +104,7 @@ impl TenantStore {
         note(self.alloc, &mut self.lengths, text, content.len())?;
         match write_file(&mut self.conn, text, content, had.is_some()) {
             Ok(()) => {
+                self.contents.clear();
                 self.usage = usage;
                 Ok(())
             }
@@ -120,6 +131,7 @@ impl TenantStore {
         let Some(length) = self.lengths.get(text).copied() else {
             return Ok(false);
         };
+        self.contents.clear();
         match delete_file(&mut self.conn, text) {
             Ok(()) => {
                 forget(&mut self.lengths, text);
@@ -130,7 +142,8 @@ impl TenantStore {
         }
     }
 
-    /// The content of the file of this name; `None` if it isn't there.
+    /// The content of the file of this name; `None` if it isn't there. The database isn't asked if the file isn't there,
+    /// or if its content is kept.
     ///
     /// # Errors
     ///
@@ -139,7 +152,18 @@ impl TenantStore {
         ensures content { IfOk result (λ content. content ≡ get (files_in self.old) name.now) }
         ensures same { self.new ≡ self.old }
     {
-        shared_content(&mut self.conn, alloc, name.as_str())
+        let name = name.as_str();
+        if !self.lengths.contains_key(name) {
+            return Ok(None);
+        }
+        if let Some(content) = kept_content(&mut self.contents, name)? {
+            return Ok(Some(content));
+        }
+        let found = stored_content(&mut self.conn, alloc, name)?;
+        if let Some(content) = &found {
+            keep_content(alloc, &mut self.contents, name, content);
+        }
+        Ok(found)
     }
 
     /// Whether a file of this name is there. The database isn't asked.
@@ -224,8 +248,8 @@ fn path_from(alloc: Global, text: &str) -> Result<SearchPath, AllocError>
     }
 }
 
-// The content of a file, if it is there, to be shared.
-fn shared_content(
+// The content of a file as the database has it, if it is there, to be shared.
+fn stored_content(
     conn: &mut Connection<MemStore>,
     alloc: Global,
     name: &str,

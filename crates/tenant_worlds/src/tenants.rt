@@ -19,7 +19,11 @@ use index_store::IndexStore;
 use mk_paths::FilesFault;
 use ports_core::Worked;
 use std::alloc::{AllocError, Global};
+use std::num::NonZeroUsize;
 use tenant_store::TenantStore;
+
+/// The most contents of files that all tenants together keep in memory. Each has an equal share, of at least one.
+const MOST_CONTENTS: usize = 256;
 
 /// So many tenants without a file, whose indexes have no row yet, and without a job. Each tenant's files and each
 /// index have a database in memory of their own.
@@ -31,19 +35,21 @@ pub(crate) fn open_tenants(alloc: Global, count: usize) -> Result<Vec<Tenant>, F
     ensures worlds { IfOk result (λ tenants. HaveOpeningWorlds tenants.items) }
     ensures jobs { IfOk result (λ tenants. HaveNoJob tenants.items) }
 {
+    let share = MOST_CONTENTS / count.max(1);
+    let contents = NonZeroUsize::new(share).unwrap_or(NonZeroUsize::MIN);
     let mut tenants = Vec::with_capacity(alloc, count)?;
     for _ in 0..count {
-        add_tenant(&mut tenants, open_tenant(alloc)?)?;
+        add_tenant(&mut tenants, open_tenant(alloc, contents)?)?;
     }
     Ok(tenants)
 }
 
-/// One such tenant.
-fn open_tenant(alloc: Global) -> Result<Tenant, FilesFault>
+/// One such tenant, which keeps so many contents in memory.
+fn open_tenant(alloc: Global, contents: NonZeroUsize) -> Result<Tenant, FilesFault>
     ensures right { IfOk result IsRight }
     ensures opens { IfOk result (IsIdle opening_world) }
 {
-    let mut store = TenantStore::open_in_memory(alloc)?;
+    let mut store = TenantStore::open_in_memory(alloc, contents)?;
     let settings = store.settings(alloc)?;
     let keeper = Keeper::new(alloc, IndexStore::open_in_memory(alloc)?);
     Ok(Tenant {

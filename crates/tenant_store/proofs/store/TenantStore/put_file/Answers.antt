@@ -5,9 +5,11 @@ use Rattle.mk_paths.specs.World.{World, files_in}
 use Rattle.mk_files.specs.Limits.{is_over, passes}
 use Rattle.sqlite.specs.Held.{state}
 use Rattle.sqlite.specs.Steps.{over_memory}
+use Rattle.tenant_store.specs.Contents.{AreContents}
 use Rattle.tenant_store.specs.Lengths.{AreNoted}
 use Rattle.tenant_store.specs.Tables.{world_at}
 use Rattle.tenant_store.proofs.Lengths.{had_within, noted_back, noted_with, would_be}
+use Rattle.tenant_store.proofs.ContentLemmas.{nothing_kept}
 use Rattle.tenant_store.proofs.store.TenantStore.put_file.Goals as goal
 
 pub with-requires : goal.with-requires
@@ -31,6 +33,7 @@ invariant_of-self-in-Ok c = (
       (noted_with c.self.inside.lengths c.self.inside.usage (files_in (world_at (state over_memory c.self.inside.conn))) c.self.invariant.1
       c.as_str-text.result.now c.copied-had.result (c.copied-had.ensures ∙ c.get.ensures.value)
       c.args.content.now c.note.new.lengths c.in-Some.usage c.in_ok-note.ensures.noted c.in-Some.ensures.files c.in-Some.ensures.bytes),
+  nothing_kept c.clear.new.self c.clear.ensures,
 )
 
 pub invariant_of-self-in-Err : goal.invariant_of-self-in-Err
@@ -40,6 +43,7 @@ invariant_of-self-in-Err c = (
       (noted_back c.self.inside.lengths c.self.inside.usage (files_in (world_at (state over_memory c.self.inside.conn))) c.self.invariant.1
       c.as_str-text.result.now c.copied-had.result (c.copied-had.ensures ∙ c.get.ensures.value)
       c.note.new.lengths c.put_back.new.lengths (Some (length c.args.content.now)) c.in_ok-note.ensures.noted c.put_back.ensures),
+  subst (λ (world : World). AreContents c.self.inside.contents.entries (files_in world)) (sym c.in-Err.ensures.err) c.self.invariant.2,
 )
 
 pub returns-in-Ok-clause-fits : goal.returns-in-Ok-clause-fits

@@ -9,6 +9,7 @@ use Rattle.tenant_store.specs.Lengths.{AreNoted}
 use Rattle.tenant_store.specs.Tables.{world_at}
 use Rattle.tenant_store.proofs.Lengths.{has_one, had_within, noted_there, noted_without}
 use Rattle.tenant_store.proofs.Worlds.{remove_absent}
+use Rattle.tenant_store.proofs.ContentLemmas.{nothing_kept}
 use Rattle.tenant_store.proofs.store.TenantStore.remove_file.Goals as goal
 
 pub returns-in_default-clause-removed : goal.returns-in_default-clause-removed
@@ -40,6 +41,7 @@ invariant_of-self c =
           c.self.invariant.1
           c.as_str-text.result.now c.copied.result (c.copied.ensures ∙ c.get.ensures.value)
           c.in-Some.length (sym c.in-Some.is) c.forget.new.lengths usage.result c.forget.ensures usage.ensures.files usage.ensures.bytes),
+      nothing_kept c.clear.new.self c.clear.ensures,
     )
 
 pub returns-in-Ok-clause-was_there : goal.returns-in-Ok-clause-was_there
