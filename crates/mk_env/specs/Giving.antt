@@ -1,5 +1,6 @@
 -- What functions give that expand. A relation has the result, the budget before and after, and what was expanded.
-use Rattle.std.specs.Prelude.{◌≡◌, ◌≤◌, ℕ, ◌-◌, List, ◌++◌, length, map, Option, Result, IfOk, String, string_bytes, Vec}
+use Rattle.std.specs.Prelude.{◌≡◌, ◌≤◌, ℕ, ◌-◌, List, ◌++◌, length, map, Option, Result, Ok, IfOk, String, string_bytes}
+use Rattle.std.specs.Prelude.{Vec}
 use Rattle.std.specs.Borrow.{Bor}
 use Rattle.std.specs.List.{flat_map}
 use Rattle.std.specs.declared.alloc.Global.{Global}
@@ -11,7 +12,8 @@ use Rattle.mk_base.specs.Stopping.{GivesPurely}
 use Rattle.mk_text.specs.declared.limits.TheConstants.{TEXT_LIMIT}
 use Rattle.mk_mods.specs.declared.modifiers.Modifier.{Modifier}
 use Rattle.mk_mods.specs.declared.modifiers.Part.{Part}
-use Rattle.mk_mods.specs.Actions.{action_of, symbols_of}
+use Rattle.mk_mods.specs.Actions.{Action, action_of, symbols_of}
+use Rattle.mk_mods.specs.Applied.{applied}
 use Rattle.mk_env.specs.declared.reading.Mention.{Mention}
 use Rattle.mk_env.specs.declared.scope.ExpansionScope.{ExpansionScope}
 use Rattle.mk_env.specs.declared.scope.Undefined.TheVariants as kept
@@ -84,3 +86,13 @@ abbrev pub AddsBounded : {R F : Type 0} → Result R F → String Global → Str
 AddsBounded result before after text =
     IfOk result
     (λ _. (length (string_bytes before ++ text) ≤ TEXT_LIMIT) × (string_bytes after ≡ string_bytes before ++ text))
+
+-- a text means itself, whatever references mean
+abbrev pub MeansItself : List ℕ → Type 0
+MeansItself text = (references : meaning.References) (m : Meter) → meaning.text_meaning references text m ≡ Ok (text, m)
+
+-- a modifier means what it makes of a value as it is, whatever references mean
+abbrev pub IsAppliedAsItIs : Action → Type 0
+IsAppliedAsItIs action =
+    (references : meaning.References) (value : List ℕ) (m : Meter)
+    → meaning.modified references value action m ≡ meaning.made (applied action value) m

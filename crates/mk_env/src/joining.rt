@@ -1,10 +1,10 @@
 //! Texts joined within the limit of a text.
-ghost use Rattle.std.specs.Prelude.{◌≡◌, ◌==◌, ◌++◌, string_bytes, IfErr};
+ghost use Rattle.std.specs.Prelude.{◌≡◌, ◌==◌, ◌++◌, string_bytes, IfErr, IsTrue};
 ghost use Rattle.std.specs.List.{list_any};
 ghost use Rattle.mk_base.specs.Meter.{Meter};
 ghost use Rattle.mk_base.specs.Stopping.{GivesPurely};
 ghost use Rattle.mk_env.specs.Expansion.{bounded};
-ghost use Rattle.mk_env.specs.Giving.{AddsBounded};
+ghost use Rattle.mk_env.specs.Giving.{AddsBounded, MeansItself};
 ghost use Rattle.mk_env.specs.Refusals.{IsTooLong};
 
 use mk_base::{FaultKind, PureStop};
@@ -31,6 +31,13 @@ pub(crate) fn copy_bounded(alloc: Global, text: &str) -> Result<String, PureStop
         return Err(PureStop::Fault(FaultKind::Length));
     }
     Ok(String::from_str(alloc, text)?)
+}
+
+/// Whether the text is seen to mean itself: it has no dollar, and isn't too long.
+pub(crate) fn means_itself(text: &str) -> bool
+    ensures { IsTrue result → MeansItself text.now }
+{
+    !has_dollar(text) && text.len() <= TEXT_LIMIT
 }
 
 /// Whether there is a dollar in the text. A text without one has no reference and means itself.

@@ -1,17 +1,17 @@
 //! What references mean, and the texts and modifiers that they are in.
-ghost use Rattle.std.specs.Prelude.{◌≡◌, ◌≢◌, ◌≤◌, string_bytes, length, IfOk};
+ghost use Rattle.std.specs.Prelude.{◌≡◌, ◌≢◌, ◌≤◌, string_bytes, length, IfOk, IsTrue};
 ghost use Rattle.mk_base.specs.Outcome.{each};
 ghost use Rattle.mk_base.specs.Meter.{IsLater};
 ghost use Rattle.mk_base.specs.Stopping.{GivesPurely};
 ghost use Rattle.mk_ref.specs.Places.{shown, IsPieceIn};
-ghost use Rattle.mk_mods.specs.Actions.{symbols_of};
+ghost use Rattle.mk_mods.specs.Actions.{action_of, symbols_of, IsExpanded};
 ghost use Rattle.mk_env.specs.declared.scope.Undefined.TheVariants as kept;
 ghost use Rattle.mk_env.specs.Expansion as meaning;
 ghost use Rattle.mk_env.specs.ActiveNames.{references_in, meaning_in, mention_in, expanded_value};
 ghost use Rattle.mk_env.specs.Giving.{GivesText, BeginsReference, ExpandsByName, ExpandsNamed, FindsModifiers};
-ghost use Rattle.mk_env.specs.Giving.{Applies, AppliesAll, ExpandsParts};
+ghost use Rattle.mk_env.specs.Giving.{Applies, AppliesAll, ExpandsParts, IsAppliedAsItIs};
 
-use crate::joining::{copy_bounded, has_dollar, push_bounded};
+use crate::joining::{copy_bounded, has_dollar, means_itself, push_bounded};
 use crate::reading::{
     Mention, apply_expanded, apply_substitution, as_written, cut, mentioned, read_modifiers,
 };
@@ -84,7 +84,7 @@ pub(crate) fn expand_reference(
 {
     begin_reference(scope, budget)?;
     // Most names have no reference in them: no copy is made of such a name.
-    if !has_dollar(mention.name) && mention.name.len() <= TEXT_LIMIT {
+    if means_itself(mention.name) {
         return expand_by_name(alloc, scope, mention, mention.name, budget);
     }
     let name = expand_text(alloc, scope.inside(), mention.name, budget)?;
@@ -215,6 +215,10 @@ fn apply_modifier(
     ensures later { IsLater budget.old budget.new }
     ensures gives { Applies result budget.old budget.new scope.entry value.now modifier.now }
 {
+    // What means itself isn't copied.
+    if is_literal(modifier) {
+        return apply_expanded(alloc, modifier, value);
+    }
     match modifier {
         Modifier::Match(pattern) => {
             let pattern = expand_text(alloc, scope, pattern.as_str(), budget)?;
@@ -235,6 +239,18 @@ fn apply_modifier(
             let new = expand_text(alloc, scope, new.as_str(), budget)?;
             apply_expanded(alloc, &Modifier::Suffix { old, new }, value)
         }
+    }
+}
+
+/// Whether a modifier has texts that are seen to mean themselves. It doesn't look into a substitution.
+fn is_literal(modifier: &Modifier) -> bool
+    ensures expanded { IsTrue result → IsExpanded (action_of modifier.now) }
+    ensures applied { IsTrue result → IsAppliedAsItIs (action_of modifier.now) }
+{
+    match modifier {
+        Modifier::Match(pattern) | Modifier::Exclude(pattern) => means_itself(pattern.as_str()),
+        Modifier::Suffix { old, new } => means_itself(old.as_str()) && means_itself(new.as_str()),
+        Modifier::Substitute(_) | Modifier::Change(_) => false,
     }
 }
 
