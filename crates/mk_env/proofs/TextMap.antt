@@ -1,5 +1,5 @@
 -- What a map with texts as its keys holds, and its map of bytes.
-use Rattle.std.proofs.Common.{◌≡◌, ℕ, List, [], ◌∷◌, ◌++◌, if◌then◌else◌, Result, Ok, Err, is_ok, OnOk, OnErr, refl, sym, ◌∙◌, ap, cond, Option, None, Some, option_map, map, string_bytes, String, Bool, true, false, is_some}
+use Rattle.std.proofs.Common.{◌≡◌, ℕ, List, [], ◌∷◌, ◌++◌, if◌then◌else◌, Result, Ok, Err, is_ok, OnOk, refl, sym, ◌∙◌, ap, cond, Option, None, Some, option_map, map, string_bytes, String, Bool, true, false, is_some}
 use Rattle.std.specs.List.{AllZip}
 use Rattle.std.specs.Ordering.{nat_cmp, is_eq}
 use Rattle.std.specs.declared.cmp.Ordering.TheVariants.{Less, Equal, Greater}
@@ -98,6 +98,10 @@ module _ (old new : tree.BTreeMap (String Global) (String Global)) (view : TextM
   written : texts_of new.entries ≡ finite.insert view name (string_bytes after)
   written = texts_of-put old new name after updates ∙ ap (λ v. finite.insert v name (string_bytes after)) is
 
+  -- it has this text
+  pub texts_of-written : (text : List ℕ) → string_bytes after ≡ text → texts_of new.entries ≡ finite.insert view name text
+  texts_of-written text same = written ∙ ap (finite.insert view name) same
+
   -- a space and a text follow the text that it had
   pub texts_of-appended : (text : List ℕ) → string_bytes after ≡ string_bytes before ++ 32 ∷ text → texts_of new.entries ≡ finite.insert view name (appended (finite.get view name) text)
   texts_of-appended text longer = written ∙ ap (finite.insert view name) longer ∙ ap (λ had. finite.insert view name (appended had text)) (sym held_text)
@@ -114,7 +118,3 @@ with-parts profile profile' texts texts' one other = λ i. (one i, other i)
 pub OnOk-by_cases : {T E P : Type 0} (r : Result T E) (bytes more less : List ℕ) → bytes ≡ (if is_ok r then more else less) → (bytes ≡ more → P) → OnOk r P
 OnOk-by_cases (Ok _) bytes more less is then_so = then_so is
 OnOk-by_cases (Err _) bytes more less is then_so = tt
-
-pub OnErr-by_cases : {T E P : Type 0} (r : Result T E) (bytes more less : List ℕ) → bytes ≡ (if is_ok r then more else less) → (bytes ≡ less → P) → OnErr r P
-OnErr-by_cases (Ok _) bytes more less is then_so = tt
-OnErr-by_cases (Err _) bytes more less is then_so = then_so is

@@ -3,3 +3,5 @@ pub mod Expansion
 pub mod ActiveNames
 pub mod Refusals
 pub mod Laws
+pub mod Mentions
+pub mod Giving

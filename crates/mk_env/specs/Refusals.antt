@@ -1,5 +1,5 @@
 -- Why a part of an expansion stopped. If memory ran out, nothing is said.
-use Rattle.std.specs.Prelude.{◌≡◌, ◌≢◌, ◌<◌, ℕ, List, [], length, Option, None}
+use Rattle.std.specs.Prelude.{◌≡◌, ◌≢◌, ◌<◌, ℕ, List, [], length, Option, None, Result, IfErr}
 use Rattle.mk_base.specs.declared.stopping.PureStop.{PureStop}
 use Rattle.mk_base.specs.declared.stopping.PureStop.TheVariants as pure
 use Rattle.mk_base.specs.declared.faults.FaultKind.{FaultKind}
@@ -27,3 +27,7 @@ IsUnread read stop = StopsBy kinds.Modifier (read ≡ None) stop
 -- why a value wasn't made: there is none within the limit
 abbrev pub IsUnmade : {X : Type 0} → Option X → PureStop FaultKind → Type 0
 IsUnmade made stop = StopsBy kinds.Length (made ≡ None) stop
+
+-- if it stopped, there is no value within the limit
+abbrev pub StopsUnmade : {R X : Type 0} → Result R (PureStop FaultKind) → Option X → Type 0
+StopsUnmade result made = IfErr result (IsUnmade made)

@@ -1,8 +1,7 @@
 //! Texts with their references expanded.
-ghost use Rattle.std.specs.Prelude.{◌≡◌, string_bytes};
 ghost use Rattle.mk_base.specs.Meter.{IsLater};
-ghost use Rattle.mk_base.specs.Stopping.{GivesPurely};
-ghost use Rattle.mk_env.specs.Expansion as meaning;
+ghost use Rattle.mk_env.specs.Expansion.{expand, expand_now, variable};
+ghost use Rattle.mk_env.specs.Giving.{GivesText, ExpandsInside, Modifies};
 
 use crate::Env;
 use crate::insides::mention_of;
@@ -40,8 +39,7 @@ pub fn expand(
     budget: &mut Budget,
 ) -> Result<String, PureStop<FaultKind>>
     ensures later { IsLater budget.old budget.new }
-    ensures gives { GivesPurely string_bytes result budget.new
-        (meaning.expand variables.now text.now budget.old) }
+    ensures gives { GivesText result budget.old budget.new (expand variables.now text.now) }
 {
     expand_text(alloc, ExpansionScope::outermost(variables), text, budget)
 }
@@ -56,8 +54,7 @@ pub fn expand_now(
     budget: &mut Budget,
 ) -> Result<String, PureStop<FaultKind>>
     ensures later { IsLater budget.old budget.new }
-    ensures gives { GivesPurely string_bytes result budget.new
-        (meaning.expand_now variables.now text.now budget.old) }
+    ensures gives { GivesText result budget.old budget.new (expand_now variables.now text.now) }
 {
     let scope = ExpansionScope {
         undefined: Undefined::Kept,
@@ -75,8 +72,7 @@ pub fn expand_variable(
     budget: &mut Budget,
 ) -> Result<String, PureStop<FaultKind>>
     ensures later { IsLater budget.old budget.new }
-    ensures gives { GivesPurely string_bytes result budget.new
-        (meaning.variable variables.now name.now budget.old) }
+    ensures gives { GivesText result budget.old budget.new (variable variables.now name.now) }
 {
     budget.pay()?;
     let scope = ExpansionScope::outermost(variables).inside();
@@ -96,8 +92,7 @@ pub fn expand_inside(
     budget: &mut Budget,
 ) -> Result<String, PureStop<FaultKind>>
     ensures later { IsLater budget.old budget.new }
-    ensures gives { GivesPurely string_bytes result budget.new
-        (meaning.inside variables.now inside.now budget.old) }
+    ensures gives { ExpandsInside result budget.old budget.new variables.now inside.now }
 {
     let mention = mention_of(alloc, inside)?;
     expand_reference(alloc, ExpansionScope::outermost(variables), mention, budget)
@@ -117,8 +112,7 @@ pub fn modify(
     budget: &mut Budget,
 ) -> Result<String, PureStop<FaultKind>>
     ensures later { IsLater budget.old budget.new }
-    ensures gives { GivesPurely string_bytes result budget.new
-        (meaning.modified_by variables.now modifiers.now text.now budget.old) }
+    ensures gives { Modifies result budget.old budget.new variables.now modifiers.now text.now }
 {
     let modifiers = read_modifiers(alloc, Some(modifiers), variables.profile())?;
     let text = String::from_str(alloc, text)?;

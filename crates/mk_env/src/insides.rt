@@ -1,8 +1,9 @@
 //! References that are given by what is inside them.
-ghost use Rattle.std.specs.Prelude.{◌≡◌, ◌==◌, ◌<◌, ◌+◌, [], length, take, drop, option_map, slice_index, IfOk, IfErr, Some};
+ghost use Rattle.std.specs.Prelude.{◌≡◌, ◌==◌, ◌<◌, ◌+◌, [], length, take, drop, slice_index, IfOk, IfErr, Some};
 ghost use Rattle.std.specs.List.{position};
-ghost use Rattle.mk_ref.specs.Units.{sources, before_colon, following_colon, units_of, left_of};
+ghost use Rattle.mk_ref.specs.Units.{left_of};
 ghost use Rattle.mk_ref.specs.Outside.{outside};
+ghost use Rattle.mk_env.specs.Mentions.{lent_text, name_inside, modifiers_inside};
 ghost use Rattle.mk_env.specs.Refusals.{IsUncut};
 
 use crate::reading::{Mention, cut};
@@ -17,10 +18,8 @@ pub(crate) fn mention_of<'a>(
 ) -> Result<Mention<'a>, PureStop<FaultKind>>
     ensures whole { IfOk result (λ found. left_of inside.now ≡ []) }
     ensures written { IfOk result (λ found. found.written.now ≡ inside.now) }
-    ensures name { IfOk result (λ found. found.name.now
-        ≡ sources (before_colon (units_of inside.now))) }
-    ensures modifiers { IfOk result (λ found. option_map (λ t. t.now) found.modifiers
-        ≡ option_map sources (following_colon (units_of inside.now))) }
+    ensures name { IfOk result (λ found. found.name.now ≡ name_inside inside.now) }
+    ensures modifiers { IfOk result (λ it. lent_text it.modifiers ≡ modifiers_inside inside.now) }
     ensures err { IfErr result (IsUncut inside.now) }
 {
     let _pieces = cut(alloc, inside)?;
@@ -34,9 +33,8 @@ fn parted<'a>(inside: &'a str, plain: &[u8]) -> Mention<'a>
     requires same { plain.now ≡ outside inside.now }
     requires whole { left_of inside.now ≡ [] }
     ensures written { result.written.now ≡ inside.now }
-    ensures name { result.name.now ≡ sources (before_colon (units_of inside.now)) }
-    ensures modifiers { option_map (λ t. t.now) result.modifiers
-        ≡ option_map sources (following_colon (units_of inside.now)) }
+    ensures name { result.name.now ≡ name_inside inside.now }
+    ensures modifiers { lent_text result.modifiers ≡ modifiers_inside inside.now }
 {
     match first_colon(plain) {
         Some(at) => parted_at(inside, at),
@@ -61,7 +59,7 @@ fn parted_at<'a>(inside: &'a str, at: usize) -> Mention<'a>
     requires colon { slice_index inside.now at ≡ 58 }
     ensures written { result.written.now ≡ inside.now }
     ensures name { result.name.now ≡ take at inside.now }
-    ensures modifiers { option_map (λ t. t.now) result.modifiers ≡ Some (drop (at + 1) inside.now) }
+    ensures modifiers { lent_text result.modifiers ≡ Some (drop (at + 1) inside.now) }
 {
     Mention {
         written: inside,

@@ -1,9 +1,10 @@
 //! Texts joined within the limit of a text.
-ghost use Rattle.std.specs.Prelude.{◌≡◌, ◌==◌, ◌≤◌, ◌++◌, string_bytes, length, IfOk, IfErr};
+ghost use Rattle.std.specs.Prelude.{◌≡◌, ◌==◌, ◌++◌, string_bytes, IfErr, IsTrue};
 ghost use Rattle.std.specs.List.{list_any};
 ghost use Rattle.mk_base.specs.Meter.{Meter};
 ghost use Rattle.mk_base.specs.Stopping.{GivesPurely};
 ghost use Rattle.mk_env.specs.Expansion.{bounded};
+ghost use Rattle.mk_env.specs.Giving.{AddsBounded, MeansItself};
 ghost use Rattle.mk_env.specs.Refusals.{IsTooLong};
 
 use mk_base::{FaultKind, PureStop};
@@ -12,8 +13,7 @@ use std::alloc::Global;
 
 /// Adds the text to the end. It is a fault if the whole is then too long.
 pub(crate) fn push_bounded(joined: &mut String, text: &str) -> Result<(), PureStop<FaultKind>>
-    ensures ok { IfOk result (λ _. (length (string_bytes joined.old ++ text.now) ≤ TEXT_LIMIT)
-        × (string_bytes joined.new ≡ string_bytes joined.old ++ text.now)) }
+    ensures ok { AddsBounded result joined.old joined.new text.now }
     ensures err { IfErr result (IsTooLong (string_bytes joined.old ++ text.now)) }
 {
     match add_text(joined, text) {
@@ -31,6 +31,13 @@ pub(crate) fn copy_bounded(alloc: Global, text: &str) -> Result<String, PureStop
         return Err(PureStop::Fault(FaultKind::Length));
     }
     Ok(String::from_str(alloc, text)?)
+}
+
+/// Whether the text is seen to mean itself: it has no dollar, and isn't too long.
+pub(crate) fn means_itself(text: &str) -> bool
+    ensures { IsTrue result → MeansItself text.now }
+{
+    !has_dollar(text) && text.len() <= TEXT_LIMIT
 }
 
 /// Whether there is a dollar in the text. A text without one has no reference and means itself.

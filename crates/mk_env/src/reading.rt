@@ -1,15 +1,15 @@
 //! Texts cut at their references, and modifiers read and applied, with the faults of an expansion.
-ghost use Rattle.std.specs.Prelude.{◌≡◌, [], map, All, Some, string_bytes, option_map, IfOk, IfErr};
-ghost use Rattle.mk_text.specs.Words.{words_of, span_text};
-ghost use Rattle.mk_ref.specs.Units.{units_of, left_of};
-ghost use Rattle.mk_ref.specs.Pieces.{pieces_of};
-ghost use Rattle.mk_ref.specs.Places.{shown, IsPieceIn, IsReferenceIn};
-ghost use Rattle.mk_mods.specs.Actions.{action_of, replacement_of, IsExpanded};
+ghost use Rattle.std.specs.Prelude.{◌≡◌, [], All, string_bytes, IfOk, IfErr};
+ghost use Rattle.mk_text.specs.Words.{span_text};
+ghost use Rattle.mk_ref.specs.Units.{left_of};
+ghost use Rattle.mk_ref.specs.Places.{IsPieceIn, IsReferenceIn};
+ghost use Rattle.mk_mods.specs.Actions.{action_of, IsExpanded};
 ghost use Rattle.mk_mods.specs.Applied.{applied};
-ghost use Rattle.mk_mods.specs.Joined.{joined, within_limit};
-ghost use Rattle.mk_mods.specs.Substituted.{substituted};
+ghost use Rattle.mk_mods.specs.Views.{ReadsModifiers};
+ghost use Rattle.mk_mods.specs.Made.{MakesValue, value_replaced};
 ghost use Rattle.mk_env.specs.Expansion.{actions_of};
-ghost use Rattle.mk_env.specs.Refusals.{IsUncut, IsUnread, IsUnmade};
+ghost use Rattle.mk_env.specs.Mentions.{lent_text, HasModifiersOf, GivesPieces};
+ghost use Rattle.mk_env.specs.Refusals.{IsUncut, IsUnread, StopsUnmade};
 
 use mk_base::{FaultKind, PureStop};
 use mk_mods::{Modifier, Mods, ModsFault, Substitution, apply, substitute};
@@ -33,8 +33,7 @@ pub(crate) fn mentioned<'a>(text: &'a str, reference: &Reference) -> Mention<'a>
     requires { IsReferenceIn text.now reference.now }
     ensures written { result.written.now ≡ span_text text.now reference.now.whole }
     ensures name { result.name.now ≡ span_text text.now reference.now.name }
-    ensures modifiers { option_map (λ found. found.now) result.modifiers
-        ≡ option_map (span_text text.now) reference.now.modifiers }
+    ensures modifiers { HasModifiersOf result text.now reference.now }
 {
     let modifiers = match &reference.modifiers {
         Some(span) => Some(span.of(text)),
@@ -56,8 +55,7 @@ pub(crate) fn as_written(alloc: Global, mention: Mention<'_>) -> Result<String, 
 
 /// The pieces of a text. A reference that doesn't end is a fault.
 pub(crate) fn cut(alloc: Global, text: &str) -> Result<Vec<Piece>, PureStop<FaultKind>>
-    ensures pieces { IfOk result (λ found. map (shown text.now) found.items
-        ≡ pieces_of (units_of text.now)) }
+    ensures pieces { GivesPieces result text.now }
     ensures whole { IfOk result (λ found. left_of text.now ≡ []) }
     ensures places { IfOk result (λ found. All (IsPieceIn text.now) found.items) }
     ensures err { IfErr result (IsUncut text.now) }
@@ -76,10 +74,8 @@ pub(crate) fn read_modifiers(
     text: Option<&str>,
     profile: Profile,
 ) -> Result<Vec<Modifier>, PureStop<FaultKind>>
-    ensures ok { IfOk result (λ found. actions_of profile (option_map (λ t. t.now) text.entry)
-        ≡ Some (map action_of found.items)) }
-    ensures err { IfErr result
-        (IsUnread (actions_of profile (option_map (λ t. t.now) text.entry))) }
+    ensures ok { ReadsModifiers result (actions_of profile (lent_text text.entry)) }
+    ensures err { IfErr result (IsUnread (actions_of profile (lent_text text.entry))) }
 {
     let Some(text) = text else {
         return Ok(Vec::new(alloc));
@@ -98,9 +94,8 @@ pub(crate) fn apply_expanded(
     value: &str,
 ) -> Result<String, PureStop<FaultKind>>
     requires { IsExpanded (action_of modifier.now) }
-    ensures ok { IfOk result (λ made. applied (action_of modifier.now) value.now
-        ≡ Some (string_bytes made)) }
-    ensures err { IfErr result (IsUnmade (applied (action_of modifier.now) value.now)) }
+    ensures ok { MakesValue result (applied (action_of modifier.now) value.now) }
+    ensures err { StopsUnmade result (applied (action_of modifier.now) value.now) }
 {
     match apply(alloc, modifier, value) {
         Ok(made) => Ok(made),
@@ -117,12 +112,8 @@ pub(crate) fn apply_substitution(
     new: &str,
     value: &str,
 ) -> Result<String, PureStop<FaultKind>>
-    ensures ok { IfOk result (λ made. within_limit
-        (joined (substituted (replacement_of substitution.now) old.now new.now
-        (words_of value.now))) ≡ Some (string_bytes made)) }
-    ensures err { IfErr result (IsUnmade
-        (within_limit (joined
-        (substituted (replacement_of substitution.now) old.now new.now (words_of value.now))))) }
+    ensures ok { MakesValue result (value_replaced substitution.now old.now new.now value.now) }
+    ensures err { StopsUnmade result (value_replaced substitution.now old.now new.now value.now) }
 {
     match substitute(alloc, substitution, old, new, value) {
         Ok(made) => Ok(made),

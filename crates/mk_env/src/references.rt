@@ -1,17 +1,17 @@
 //! What references mean, and the texts and modifiers that they are in.
-ghost use Rattle.std.specs.Prelude.{◌≡◌, ◌≢◌, ◌≤◌, ◌-◌, ◌∷◌, map, string_bytes, length, option_map, IfOk};
-ghost use Rattle.std.specs.List.{flat_map};
+ghost use Rattle.std.specs.Prelude.{◌≡◌, ◌≢◌, ◌≤◌, string_bytes, length, IfOk, IsTrue};
 ghost use Rattle.mk_base.specs.Outcome.{each};
-ghost use Rattle.mk_base.specs.Meter.{Meter, IsLater};
+ghost use Rattle.mk_base.specs.Meter.{IsLater};
 ghost use Rattle.mk_base.specs.Stopping.{GivesPurely};
 ghost use Rattle.mk_ref.specs.Places.{shown, IsPieceIn};
-ghost use Rattle.mk_mods.specs.Actions.{action_of, symbols_of};
+ghost use Rattle.mk_mods.specs.Actions.{action_of, symbols_of, IsExpanded};
 ghost use Rattle.mk_env.specs.declared.scope.Undefined.TheVariants as kept;
-ghost use Rattle.mk_env.specs.Texts.{language_of, text_in};
 ghost use Rattle.mk_env.specs.Expansion as meaning;
-ghost use Rattle.mk_env.specs.ActiveNames.{references_in, names_of};
+ghost use Rattle.mk_env.specs.ActiveNames.{references_in, meaning_in, mention_in, expanded_value};
+ghost use Rattle.mk_env.specs.Giving.{GivesText, BeginsReference, ExpandsByName, ExpandsNamed, FindsModifiers};
+ghost use Rattle.mk_env.specs.Giving.{Applies, AppliesAll, ExpandsParts, IsAppliedAsItIs};
 
-use crate::joining::{copy_bounded, has_dollar, push_bounded};
+use crate::joining::{copy_bounded, has_dollar, means_itself, push_bounded};
 use crate::reading::{
     Mention, apply_expanded, apply_substitution, as_written, cut, mentioned, read_modifiers,
 };
@@ -31,8 +31,7 @@ pub(crate) fn expand_text(
     budget: &mut Budget,
 ) -> Result<String, PureStop<FaultKind>>
     ensures later { IsLater budget.old budget.new }
-    ensures gives { GivesPurely string_bytes result budget.new
-        (meaning.text_meaning (references_in scope.entry) text.now budget.old) }
+    ensures gives { GivesText result budget.old budget.new (meaning_in scope.entry text.now) }
 {
     // Without a dollar the text is its one literal.
     if !has_dollar(text) {
@@ -81,13 +80,11 @@ pub(crate) fn expand_reference(
     budget: &mut Budget,
 ) -> Result<String, PureStop<FaultKind>>
     ensures later { IsLater budget.old budget.new }
-    ensures gives { GivesPurely string_bytes result budget.new
-        (references_in scope.entry mention.entry.written.now mention.entry.name.now
-        (option_map (λ t. t.now) mention.entry.modifiers) budget.old) }
+    ensures gives { GivesText result budget.old budget.new (mention_in scope.entry mention.entry) }
 {
     begin_reference(scope, budget)?;
     // Most names have no reference in them: no copy is made of such a name.
-    if !has_dollar(mention.name) && mention.name.len() <= TEXT_LIMIT {
+    if means_itself(mention.name) {
         return expand_by_name(alloc, scope, mention, mention.name, budget);
     }
     let name = expand_text(alloc, scope.inside(), mention.name, budget)?;
@@ -102,8 +99,7 @@ fn begin_reference(
 ) -> Result<(), PureStop<FaultKind>>
     ensures later { IsLater budget.old budget.new }
     ensures inside { IfOk result (λ _. scope.entry.levels ≢ 0) }
-    ensures gives { GivesPurely (λ _. tt) result budget.new
-        (meaning.begin scope.entry.levels budget.old) }
+    ensures gives { BeginsReference result budget.old budget.new scope.entry.levels }
 {
     budget.pay()?;
     if scope.levels == 0 {
@@ -123,12 +119,7 @@ fn expand_by_name(
 ) -> Result<String, PureStop<FaultKind>>
     requires { scope.levels ≢ 0 }
     ensures later { IsLater budget.old budget.new }
-    ensures gives { GivesPurely string_bytes result budget.new
-        (meaning.by_name scope.entry.undefined
-        (meaning.reference kept.Empty
-        (scope.entry.levels - 1) scope.entry.variables.now) scope.entry.variables.now
-        (names_of scope.entry.active) mention.entry.written.now
-        (option_map (λ t. t.now) mention.entry.modifiers) name.now budget.old) }
+    ensures gives { ExpandsByName result budget.old budget.new scope.entry mention.entry name.now }
 {
     if scope.keeps(name) {
         return Ok(as_written(alloc, mention)?);
@@ -147,11 +138,7 @@ pub(crate) fn expand_named(
 ) -> Result<String, PureStop<FaultKind>>
     requires { scope.undefined ≡ kept.Empty }
     ensures later { IsLater budget.old budget.new }
-    ensures gives { GivesPurely string_bytes result budget.new
-        (meaning.named
-        (meaning.reference kept.Empty scope.entry.levels scope.entry.variables.now)
-        scope.entry.variables.now (names_of scope.entry.active) name.now
-        (option_map (λ t. t.now) modifiers.entry) budget.old) }
+    ensures gives { ExpandsNamed result budget.old budget.new scope.entry name.now modifiers.entry }
 {
     let modifiers = modifiers_for(alloc, scope, name, modifiers)?;
     let value = expand_value(alloc, scope, name, budget)?;
@@ -165,11 +152,7 @@ fn modifiers_for(
     name: &str,
     modifiers: Option<&str>,
 ) -> Result<Vec<Modifier>, PureStop<FaultKind>>
-    ensures gives { (m : Meter)
-        → GivesPurely (λ found. map action_of found.items) result m
-        (meaning.modifiers_for (language_of scope.entry.variables.now)
-        (names_of scope.entry.active) name.now
-        (option_map (λ t. t.now) modifiers.entry) m) }
+    ensures gives { FindsModifiers result scope.entry name.now modifiers.entry }
 {
     if scope.active.contains(name) {
         return Err(PureStop::Fault(FaultKind::Recursive));
@@ -187,11 +170,7 @@ fn expand_value(
 ) -> Result<String, PureStop<FaultKind>>
     requires { scope.undefined ≡ kept.Empty }
     ensures later { IsLater budget.old budget.new }
-    ensures gives { GivesPurely string_bytes result budget.new
-        (meaning.value_meaning
-        (meaning.reference kept.Empty scope.entry.levels scope.entry.variables.now
-        (name.now ∷ names_of scope.entry.active))
-        (text_in scope.entry.variables.now name.now) budget.old) }
+    ensures gives { GivesText result budget.old budget.new (expanded_value scope.entry name.now) }
 {
     match scope.variables.get(name) {
         None => Ok(String::new(alloc)),
@@ -215,9 +194,7 @@ pub(crate) fn apply_modifiers(
     budget: &mut Budget,
 ) -> Result<String, PureStop<FaultKind>>
     ensures later { IsLater budget.old budget.new }
-    ensures gives { GivesPurely string_bytes result budget.new
-        (each (meaning.modified (references_in scope.entry)) (string_bytes value)
-        (map action_of modifiers.now) budget.old) }
+    ensures gives { AppliesAll result budget.old budget.new scope.entry value modifiers.now }
 {
     let mut value = value;
     for modifier in modifiers {
@@ -236,10 +213,12 @@ fn apply_modifier(
     budget: &mut Budget,
 ) -> Result<String, PureStop<FaultKind>>
     ensures later { IsLater budget.old budget.new }
-    ensures gives { GivesPurely string_bytes result budget.new
-        (meaning.modified (references_in scope.entry) value.now
-        (action_of modifier.now) budget.old) }
+    ensures gives { Applies result budget.old budget.new scope.entry value.now modifier.now }
 {
+    // What means itself isn't copied.
+    if is_literal(modifier) {
+        return apply_expanded(alloc, modifier, value);
+    }
     match modifier {
         Modifier::Match(pattern) => {
             let pattern = expand_text(alloc, scope, pattern.as_str(), budget)?;
@@ -263,6 +242,18 @@ fn apply_modifier(
     }
 }
 
+/// Whether a modifier has texts that are seen to mean themselves. It doesn't look into a substitution.
+fn is_literal(modifier: &Modifier) -> bool
+    ensures expanded { IsTrue result → IsExpanded (action_of modifier.now) }
+    ensures applied { IsTrue result → IsAppliedAsItIs (action_of modifier.now) }
+{
+    match modifier {
+        Modifier::Match(pattern) | Modifier::Exclude(pattern) => means_itself(pattern.as_str()),
+        Modifier::Suffix { old, new } => means_itself(old.as_str()) && means_itself(new.as_str()),
+        Modifier::Substitute(_) | Modifier::Change(_) => false,
+    }
+}
+
 /// What parts of a text of `:S` mean, joined from the left, given the old text.
 #[cycle(expansion)]
 fn expand_parts(
@@ -273,9 +264,7 @@ fn expand_parts(
     budget: &mut Budget,
 ) -> Result<String, PureStop<FaultKind>>
     ensures later { IsLater budget.old budget.new }
-    ensures gives { GivesPurely string_bytes result budget.new
-        (meaning.symbols_meaning (references_in scope.entry) old.now
-        (flat_map symbols_of parts.now) budget.old) }
+    ensures gives { ExpandsParts result budget.old budget.new scope.entry old.now parts.now }
 {
     let mut joined = String::new(alloc);
     for part in parts {

@@ -1,10 +1,9 @@
 //! What the references of a text are expanded with.
-ghost use Rattle.std.specs.Prelude.{◌≡◌, ◌-◌, ◌≢◌};
+ghost use Rattle.std.specs.Prelude.{◌≡◌, ◌≢◌};
 ghost use Rattle.mk_env.specs.declared.scope.Active.TheVariants as active;
 ghost use Rattle.mk_env.specs.declared.scope.Undefined.TheVariants as kept;
-ghost use Rattle.mk_env.specs.Texts.{text_in};
 ghost use Rattle.mk_env.specs.Expansion as meaning;
-ghost use Rattle.mk_env.specs.ActiveNames.{names_of};
+ghost use Rattle.mk_env.specs.ActiveNames.{names_of, scope_inside, is_kept_in};
 
 use crate::Env;
 use crate::expansion::REFERENCE_LEVELS;
@@ -68,8 +67,7 @@ impl<'a> ExpansionScope<'a> {
     /// The scope of what is inside a reference: its name and its modifiers.
     pub(crate) fn inside(self) -> ExpansionScope<'a>
         requires { self.levels ≢ 0 }
-        ensures { result
-            ≡ record self.entry { levels = self.entry.levels - 1; undefined = kept.Empty } }
+        ensures { result ≡ scope_inside self.entry }
     {
         ExpansionScope {
             levels: self.levels - 1,
@@ -80,8 +78,7 @@ impl<'a> ExpansionScope<'a> {
 
     /// Whether a reference to the variable of this name is kept as it is written.
     pub(crate) fn keeps(&self, name: &str) -> bool
-        ensures { result
-            ≡ meaning.is_kept self.now.undefined (text_in self.now.variables.now name.now) }
+        ensures { result ≡ is_kept_in self.now name.now }
     {
         match self.undefined {
             Undefined::Empty => false,

@@ -49,10 +49,18 @@ impl Env {
         ensures ok { OnOk result (self.new ≡ with_text self.old name.now text.now) }
         ensures err { OnErr result (self.new ≡ self.old) }
     {
-        let name = String::from_str(self.alloc, name)?;
         let text = String::from_str(self.alloc, text)?;
-        self.variables.insert(name, text)?;
-        Ok(())
+        match self.variables.get_mut(name) {
+            Some(before) => {
+                *before = text;
+                Ok(())
+            }
+            None => {
+                let name = String::from_str(self.alloc, name)?;
+                self.variables.insert(name, text)?;
+                Ok(())
+            }
+        }
     }
 
     /// Adds a space and this text to the end of the variable's text. If the variable isn't defined, it
@@ -65,9 +73,10 @@ impl Env {
     {
         match self.variables.get_mut(name) {
             Some(before) => {
-                // One text, so that the space isn't added alone if memory runs out.
-                let added = format!(in self.alloc; " {text}")?;
-                before.push_str(added.as_str())
+                // Room for both, so that the space isn't added alone if memory runs out.
+                before.reserve(text.len() + 1)?;
+                before.push(' ')?;
+                before.push_str(text)
             }
             None => self.set(name, text),
         }

@@ -8,3 +8,4 @@ pub mod Marks
 pub mod Signs
 pub mod Grammar
 pub mod Views
+pub mod Made

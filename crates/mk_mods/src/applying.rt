@@ -1,12 +1,8 @@
 //! Modifiers applied to values.
-ghost use Rattle.std.specs.Prelude.{◌≡◌, Bool, All, if◌then◌else◌, not, filter, map, string_bytes, IfOk, IfErr, Some};
-ghost use Rattle.mk_text.specs.Words.{words_of};
-ghost use Rattle.mk_glob.specs.Matching.{fits};
-ghost use Rattle.mk_mods.specs.Joined.{joined, IsUnmade, IsMade};
-ghost use Rattle.mk_text.specs.TextLimit.{IsTooLong};
-ghost use Rattle.mk_mods.specs.Views.{changed_by};
 ghost use Rattle.mk_mods.specs.Actions.{action_of, IsExpanded};
-ghost use Rattle.mk_mods.specs.Applied.{applied, kept};
+ghost use Rattle.mk_mods.specs.Applied.{applied};
+ghost use Rattle.mk_mods.specs.Joined.{joined};
+ghost use Rattle.mk_mods.specs.Made.{MakesText, FailsTooLong, MakesValue, FailsUnmade, kept_words, changed_words};
 
 use crate::joining::add_word;
 use crate::modifiers::Modifier;
@@ -32,9 +28,8 @@ use std::alloc::Global;
 /// longer text is made. `Memory` if memory runs out.
 pub fn apply(alloc: Global, modifier: &Modifier, value: &str) -> Result<String, TextFault>
     requires { IsExpanded (action_of modifier.now) }
-    ensures ok { IfOk result (λ made. applied (action_of modifier.now) value.now
-        ≡ Some (string_bytes made)) }
-    ensures err { IfErr result (IsUnmade (applied (action_of modifier.now) value.now)) }
+    ensures ok { MakesValue result (applied (action_of modifier.now) value.now) }
+    ensures err { FailsUnmade result (applied (action_of modifier.now) value.now) }
 {
     match modifier {
         Modifier::Match(pattern) => join_kept(alloc, pattern.as_str(), true, value),
@@ -50,10 +45,8 @@ pub fn apply(alloc: Global, modifier: &Modifier, value: &str) -> Result<String, 
 
 /// The words that match a pattern, or those that don't, joined.
 fn join_kept(alloc: Global, pattern: &str, matching: bool, value: &str) -> Result<String, TextFault>
-    ensures ok { IfOk result (IsMade (joined
-        (filter (λ word. kept matching (fits pattern.now word)) (words_of value.now)))) }
-    ensures err { IfErr result (IsTooLong
-        (joined (filter (λ word. kept matching (fits pattern.now word)) (words_of value.now)))) }
+    ensures ok { MakesText result (joined (kept_words matching pattern.now value.now)) }
+    ensures err { FailsTooLong result (joined (kept_words matching pattern.now value.now)) }
 {
     let mut made = String::new(alloc);
     for span in &words(alloc, value)? {
@@ -67,8 +60,8 @@ fn join_kept(alloc: Global, pattern: &str, matching: bool, value: &str) -> Resul
 
 /// What is made of each word, joined.
 fn join_changed(alloc: Global, change: WordChange<'_>, value: &str) -> Result<String, TextFault>
-    ensures ok { IfOk result (IsMade (joined (map (changed_by change.entry) (words_of value.now)))) }
-    ensures err { IfErr result (IsTooLong (joined (map (changed_by change.entry) (words_of value.now)))) }
+    ensures ok { MakesText result (joined (changed_words change.entry value.now)) }
+    ensures err { FailsTooLong result (joined (changed_words change.entry value.now)) }
 {
     let mut made = String::new(alloc);
     for span in &words(alloc, value)? {

@@ -1,7 +1,6 @@
 //! Words joined within the limit of a text.
-ghost use Rattle.std.specs.Prelude.{◌≡◌, ◌≤◌, length, string_bytes, IfOk, IfErr};
-ghost use Rattle.mk_text.specs.TextLimit.{IsTooLong};
-ghost use Rattle.mk_mods.specs.Joined.{with_word};
+ghost use Rattle.std.specs.Prelude.{◌≤◌, length, string_bytes};
+ghost use Rattle.mk_mods.specs.Made.{AddsWord, FailsToAdd};
 
 use mk_text::{TEXT_LIMIT, TextFault, add_text};
 
@@ -9,9 +8,8 @@ use mk_text::{TEXT_LIMIT, TextFault, add_text};
 /// then be too long, it fails with `Length`; if memory runs out, it fails with `Memory`.
 pub(crate) fn add_word(made: &mut String, word: &str) -> Result<(), TextFault>
     requires { length (string_bytes made.old) ≤ TEXT_LIMIT }
-    ensures ok { IfOk result (λ _. (length (string_bytes made.new) ≤ TEXT_LIMIT)
-        × (string_bytes made.new ≡ with_word (string_bytes made.old) word.now)) }
-    ensures err { IfErr result (IsTooLong (with_word (string_bytes made.old) word.now)) }
+    ensures ok { AddsWord result made.old made.new word.now }
+    ensures err { FailsToAdd result made.old word.now }
 {
     if word.is_empty() {
         return Ok(());

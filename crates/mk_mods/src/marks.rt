@@ -1,9 +1,9 @@
 //! The marks of a text of modifiers: its characters, its pairs and its references.
-ghost use Rattle.std.specs.Prelude.{◌≡◌, ◌++◌, map, string_bytes, Some, IfOk, IfErr, OnOk};
+ghost use Rattle.std.specs.Prelude.{◌≡◌, map, Some, IfOk, IfErr};
 ghost use Rattle.std.specs.Str.{chars};
 ghost use Rattle.mk_ref.specs.Places.{shown, IsPieceIn};
 ghost use Rattle.mk_mods.specs.Marks.{marks_of, piece_marks, is_char, mark_source, Char};
-ghost use Rattle.mk_mods.specs.Views.{shown_mark, IsUnread};
+ghost use Rattle.mk_mods.specs.Views.{shown_mark, IsUnread, AddsText, AddsMarks};
 
 use crate::reading::ModsFault;
 use mk_ref::{Piece, pieces};
@@ -33,8 +33,7 @@ impl Mark<'_> {
 
     /// Adds what it is written as to a text.
     pub(crate) fn write_to(&self, text: &mut String) -> Result<(), AllocError>
-        ensures { OnOk result (string_bytes text.new ≡ string_bytes text.old
-            ++ mark_source (shown_mark self.now)) }
+        ensures { AddsText result text.old text.new (mark_source (shown_mark self.now)) }
     {
         match self {
             Mark::Char(own) => text.push(*own),
@@ -59,8 +58,7 @@ pub(crate) fn marks(alloc: Global, text: &str) -> Result<Vec<Mark<'_>>, ModsFaul
 /// Adds the marks of a piece of a text.
 fn push_piece<'t>(marks: &mut Vec<Mark<'t>>, piece: &Piece, text: &'t str) -> Result<(), AllocError>
     requires { IsPieceIn text.now piece.now }
-    ensures { OnOk result (map shown_mark marks.new.items ≡ map shown_mark marks.old.items
-        ++ piece_marks (shown text.now piece.now)) }
+    ensures { AddsMarks result marks.old marks.new (piece_marks (shown text.now piece.now)) }
 {
     match piece {
         Piece::Literal(span) => push_chars(marks, span.of(text))?,
@@ -72,8 +70,7 @@ fn push_piece<'t>(marks: &mut Vec<Mark<'t>>, piece: &Piece, text: &'t str) -> Re
 
 /// Adds the characters of a text.
 fn push_chars(marks: &mut Vec<Mark<'_>>, literal: &str) -> Result<(), AllocError>
-    ensures { OnOk result (map shown_mark marks.new.items ≡ map shown_mark marks.old.items
-        ++ map Char (chars literal.now)) }
+    ensures { AddsMarks result marks.old marks.new (map Char (chars literal.now)) }
 {
     for character in literal.chars() {
         marks.push(Mark::Char(character))?;

@@ -1,10 +1,11 @@
 //! Modifiers read from a text.
-ghost use Rattle.std.specs.Prelude.{◌≡◌, ◌<◌, ◌≤◌, false, length, map, string_bytes, Some, IfOk, IfErr};
+ghost use Rattle.std.specs.Prelude.{◌≡◌, ◌<◌, ◌≤◌, length, map, IfOk, IfErr};
 ghost use Rattle.refusals.specs.Refused.{refused};
 ghost use Rattle.mk_mods.specs.Actions.{action_of, replacement_of};
-ghost use Rattle.mk_mods.specs.Grammar.{pattern_from, flags_of, substitution_from, word_map_of, lettered_modifier};
+ghost use Rattle.mk_mods.specs.Grammar.{flags_of, substitution_from, word_map_of, lettered_modifier};
 ghost use Rattle.mk_mods.specs.Grammar.{suffix_or_lettered, first_modifier, modifiers_in, modifiers_of};
-ghost use Rattle.mk_mods.specs.Views.{shown_mark, IsUnread, unread_by};
+ghost use Rattle.mk_mods.specs.Views.{shown_mark, shown_flags, IsUnread, unread_by, ReadsFirst, ReadsPattern};
+ghost use Rattle.mk_mods.specs.Views.{ReadsModifiers, ReadsMods};
 ghost use Rattle.mk_mods.specs.declared.reading.ModsFault.TheVariants.{Memory};
 
 use crate::marks::{Mark, marks};
@@ -86,8 +87,7 @@ impl Mods {
     /// `BadMod` if the text is anything else, also if it is empty, or if a reference in it doesn't end.
     /// `Memory` if memory runs out.
     pub fn read(alloc: Global, text: &str, profile: Profile) -> Result<Mods, ModsFault>
-        ensures ok { IfOk result (λ mods. modifiers_of profile text.now
-            ≡ Some (map action_of mods.modifiers.items)) }
+        ensures ok { ReadsMods result (modifiers_of profile text.now) }
         ensures err { IfErr result (IsUnread (modifiers_of profile text.now)) }
     {
         let marks = marks(alloc, text)?;
@@ -102,8 +102,7 @@ fn modifiers_in(
     profile: Profile,
     marks: &[Mark<'_>],
 ) -> Result<Vec<Modifier>, ModsFault>
-    ensures ok { IfOk result (λ modifiers. modifiers_in profile (map shown_mark marks.now)
-        ≡ Some (map action_of modifiers.items)) }
+    ensures ok { ReadsModifiers result (modifiers_in profile (map shown_mark marks.now)) }
     ensures err { IfErr result (IsUnread (modifiers_in profile (map shown_mark marks.now))) }
 {
     let mut modifiers = Vec::new(alloc);
@@ -126,8 +125,7 @@ fn first_modifier<'m, 't>(
     profile: Profile,
     marks: &'m [Mark<'t>],
 ) -> Result<(Modifier, &'m [Mark<'t>]), ModsFault>
-    ensures ok { IfOk result (λ read. first_modifier profile (map shown_mark marks.now)
-        ≡ Some (action_of read.0, map shown_mark read.1.now)) }
+    ensures ok { ReadsFirst action_of result (first_modifier profile) marks.now }
     ensures err { IfErr result (IsUnread (first_modifier profile (map shown_mark marks.now))) }
     ensures shorter { IfOk result (λ read. length read.1.now < length marks.now) }
 {
@@ -142,8 +140,7 @@ fn suffix_or_lettered<'m, 't>(
     alloc: Global,
     marks: &'m [Mark<'t>],
 ) -> Result<(Modifier, &'m [Mark<'t>]), ModsFault>
-    ensures ok { IfOk result (λ read. suffix_or_lettered (map shown_mark marks.now)
-        ≡ Some (action_of read.0, map shown_mark read.1.now)) }
+    ensures ok { ReadsFirst action_of result suffix_or_lettered marks.now }
     ensures err { IfErr result (IsUnread (suffix_or_lettered (map shown_mark marks.now))) }
     ensures shorter { IfOk result (λ read. length read.1.now < length marks.now) }
 {
@@ -161,8 +158,7 @@ fn lettered_modifier<'m, 't>(
     alloc: Global,
     marks: &'m [Mark<'t>],
 ) -> Result<(Modifier, &'m [Mark<'t>]), ModsFault>
-    ensures ok { IfOk result (λ read. lettered_modifier (map shown_mark marks.now)
-        ≡ Some (action_of read.0, map shown_mark read.1.now)) }
+    ensures ok { ReadsFirst action_of result lettered_modifier marks.now }
     ensures err { IfErr result (IsUnread (lettered_modifier (map shown_mark marks.now))) }
     ensures shorter { IfOk result (λ read. length read.1.now < length marks.now) }
 {
@@ -209,8 +205,7 @@ fn pattern_from<'m, 't>(
     alloc: Global,
     marks: &'m [Mark<'t>],
 ) -> Result<(String, &'m [Mark<'t>]), AllocError>
-    ensures read { IfOk result (λ read. pattern_from false (map shown_mark marks.now)
-        ≡ (string_bytes read.0, map shown_mark read.1.now)) }
+    ensures read { ReadsPattern result marks.now }
     ensures shorter { IfOk result (λ read. length read.1.now ≤ length marks.now) }
 {
     let mut pattern = String::new(alloc);
@@ -230,8 +225,7 @@ fn substitution_from<'m, 't>(
     alloc: Global,
     marks: &'m [Mark<'t>],
 ) -> Result<(Substitution, &'m [Mark<'t>]), ModsFault>
-    ensures ok { IfOk result (λ read. substitution_from (map shown_mark marks.now)
-        ≡ Some (replacement_of read.0, map shown_mark read.1.now)) }
+    ensures ok { ReadsFirst replacement_of result substitution_from marks.now }
     ensures err { IfErr result (IsUnread (substitution_from (map shown_mark marks.now))) }
     ensures shorter { IfOk result (λ read. length read.1.now ≤ length marks.now) }
 {
@@ -256,8 +250,7 @@ fn substitution_from<'m, 't>(
 
 /// Whether the flags `g` and `1` of a substitution are given, and the marks after the flags.
 fn flags_of<'m, 't>(marks: &'m [Mark<'t>]) -> (bool, bool, &'m [Mark<'t>])
-    ensures flags { flags_of (map shown_mark marks.now)
-        ≡ record { every = result.0; once = result.1; behind = map shown_mark result.2.now } }
+    ensures flags { flags_of (map shown_mark marks.now) ≡ shown_flags result }
     ensures shorter { length result.2.now ≤ length marks.now }
 {
     let mut every = false;

@@ -1,11 +1,8 @@
 //! The old and the new text of `:S`, as they are written.
-ghost use Rattle.std.specs.Prelude.{◌≡◌, ◌<◌, ◌++◌, [], length, map, string_bytes, Some, IfOk, IfErr, OnOk};
-ghost use Rattle.std.specs.Option.{option_map};
-ghost use Rattle.std.specs.List.{flat_map};
-ghost use Rattle.mk_mods.specs.Actions.{symbols_of, Byte};
-ghost use Rattle.mk_mods.specs.Signs.{signs_before, sign_of, escaped, sign_at, is_escapable, is_bare, without_start};
-ghost use Rattle.mk_mods.specs.Signs.{without_end, sign_symbols};
-ghost use Rattle.mk_mods.specs.Views.{shown_mark, shown_sign, IsUnread};
+ghost use Rattle.std.specs.Prelude.{◌≡◌, ◌<◌, [], length, map, string_bytes, IfOk, IfErr};
+ghost use Rattle.mk_mods.specs.Signs.{signs_before, sign_of, is_escapable, is_bare, without_start, without_end};
+ghost use Rattle.mk_mods.specs.Views.{shown_mark, shown_sign, shown_signs, IsUnread, IsEscape, IsSignAt, ReadsFirst};
+ghost use Rattle.mk_mods.specs.Views.{MakesParts, AddsSign, LeavesSymbols, symbols_with};
 
 use crate::marks::Mark;
 use crate::modifiers::Part;
@@ -55,8 +52,7 @@ fn is_escapable(delimiter: char, character: char) -> bool
 
 /// The plain character that two marks are, if the first is a backslash that makes the second plain.
 fn escaped<'t>(delimiter: char, mark: Mark<'t>, next: Mark<'t>) -> Option<SubstitutionSign<'t>>
-    ensures { option_map shown_sign result
-        ≡ escaped delimiter (shown_mark mark.entry) (shown_mark next.entry) }
+    ensures { IsEscape result delimiter mark.entry next.entry }
 {
     match (mark, next) {
         (Mark::Char('\\'), Mark::Char(character)) if is_escapable(delimiter, character) => {
@@ -73,8 +69,7 @@ fn sign_at<'t>(
     mark: Mark<'t>,
     behind: &[Mark<'t>],
 ) -> (SubstitutionSign<'t>, usize)
-    ensures { (shown_sign result.0, result.1)
-        ≡ sign_at delimiter (shown_mark mark.entry) (map shown_mark behind.now) }
+    ensures { IsSignAt result delimiter mark.entry behind.now }
 {
     if let Some(next) = behind.first() {
         if let Some(plain) = escaped(delimiter, mark, *next) {
@@ -91,8 +86,7 @@ pub(crate) fn signs_before<'m, 't>(
     delimiter: char,
     marks: &'m [Mark<'t>],
 ) -> Result<(Vec<SubstitutionSign<'t>>, &'m [Mark<'t>]), ModsFault>
-    ensures ok { IfOk result (λ read. signs_before delimiter (map shown_mark marks.now)
-        ≡ Some (map shown_sign read.0.items, map shown_mark read.1.now)) }
+    ensures ok { ReadsFirst shown_signs result (signs_before delimiter) marks.now }
     ensures err { IfErr result (IsUnread (signs_before delimiter (map shown_mark marks.now))) }
     ensures shorter { IfOk result (λ read. length read.1.now < length marks.now) }
 {
@@ -140,8 +134,7 @@ pub(crate) fn parts_of(
     in_new: bool,
     signs: &[SubstitutionSign<'_>],
 ) -> Result<Vec<Part>, AllocError>
-    ensures { IfOk result (λ parts. flat_map symbols_of parts.items
-        ≡ flat_map (sign_symbols in_new) (map shown_sign signs.now)) }
+    ensures { MakesParts result in_new signs.now }
 {
     let mut parts = Vec::new(alloc);
     let mut text = String::new(alloc);
@@ -160,10 +153,7 @@ fn push_sign(
     parts: &mut Vec<Part>,
     mut text: String,
 ) -> Result<String, AllocError>
-    ensures { IfOk result (λ left. flat_map symbols_of parts.new.items
-        ++ map Byte (string_bytes left)
-        ≡ (flat_map symbols_of parts.old.items ++ map Byte (string_bytes text))
-        ++ sign_symbols in_new (shown_sign sign.entry)) }
+    ensures { AddsSign result (symbols_with parts.old text) parts.new in_new sign.entry }
 {
     if in_new && sign.is_bare('&') {
         let left = push_text(alloc, parts, text)?;
@@ -186,8 +176,7 @@ fn push_sign(
 /// Adds a text as a part, unless it is empty, and gives an empty text for what comes after it.
 fn push_text(alloc: Global, parts: &mut Vec<Part>, text: String) -> Result<String, AllocError>
     ensures empty { IfOk result (λ empty. string_bytes empty ≡ []) }
-    ensures parts { OnOk result (flat_map symbols_of parts.new.items
-        ≡ flat_map symbols_of parts.old.items ++ map Byte (string_bytes text)) }
+    ensures parts { LeavesSymbols result parts.new (symbols_with parts.old text) }
 {
     if !text.is_empty() {
         parts.push(Part::Text(text))?;

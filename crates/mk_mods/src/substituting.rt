@@ -1,13 +1,10 @@
 //! `:S`: one text in place of another.
-ghost use Rattle.std.specs.Prelude.{◌≡◌, ◌<◌, ◌++◌, ℕ, zero, length, [], string_bytes, option_map, IfOk, IfErr, Some};
+ghost use Rattle.std.specs.Prelude.{◌<◌, ◌++◌, length};
 ghost use Rattle.std.specs.List.{flat_map};
-ghost use Rattle.std.specs.Option.{option_and_then};
-ghost use Rattle.mk_text.specs.Words.{words_of};
-ghost use Rattle.mk_mods.specs.Joined.{joined, within_limit, IsUnmade, IsMade, IsOverlong};
-ghost use Rattle.mk_text.specs.TextLimit.{IsTooLong};
-ghost use Rattle.mk_mods.specs.Actions.{symbols_of, replacement_of, AllPlain};
-ghost use Rattle.mk_mods.specs.Substituted.{text_of, somewhere_replaced, all_replaced, replaced, substituted};
-ghost use Rattle.mk_mods.specs.Applied.{words_substituted};
+ghost use Rattle.mk_mods.specs.Actions.{symbols_of, AllPlain};
+ghost use Rattle.mk_mods.specs.Substituted.{text_of, somewhere_replaced};
+ghost use Rattle.mk_mods.specs.Made.{MakesText, FailsTooLong, MakesValue, FailsUnmade, MakesWord, FailsOverlong};
+ghost use Rattle.mk_mods.specs.Made.{word_replaced, words_replaced, value_replaced, value_substituted, all_from_first};
 
 use crate::joining::add_word;
 use crate::modifiers::{Part, Substitution};
@@ -22,12 +19,8 @@ pub(crate) fn join_substituted(
 ) -> Result<String, TextFault>
     requires old { AllPlain (flat_map symbols_of substitution.now.old.items) }
     requires new { AllPlain (flat_map symbols_of substitution.now.new.items) }
-    ensures ok { IfOk result (λ made. option_and_then (λ words. within_limit (joined words))
-        (words_substituted (replacement_of substitution.now) (words_of value.now))
-        ≡ Some (string_bytes made)) }
-    ensures err { IfErr result (IsUnmade
-        (option_and_then (λ words. within_limit (joined words))
-        (words_substituted (replacement_of substitution.now) (words_of value.now)))) }
+    ensures ok { MakesValue result (value_substituted substitution.now value.now) }
+    ensures err { FailsUnmade result (value_substituted substitution.now value.now) }
 {
     let old = text_of(alloc, &substitution.old, "")?;
     let new = text_of(alloc, &substitution.new, old.as_str())?;
@@ -52,12 +45,8 @@ pub fn substitute(
     new: &str,
     value: &str,
 ) -> Result<String, TextFault>
-    ensures ok { IfOk result (λ made. within_limit
-        (joined (substituted (replacement_of substitution.now) old.now new.now
-        (words_of value.now))) ≡ Some (string_bytes made)) }
-    ensures err { IfErr result (IsUnmade
-        (within_limit (joined
-        (substituted (replacement_of substitution.now) old.now new.now (words_of value.now))))) }
+    ensures ok { MakesValue result (value_replaced substitution.now old.now new.now value.now) }
+    ensures err { FailsUnmade result (value_replaced substitution.now old.now new.now value.now) }
 {
     join_replaced(alloc, substitution, old, new, value)
 }
@@ -65,8 +54,8 @@ pub fn substitute(
 /// The text that parts give, among which `Part::Whole` means the old text.
 fn text_of(alloc: Global, parts: &[Part], old: &str) -> Result<String, TextFault>
     requires { AllPlain (flat_map symbols_of parts.now) }
-    ensures ok { IfOk result (IsMade (text_of old.now (flat_map symbols_of parts.now))) }
-    ensures err { IfErr result (IsTooLong (text_of old.now (flat_map symbols_of parts.now))) }
+    ensures ok { MakesText result (text_of old.now (flat_map symbols_of parts.now)) }
+    ensures err { FailsTooLong result (text_of old.now (flat_map symbols_of parts.now)) }
 {
     let mut made = String::new(alloc);
     for part in parts {
@@ -87,11 +76,8 @@ fn join_replaced(
     new: &str,
     value: &str,
 ) -> Result<String, TextFault>
-    ensures ok { IfOk result (IsMade (joined
-        (substituted (replacement_of substitution.now) old.now new.now (words_of value.now)))) }
-    ensures err { IfErr result (IsTooLong
-        (joined (substituted (replacement_of substitution.now) old.now new.now
-        (words_of value.now)))) }
+    ensures ok { MakesText result (words_replaced substitution.now old.now new.now value.now) }
+    ensures err { FailsTooLong result (words_replaced substitution.now old.now new.now value.now) }
 {
     let mut made = String::new(alloc);
     let mut done = false;
@@ -120,10 +106,8 @@ fn replaced(
     new: &str,
     word: &str,
 ) -> Result<Option<String>, TextFault>
-    ensures ok { IfOk result (λ made. replaced
-        (replacement_of substitution.now) old.now new.now word.now ≡ option_map string_bytes made) }
-    ensures err { IfErr result (IsOverlong
-        (replaced (replacement_of substitution.now) old.now new.now word.now)) }
+    ensures ok { MakesWord result (word_replaced substitution.now old.now new.now word.now) }
+    ensures err { FailsOverlong result (word_replaced substitution.now old.now new.now word.now) }
 {
     match (substitution.starts, substitution.ends) {
         (true, true) => {
@@ -154,9 +138,8 @@ fn somewhere_replaced(
     new: &str,
     word: &str,
 ) -> Result<Option<String>, TextFault>
-    ensures ok { IfOk result (λ made. somewhere_replaced every old.now new.now word.now
-        ≡ option_map string_bytes made) }
-    ensures err { IfErr result (IsOverlong (somewhere_replaced every old.now new.now word.now)) }
+    ensures ok { MakesWord result (somewhere_replaced every old.now new.now word.now) }
+    ensures err { FailsOverlong result (somewhere_replaced every old.now new.now word.now) }
 {
     if old.is_empty() {
         return Ok(None);
@@ -183,10 +166,8 @@ fn all_replaced(
     behind: &str,
 ) -> Result<String, TextFault>
     requires { 0 < length old.now }
-    ensures ok { IfOk result (IsMade (front.now
-        ++ (new.now ++ all_replaced old.now new.now zero behind.now))) }
-    ensures err { IfErr result (IsTooLong
-        (front.now ++ (new.now ++ all_replaced old.now new.now zero behind.now))) }
+    ensures ok { MakesText result (all_from_first old.now new.now front.now behind.now) }
+    ensures err { FailsTooLong result (all_from_first old.now new.now front.now behind.now) }
 {
     let mut made = joined(alloc, front, new, "")?;
     let mut rest = behind;
@@ -201,8 +182,8 @@ fn all_replaced(
 
 /// Three texts joined.
 fn joined(alloc: Global, front: &str, new: &str, behind: &str) -> Result<String, TextFault>
-    ensures ok { IfOk result (IsMade (front.now ++ (new.now ++ behind.now))) }
-    ensures err { IfErr result (IsTooLong (front.now ++ (new.now ++ behind.now))) }
+    ensures ok { MakesText result (front.now ++ (new.now ++ behind.now)) }
+    ensures err { FailsTooLong result (front.now ++ (new.now ++ behind.now)) }
 {
     let mut made = String::new(alloc);
     add_text(&mut made, front)?;

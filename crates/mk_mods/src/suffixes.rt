@@ -1,10 +1,7 @@
 //! The modifier `old=new`, read from marks.
-ghost use Rattle.std.specs.Prelude.{◌≡◌, ◌<◌, ◌+◌, length, map, string_bytes, option_map, IfOk, IfSome};
-ghost use Rattle.std.specs.List.{flat_map};
-ghost use Rattle.mk_mods.specs.Actions.{action_of};
-ghost use Rattle.mk_mods.specs.Grammar.{cut_before, suffix_modifier, takes_text};
-ghost use Rattle.mk_mods.specs.Marks.{mark_source};
-ghost use Rattle.mk_mods.specs.Views.{shown_mark};
+ghost use Rattle.std.specs.Prelude.{◌≡◌, ◌<◌, ◌+◌, length, map, string_bytes, IfOk, IfSome};
+ghost use Rattle.mk_mods.specs.Grammar.{cut_before, takes_text};
+ghost use Rattle.mk_mods.specs.Views.{shown_mark, shown_cut, ReadsSuffix, source_of_marks};
 
 use crate::marks::Mark;
 use crate::modifiers::Modifier;
@@ -25,10 +22,8 @@ pub(crate) fn suffix_modifier<'m, 't>(
     alloc: Global,
     marks: &'m [Mark<'t>],
 ) -> Result<Option<(Modifier, &'m [Mark<'t>])>, AllocError>
-    ensures read { IfOk result (λ read. suffix_modifier (map shown_mark marks.now)
-        ≡ option_map (λ it. (action_of it.0, map shown_mark it.1.now)) read) }
-    ensures shorter { IfOk result (λ read.
-        IfSome read (λ it. length it.1.now < length marks.now)) }
+    ensures read { ReadsSuffix result marks.now }
+    ensures shorter { IfOk result (λ it. IfSome it (λ r. length r.1.now < length marks.now)) }
 {
     let (own, behind) = cut_before(':', marks);
     let (old, later) = cut_before('=', own);
@@ -42,8 +37,7 @@ pub(crate) fn suffix_modifier<'m, 't>(
 
 /// The marks before the first that is this character, and that one with the marks after it.
 fn cut_before<'m, 't>(character: char, marks: &'m [Mark<'t>]) -> (&'m [Mark<'t>], &'m [Mark<'t>])
-    ensures cut { cut_before character (map shown_mark marks.now)
-        ≡ (map shown_mark result.0.now, map shown_mark result.1.now) }
+    ensures cut { cut_before character (map shown_mark marks.now) ≡ shown_cut result }
     ensures whole { length result.0.now + length result.1.now ≡ length marks.now }
 {
     for (at, mark) in marks.iter().enumerate() {
@@ -56,8 +50,7 @@ fn cut_before<'m, 't>(character: char, marks: &'m [Mark<'t>]) -> (&'m [Mark<'t>]
 
 /// What marks are written as.
 fn written(alloc: Global, marks: &[Mark<'_>]) -> Result<String, AllocError>
-    ensures { IfOk result (λ text. string_bytes text
-        ≡ flat_map mark_source (map shown_mark marks.now)) }
+    ensures { IfOk result (λ text. string_bytes text ≡ source_of_marks marks.now) }
 {
     let mut text = String::new(alloc);
     for mark in marks {

@@ -1,7 +1,6 @@
 //! What modifiers make of a word.
-ghost use Rattle.std.specs.Prelude.{◌≡◌, ◌≤◌, ◌++◌, length, string_bytes, IfOk, IfErr};
-ghost use Rattle.mk_mods.specs.Joined.{with_word};
-ghost use Rattle.mk_text.specs.TextLimit.{IsTooLong};
+ghost use Rattle.std.specs.Prelude.{◌≡◌, ◌≤◌, ◌++◌, length, string_bytes};
+ghost use Rattle.mk_mods.specs.Made.{AddsWord, FailsToAdd};
 ghost use Rattle.mk_mods.specs.WordChanges.{word_change, with_suffix};
 ghost use Rattle.mk_mods.specs.Views.{changed_by};
 ghost use Rattle.mk_mods.specs.declared.modifiers.WordMap.TheVariants as maps;
@@ -68,10 +67,8 @@ pub(crate) fn add_changed(
     word: &str,
 ) -> Result<(), TextFault>
     requires { length (string_bytes made.old) ≤ TEXT_LIMIT }
-    ensures ok { IfOk result (λ _. (length (string_bytes made.new) ≤ TEXT_LIMIT)
-        × (string_bytes made.new ≡ with_word (string_bytes made.old) (changed_by change.entry word.now))) }
-    ensures err { IfErr result (IsTooLong
-        (with_word (string_bytes made.old) (changed_by change.entry word.now))) }
+    ensures ok { AddsWord result made.old made.new (changed_by change.entry word.now) }
+    ensures err { FailsToAdd result made.old (changed_by change.entry word.now) }
 {
     match change {
         WordChange::Map(map) => add_mapped(alloc, made, map, word),
@@ -82,11 +79,8 @@ pub(crate) fn add_changed(
 /// Adds a word, with the new text in place of the old one if it ends in that one.
 fn add_with_suffix(made: &mut String, old: &str, new: &str, word: &str) -> Result<(), TextFault>
     requires { length (string_bytes made.old) ≤ TEXT_LIMIT }
-    ensures ok { IfOk result (λ _. (length (string_bytes made.new) ≤ TEXT_LIMIT)
-        × (string_bytes made.new
-        ≡ with_word (string_bytes made.old) (with_suffix old.now new.now word.now))) }
-    ensures err { IfErr result (IsTooLong
-        (with_word (string_bytes made.old) (with_suffix old.now new.now word.now))) }
+    ensures ok { AddsWord result made.old made.new (with_suffix old.now new.now word.now) }
+    ensures err { FailsToAdd result made.old (with_suffix old.now new.now word.now) }
 {
     match word.strip_suffix(old) {
         Some(front) => add_two(made, front, new),
@@ -97,10 +91,8 @@ fn add_with_suffix(made: &mut String, old: &str, new: &str, word: &str) -> Resul
 /// Adds one word that two texts make.
 fn add_two(made: &mut String, front: &str, new: &str) -> Result<(), TextFault>
     requires { length (string_bytes made.old) ≤ TEXT_LIMIT }
-    ensures ok { IfOk result (λ _. (length (string_bytes made.new) ≤ TEXT_LIMIT)
-        × (string_bytes made.new ≡ with_word (string_bytes made.old) (front.now ++ new.now))) }
-    ensures err { IfErr result (IsTooLong
-        (with_word (string_bytes made.old) (front.now ++ new.now))) }
+    ensures ok { AddsWord result made.old made.new (front.now ++ new.now) }
+    ensures err { FailsToAdd result made.old (front.now ++ new.now) }
 {
     if front.is_empty() {
         return add_word(made, new);
@@ -112,10 +104,8 @@ fn add_two(made: &mut String, front: &str, new: &str) -> Result<(), TextFault>
 /// Adds what the modifier of a letter makes of a word.
 fn add_mapped(alloc: Global, made: &mut String, map: WordMap, word: &str) -> Result<(), TextFault>
     requires { length (string_bytes made.old) ≤ TEXT_LIMIT }
-    ensures ok { IfOk result (λ _. (length (string_bytes made.new) ≤ TEXT_LIMIT)
-        × (string_bytes made.new ≡ with_word (string_bytes made.old) (word_change map word.now))) }
-    ensures err { IfErr result (IsTooLong
-        (with_word (string_bytes made.old) (word_change map word.now))) }
+    ensures ok { AddsWord result made.old made.new (word_change map word.now) }
+    ensures err { FailsToAdd result made.old (word_change map word.now) }
 {
     match map {
         WordMap::Root => add_word(made, root(word)),

@@ -14,7 +14,7 @@ use Rattle.mk_env.specs.declared.scope.Undefined.TheVariants as kept
 use Rattle.mk_env.specs.Expansion as meaning
 use Rattle.mk_env.specs.ActiveNames.{references_in, names_of}
 use Rattle.mk_env.proofs.Walks.{each-front, each-front-stop, each-nothing}
-use Rattle.mk_env.proofs.ExpansionSteps.{text_meaning-pieces, text_meaning-uncut, join-bytes, join-found, join-stops, Gives-joined, reference-name, reference-unbegun, text_meaning-small, text_meaning-plain}
+use Rattle.mk_env.proofs.ExpansionSteps.{text_meaning-pieces, text_meaning-uncut, join-bytes, join-found, join-stops, Gives-joined, reference-name, reference-unbegun, text_meaning-plain}
 use Rattle.mk_env.proofs.references.+expansion.Goals as goal
 
 pub apply_modifiers-returns-in_err-value-clause-gives : goal.apply_modifiers-returns-in_err-value-clause-gives
@@ -168,8 +168,8 @@ join_part-returns-in_ok-found-in-Reference-clause-gives t c =
     join-found references old joined found symbol c.args.budget.now c.expand_text.new.budget (ap (λ source. meaning.text_meaning references source c.args.budget.now) (sym c.as_str-in-Reference.ensures.value) ∙ c.in_ok-found-in-Reference.ensures.gives) ∙
     ap (λ bytes. meaning.bounded (joined ++ bytes) c.expand_text.new.budget) (sym c.as_str-in-Reference-2.ensures.value))
 
-pub expand_reference-returns-then-mention-le-TEXT_LIMIT-clause-gives : goal.expand_reference-returns-then-mention-le-TEXT_LIMIT-clause-gives
-expand_reference-returns-then-mention-le-TEXT_LIMIT-clause-gives t c =
+pub expand_reference-returns-then-means_itself-clause-gives : goal.expand_reference-returns-then-means_itself-clause-gives
+expand_reference-returns-then-means_itself-clause-gives t c =
     let scope = c.args.scope in
     let variables = scope.variables.now in
     let active = names_of scope.active in
@@ -177,7 +177,7 @@ expand_reference-returns-then-mention-le-TEXT_LIMIT-clause-gives t c =
     let name = c.args.mention.name.now in
     let modifiers = option_map (λ text. text.now) c.args.mention.modifiers in
     let references = meaning.reference kept.Empty (scope.levels - 1) variables in
-    let value = text_meaning-small (references active) name c.begin_reference.new.budget (sym c.has_dollar.ensures ∙ c.if-not-has_dollar.true) c.if-mention-le-TEXT_LIMIT.true in
+    let value = c.means_itself.ensures c.if-means_itself.true (references active) c.begin_reference.new.budget in
     let whole = reference-name scope.undefined scope.levels variables active written name modifiers c.args.budget.now c.begin_reference.new.budget tt c.in_ok-begin_reference.ensures.inside c.in_ok-begin_reference.ensures.gives
     ∙ ap (λ end. after end (meaning.by_name scope.undefined references variables active written modifiers)) value in
     subst (λ outcome. GivesPurely string_bytes c.expand_by_name.result c.expand_by_name.new.budget outcome) (sym whole) c.expand_by_name.ensures.gives
