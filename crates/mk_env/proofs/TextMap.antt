@@ -98,10 +98,6 @@ module _ (old new : tree.BTreeMap (String Global) (String Global)) (view : TextM
   written : texts_of new.entries ≡ finite.insert view name (string_bytes after)
   written = texts_of-put old new name after updates ∙ ap (λ v. finite.insert v name (string_bytes after)) is
 
-  -- it has this text
-  pub texts_of-written : (text : List ℕ) → string_bytes after ≡ text → texts_of new.entries ≡ finite.insert view name text
-  texts_of-written text same = written ∙ ap (finite.insert view name) same
-
   -- a space and a text follow the text that it had
   pub texts_of-appended : (text : List ℕ) → string_bytes after ≡ string_bytes before ++ 32 ∷ text → texts_of new.entries ≡ finite.insert view name (appended (finite.get view name) text)
   texts_of-appended text longer = written ∙ ap (finite.insert view name) longer ∙ ap (λ had. finite.insert view name (appended had text)) (sym held_text)

@@ -49,18 +49,10 @@ impl Env {
         ensures ok { OnOk result (self.new ≡ with_text self.old name.now text.now) }
         ensures err { OnErr result (self.new ≡ self.old) }
     {
+        let name = String::from_str(self.alloc, name)?;
         let text = String::from_str(self.alloc, text)?;
-        match self.variables.get_mut(name) {
-            Some(before) => {
-                *before = text;
-                Ok(())
-            }
-            None => {
-                let name = String::from_str(self.alloc, name)?;
-                self.variables.insert(name, text)?;
-                Ok(())
-            }
-        }
+        self.variables.insert(name, text)?;
+        Ok(())
     }
 
     /// Adds a space and this text to the end of the variable's text. If the variable isn't defined, it
