@@ -1,6 +1,7 @@
 -- What an index has stored for its paths, and how calls change it.
 use Rattle.std.specs.Prelude.{◌≡◌, ℕ, if◌then◌else◌, Bool, true, false, List, map, All}
-use Rattle.std.specs.Prelude.{Option, None, Some, is_some, option_map, string_bytes}
+use Rattle.std.specs.Prelude.{Option, None, Some, is_some, option_map, String, string_bytes, Vec}
+use Rattle.std.specs.Global.{Global}
 use Rattle.std.specs.List.{list_any}
 use Rattle.std.specs.Str.{bytes_eq}
 use Rattle.mk_text.specs.declared.profile.Profile.{Profile}
@@ -50,6 +51,14 @@ pub record AreRowsOf (entries : Entries) (rows : List SeenRow) : Type 0 where
 abbrev pub ArePathsOf : Entries → List (List ℕ) → Type 0
 ArePathsOf entries paths = (path : List ℕ) → is_one_of path paths ≡ is_some (entries path)
 
+-- these rows that are handed out, in any order, are what is stored
+abbrev pub AreStored : Entries → Vec StoredRow Global → Type 0
+AreStored entries rows = AreRowsOf entries (map stored_seen rows.items)
+
+-- these texts, in any order, are the paths that have a row
+abbrev pub AreStoredPaths : Entries → Vec (String Global) Global → Type 0
+AreStoredPaths entries paths = ArePathsOf entries (map string_bytes paths.items)
+
 -- no path has a row
 abbrev pub HasNoRow : Entries → Type 0
 HasNoRow entries = (path : List ℕ) → entries path ≡ None
@@ -74,6 +83,10 @@ PutsRow path text old new = (other : List ℕ) → new other ≡ (if bytes_eq pa
 abbrev pub Marks : List (List ℕ) → Entries → Entries → Type 0
 Marks paths old new = (path : List ℕ) → new path ≡ (if is_one_of path paths then option_map marked (old path) else old path)
 
+-- the rows of the paths in these texts are marked stale, and the others are as they were
+abbrev pub MarksStale : List (String Global) → Entries → Entries → Type 0
+MarksStale paths old new = Marks (map string_bytes paths) old new
+
 -- all rows are marked stale
 abbrev pub MarksAll : Entries → Entries → Type 0
 MarksAll old new = (path : List ℕ) → new path ≡ option_map marked (old path)
@@ -81,6 +94,10 @@ MarksAll old new = (path : List ℕ) → new path ≡ option_map marked (old pat
 -- these paths have no row, and each other path has what it had
 abbrev pub TakesOut : List (List ℕ) → Entries → Entries → Type 0
 TakesOut paths old new = (path : List ℕ) → new path ≡ (if is_one_of path paths then None else old path)
+
+-- in a store, the paths in these texts have no row, and each other path has what it had
+abbrev pub DropsRows : {S : Type 0} → (S → Entries) → List (String Global) → S → S → Type 0
+DropsRows entries paths old new = TakesOut (map string_bytes paths) (entries old) (entries new)
 
 -- ---- the profiles of the rows
 
@@ -95,3 +112,15 @@ PutsProfile path profile old new = (other : List ℕ) → new other ≡ (if byte
 -- these paths have no row, and each other row was written with the profile that it had
 abbrev pub TakesProfilesOut : List (List ℕ) → Profiles → Profiles → Type 0
 TakesProfilesOut paths old new = (path : List ℕ) → new path ≡ (if is_one_of path paths then None else old path)
+
+-- in a store, each row was written with the profile that it had
+abbrev pub KeepsProfiles : {S : Type 0} → (S → Profiles) → S → S → Type 0
+KeepsProfiles profiles old new = SameProfiles (profiles old) (profiles new)
+
+-- in a store, the row of this path is written with this profile, and each other with the one that it had
+abbrev pub WritesWith : {S : Type 0} → (S → Profiles) → List ℕ → Profile → S → S → Type 0
+WritesWith profiles path profile old new = PutsProfile path (Some profile) (profiles old) (profiles new)
+
+-- in a store, the paths in these texts have no row, and each other row was written with the profile that it had
+abbrev pub DropsProfiles : {S : Type 0} → (S → Profiles) → List (String Global) → S → S → Type 0
+DropsProfiles profiles paths old new = TakesProfilesOut (map string_bytes paths) (profiles old) (profiles new)

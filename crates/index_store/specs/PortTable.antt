@@ -1,6 +1,7 @@
 -- The two tables of the rows, and what their rows mean.
-use Rattle.std.specs.Prelude.{◌≡◌, ℕ, pos, ◌==◌, not, if◌then◌else◌, Bool, true, false, codes}
-use Rattle.std.specs.Prelude.{List, [], ◌∷◌, ◌++◌, map, find, Option, None, Some, String, is_some, option_map, unwrap_or, refl}
+use Rattle.std.specs.Prelude.{◌≡◌, ℕ, pos, ◌==◌, ◌&&◌, ◌||◌, not, if◌then◌else◌, Bool, true, false, codes}
+use Rattle.std.specs.Prelude.{List, [], ◌∷◌, ◌++◌, map, find, Option, None, Some, String, string_bytes, Vec, is_some, option_map}
+use Rattle.std.specs.Prelude.{unwrap_or, refl}
 use Rattle.std.specs.Option.{option_or}
 use Rattle.std.proofs.lemmas.Map.Entries.{option_filter}
 use Rattle.std.specs.BTreeSet.{BTreeSet, contains_text}
@@ -26,7 +27,9 @@ use Rattle.sqlite.specs.State.{State}
 use Rattle.table_facts.specs.Tables.{filled, keyed, no_schema}
 use Rattle.table_facts.specs.Filled.{Layout, AreFilled, entries_in, changed_at, number_in, bytes_in}
 use Rattle.table_facts.specs.States.{IsSettled, state_of}
-use Rattle.index_store.specs.Entries.{StoredValue, SeenRow, Entries, Profiles, is_one_of}
+use Rattle.index_store.specs.Entries.{StoredValue, SeenRow, Entries, Profiles, AreRowsOf, PutsRow, PutsProfile}
+use Rattle.index_store.specs.Entries.{is_one_of, stored_seen}
+use Rattle.index_store.specs.declared.path_rows.StoredRow.{StoredRow}
 use Rattle.index_store.specs.declared.port_table.Part.{Part}
 use Rattle.index_store.specs.declared.port_table.Part.TheVariants.{Earlier, Current}
 
@@ -205,6 +208,25 @@ stored_in connection = stored_by (entries_of connection)
 abbrev pub AreNoted : BTreeSet (String Global) → Entries → Type 0
 AreNoted paths entries = (path : List ℕ) → contains_text paths path ≡ is_some (entries path)
 
+-- these texts, in any order, are the paths that are noted
+abbrev pub ListsNoted : BTreeSet (String Global) → Vec (String Global) Global → Type 0
+ListsNoted noted listed = (path : List ℕ) → is_one_of path (map string_bytes listed.items) ≡ contains_text noted path
+
+-- one more path is noted
+abbrev pub NotesPath : List ℕ → BTreeSet (String Global) → BTreeSet (String Global) → Type 0
+NotesPath path old new = (other : List ℕ) → contains_text new other ≡ (bytes_eq path other || contains_text old other)
+
+-- if a path is new, it is noted no more; each other is noted as it was
+abbrev pub ForgetsIf : Bool → List ℕ → BTreeSet (String Global) → BTreeSet (String Global) → Type 0
+ForgetsIf is_new path old new =
+    (other : List ℕ) → contains_text new other ≡ (if is_new && bytes_eq path other then false else contains_text old other)
+
+-- none of these paths is noted, and each other is noted as it was
+abbrev pub ForgetsAll : List (String Global) → BTreeSet (String Global) → BTreeSet (String Global) → Type 0
+ForgetsAll paths old new =
+    (other : List ℕ) → contains_text new other
+    ≡ (if is_one_of other (map string_bytes paths) then false else contains_text old other)
+
 -- the profile with which a row was written
 abbrev pub profile_of : Option Entry → Option Profile
 profile_of None = None
@@ -214,6 +236,14 @@ profile_of (Some e) = option_map numbered_profile e.profile
 abbrev pub profiles_by : List Entry → Profiles
 profiles_by entries path = profile_of (find (is_at path) entries)
 
+-- this path has this row now, which isn't stale, and each other path has what it had
+abbrev pub StoresRow : List ℕ → List ℕ → List Entry → List Entry → Type 0
+StoresRow path text old new = PutsRow path text (stored_by old) (stored_by new)
+
+-- the row of this path has no profile, and each other row was written with the profile that it had
+abbrev pub WritesUnprofiled : List ℕ → List Entry → List Entry → Type 0
+WritesUnprofiled path old new = PutsProfile path None (profiles_by old) (profiles_by new)
+
 -- whether a value of the column `stale` says so
 abbrev pub is_set : Value → Bool
 is_set (Int n) = not (int_eq n (pos 0))
@@ -222,6 +252,14 @@ is_set _ = false
 -- what is shown of a row that is asked for
 abbrev pub row_shown : Row → SeenRow
 row_shown row = record { path = bytes_in (column row 0); stale = is_set (column row 1); text = bytes_in (column row 2) }
+
+-- what is shown, in any order, is what is stored
+abbrev pub AreShown : Entries → Vec Row Global → Type 0
+AreShown entries rows = AreRowsOf entries (map row_shown rows.items)
+
+-- what is shown of these rows is added to what was read of others
+abbrev pub AddsShown : List Row → List StoredRow → List StoredRow → Type 0
+AddsShown rows old new = map stored_seen new ≡ map stored_seen old ++ map row_shown rows
 
 -- a database with the tables, whose rows have their form
 pub record IsFormed (db : Database) : Type 0 where

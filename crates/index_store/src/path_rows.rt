@@ -1,8 +1,8 @@
 //! The rows of an index, as those that keep them ask for them.
-ghost use Rattle.std.specs.Prelude.{ℕ, List, Option, Some, map, string_bytes, IfOk, OnOk, OnErr};
-ghost use Rattle.index_store.specs.Entries.{StoredValue, stored_seen, AreRowsOf, ArePathsOf};
-ghost use Rattle.index_store.specs.Entries.{SameRows, PutsRow, Marks, MarksAll, TakesOut};
-ghost use Rattle.index_store.specs.Entries.{SameProfiles, PutsProfile, TakesProfilesOut};
+ghost use Rattle.std.specs.Prelude.{ℕ, List, Option, IfOk, OnOk, OnErr};
+ghost use Rattle.index_store.specs.Entries.{StoredValue, AreStored, AreStoredPaths};
+ghost use Rattle.index_store.specs.Entries.{SameRows, PutsRow, MarksStale, MarksAll, DropsRows};
+ghost use Rattle.index_store.specs.Entries.{SameProfiles, KeepsProfiles, WritesWith, DropsProfiles};
 ghost use Rattle.mk_text.specs.declared.profile.Profile as kinds;
 
 use mk_paths::FilesFault;
@@ -32,31 +32,26 @@ pub trait PathRows {
 
     /// All rows, in any order.
     fn rows(&mut self, alloc: Global) -> Result<Vec<StoredRow>, FilesFault>
-        ensures rows { IfOk result (λ rows. AreRowsOf (entries self.old)
-            (map stored_seen rows.items)) }
+        ensures rows { IfOk result (AreStored (entries self.old)) }
         ensures same { SameRows (entries self.old) (entries self.new) }
         ensures profiles { SameProfiles (profiles self.old) (profiles self.new) };
 
     /// The paths of all rows, in any order, without their bytes.
     fn paths(&mut self, alloc: Global) -> Result<Vec<String>, FilesFault>
-        ensures paths { IfOk result (λ paths. ArePathsOf (entries self.old)
-            (map string_bytes paths.items)) }
+        ensures paths { IfOk result (AreStoredPaths (entries self.old)) }
         ensures same { SameRows (entries self.old) (entries self.new) }
         ensures profiles { SameProfiles (profiles self.old) (profiles self.new) };
 
     /// Gives a path this row, which isn't stale and is written with this profile, whether or not it had one.
     fn put(&mut self, path: &str, profile: Profile, text: &[u8]) -> Result<(), FilesFault>
         ensures ok { OnOk result (PutsRow path.now text.now (entries self.old) (entries self.new)) }
-        ensures profile { OnOk result (PutsProfile path.now (Some profile)
-            (profiles self.old) (profiles self.new)) }
+        ensures profile { OnOk result (WritesWith profiles path.now profile self.old self.new) }
         ensures err { OnErr result (SameRows (entries self.old) (entries self.new)) }
-        ensures err_profiles { OnErr result
-            (SameProfiles (profiles self.old) (profiles self.new)) };
+        ensures err_profiles { OnErr result (KeepsProfiles profiles self.old self.new) };
 
     /// Marks the rows of these paths stale. A path without a row is passed over.
     fn mark(&mut self, paths: &[String]) -> Result<(), FilesFault>
-        ensures ok { OnOk result (Marks (map string_bytes paths.now)
-            (entries self.old) (entries self.new)) }
+        ensures ok { OnOk result (MarksStale paths.now (entries self.old) (entries self.new)) }
         ensures err { OnErr result (SameRows (entries self.old) (entries self.new)) }
         ensures profiles { SameProfiles (profiles self.old) (profiles self.new) };
 
@@ -68,13 +63,10 @@ pub trait PathRows {
 
     /// Takes out the rows of these paths. A path without a row is passed over.
     fn take_out(&mut self, paths: &[String]) -> Result<(), FilesFault>
-        ensures ok { OnOk result (TakesOut (map string_bytes paths.now)
-            (entries self.old) (entries self.new)) }
-        ensures profiles { OnOk result (TakesProfilesOut (map string_bytes paths.now)
-            (profiles self.old) (profiles self.new)) }
+        ensures ok { OnOk result (DropsRows entries paths.now self.old self.new) }
+        ensures profiles { OnOk result (DropsProfiles profiles paths.now self.old self.new) }
         ensures err { OnErr result (SameRows (entries self.old) (entries self.new)) }
-        ensures err_profiles { OnErr result
-            (SameProfiles (profiles self.old) (profiles self.new)) };
+        ensures err_profiles { OnErr result (KeepsProfiles profiles self.old self.new) };
 
     /// Limits the steps of each later statement; with `None` they are no longer limited. If a statement
     /// would take more steps, it is refused as `Store`. The end of a transaction takes no steps. This

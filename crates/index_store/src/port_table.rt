@@ -1,14 +1,12 @@
 // The statements on the two tables of the rows.
-ghost use Rattle.std.specs.Prelude.{◌≡◌, [], None, Some, map, is_some, IfOk, OnOk, false};
-ghost use Rattle.mk_text.specs.Profiles.{profile_number};
+ghost use Rattle.std.specs.Prelude.{◌≡◌, [], None, IfOk, OnOk, false};
 ghost use Rattle.table_facts.specs.Tables.{no_schema};
 ghost use Rattle.table_facts.specs.States.{IsOpen, KeepsCommit, Stays, state_of};
-ghost use Rattle.index_store.specs.Entries.{AreRowsOf};
-ghost use Rattle.index_store.specs.PortTable.{IsKept, IsFormed, Holds, HoldsInside, rows_of, stored_of, no_rows};
-ghost use Rattle.index_store.specs.PortTable.{replaced_at, with_row, marked_at, all_marked, staying_of, with_rows};
-ghost use Rattle.index_store.specs.PortTable.{row_shown, earlier_schema};
+ghost use Rattle.index_store.specs.PortTable.{IsKept, IsFormed, Holds, AreShown, rows_of, stored_of, no_rows};
+ghost use Rattle.index_store.specs.PortTable.{all_marked, staying_of, earlier_schema};
 ghost use Rattle.index_store.specs.PortTable.{select_rows, mark_row, mark_rows, delete_rows};
-ghost use Rattle.index_store.specs.Marking.{mark_number};
+ghost use Rattle.index_store.specs.Marking.{Alters, InsertsEarlier, WritesCurrent, ReplacesCurrent};
+ghost use Rattle.index_store.specs.Marking.{SaysHasRow, MarksRow, mark_number};
 
 use mk_text::Profile;
 use sqlite::{Connection, Error, MemStore, Row, Transaction, params};
@@ -118,8 +116,7 @@ pub(crate) fn create_current(conn: &mut Connection<MemStore>) -> Result<(), Erro
 /// All rows of a table.
 pub(crate) fn all_rows(conn: &mut Connection<MemStore>, part: Part) -> Result<Vec<Row>, Error>
     requires { IsKept (state_of conn.old) }
-    ensures rows { IfOk result (λ rows. AreRowsOf (stored_of (rows_of conn.old part))
-        (map row_shown rows.items)) }
+    ensures rows { IfOk result (AreShown (stored_of (rows_of conn.old part))) }
     ensures stays { Stays (state_of conn.old) (state_of conn.new) }
 {
     conn.query_all(part.rows_query(), &[])
@@ -134,10 +131,7 @@ pub(crate) fn insert_earlier<'x>(
     requires open { IsOpen IsFormed (state_of tx.old.conn.now) }
     requires free { rows_of tx.old.conn.now Part.Earlier path.now ≡ None }
     ensures kept { KeepsCommit tx.old.conn tx.new.conn }
-    ensures made { OnOk result (HoldsInside (state_of tx.new.conn.now)
-        (with_rows Part.Earlier
-        (with_row path.now None text.now (rows_of tx.old.conn.now Part.Earlier))
-        (rows_of tx.old.conn.now))) }
+    ensures made { OnOk result (InsertsEarlier path.now text.now tx.old.conn tx.new.conn) }
 {
     run(
         tx,
@@ -157,11 +151,7 @@ pub(crate) fn insert_current<'x>(
     requires open { IsOpen IsFormed (state_of tx.old.conn.now) }
     requires free { rows_of tx.old.conn.now Part.Current path.now ≡ None }
     ensures kept { KeepsCommit tx.old.conn tx.new.conn }
-    ensures made { OnOk result (HoldsInside (state_of tx.new.conn.now)
-        (with_rows Part.Current
-        (with_row path.now (Some (profile_number profile)) text.now
-        (rows_of tx.old.conn.now Part.Current))
-        (rows_of tx.old.conn.now))) }
+    ensures made { OnOk result (WritesCurrent path.now profile text.now tx.old.conn tx.new.conn) }
 {
     run(
         tx,
@@ -181,13 +171,8 @@ pub(crate) fn replace_current<'x>(
 ) -> Result<bool, Error>
     requires { IsOpen IsFormed (state_of tx.old.conn.now) }
     ensures kept { KeepsCommit tx.old.conn tx.new.conn }
-    ensures was_there { IfOk result (λ there. there
-        ≡ is_some (rows_of tx.old.conn.now Part.Current path.now)) }
-    ensures made { OnOk result (HoldsInside (state_of tx.new.conn.now)
-        (with_rows Part.Current
-        (replaced_at path.now (Some (profile_number profile)) text.now
-        (rows_of tx.old.conn.now Part.Current))
-        (rows_of tx.old.conn.now))) }
+    ensures was_there { IfOk result (SaysHasRow path.now tx.old.conn) }
+    ensures made { OnOk result (ReplacesCurrent path.now profile text.now tx.old.conn tx.new.conn) }
 {
     let count = run(
         tx,
@@ -201,9 +186,7 @@ pub(crate) fn replace_current<'x>(
 pub(crate) fn mark_table(tx: &mut Transaction<'_, MemStore>, part: Part) -> Result<(), Error>
     requires { IsOpen IsFormed (state_of tx.old.conn.now) }
     ensures kept { KeepsCommit tx.old.conn tx.new.conn }
-    ensures made { OnOk result (HoldsInside (state_of tx.new.conn.now)
-        (with_rows part (all_marked (rows_of tx.old.conn.now part))
-        (rows_of tx.old.conn.now))) }
+    ensures made { OnOk result (Alters part all_marked tx.old.conn tx.new.conn) }
 {
     run(tx, part.marks_statement(), &[])?;
     Ok(())
@@ -218,9 +201,7 @@ pub(crate) fn set_mark(
 ) -> Result<(), Error>
     requires { IsOpen IsFormed (state_of tx.old.conn.now) }
     ensures kept { KeepsCommit tx.old.conn tx.new.conn }
-    ensures made { OnOk result (HoldsInside (state_of tx.new.conn.now)
-        (with_rows part (marked_at (mark_number mark) path.now (rows_of tx.old.conn.now part))
-        (rows_of tx.old.conn.now))) }
+    ensures made { OnOk result (MarksRow mark path.now part tx.old.conn tx.new.conn) }
 {
     run(tx, part.mark_statement(), params![path, mark.number()])?;
     Ok(())
@@ -230,9 +211,7 @@ pub(crate) fn set_mark(
 pub(crate) fn delete_leaving(tx: &mut Transaction<'_, MemStore>, part: Part) -> Result<(), Error>
     requires { IsOpen IsFormed (state_of tx.old.conn.now) }
     ensures kept { KeepsCommit tx.old.conn tx.new.conn }
-    ensures made { OnOk result (HoldsInside (state_of tx.new.conn.now)
-        (with_rows part (staying_of (rows_of tx.old.conn.now part))
-        (rows_of tx.old.conn.now))) }
+    ensures made { OnOk result (Alters part staying_of tx.old.conn tx.new.conn) }
 {
     run(tx, part.delete_statement(), &[])?;
     Ok(())

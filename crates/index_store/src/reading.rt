@@ -1,8 +1,8 @@
 // Reading what the statements show.
-ghost use Rattle.std.specs.Prelude.{◌≡◌, ◌++◌, map, IfOk, OnOk};
+ghost use Rattle.std.specs.Prelude.{◌≡◌, IfOk, OnOk};
 ghost use Rattle.table_facts.specs.States.{Stays, state_of};
-ghost use Rattle.index_store.specs.Entries.{AreRowsOf, stored_seen};
-ghost use Rattle.index_store.specs.PortTable.{IsKeptWith, stored_in, row_shown};
+ghost use Rattle.index_store.specs.Entries.{AreStored, stored_seen};
+ghost use Rattle.index_store.specs.PortTable.{IsKeptWith, AddsShown, stored_in, row_shown};
 
 use crate::path_rows::StoredRow;
 use crate::port_table::{Part, all_rows};
@@ -21,8 +21,7 @@ fn row_from(row: &Row) -> Result<StoredRow, Error>
 
 // Adds these rows. Each goes once it is read, so that the next takes its place in memory.
 fn add_rows(stored: &mut Vec<StoredRow>, rows: Vec<Row>) -> Result<(), Error>
-    ensures { OnOk result (map stored_seen stored.new.items
-        ≡ map stored_seen stored.old.items ++ map row_shown rows.items) }
+    ensures { OnOk result (AddsShown rows.items stored.old.items stored.new.items) }
 {
     stored.reserve(rows.len())?;
     for row in rows {
@@ -38,8 +37,7 @@ pub(crate) fn read_rows(
     alloc: Global,
 ) -> Result<Vec<StoredRow>, Error>
     requires { IsKeptWith has_earlier (state_of conn.old) }
-    ensures rows { IfOk result (λ rows. AreRowsOf (stored_in conn.old)
-        (map stored_seen rows.items)) }
+    ensures rows { IfOk result (AreStored (stored_in conn.old)) }
     ensures stays { Stays (state_of conn.old) (state_of conn.new) }
 {
     let mut stored = Vec::new(alloc);

@@ -1,9 +1,9 @@
 // The rows of one tenant's index, as its callers see them.
-ghost use Rattle.std.specs.Prelude.{◌≡◌, ◌&&◌, ◌||◌, if◌then◌else◌, not, false, ℕ, List, map, string_bytes, IfOk, OnOk, OnErr, None};
+ghost use Rattle.std.specs.Prelude.{◌≡◌, not, IfOk, OnOk, OnErr};
 ghost use Rattle.std.specs.BTreeSet.{contains_text};
-ghost use Rattle.std.specs.Str.{bytes_eq};
-ghost use Rattle.index_store.specs.Entries.{HasNoRow, PutsRow, PutsProfile, SameRows, SameProfiles, is_one_of};
-ghost use Rattle.index_store.specs.PortTable.{stored_by, profiles_by};
+ghost use Rattle.index_store.specs.Entries.{HasNoRow, SameRows, KeepsProfiles};
+ghost use Rattle.index_store.specs.PortTable.{stored_by, profiles_by, StoresRow, WritesUnprofiled};
+ghost use Rattle.index_store.specs.PortTable.{ListsNoted, NotesPath, ForgetsIf, ForgetsAll};
 
 use crate::path_rows::{PathRows, StoredRow};
 use crate::reading::read_rows;
@@ -69,13 +69,10 @@ impl IndexStore {
     /// `Store` if the database refuses a statement, and `Memory` if memory runs out. After an error
     /// all rows are as they were.
     pub fn put_earlier(&mut self, path: &str, text: &[u8]) -> Result<(), FilesFault>
-        ensures ok { OnOk result (PutsRow path.now text.now (stored_by self.old)
-            (stored_by self.new)) }
-        ensures profile { OnOk result (PutsProfile path.now None (profiles_by self.old)
-            (profiles_by self.new)) }
+        ensures ok { OnOk result (StoresRow path.now text.now self.old self.new) }
+        ensures profile { OnOk result (WritesUnprofiled path.now self.old self.new) }
         ensures err { OnErr result (SameRows (stored_by self.old) (stored_by self.new)) }
-        ensures err_profiles { OnErr result
-            (SameProfiles (profiles_by self.old) (profiles_by self.new)) }
+        ensures err_profiles { OnErr result (KeepsProfiles profiles_by self.old self.new) }
     {
         let is_new = note(self.alloc, &mut self.paths, path)?;
         self.has_earlier = true;
@@ -149,8 +146,7 @@ impl PathRows for IndexStore {
 
 // The paths that are noted, as a list.
 fn list_of(alloc: Global, noted: &BTreeSet<String>) -> Result<Vec<String>, AllocError>
-    ensures { IfOk result (λ listed. (path : List ℕ) → is_one_of path (map string_bytes listed.items)
-        ≡ contains_text noted.now path) }
+    ensures { IfOk result (ListsNoted noted.now) }
 {
     let mut listed = Vec::with_capacity(alloc, noted.len())?;
     for path in noted {
@@ -162,8 +158,7 @@ fn list_of(alloc: Global, noted: &BTreeSet<String>) -> Result<Vec<String>, Alloc
 // Notes a path, and says whether it wasn't noted before. If memory runs out, nothing changes.
 fn note(alloc: Global, paths: &mut BTreeSet<String>, path: &str) -> Result<bool, AllocError>
     ensures is_new { IfOk result (λ is_new. is_new ≡ not (contains_text paths.old path.now)) }
-    ensures noted { OnOk result ((other : List ℕ) → contains_text paths.new other
-        ≡ (bytes_eq path.now other || contains_text paths.old other)) }
+    ensures noted { OnOk result (NotesPath path.now paths.old paths.new) }
     ensures err { OnErr result (paths.new ≡ paths.old) }
 {
     if paths.contains(path) {
@@ -177,8 +172,7 @@ fn note(alloc: Global, paths: &mut BTreeSet<String>, path: &str) -> Result<bool,
 
 // Takes a path out of those that are noted, if it is new.
 fn forget_if(is_new: bool, noted: &mut BTreeSet<String>, path: &str)
-    ensures { (other : List ℕ) → contains_text noted.new other
-        ≡ (if is_new && bytes_eq path.now other then false else contains_text noted.old other) }
+    ensures { ForgetsIf is_new path.now noted.old noted.new }
 {
     if is_new {
         let _was_there = noted.remove(path);
@@ -187,8 +181,7 @@ fn forget_if(is_new: bool, noted: &mut BTreeSet<String>, path: &str)
 
 // Takes these paths out of those that are noted.
 fn forget(noted: &mut BTreeSet<String>, paths: &[String])
-    ensures { (other : List ℕ) → contains_text noted.new other
-        ≡ (if is_one_of other (map string_bytes paths.now) then false else contains_text noted.old other) }
+    ensures { ForgetsAll paths.now noted.old noted.new }
 {
     for path in paths {
         let _was_there = noted.remove(path.as_str());

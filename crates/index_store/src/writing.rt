@@ -1,12 +1,11 @@
 // The calls that write, each in one transaction. With `has_earlier` the table of the release before may have a
 // row; without it that table has none, and no statement runs on it.
-ghost use Rattle.std.specs.Prelude.{◌≡◌, map, string_bytes, OnOk, OnErr, IfOk, None, Some, true};
-ghost use Rattle.mk_text.specs.Profiles.{profile_number};
+ghost use Rattle.std.specs.Prelude.{◌≡◌, OnOk, OnErr, IfOk, None, true};
 ghost use Rattle.table_facts.specs.States.{IsOpen, KeepsCommit, Stays, state_of};
-ghost use Rattle.index_store.specs.PortTable.{IsKeptWith, AllowsFor, IsFormed, Holds, HoldsInside};
-ghost use Rattle.index_store.specs.PortTable.{rows_of, entries_of, no_rows};
-ghost use Rattle.index_store.specs.PortTable.{marked_at, marked_among, staying_of, without, with_row, with_rows};
-ghost use Rattle.index_store.specs.Marking.{Changes, IsFree, mark_number, rows_after};
+ghost use Rattle.index_store.specs.PortTable.{IsKeptWith, AllowsFor, IsFormed, Holds};
+ghost use Rattle.index_store.specs.PortTable.{rows_of, entries_of, no_rows, staying_of, without};
+ghost use Rattle.index_store.specs.Marking.{Alters, AltersBoth, Makes, PutsEarlier, WritesCurrent, Stores};
+ghost use Rattle.index_store.specs.Marking.{MarksPath, MarksAmong, Commits, Changes, IsFree};
 
 use crate::port_table::{
     Mark, Part, create_current, create_earlier, delete_leaving, insert_current, insert_earlier,
@@ -51,8 +50,7 @@ fn mark_path(
     requires open { IsOpen IsFormed (state_of tx.old.conn.now) }
     requires earlier { AllowsFor has_earlier (rows_of tx.old.conn.now) }
     ensures kept { KeepsCommit tx.old.conn tx.new.conn }
-    ensures made { OnOk result (HoldsInside (state_of tx.new.conn.now)
-        (λ part. marked_at (mark_number mark) path.now (rows_of tx.old.conn.now part))) }
+    ensures made { OnOk result (MarksPath mark path.now tx.old.conn tx.new.conn) }
 {
     set_mark(tx, Part::Current, path, mark)?;
     if !has_earlier {
@@ -66,8 +64,7 @@ fn take_leaving(tx: &mut Transaction<'_, MemStore>, has_earlier: bool) -> Result
     requires open { IsOpen IsFormed (state_of tx.old.conn.now) }
     requires earlier { AllowsFor has_earlier (rows_of tx.old.conn.now) }
     ensures kept { KeepsCommit tx.old.conn tx.new.conn }
-    ensures made { OnOk result (HoldsInside (state_of tx.new.conn.now)
-        (λ part. staying_of (rows_of tx.old.conn.now part))) }
+    ensures made { OnOk result (AltersBoth staying_of tx.old.conn tx.new.conn) }
 {
     delete_leaving(tx, Part::Current)?;
     if !has_earlier {
@@ -80,9 +77,7 @@ fn take_leaving(tx: &mut Transaction<'_, MemStore>, has_earlier: bool) -> Result
 fn take_earlier(tx: &mut Transaction<'_, MemStore>, path: &str) -> Result<(), Error>
     requires { IsOpen IsFormed (state_of tx.old.conn.now) }
     ensures kept { KeepsCommit tx.old.conn tx.new.conn }
-    ensures made { OnOk result (HoldsInside (state_of tx.new.conn.now)
-        (with_rows Part.Earlier (without path.now (rows_of tx.old.conn.now Part.Earlier))
-        (rows_of tx.old.conn.now))) }
+    ensures made { OnOk result (Alters Part.Earlier (without path.now) tx.old.conn tx.new.conn) }
 {
     set_mark(tx, Part::Earlier, path, Mark::Leaving)?;
     delete_leaving(tx, Part::Earlier)
@@ -99,11 +94,7 @@ fn put_current<'x>(
     requires open { IsOpen IsFormed (state_of tx.old.conn.now) }
     requires free { is_new ≡ true → rows_of tx.old.conn.now Part.Current path.now ≡ None }
     ensures kept { KeepsCommit tx.old.conn tx.new.conn }
-    ensures made { OnOk result (HoldsInside (state_of tx.new.conn.now)
-        (with_rows Part.Current
-        (with_row path.now (Some (profile_number profile)) text.now
-        (rows_of tx.old.conn.now Part.Current))
-        (rows_of tx.old.conn.now))) }
+    ensures made { OnOk result (WritesCurrent path.now profile text.now tx.old.conn tx.new.conn) }
 {
     if is_new {
         return insert_current(tx, path, profile, text);
@@ -128,8 +119,7 @@ fn put<'x>(
     requires earlier { AllowsFor has_earlier (rows_of tx.old.conn.now) }
     requires free { is_new ≡ true → rows_of tx.old.conn.now Part.Current path.now ≡ None }
     ensures kept { KeepsCommit tx.old.conn tx.new.conn }
-    ensures made { OnOk result (HoldsInside (state_of tx.new.conn.now)
-        (rows_after (Change.Put is_new path.entry profile text.entry) (rows_of tx.old.conn.now))) }
+    ensures made { OnOk result (Stores path.now profile text.now tx.old.conn tx.new.conn) }
 {
     put_current(tx, is_new, path, profile, text)?;
     if !has_earlier {
@@ -148,8 +138,7 @@ fn put_earlier<'x>(
     requires open { IsOpen IsFormed (state_of tx.old.conn.now) }
     requires earlier { AllowsFor has_earlier (rows_of tx.old.conn.now) }
     ensures kept { KeepsCommit tx.old.conn tx.new.conn }
-    ensures made { OnOk result (HoldsInside (state_of tx.new.conn.now)
-        (rows_after (Change.PutEarlier path.entry text.entry) (rows_of tx.old.conn.now))) }
+    ensures made { OnOk result (PutsEarlier path.entry text.entry tx.old.conn tx.new.conn) }
 {
     mark_path(tx, has_earlier, path, Mark::Leaving)?;
     take_leaving(tx, has_earlier)?;
@@ -166,9 +155,7 @@ fn set_marks(
     requires open { IsOpen IsFormed (state_of tx.old.conn.now) }
     requires earlier { AllowsFor has_earlier (rows_of tx.old.conn.now) }
     ensures kept { KeepsCommit tx.old.conn tx.new.conn }
-    ensures made { OnOk result (HoldsInside (state_of tx.new.conn.now)
-        (λ part. marked_among (mark_number mark) (map string_bytes paths.now)
-        (rows_of tx.old.conn.now part))) }
+    ensures made { OnOk result (MarksAmong mark paths.now tx.old.conn tx.new.conn) }
 {
     for path in paths {
         mark_path(tx, has_earlier, path.as_str(), mark)?;
@@ -181,8 +168,7 @@ fn mark_tables(tx: &mut Transaction<'_, MemStore>, has_earlier: bool) -> Result<
     requires open { IsOpen IsFormed (state_of tx.old.conn.now) }
     requires earlier { AllowsFor has_earlier (rows_of tx.old.conn.now) }
     ensures kept { KeepsCommit tx.old.conn tx.new.conn }
-    ensures made { OnOk result (HoldsInside (state_of tx.new.conn.now)
-        (rows_after Change.MarkAll (rows_of tx.old.conn.now))) }
+    ensures made { OnOk result (Makes Change.MarkAll tx.old.conn tx.new.conn) }
 {
     mark_table(tx, Part::Current)?;
     if !has_earlier {
@@ -200,8 +186,7 @@ fn take_out(
     requires open { IsOpen IsFormed (state_of tx.old.conn.now) }
     requires earlier { AllowsFor has_earlier (rows_of tx.old.conn.now) }
     ensures kept { KeepsCommit tx.old.conn tx.new.conn }
-    ensures made { OnOk result (HoldsInside (state_of tx.new.conn.now)
-        (rows_after (Change.TakeOut paths.entry) (rows_of tx.old.conn.now))) }
+    ensures made { OnOk result (Makes (Change.TakeOut paths.entry) tx.old.conn tx.new.conn) }
 {
     set_marks(tx, has_earlier, paths, Mark::Leaving)?;
     take_leaving(tx, has_earlier)
@@ -217,8 +202,7 @@ fn make(
     requires earlier { AllowsFor has_earlier (rows_of tx.old.conn.now) }
     requires free { IsFree has_earlier change (rows_of tx.old.conn.now) }
     ensures kept { KeepsCommit tx.old.conn tx.new.conn }
-    ensures made { OnOk result (HoldsInside (state_of tx.new.conn.now)
-        (rows_after change.entry (rows_of tx.old.conn.now))) }
+    ensures made { OnOk result (Makes change.entry tx.old.conn tx.new.conn) }
 {
     match change {
         Change::Put(is_new, path, profile, text) => put(
@@ -244,7 +228,7 @@ fn commit(
 ) -> Result<(), Error>
     requires kept { IsKeptWith has_earlier (state_of conn.old) }
     requires free { IsFree has_earlier change (rows_of conn.old) }
-    ensures ok { OnOk result (Holds (state_of conn.new) (rows_after change.entry (rows_of conn.old))) }
+    ensures ok { OnOk result (Commits change.entry conn.old conn.new) }
     ensures err { OnErr result (Stays (state_of conn.old) (state_of conn.new)) }
 {
     let mut tx = conn.transaction();

@@ -1,7 +1,9 @@
 -- Rows that name the same paths.
 use Rattle.std.specs.Prelude.{◌≡◌, ℕ, true, List, [], map}
 use Rattle.port_rules.specs.Depends.{DependValue}
+use Rattle.ports_index.specs.declared.evaluating.Row.{Row}
 use Rattle.ports_index.specs.PathOutcomes.{PathOutcome}
+use Rattle.ports_index.specs.Seen.{row_seen}
 use Rattle.ports_index.specs.Naming.{listed_from, named_in}
 use Rattle.ports_index.specs.Depending.{targets_in}
 use Rattle.ports_index.specs.Filling.{is_one_of}
@@ -15,6 +17,10 @@ items_of depends = map (λ (depend : DependValue). depend.item) depends
 pub record NameAlike (path : List ℕ) (old new : PathOutcome) : Type 0 where
   pub words : named_in path new ≡ named_in path old
   pub items : targets_in new ≡ targets_in old
+
+-- At any path, two rows name the same paths.
+abbrev pub NameTheSame : Row → Row → Type 0
+NameTheSame old new = (path : List ℕ) → NameAlike path (row_seen old) (row_seen new)
 
 -- At this path, a row names no path.
 pub record NamesNone (path : List ℕ) (row : PathOutcome) : Type 0 where

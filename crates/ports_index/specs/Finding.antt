@@ -1,9 +1,14 @@
 -- What finds rows by their paths, and what finds paths.
-use Rattle.std.specs.Prelude.{◌≡◌, ℕ, List, ◌++◌, map, Some, String, string_bytes, option_map}
+use Rattle.std.specs.Prelude.{◌≡◌, ℕ, Bool, List, ◌++◌, map, Option, Some, String, string_bytes, option_map}
+use Rattle.std.specs.Borrow.{Bor}
 use Rattle.std.specs.BTreeMap.{get_by_text}
 use Rattle.std.specs.Global.{Global}
 use Rattle.std.specs.List.{All}
 use Rattle.std.specs.Option.{option_to_list}
+use Rattle.ports_index.specs.Filling.{is_one_of}
+use Rattle.ports_index.specs.Naming.{AreInOrder}
+use Rattle.ports_index.specs.Seen.{entries_in, row_lent}
+use Rattle.ports_index.specs.declared.evaluating.Row.{Row}
 use Rattle.ports_index.specs.declared.noted_rows.KnownRow.{KnownRow}
 use Rattle.ports_index.specs.declared.keeping.MemoryRows.{MemoryRows}
 use Rattle.ports_index.specs.declared.keeping.RowFinder.{RowFinder}
@@ -25,3 +30,20 @@ pub record IsFinderOf (rows : MemoryRows) (finder : RowFinder) : Type 0 where
 -- it finds these paths
 abbrev pub FindsPaths : List (List ℕ) → PathFinder → Type 0
 FindsPaths paths finder = map string_bytes finder.paths.now ≡ paths
+
+-- whatever rows it finds, this is what the row of a path says, if it has one
+abbrev pub FindsRow : List ℕ → RowFinder → Option (Bor Row) → Type 0
+FindsRow path finder row = (rows : MemoryRows) → IsFinderOf rows finder → row_lent row ≡ entries_in rows path
+
+-- it finds the paths that it found
+abbrev pub KeepsFinding : PathFinder → PathFinder → Type 0
+KeepsFinding old new = (paths : List (List ℕ)) → FindsPaths paths old → FindsPaths paths new
+
+-- if the paths that it finds are in order, an answer says whether a path is one of them
+abbrev pub TellsIfFound : List ℕ → PathFinder → Bool → Type 0
+TellsIfFound path finder found =
+    (paths : List (List ℕ)) → FindsPaths paths finder → AreInOrder paths → found ≡ is_one_of path paths
+
+-- if these paths are in order, an answer says whether a path is one of them
+abbrev pub TellsPathAmong : List ℕ → List (String Global) → Bool → Type 0
+TellsPathAmong path paths found = AreInOrder (map string_bytes paths) → found ≡ is_one_of path (map string_bytes paths)

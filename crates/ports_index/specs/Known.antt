@@ -1,8 +1,14 @@
 -- An index whose rows are known.
-use Rattle.std.specs.Prelude.{◌≡◌, map, string_bytes, IfSome}
+use Rattle.std.specs.Prelude.{◌≡◌, ℕ, Bool, List, filter, map, Option, string_bytes, IfOk, IfSome, Result, Vec}
+use Rattle.std.specs.Borrow.{Bor}
+use Rattle.std.specs.Fn.{Shared}
+use Rattle.std.specs.Global.{Global}
 use Rattle.mk_paths.specs.World.{World, files_in}
+use Rattle.port_rules.specs.Ports.{PortValue}
+use Rattle.port_deps.specs.Roots.{RootValue}
 use Rattle.ports_index.specs.Naming.{directories}
-use Rattle.ports_index.specs.Index.{edges, listed_paths, needed_paths}
+use Rattle.ports_index.specs.Depending.{TestsPorts, is_port_that}
+use Rattle.ports_index.specs.Index.{edges, listed_paths, needed_paths, root_of, roots}
 use Rattle.ports_index.specs.RowLaws.{SayAll}
 use Rattle.ports_index.specs.Seen.{entries_in}
 use Rattle.ports_index.specs.declared.known_index.IndexPaths.{IndexPaths}
@@ -24,3 +30,18 @@ pub record IsIndexOf (world : World) (index : KnownIndex) : Type 0 where
 pub record IsSameIndex (old new : KnownIndex) : Type 0 where
   pub paths : new.paths ≡ old.paths
   pub rows : new.rows ≡ old.rows
+
+-- if it is the index of a world, these are all that the world has of some kind
+abbrev pub GivesAll : {A F : Type 0} → (World → List A) → KnownIndex → Result (Vec A Global) F → Type 0
+GivesAll kind index result = (world : World) → IsIndexOf world index → IfOk result (λ found. found.items ≡ kind world)
+
+-- if it is the index of a world, this is the root at a path, if there is one
+abbrev pub IsRootAt : List ℕ → KnownIndex → Option RootValue → Type 0
+IsRootAt path index root = (world : World) → IsIndexOf world index → root ≡ root_of world path
+
+-- if it is the index of a world, these are the world's ports that pass the test that a closure makes
+abbrev pub GivesPortsThat : {F E : Type 0}
+    → Shared F (Bor PortValue × Unit {0}) Bool → F → KnownIndex → Result (Vec RootValue Global) E → Type 0
+GivesPortsThat calls passes index result =
+    (world : World) (test : PortValue → Bool) → TestsPorts calls passes test → IsIndexOf world index
+    → IfOk result (λ ports. ports.items ≡ filter (is_port_that test) (roots world))

@@ -11,6 +11,7 @@ pub mod Finding
 pub mod Efforts
 pub mod Pairs
 pub mod Seen
+pub mod FromRows
 pub mod AskedNames
 pub mod RowLaws
 pub mod Spending

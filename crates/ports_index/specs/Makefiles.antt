@@ -1,5 +1,7 @@
 -- Makefiles, and what stays as it was while the same ones are there.
-use Rattle.std.specs.Prelude.{◌≡◌, ℕ, nat_eq, Bool, true, false, List, codes}
+use Rattle.std.specs.Prelude.{◌≡◌, ℕ, nat_eq, Bool, true, false, List, String, codes}
+use Rattle.std.specs.BTreeSet.{BTreeSet, contains_text}
+use Rattle.std.specs.Global.{Global}
 use Rattle.std.specs.FinMap.{contains_key}
 use Rattle.std.specs.List.{ends_with}
 use Rattle.mk_paths.specs.World.{FileMap, World, files_in}
@@ -16,6 +18,18 @@ is_makefile name = ends_with nat_eq name (codes "/Makefile")
 -- each makefile whose name passes this test is one of the files
 abbrev pub AreThere : (List ℕ → Bool) → FileMap → Type 0
 AreThere test files = (name : List ℕ) → test name ≡ true → is_makefile name ≡ true → contains_key files name ≡ true
+
+-- if it is so, each makefile that has one of these names is one of the files
+abbrev pub SaysAreThere : BTreeSet (String Global) → FileMap → Bool → Type 0
+SaysAreThere names files are = are ≡ true → AreThere (contains_text names) files
+
+-- if it is so and the name is a makefile's, it is that of one of the files
+abbrev pub SaysMakefileIsThere : List ℕ → FileMap → Bool → Type 0
+SaysMakefileIsThere name files there = there ≡ true → is_makefile name ≡ true → contains_key files name ≡ true
+
+-- if it is so, the name is that of one of the files
+abbrev pub SaysIsThere : List ℕ → FileMap → Bool → Type 0
+SaysIsThere name files there = there ≡ true → contains_key files name ≡ true
 
 -- the same makefiles are there
 abbrev pub SameMakefiles : FileMap → FileMap → Type 0

@@ -1,6 +1,6 @@
 //! Rows that name the same paths.
 ghost use Rattle.std.specs.Prelude.{◌≡◌, ℕ, List, true, map, string_bytes};
-ghost use Rattle.ports_index.specs.Alike.{NameAlike, NamesNone, items_of};
+ghost use Rattle.ports_index.specs.Alike.{NameTheSame, NamesNone, items_of};
 ghost use Rattle.ports_index.specs.Seen.{row_seen};
 
 use crate::evaluating::Row;
@@ -9,7 +9,7 @@ use port_rules::Depend;
 /// Whether two rows of one path have the same items, if they are ports, or the same words, if they list directories.
 /// Then they name the same paths. So do rows that are neither.
 pub fn name_alike(old: &Row, new: &Row) -> bool
-    ensures { result ≡ true → (path : List ℕ) → NameAlike path (row_seen old.now) (row_seen new.now) }
+    ensures { result ≡ true → NameTheSame old.now new.now }
 {
     match old {
         Row::Port(port) => match new {

@@ -1,11 +1,12 @@
 //! The paths of rows, by the names of the files for which they asked.
-ghost use Rattle.std.specs.Prelude.{◌≡◌, ◌||◌, true, false, ℕ, List, None, OnOk, OnErr, string_bytes};
+ghost use Rattle.std.specs.Prelude.{◌≡◌, true, false, ℕ, List, None, OnOk, OnErr, string_bytes};
 ghost use Rattle.std.specs.BTreeMap.{get_by_text};
 ghost use Rattle.std.specs.BTreeSet.{contains_text};
 ghost use Rattle.std.specs.List.{list_any};
 ghost use Rattle.std.specs.Option.{option_copied};
 ghost use Rattle.std.specs.Str.{bytes_eq};
-ghost use Rattle.ports_index.specs.AskedNames.{is_noted, is_in, NotesOneMore, NotesOneLess, NotesSame, KeepsNotes, KeepsOtherNotes};
+ghost use Rattle.ports_index.specs.AskedNames.{is_noted, AddsNote, NotesOneLess, NotesSame, NotesAll, AreNotedWith, NotesText};
+ghost use Rattle.ports_index.specs.AskedNames.{KeepsNotes, KeepsOtherNotes};
 
 use std::alloc::{AllocError, Global};
 use std::collections::{BTreeMap, BTreeSet};
@@ -30,7 +31,7 @@ impl AskedNames {
 
     /// Notes a path with a name. If memory runs out, nothing changes.
     pub(crate) fn add(&mut self, name: &str, path: &str) -> Result<(), AllocError>
-        ensures ok { OnOk result (NotesOneMore name.now path.now (is_noted self.old) (is_noted self.new)) }
+        ensures ok { OnOk result (AddsNote name.now path.now self.old self.new) }
         ensures err { OnErr result (NotesSame (is_noted self.old) (is_noted self.new)) }
     {
         match self.paths.get_mut(name) {
@@ -42,7 +43,7 @@ impl AskedNames {
     // Notes a path with a name that has none yet. If memory runs out, nothing changes.
     fn add_first(&mut self, name: &str, path: &str) -> Result<(), AllocError>
         requires { get_by_text self.old.paths name.now ≡ None }
-        ensures ok { OnOk result (NotesOneMore name.now path.now (is_noted self.old) (is_noted self.new)) }
+        ensures ok { OnOk result (AddsNote name.now path.now self.old self.new) }
         ensures err { OnErr result (NotesSame (is_noted self.old) (is_noted self.new)) }
     {
         let mut paths = BTreeSet::new(self.alloc);
@@ -79,15 +80,14 @@ impl AskedNames {
 
     /// The paths that are noted with this name, if there are any.
     pub(crate) fn paths_of(&self, name: &str) -> Option<&BTreeSet<String>>
-        ensures { (path : List ℕ) → is_in (option_copied result) path ≡ is_noted self.now name.now path }
+        ensures { AreNotedWith name.now self.now (option_copied result) }
     {
         self.paths.get(name)
     }
 
     /// Notes a path with each of these names. If memory runs out, some of it is noted.
     pub(crate) fn add_all(&mut self, names: &[String], path: &str) -> Result<(), AllocError>
-        ensures noted { OnOk result ((name : List ℕ) → list_any (λ one. bytes_eq (string_bytes one) name) names.now ≡ true
-            → is_noted self.new name path.now ≡ true) }
+        ensures noted { OnOk result (NotesAll names.now path.now self.new) }
         ensures stays { KeepsNotes (is_noted self.old) (is_noted self.new) }
     {
         for name in names {
@@ -108,8 +108,7 @@ impl AskedNames {
 
 // Adds a copy of a text to others, unless it is one of them. If memory runs out, nothing changes.
 fn insert_copy(alloc: Global, texts: &mut BTreeSet<String>, text: &str) -> Result<(), AllocError>
-    ensures ok { OnOk result ((other : List ℕ) → contains_text texts.new other
-        ≡ (bytes_eq text.now other || contains_text texts.old other)) }
+    ensures ok { OnOk result (NotesText text.now texts.old texts.new) }
     ensures err { OnErr result (texts.new ≡ texts.old) }
 {
     if texts.contains(text) {
@@ -120,8 +119,7 @@ fn insert_copy(alloc: Global, texts: &mut BTreeSet<String>, text: &str) -> Resul
 
 /// Adds a text to others. If memory runs out, nothing changes.
 pub fn insert_text(texts: &mut BTreeSet<String>, text: String) -> Result<(), AllocError>
-    ensures ok { OnOk result ((other : List ℕ) → contains_text texts.new other
-        ≡ (bytes_eq (string_bytes text) other || contains_text texts.old other)) }
+    ensures ok { OnOk result (NotesText (string_bytes text) texts.old texts.new) }
     ensures err { OnErr result (texts.new ≡ texts.old) }
 {
     match texts.insert(text) {

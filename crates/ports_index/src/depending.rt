@@ -1,16 +1,14 @@
 //! The ports of a ports tree, and what they depend on, by the rows of its paths.
-ghost use Rattle.std.specs.Prelude.{◌≡◌, ◌++◌, ◌∷◌, [], Bool, ℕ, List, if◌then◌else◌, filter, map, string_bytes, IfOk, OnOk};
-ghost use Rattle.std.specs.Prelude.{option_map, option_to_list};
+ghost use Rattle.std.specs.Prelude.{◌≡◌, map, IfOk, OnOk, option_map};
 ghost use Rattle.std.specs.Option.{option_copied};
-ghost use Rattle.port_rules.specs.Ports.{PortValue};
 ghost use Rattle.port_deps.specs.Roots.{state_lent};
 ghost use Rattle.port_deps.specs.Seen.{found_seen};
 ghost use Rattle.ports_index.specs.Depending as depending;
-ghost use Rattle.ports_index.specs.Depending.{TestsPorts};
-ghost use Rattle.ports_index.specs.Filling.{is_one_of};
-ghost use Rattle.ports_index.specs.Finding.{FindsPaths};
-ghost use Rattle.ports_index.specs.Naming.{AreInOrder};
-ghost use Rattle.ports_index.specs.Seen.{row_seen, known_row, known_in, entries_in, item_seen};
+ghost use Rattle.ports_index.specs.Depending.{item_at, items_in};
+ghost use Rattle.ports_index.specs.Finding.{KeepsFinding};
+ghost use Rattle.ports_index.specs.FromRows.{AreRootsAmong, IsRootAmong, AddsRoot, FindsPortsThat, AddsPortIfFound};
+ghost use Rattle.ports_index.specs.FromRows.{AreItemsAmong, PutsItems, IsEdgeOf, AreEdgesOf, AreEdgesAmong, GivesEdgesFrom};
+ghost use Rattle.ports_index.specs.Seen.{GivesPath, row_says};
 
 use crate::evaluating::Row;
 use crate::keeping::MemoryRows;
@@ -34,8 +32,7 @@ fn items_of_all(
     paths: &[String],
     rows: &MemoryRows,
 ) -> Result<Vec<RootItem>, AllocError>
-    ensures { IfOk result (λ found. map item_seen found.items
-        ≡ depending.items_among (known_in (entries_in rows.now)) (map string_bytes paths.now)) }
+    ensures { IfOk result (AreItemsAmong paths.now rows.now) }
 {
     let mut found = Vec::new(alloc);
     let mut finder = rows.finder();
@@ -52,9 +49,7 @@ fn add_items(
     path: &str,
     row: Option<&Row>,
 ) -> Result<(), AllocError>
-    ensures { OnOk result (map item_seen found.new.items ≡ map item_seen found.old.items
-        ++ depending.items_in path.now
-        (known_row (option_map (λ row. row_seen row.now) row.entry))) }
+    ensures { OnOk result (PutsItems (items_in path.now (row_says row.entry)) found.old found.new) }
 {
     match row {
         Some(Row::Port(port)) => put_items(alloc, found, path, items(alloc, port)?),
@@ -69,8 +64,7 @@ fn put_items(
     path: &str,
     items: Vec<Item>,
 ) -> Result<(), AllocError>
-    ensures { OnOk result (map item_seen found.new.items ≡ map item_seen found.old.items
-        ++ map (depending.item_at path.now) items.items) }
+    ensures { OnOk result (PutsItems (map (item_at path.now) items.items) found.old found.new) }
 {
     for item in items {
         found.push(RootItem {
@@ -86,8 +80,7 @@ pub(crate) fn target_of(
     alloc: Global,
     wanted: Option<&Wanted>,
 ) -> Result<Option<String>, AllocError>
-    ensures { IfOk result (λ path. option_map string_bytes path
-        ≡ depending.target_in (option_copied wanted.entry)) }
+    ensures { IfOk result (GivesPath (depending.target_in (option_copied wanted.entry))) }
 {
     match wanted {
         Some(wanted) => Ok(Some(wanted.path().port_path(alloc)?)),
@@ -102,8 +95,7 @@ fn edges_of_all(
     items: Vec<RootItem>,
     rows: &MemoryRows,
 ) -> Result<Vec<RootEdge>, AllocError>
-    ensures { IfOk result (λ found. found.items
-        ≡ map (depending.edge_at (known_in (entries_in rows.now))) (map item_seen items.items)) }
+    ensures { IfOk result (AreEdgesOf items.items rows.now) }
 {
     let mut found = Vec::with_capacity(alloc, items.len())?;
     for rooted in items {
@@ -114,8 +106,7 @@ fn edges_of_all(
 
 // The dependency that an item is.
 fn edge_of(alloc: Global, rooted: RootItem, rows: &MemoryRows) -> Result<RootEdge, AllocError>
-    ensures { IfOk result (λ edge. edge
-        ≡ depending.edge_at (known_in (entries_in rows.now)) (item_seen rooted)) }
+    ensures { IfOk result (IsEdgeOf rooted rows.now) }
 {
     let RootItem { root, item } = rooted;
     let found = match target_of(alloc, item.wanted())? {
@@ -127,8 +118,7 @@ fn edge_of(alloc: Global, rooted: RootItem, rows: &MemoryRows) -> Result<RootEdg
 
 // What an item finds if the path that it names has this row, or no row.
 fn found_as(row: Option<&Row>) -> Found<'_>
-    ensures { found_seen result
-        ≡ depending.found_of (known_row (option_map (λ row. row_seen row.now) row.entry)) }
+    ensures { found_seen result ≡ depending.found_of (row_says row.entry) }
 {
     match row {
         Some(Row::Port(port)) => Found::Port(port),
@@ -146,8 +136,7 @@ pub(crate) fn edges_among(
     paths: &[String],
     rows: &MemoryRows,
 ) -> Result<Vec<RootEdge>, AllocError>
-    ensures { IfOk result (λ found. found.items
-        ≡ depending.edges_among (known_in (entries_in rows.now)) (map string_bytes paths.now)) }
+    ensures { IfOk result (AreEdgesAmong paths.now rows.now) }
 {
     let items = items_of_all(alloc, paths, rows)?;
     edges_of_all(alloc, items, rows)
@@ -161,8 +150,7 @@ pub(crate) fn edges_from(
     paths: &[String],
     rows: &MemoryRows,
 ) -> Result<Vec<RootEdge>, AllocError>
-    ensures { AreInOrder (map string_bytes paths.now) → IfOk result (λ found. found.items
-        ≡ depending.edges_from (known_in (entries_in rows.now)) (map string_bytes paths.now) path.now) }
+    ensures { GivesEdgesFrom path.now paths.now rows.now result }
 {
     if !is_found_in(paths, path) {
         return Ok(Vec::new(alloc));
@@ -178,8 +166,7 @@ pub(crate) fn root_among<'a>(
     paths: &[String],
     rows: &'a MemoryRows,
 ) -> Option<Root<'a>>
-    ensures { AreInOrder (map string_bytes paths.now) → result
-        ≡ depending.root_among (known_in (entries_in rows.now)) (map string_bytes paths.now) path.now }
+    ensures { IsRootAmong path.now paths.now rows.now result }
 {
     if is_found_in(paths, path) {
         root_with(path, rows.get(path))
@@ -190,8 +177,7 @@ pub(crate) fn root_among<'a>(
 
 // The root at a path with this row, if there is one.
 fn root_with<'a>(path: &'a str, row: Option<&'a Row>) -> Option<Root<'a>>
-    ensures { result ≡ depending.root_with path.now
-        (depending.state_of (known_row (option_map (λ row. row_seen row.now) row.entry))) }
+    ensures { result ≡ depending.root_with path.now (depending.state_of (row_says row.entry)) }
 {
     match state_of(row) {
         Some(state) => Some(Root::new(path, state)),
@@ -206,8 +192,7 @@ pub(crate) fn roots_among<'a>(
     paths: &'a [String],
     rows: &'a MemoryRows,
 ) -> Result<Vec<Root<'a>>, AllocError>
-    ensures { IfOk result (λ found. found.items
-        ≡ depending.roots_among (known_in (entries_in rows.now)) (map string_bytes paths.now)) }
+    ensures { IfOk result (AreRootsAmong paths.now rows.now) }
 {
     let mut found = Vec::with_capacity(alloc, paths.len())?;
     let mut finder = rows.finder();
@@ -223,9 +208,7 @@ fn add_root<'a>(
     path: &'a str,
     row: Option<&'a Row>,
 ) -> Result<(), AllocError>
-    ensures { OnOk result (found.new.items ≡ found.old.items
-        ++ option_to_list (depending.root_with path.now
-        (depending.state_of (known_row (option_map (λ row. row_seen row.now) row.entry))))) }
+    ensures { OnOk result (AddsRoot path.now (row_says row.entry) found.old found.new) }
 {
     if let Some(root) = root_with(path, row) {
         found.push(root)?;
@@ -243,9 +226,7 @@ pub(crate) fn ports_among<'a, F: Fn(&PortRecord) -> bool>(
     passes: F,
 ) -> Result<Vec<Root<'a>>, AllocError>
     requires { F.IsAlwaysCallable passes }
-    ensures { (test : PortValue → Bool) → TestsPorts F.Fn passes test → AreInOrder (map string_bytes paths.now)
-        → IfOk result (λ found. found.items ≡ filter (depending.is_port_that test)
-        (depending.roots_among (known_in (entries_in rows.now)) (map string_bytes paths.now))) }
+    ensures { FindsPortsThat F.Fn passes paths.now rows.now result }
 {
     let mut found = Vec::new(alloc);
     let mut finder = PathFinder::new(paths);
@@ -266,10 +247,8 @@ fn add_port<'a>(
     path: &'a str,
     port: &'a PortRecord,
 ) -> Result<(), AllocError>
-    ensures added { (paths : List (List ℕ)) → FindsPaths paths finder.old → AreInOrder paths
-        → OnOk result (found.new.items ≡ found.old.items ++ (if is_one_of path.now paths
-        then record { path = path.now; state = Ok port.now } ∷ [] else [])) }
-    ensures finder { (paths : List (List ℕ)) → FindsPaths paths finder.old → FindsPaths paths finder.new }
+    ensures added { AddsPortIfFound path.now port.now finder.old found.old found.new result }
+    ensures finder { KeepsFinding finder.old finder.new }
 {
     if finder.has(path) {
         found.push(Root::new(path, Ok(port)))?;
@@ -279,8 +258,7 @@ fn add_port<'a>(
 
 // The state of the root that a row is, if it is one: a port, or a fault.
 fn state_of(row: Option<&Row>) -> Option<Result<&PortRecord, &Fault>>
-    ensures { option_map state_lent result
-        ≡ depending.state_of (known_row (option_map (λ row. row_seen row.now) row.entry)) }
+    ensures { option_map state_lent result ≡ depending.state_of (row_says row.entry) }
 {
     match row {
         Some(Row::Port(port)) => Some(Ok(port)),

@@ -1,10 +1,7 @@
 //! What a path of a ports tree leads to.
-ghost use Rattle.std.specs.Prelude.{◌≡◌, IfOk, codes};
-ghost use Rattle.mk_eval.specs.Meaning.{value_of};
-ghost use Rattle.port_rules.specs.Records.{record_of};
-ghost use Rattle.mk_eval.specs.Views.{flavors_in};
+ghost use Rattle.std.specs.Prelude.{◌≡◌, IfOk};
 ghost use Rattle.ports_index.specs.PathOutcomes as outcomes;
-ghost use Rattle.ports_index.specs.Seen.{finding_seen};
+ghost use Rattle.ports_index.specs.Seen.{IsFindingOf, IsFindingAfter, IsPortFinding, IsListFinding, finding_seen};
 
 use mk_base::{Fault, PureStop};
 use mk_eval::{Evaluated, Failed, Kind, value};
@@ -63,8 +60,7 @@ pub fn finding_of(
     makefile: &Name,
     flavors: Option<&[String]>,
 ) -> Result<Finding, AllocError>
-    ensures { IfOk result (λ found. finding_seen found
-        ≡ outcomes.finding_of_evaluation makefile.now (flavors_in flavors.entry) outcome.now) }
+    ensures { IfOk result (IsFindingOf outcome.now makefile.now flavors.entry) }
 {
     match outcome {
         Ok(evaluated) => finding_after(alloc, evaluated, makefile, flavors),
@@ -89,8 +85,7 @@ fn finding_after(
     makefile: &Name,
     flavors: Option<&[String]>,
 ) -> Result<Finding, AllocError>
-    ensures { IfOk result (λ found. finding_seen found
-        ≡ outcomes.finding_after makefile.now (flavors_in flavors.entry) evaluated.now) }
+    ensures { IfOk result (IsFindingAfter evaluated.now makefile.now flavors.entry) }
 {
     match evaluated.kind {
         Kind::Port => port_finding(alloc, evaluated, makefile),
@@ -114,8 +109,7 @@ fn port_finding(
     evaluated: &Evaluated,
     makefile: &Name,
 ) -> Result<Finding, AllocError>
-    ensures { IfOk result (λ found. finding_seen found
-        ≡ outcomes.port_finding evaluated.now.cost (record_of evaluated.now.env makefile.now)) }
+    ensures { IfOk result (IsPortFinding evaluated.now makefile.now) }
 {
     match record(alloc, evaluated, makefile) {
         Ok(recorded) => Ok(Finding {
@@ -136,9 +130,7 @@ fn list_finding(
     evaluated: &Evaluated,
     makefile: &Name,
 ) -> Result<Finding, AllocError>
-    ensures { IfOk result (λ found. finding_seen found
-        ≡ outcomes.list_finding evaluated.now.cost
-        (value_of evaluated.now.env makefile.now (codes "SUBDIR"))) }
+    ensures { IfOk result (IsListFinding evaluated.now makefile.now) }
 {
     match value(alloc, evaluated, makefile, "SUBDIR") {
         Ok(found) => {

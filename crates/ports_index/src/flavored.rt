@@ -1,10 +1,11 @@
 //! Paths with flavors that items name.
-ghost use Rattle.std.specs.Prelude.{◌≡◌, filter, map, string_bytes, IfOk, option_map};
+ghost use Rattle.std.specs.Prelude.{◌≡◌, filter, string_bytes, IfOk, option_map};
 ghost use Rattle.std.specs.List.{filter_map};
 ghost use Rattle.port_deps.specs.Reading.{has_comma};
 ghost use Rattle.ports_index.specs.Depending as depending;
+ghost use Rattle.ports_index.specs.Depending.{targets_in};
 ghost use Rattle.ports_index.specs.Flavored as flavored;
-ghost use Rattle.ports_index.specs.Seen.{row_seen, known_row};
+ghost use Rattle.ports_index.specs.Seen.{GivesPath, GivesTexts, row_says};
 
 use crate::depending::target_of;
 use crate::evaluating::Row;
@@ -17,8 +18,7 @@ use std::alloc::{AllocError, Global};
 /// Without a row, or if the row is no port, there are none. An item that can't be read names none. It fails only if memory
 /// runs out.
 pub fn flavored_targets(alloc: Global, row: Option<&Row>) -> Result<Vec<String>, AllocError>
-    ensures { IfOk result (λ found. map string_bytes found.items ≡ filter has_comma
-        (depending.targets_in (known_row (option_map (λ row. row_seen row.now) row.entry)))) }
+    ensures { IfOk result (GivesTexts (filter has_comma (targets_in (row_says row.entry)))) }
 {
     let mut found = Vec::new(alloc);
     for depend in depends_of(row) {
@@ -29,8 +29,7 @@ pub fn flavored_targets(alloc: Global, row: Option<&Row>) -> Result<Vec<String>,
 
 // What the port in this row depends on. Without a row, or if the row is no port, that is nothing.
 fn depends_of(row: Option<&Row>) -> &[Depend]
-    ensures { filter_map depending.target_by result.now
-        ≡ depending.targets_in (known_row (option_map (λ row. row_seen row.now) row.entry)) }
+    ensures { filter_map depending.target_by result.now ≡ targets_in (row_says row.entry) }
 {
     match row {
         Some(Row::Port(port)) => port.depends(),
@@ -40,7 +39,7 @@ fn depends_of(row: Option<&Row>) -> &[Depend]
 
 // The path that the item of a dependency names, without a subpackage, if the item can be read and the path has a comma.
 fn flavored_target(alloc: Global, depend: &Depend) -> Result<Option<String>, AllocError>
-    ensures { IfOk result (λ path. option_map string_bytes path ≡ flavored.flavored_target depend.now) }
+    ensures { IfOk result (GivesPath (flavored.flavored_target depend.now)) }
 {
     if !has_comma(depend.item()) {
         return Ok(None);
@@ -50,7 +49,7 @@ fn flavored_target(alloc: Global, depend: &Depend) -> Result<Option<String>, All
 
 // The path that the item of a dependency names, without a subpackage, if the item can be read.
 fn target_by(alloc: Global, depend: &Depend) -> Result<Option<String>, AllocError>
-    ensures { IfOk result (λ path. option_map string_bytes path ≡ depending.target_by depend.now) }
+    ensures { IfOk result (GivesPath (depending.target_by depend.now)) }
 {
     let wanted = read_wanted(alloc, depend.item())?;
     target_of(alloc, wanted.as_ref())

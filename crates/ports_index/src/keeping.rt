@@ -1,14 +1,13 @@
 //! A map of rows in memory: what paths lead to, as far as that is known.
-ghost use Rattle.std.specs.Prelude.{◌≡◌, ◌+◌, ℕ, List, Option, Some, None, map, option_map, if◌then◌else◌, string_bytes};
+ghost use Rattle.std.specs.Prelude.{◌≡◌, ◌+◌, ℕ, List, Option, Some, None, map, option_map, string_bytes};
 ghost use Rattle.std.specs.Prelude.{IfOk, OnOk, OnErr};
-ghost use Rattle.std.specs.Str.{bytes_eq};
 ghost use Rattle.std.specs.BTreeMap.{get_by_text};
 ghost use Rattle.std.specs.BTreeSet.{contains_text};
 ghost use Rattle.std.specs.List.{All, list_any};
-ghost use Rattle.ports_index.specs.Filling.{is_one_of};
-ghost use Rattle.ports_index.specs.Finding.{IsEntryOf, IsFinderOf};
+ghost use Rattle.ports_index.specs.Finding.{FindsRow, IsEntryOf, IsFinderOf};
 ghost use Rattle.ports_index.specs.PathOutcomes.{PathOutcome, counted};
-ghost use Rattle.ports_index.specs.Seen.{entries_in, has_asked_for, known_seen, names_in, names_seen, row_seen, said_in, size_of};
+ghost use Rattle.ports_index.specs.Seen.{entries_in, known_seen, names_in, names_seen, row_lent, said_in, size_of};
+ghost use Rattle.ports_index.specs.Seen.{HaveAsked, PutsSaid, PutsEntry, SaysSame, TakesSaidOut};
 
 use crate::evaluating::Row;
 use crate::noted_rows::{KnownRow, NotedRows, has_name};
@@ -39,7 +38,7 @@ impl MemoryRows {
 
     /// The row of this path, if it has one.
     pub fn get(&self, path: &str) -> Option<&Row>
-        ensures { option_map (λ row. row_seen row.now) result ≡ entries_in self.now path.now }
+        ensures { row_lent result ≡ entries_in self.now path.now }
     {
         match self.noted.rows.get(path) {
             Some(known) => Some(&known.row),
@@ -65,8 +64,7 @@ impl MemoryRows {
         alloc: Global,
         names: &BTreeSet<String>,
     ) -> Result<Vec<String>, AllocError>
-        ensures { IfOk result (λ paths. (path : List ℕ) → is_one_of path (map string_bytes paths.items)
-            ≡ has_asked_for (contains_text names.now) (names_in self.now path)) }
+        ensures { IfOk result (HaveAsked names.now self.now) }
     {
         self.noted.paths_asking(alloc, names)
     }
@@ -80,12 +78,10 @@ impl MemoryRows {
 
     /// Gives this path this row, whether or not it had one. If memory runs out, it fails, and all rows stay as they are.
     pub fn put(&mut self, path: String, known: KnownRow) -> Result<(), AllocError>
-        ensures says { OnOk result ((other : List ℕ) → said_in self.new other
-            ≡ (if bytes_eq (string_bytes path) other then Some (known_seen known) else said_in self.old other)) }
-        ensures ok { OnOk result ((other : List ℕ) → entries_in self.new other
-            ≡ (if bytes_eq (string_bytes path) other then Some (row_seen known.row) else entries_in self.old other)) }
+        ensures says { OnOk result (PutsSaid path known self.old self.new) }
+        ensures ok { OnOk result (PutsEntry path known.row self.old self.new) }
         ensures size { OnOk result (size_of self.new ≡ counted (size_of self.old + known.size)) }
-        ensures err { OnErr result ((other : List ℕ) → said_in self.new other ≡ said_in self.old other) }
+        ensures err { OnErr result (SaysSame self.old self.new) }
         ensures err_size { OnErr result (size_of self.new ≡ size_of self.old) }
     {
         let size = known.size;
@@ -97,8 +93,7 @@ impl MemoryRows {
     /// Takes out the row of this path, if it has one, and gives it.
     pub fn take_out(&mut self, path: &str) -> Option<KnownRow>
         ensures taken { option_map known_seen result ≡ said_in self.old path.now }
-        ensures others { (other : List ℕ) → said_in self.new other
-            ≡ (if bytes_eq path.now other then None else said_in self.old other) }
+        ensures others { TakesSaidOut path.now self.old self.new }
         ensures size { size_of self.new ≡ size_of self.old }
     {
         self.noted.take_out(path)
@@ -117,8 +112,7 @@ pub struct RowFinder<'a> {
 impl<'a> RowFinder<'a> {
     /// The row of this path, if it has one.
     pub fn get(&mut self, path: &str) -> Option<&'a Row>
-        ensures row { (rows : MemoryRows) → IsFinderOf rows self.old
-            → option_map (λ row. row_seen row.now) result ≡ entries_in rows path.now }
+        ensures row { FindsRow path.now self.old result }
         ensures finder { (rows : MemoryRows) → IsFinderOf rows self.old → IsFinderOf rows self.new }
     {
         if let Some((key, known)) = self.ahead {
@@ -132,8 +126,7 @@ impl<'a> RowFinder<'a> {
 
     // The same for a path that needn't be the next one.
     fn search(&mut self, path: &str) -> Option<&'a Row>
-        ensures row { (rows : MemoryRows) → IsFinderOf rows self.old
-            → option_map (λ row. row_seen row.now) result ≡ entries_in rows path.now }
+        ensures row { FindsRow path.now self.old result }
         ensures finder { (rows : MemoryRows) → IsFinderOf rows self.old → IsFinderOf rows self.new }
     {
         while let Some((key, known)) = self.ahead {

@@ -1,10 +1,8 @@
 //! An index whose rows are known.
-ghost use Rattle.std.specs.Prelude.{◌≡◌, Bool, true, filter, is_some, IfOk, OnOk};
+ghost use Rattle.std.specs.Prelude.{◌≡◌, true, is_some, OnOk};
 ghost use Rattle.mk_paths.specs.World.{World};
-ghost use Rattle.port_rules.specs.Ports.{PortValue};
-ghost use Rattle.ports_index.specs.Depending.{TestsPorts, is_port_that};
 ghost use Rattle.ports_index.specs.Index as indexed;
-ghost use Rattle.ports_index.specs.Known.{IsIndexOf, IsSameIndex};
+ghost use Rattle.ports_index.specs.Known.{GivesAll, GivesPortsThat, IsIndexOf, IsRootAt, IsSameIndex};
 
 use crate::depending::{edges_among, edges_from, ports_among, root_among, roots_among};
 use crate::keeping::MemoryRows;
@@ -37,8 +35,7 @@ impl KnownIndex {
     /// The ports, and the faults met where ports should be, in the order of their canonical paths, each once. The
     /// index lends them all. It fails only if memory runs out.
     pub fn roots(&self, alloc: Global) -> Result<Vec<Root<'_>>, AllocError>
-        ensures { (world : World) → IsIndexOf world self.now
-            → IfOk result (λ roots. roots.items ≡ indexed.roots world) }
+        ensures { GivesAll indexed.roots self.now result }
     {
         known_rows_are_enough();
         roots_among(alloc, &self.paths.listed, &self.rows)
@@ -46,7 +43,7 @@ impl KnownIndex {
 
     /// The root at a path, if there is one. It looks at one row, and takes no memory.
     pub fn root_at<'a>(&'a self, path: &'a str) -> Option<Root<'a>>
-        ensures { (world : World) → IsIndexOf world self.now → result ≡ indexed.root_of world path.now }
+        ensures { IsRootAt path.now self.now result }
     {
         known_rows_are_enough();
         root_among(path, &self.paths.listed, &self.rows)
@@ -55,8 +52,7 @@ impl KnownIndex {
     /// The dependencies of the port at a path, in the order of its items. Of all rows, it looks at the port's own, and at
     /// those of the paths that its items name. It fails only if memory runs out.
     pub fn edges_from(&self, alloc: Global, path: &str) -> Result<Vec<RootEdge>, AllocError>
-        ensures { (world : World) → IsIndexOf world self.now
-            → IfOk result (λ edges. edges.items ≡ indexed.edges_of world path.now) }
+        ensures { GivesAll (λ world. indexed.edges_of world path.now) self.now result }
     {
         known_rows_are_enough();
         edges_from(alloc, path, &self.paths.listed, &self.rows)
@@ -69,8 +65,7 @@ impl KnownIndex {
         passes: F,
     ) -> Result<Vec<Root<'_>>, AllocError>
         requires { F.IsAlwaysCallable passes }
-        ensures { (world : World) (test : PortValue → Bool) → TestsPorts F.Fn passes test → IsIndexOf world self.now
-            → IfOk result (λ ports. ports.items ≡ filter (is_port_that test) (indexed.roots world)) }
+        ensures { GivesPortsThat F.Fn passes self.now result }
     {
         known_rows_are_enough();
         ports_among(alloc, &self.paths.listed, &self.rows, passes)
@@ -79,8 +74,7 @@ impl KnownIndex {
     /// The dependencies of all ports, in the order of the ports, and those of each port in the order of its items. It
     /// fails only if memory runs out.
     pub fn make_edges(&self, alloc: Global) -> Result<Vec<RootEdge>, AllocError>
-        ensures { (world : World) → IsIndexOf world self.now
-            → IfOk result (λ edges. edges.items ≡ indexed.edges world) }
+        ensures { GivesAll indexed.edges self.now result }
     {
         known_rows_are_enough();
         edges_among(alloc, &self.paths.listed, &self.rows)

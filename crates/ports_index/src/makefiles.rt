@@ -1,10 +1,9 @@
 //! Makefiles that may have changed.
-ghost use Rattle.std.specs.Prelude.{◌≡◌, true, IfOk};
-ghost use Rattle.std.specs.BTreeSet.{contains_text};
-ghost use Rattle.std.specs.FinMap.{contains_key};
+ghost use Rattle.std.specs.Prelude.{◌≡◌, IfOk};
 ghost use Rattle.std.specs.Result.{result_err};
 ghost use Rattle.ports_index.specs.Keeping.{Keeps};
 ghost use Rattle.ports_index.specs.Makefiles as makefiles;
+ghost use Rattle.ports_index.specs.Makefiles.{SaysAreThere, SaysIsThere, SaysMakefileIsThere};
 
 use mk_paths::{FilesFault, Name, NameFault, Names};
 use std::alloc::Global;
@@ -23,8 +22,7 @@ pub fn makefiles_are_there<F: Names>(
     files: &mut F,
     names: &BTreeSet<String>,
 ) -> Result<bool, FilesFault>
-    ensures there { IfOk result (λ are. are ≡ true
-        → makefiles.AreThere (contains_text names.now) (F.view files.old).files) }
+    ensures there { IfOk result (SaysAreThere names.now (F.view files.old).files) }
     ensures keeps { Keeps (result_err result) (F.view files.old) (F.view files.new) }
 {
     for name in names {
@@ -41,8 +39,7 @@ fn is_there_if_makefile<F: Names>(
     files: &mut F,
     name: &str,
 ) -> Result<bool, FilesFault>
-    ensures there { IfOk result (λ there. there ≡ true → makefiles.is_makefile name.now ≡ true
-        → contains_key (F.view files.old).files name.now ≡ true) }
+    ensures there { IfOk result (SaysMakefileIsThere name.now (F.view files.old).files) }
     ensures keeps { Keeps (result_err result) (F.view files.old) (F.view files.new) }
 {
     if !is_makefile(name) {
@@ -53,7 +50,7 @@ fn is_there_if_makefile<F: Names>(
 
 // Whether a text is the name of a file that is there.
 fn is_there<F: Names>(alloc: Global, files: &mut F, text: &str) -> Result<bool, FilesFault>
-    ensures there { IfOk result (λ there. there ≡ true → contains_key (F.view files.old).files text.now ≡ true) }
+    ensures there { IfOk result (SaysIsThere text.now (F.view files.old).files) }
     ensures keeps { Keeps (result_err result) (F.view files.old) (F.view files.new) }
 {
     match Name::read(alloc, text) {

@@ -1,13 +1,15 @@
 //! The paths of a ports tree: directories with a makefile, and what a list of directories names.
-ghost use Rattle.std.specs.Prelude.{◌≡◌, ◌==◌, ◌++◌, true, map, string_bytes, IfOk, OnOk, option_map, option_to_list};
-ghost use Rattle.std.specs.List.{filter_map, flat_map, list_any};
+ghost use Rattle.std.specs.Prelude.{◌≡◌, ◌==◌, ◌++◌, true, map, string_bytes, IfOk, OnOk, option_map};
+ghost use Rattle.std.specs.List.{filter_map, list_any};
 ghost use Rattle.std.specs.Option.{option_copied};
 ghost use Rattle.std.specs.Result.{result_err};
 ghost use Rattle.text_parts.specs.Ordered.{by_bytes};
 ghost use Rattle.ports_index.specs.Filling.{is_one_of};
+ghost use Rattle.ports_index.specs.Finding.{TellsPathAmong};
+ghost use Rattle.ports_index.specs.FromRows.{AreListed, AreNamedBy, AddsNamed, AddsWords};
 ghost use Rattle.ports_index.specs.Keeping.{Keeps};
 ghost use Rattle.ports_index.specs.Naming as naming;
-ghost use Rattle.ports_index.specs.Seen.{row_seen, known_row, known_in, entries_in};
+ghost use Rattle.ports_index.specs.Seen.{AddsPath, GivesPath, GivesTexts, names_seen, row_says};
 
 use crate::evaluating::Row;
 use crate::keeping::MemoryRows;
@@ -22,8 +24,7 @@ use text_parts::{clones_of, put_in_order};
 /// The directories in which a makefile may be, by the names of the files: in the order of their bytes, each
 /// once. It fails if the files fail, or if memory runs out.
 pub fn directories<F: Listing>(alloc: Global, files: &mut F) -> Result<Vec<String>, FilesFault>
-    ensures ok { IfOk result (λ found. map string_bytes found.items
-        ≡ naming.directories (F.view files.old).files) }
+    ensures ok { IfOk result (GivesTexts (naming.directories (F.view files.old).files)) }
     ensures keeps { Keeps (result_err result) (F.view files.old) (F.view files.new) }
 {
     let names = files.names(alloc)?;
@@ -34,8 +35,7 @@ pub fn directories<F: Listing>(alloc: Global, files: &mut F) -> Result<Vec<Strin
 
 // The directories of which these names are makefiles.
 fn directories_of(alloc: Global, names: &[String]) -> Result<Vec<String>, AllocError>
-    ensures { IfOk result (λ found. map string_bytes found.items
-        ≡ filter_map naming.directory_of (map string_bytes names.now)) }
+    ensures { IfOk result (GivesTexts (filter_map naming.directory_of (names_seen names.now))) }
 {
     let mut found = Vec::new(alloc);
     for name in names {
@@ -46,8 +46,7 @@ fn directories_of(alloc: Global, names: &[String]) -> Result<Vec<String>, AllocE
 
 /// Adds a path, if there is one.
 pub(crate) fn add_found(paths: &mut Vec<String>, path: Option<String>) -> Result<(), AllocError>
-    ensures { OnOk result (map string_bytes paths.new.items ≡ map string_bytes paths.old.items
-        ++ option_to_list (option_map string_bytes path)) }
+    ensures { OnOk result (AddsPath (option_map string_bytes path) paths.old paths.new) }
 {
     if let Some(path) = path {
         paths.push(path)?;
@@ -58,7 +57,7 @@ pub(crate) fn add_found(paths: &mut Vec<String>, path: Option<String>) -> Result
 /// The directory of which a name is the makefile, if a path can name that.
 #[tactic(auto, unfolding(crate::specs::Naming::directory_of))]
 pub(crate) fn directory_of(alloc: Global, name: &str) -> Result<Option<String>, AllocError>
-    ensures { IfOk result (λ found. option_map string_bytes found ≡ naming.directory_of name.now) }
+    ensures { IfOk result (GivesPath (naming.directory_of name.now)) }
 {
     let Some(directory) = makefile_directory(name) else {
         return Ok(None);
@@ -96,8 +95,7 @@ pub fn listed(
     directories: &[String],
     rows: &MemoryRows,
 ) -> Result<Vec<String>, AllocError>
-    ensures { IfOk result (λ found. map string_bytes found.items
-        ≡ naming.listed_from (known_in (entries_in rows.now)) (map string_bytes directories.now)) }
+    ensures { IfOk result (AreListed directories.now rows.now) }
 {
     let mut paths = named_by_all(alloc, directories, rows)?;
     append(&mut paths, clones_of(alloc, directories)?)?;
@@ -109,8 +107,7 @@ pub fn listed(
 /// of them, and one of them may be missed if they aren't in that order, each once.
 pub fn is_found_in(paths: &[String], path: &str) -> bool
     ensures found { result ≡ true → is_one_of path.now (map string_bytes paths.now) ≡ true }
-    ensures all { naming.AreInOrder (map string_bytes paths.now)
-        → result ≡ is_one_of path.now (map string_bytes paths.now) }
+    ensures all { TellsPathAmong path.now paths.now result }
 {
     let place = paths.binary_search_by(
         |one: &String| -> Ordering
@@ -139,9 +136,7 @@ fn named_by_all(
     directories: &[String],
     rows: &MemoryRows,
 ) -> Result<Vec<String>, AllocError>
-    ensures { IfOk result (λ found. map string_bytes found.items
-        ≡ flat_map (naming.named_at (known_in (entries_in rows.now)))
-        (map string_bytes directories.now)) }
+    ensures { IfOk result (AreNamedBy directories.now rows.now) }
 {
     let mut found = Vec::new(alloc);
     let mut finder = rows.finder();
@@ -158,9 +153,7 @@ fn add_named(
     directory: &str,
     row: Option<&Row>,
 ) -> Result<(), AllocError>
-    ensures { OnOk result (map string_bytes found.new.items ≡ map string_bytes found.old.items
-        ++ naming.named_in directory.now
-        (known_row (option_map (λ row. row_seen row.now) row.entry))) }
+    ensures { OnOk result (AddsNamed directory.now (row_says row.entry) found.old found.new) }
 {
     match row {
         Some(Row::Lists(words)) => add_words(alloc, found, directory, words),
@@ -175,8 +168,7 @@ fn add_words(
     directory: &str,
     words: &[String],
 ) -> Result<(), AllocError>
-    ensures { OnOk result (map string_bytes found.new.items ≡ map string_bytes found.old.items
-        ++ filter_map (naming.path_of_word directory.now) (map string_bytes words.now)) }
+    ensures { OnOk result (AddsWords directory.now words.now found.old found.new) }
 {
     for word in words {
         add_found(found, path_of_word(alloc, directory, word)?)?;
@@ -186,8 +178,7 @@ fn add_words(
 
 // The path that a word of a directory names, if the word chooses flavors.
 fn path_of_word(alloc: Global, directory: &str, word: &str) -> Result<Option<String>, AllocError>
-    ensures { IfOk result (λ path. option_map string_bytes path
-        ≡ naming.path_of_word directory.now word.now) }
+    ensures { IfOk result (GivesPath (naming.path_of_word directory.now word.now)) }
 {
     if !has_comma(word) {
         return Ok(None);

@@ -1,12 +1,12 @@
 //! Rows by their paths, and which of them asked for a file.
-ghost use Rattle.std.specs.Prelude.{◌≡◌, ◌&&◌, ◌||◌, ℕ, List, Some, None, if◌then◌else◌, map, string_bytes, IfOk, OnOk, OnErr};
+ghost use Rattle.std.specs.Prelude.{◌≡◌, ℕ, List, Some, None, map, string_bytes, IfOk, OnOk, OnErr};
 ghost use Rattle.std.specs.BTreeMap.{get_by_text};
 ghost use Rattle.std.specs.BTreeSet.{contains_text};
 ghost use Rattle.std.specs.List.{list_any};
 ghost use Rattle.std.specs.Option.{option_copied};
 ghost use Rattle.std.specs.Str.{bytes_eq};
-ghost use Rattle.ports_index.specs.AskedNames.{AreNoted, asks_in, asks_one_of};
-ghost use Rattle.ports_index.specs.Filling.{is_one_of};
+ghost use Rattle.ports_index.specs.AskedNames.{AreNoted, asks_in, NotesRow, KeepsNoted, TakesRowOut};
+ghost use Rattle.ports_index.specs.AskedNames.{AreAsking, AddsAskers, AddsAskersOf};
 
 use crate::asked_names::AskedNames;
 use crate::evaluating::Row;
@@ -46,9 +46,8 @@ impl NotedRows {
 
     /// Gives this path this row, whether or not it had one. If memory runs out, it fails, and all rows stay as they are.
     pub(crate) fn put(&mut self, path: String, row: KnownRow) -> Result<(), AllocError>
-        ensures ok { OnOk result ((other : List ℕ) → get_by_text self.new.rows other
-            ≡ (if bytes_eq (string_bytes path) other then Some row else get_by_text self.old.rows other)) }
-        ensures err { OnErr result ((other : List ℕ) → get_by_text self.new.rows other ≡ get_by_text self.old.rows other) }
+        ensures ok { OnOk result (NotesRow path row self.old.rows self.new.rows) }
+        ensures err { OnErr result (KeepsNoted self.old.rows self.new.rows) }
     {
         self.asked.add_all(&row.names, path.as_str())?;
         match self.rows.insert(path, row) {
@@ -60,8 +59,7 @@ impl NotedRows {
     /// Takes out the row of this path, if it has one, and gives it.
     pub(crate) fn take_out(&mut self, path: &str) -> Option<KnownRow>
         ensures taken { result ≡ get_by_text self.old.rows path.now }
-        ensures others { (other : List ℕ) → get_by_text self.new.rows other
-            ≡ (if bytes_eq path.now other then None else get_by_text self.old.rows other) }
+        ensures others { TakesRowOut path.now self.old.rows self.new.rows }
     {
         let taken = self.rows.remove(path)?;
         self.asked.remove_all(&taken.names, path);
@@ -75,8 +73,7 @@ impl NotedRows {
         alloc: Global,
         names: &BTreeSet<String>,
     ) -> Result<Vec<String>, AllocError>
-        ensures { IfOk result (λ paths. (path : List ℕ) → is_one_of path (map string_bytes paths.items)
-            ≡ asks_one_of (contains_text names.now) (get_by_text self.now.rows path)) }
+        ensures { IfOk result (AreAsking names.now self.now.rows) }
     {
         let mut paths = Vec::new(alloc);
         for name in names {
@@ -93,8 +90,7 @@ impl NotedRows {
         name: &str,
         paths: &mut Vec<String>,
     ) -> Result<(), AllocError>
-        ensures { OnOk result ((path : List ℕ) → is_one_of path (map string_bytes paths.new.items)
-            ≡ (is_one_of path (map string_bytes paths.old.items) || asks_in (get_by_text self.now.rows path) name.now)) }
+        ensures { OnOk result (AddsAskers name.now self.now.rows paths.old paths.new) }
     {
         match self.asked.paths_of(name) {
             Some(noted) => self.add_those_asking(alloc, name, noted, paths),
@@ -110,9 +106,7 @@ impl NotedRows {
         noted: &BTreeSet<String>,
         paths: &mut Vec<String>,
     ) -> Result<(), AllocError>
-        ensures { OnOk result ((path : List ℕ) → is_one_of path (map string_bytes paths.new.items)
-            ≡ (is_one_of path (map string_bytes paths.old.items)
-            || (contains_text noted.now path && asks_in (get_by_text self.now.rows path) name.now))) }
+        ensures { OnOk result (AddsAskersOf noted.now name.now self.now.rows paths.old paths.new) }
     {
         for path in noted {
             if self.asks(path.as_str(), name) {

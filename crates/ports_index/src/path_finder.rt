@@ -1,8 +1,6 @@
 //! Paths that are searched for one after another.
-ghost use Rattle.std.specs.Prelude.{◌≡◌, List, ℕ, map, string_bytes};
-ghost use Rattle.ports_index.specs.Filling.{is_one_of};
-ghost use Rattle.ports_index.specs.Finding.{FindsPaths};
-ghost use Rattle.ports_index.specs.Naming.{AreInOrder};
+ghost use Rattle.std.specs.Prelude.{map, string_bytes};
+ghost use Rattle.ports_index.specs.Finding.{FindsPaths, KeepsFinding, TellsIfFound};
 
 use crate::naming::is_found_in;
 
@@ -24,9 +22,8 @@ impl<'a> PathFinder<'a> {
 
     /// Whether this path is one of them.
     pub fn has(&mut self, path: &str) -> bool
-        ensures has { (paths : List (List ℕ)) → FindsPaths paths self.old → AreInOrder paths
-            → result ≡ is_one_of path.now paths }
-        ensures finder { (paths : List (List ℕ)) → FindsPaths paths self.old → FindsPaths paths self.new }
+        ensures has { TellsIfFound path.now self.old result }
+        ensures finder { KeepsFinding self.old self.new }
     {
         while self.place < self.paths.len() {
             let ahead = self.paths[self.place].as_str();
