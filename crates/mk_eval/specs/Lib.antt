@@ -11,5 +11,6 @@ pub mod Views
 pub mod FormViews
 pub mod Trees
 pub mod Running
+pub mod LineParts
 pub mod Sharing
 pub mod Costs

@@ -1,13 +1,35 @@
 -- What the code's steps through a makefile are, among files.
-use Rattle.std.specs.Prelude.{◌≢◌, ◌<◌, ℕ, suc, zero, List, Option, Some, None}
-use Rattle.mk_base.specs.Meter.{Meter}
+use Rattle.std.specs.Prelude.{◌≡◌, ◌≢◌, ◌<◌, ℕ, suc, zero, Bool, List, map, Option, Some, None, option_map, Result, IfOk}
+use Rattle.std.specs.Prelude.{String, string_bytes, Vec, slice_get}
+use Rattle.std.specs.Global.{Global}
+use Rattle.std.specs.declared.rc.Rc.{Rc}
+use Rattle.mk_base.specs.declared.faults.FaultKind.{FaultKind}
+use Rattle.mk_base.specs.declared.stopping.PureStop.{PureStop}
+use Rattle.mk_base.specs.declared.stopping.Stop.{Stop}
 use Rattle.mk_base.specs.FaultAt.{FaultAt}
+use Rattle.mk_base.specs.Meter.{Meter, pay}
+use Rattle.mk_base.specs.Outcome.{Work, tell}
+use Rattle.mk_base.specs.Stopping.{Gives, GivesPurely}
+use Rattle.mk_text.specs.Lines.{LogicalLine}
+use Rattle.mk_env.specs.Texts.{Variables}
+use Rattle.mk_loop.specs.declared.turn.Iteration.{Iteration}
+use Rattle.mk_loop.specs.declared.turn.Iterations.{Iterations}
+use Rattle.mk_loop.specs.LoopWords.{LoopWords}
+use Rattle.mk_loop.specs.Scopes.{turns_in}
 use Rattle.mk_paths.specs.World.{FileMap}
-use Rattle.mk_files.specs.Asking.{Account}
+use Rattle.mk_paths.specs.FilesView.{FilesView}
+use Rattle.mk_files.specs.Asking.{Account, account}
+use Rattle.mk_eval.specs.Lines as lines
+use Rattle.mk_eval.specs.Lines.{Request, inside_turn}
+use Rattle.mk_eval.specs.Heads as heads
+use Rattle.mk_eval.specs.Includes.{Opened}
+use Rattle.mk_eval.specs.Modules as modules
 use Rattle.mk_eval.specs.Execution.{LineWorks}
+use Rattle.mk_eval.specs.Meaning as meaning
 use Rattle.mk_eval.specs.Meaning.{Entering, works_at, nothing_entered, file_meaning}
-use Rattle.mk_eval.specs.Views.{place_of}
+use Rattle.mk_eval.specs.Views.{loops_of, place_of, file_of}
 use Rattle.mk_eval.specs.declared.including.ExecutedFile.{ExecutedFile}
+use Rattle.mk_eval.specs.declared.including.Included.{Included}
 use Rattle.mk_eval.specs.declared.state.EvalState.{EvalState}
 
 -- what an included file does, if files may still include one another this many levels deep
@@ -37,3 +59,66 @@ Requests old new (Some file) = Pays old new
 abbrev pub MayOpen : {A : Type 0} → ℕ → Option A → Type 0
 MayOpen levels None = Unit {0}
 MayOpen levels (Some file) = levels ≢ 0
+
+-- a line with this text, in these loops, does to variables and a budget what the definition says
+abbrev pub Performs : List Iteration → List ℕ → Variables × Meter → Variables × Meter
+    → Result (Option Request) (PureStop FaultKind) → Type 0
+Performs loops text old new result =
+    GivesPurely (λ request. (new.0, request)) result new.1 (lines.perform old.0 (loops_of loops) text old.1)
+
+-- the iterations are given of the loop that a line of an executed file begins, from the first budget to the second
+abbrev pub LoopAt : ExecutedFile → List Iteration → LogicalLine → EvalState
+    → Result (Rc Iterations Global) (PureStop FaultAt) → Meter × Meter → Type 0
+LoopAt here loops line state result budgets =
+    GivesPurely (λ turns. turns_in turns.value) result budgets.1
+    (tell (meaning.at here.file.now line.line) (heads.turns state.variables (loops_of loops) line.text budgets.0))
+
+-- a unit is spent at the line with this number, or that is a fault there
+abbrev pub PaysAt : {R : Type 0} → ExecutedFile → ℕ → Result R (PureStop FaultAt) → Meter → Meter → Type 0
+PaysAt here line result old new = GivesPurely (λ _. tt) result new (tell (meaning.at here.file.now line) (pay old))
+
+-- if a function succeeds, it gives these loops with one more inside them, at its iteration with this index
+abbrev pub GoesInside : {F : Type 0} → List Iteration → Iterations → ℕ → Result (Vec Iteration Global) F → Type 0
+GoesInside loops turns index result =
+    IfOk result
+    (λ inner. (words : LoopWords) × (slice_get (turns_in turns) index ≡ Some words)
+    × (loops_of inner.items ≡ inside_turn (loops_of loops) words))
+
+-- whether a condition holds is told as this work tells it, among the files, from one budget and files to the next
+abbrev pub Judges : {F : Type 0} → (FileMap → Work Account F Bool) → Result Bool (Stop F)
+    → Meter × FilesView → Meter × FilesView → Type 0
+Judges work result old new = Gives (λ held. held) result (account new.0 new.1) (work old.1.files (account old.0 old.1))
+
+-- the condition of a line of an executed file
+abbrev pub condition_at : ExecutedFile → List Iteration → LogicalLine → EvalState → FileMap → Work Account FaultAt Bool
+condition_at here loops line state files = (works_of here files).holds (loops_of loops) line state
+
+-- the file that a line opens, if it opens one, for the state before it, among files
+abbrev pub Opening : Type 0 → Type 0
+Opening F = FileMap → EvalState → Work Account F Opened
+
+-- that file is opened, from the first state to the second, and from one budget and files to the next
+abbrev pub OpensFile : {F : Type 0} → Opening F → EvalState × EvalState → Result (Option Included) (Stop F)
+    → Meter × FilesView → Meter × FilesView → Type 0
+OpensFile opening states result old new =
+    Gives (λ included. (states.1, option_map file_of included)) result (account new.0 new.1)
+    (opening old.1.files states.0 (account old.0 old.1))
+
+-- the module of a word, at the line with this number
+abbrev pub module_at : ExecutedFile → ℕ → List ℕ → Opening FaultAt
+module_at here line word files state =
+    meaning.blamed (place_of here files) line (modules.open_module (place_of here files) state word)
+
+-- what a line of an executed file opens, after it has done what it does by itself
+abbrev pub line_file : ExecutedFile → List Iteration → LogicalLine → Opening FaultAt
+line_file here loops line files state =
+    meaning.blamed_at (place_of here files) line (meaning.open_line (place_of here files) (loops_of loops) line state)
+
+-- words are given as this work gives them, from one budget to the next
+abbrev pub GivesWords : {F : Type 0} → Result (Vec (String Global) Global) (PureStop F) → Work Meter F (List (List ℕ))
+    → Meter → Meter → Type 0
+GivesWords result work old new = GivesPurely (λ words. map string_bytes words.items) result new (work old)
+
+-- the words of MODULES, at the line with this number of an executed file
+abbrev pub words_at : ExecutedFile → ℕ → EvalState → Work Meter FaultAt (List (List ℕ))
+words_at here line state m = tell (meaning.at here.file.now line) (modules.module_words state.variables m)

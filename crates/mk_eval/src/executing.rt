@@ -1,14 +1,12 @@
 //! What the lines of a makefile do to its variables.
 ghost use Rattle.std.specs.Prelude.{◌≡◌, OnOk, OnErr, IfOk};
-ghost use Rattle.mk_base.specs.Meter.{Meter, IsLater};
-ghost use Rattle.mk_base.specs.Stopping.{Gives, GivesPurely};
+ghost use Rattle.mk_base.specs.Meter.{IsLater};
 ghost use Rattle.mk_text.specs.Words.{words_of};
 ghost use Rattle.mk_ast.specs.declared.kinds.Operator.TheVariants as operators;
-ghost use Rattle.mk_ast.specs.Kinds.{shown_kind};
 ghost use Rattle.mk_loop.specs.Places.{text_of};
 ghost use Rattle.mk_eval.specs.Lines as lines;
-ghost use Rattle.mk_eval.specs.Running.{Requests};
-ghost use Rattle.mk_eval.specs.Views.{loops_of};
+ghost use Rattle.mk_eval.specs.LineParts.{Executes, ExecutesKind, Directs, Assigns, AssignsFreely};
+ghost use Rattle.mk_eval.specs.Running.{Performs, Requests};
 
 use crate::requests::Request;
 use mk_ast::{Directive, LineKind, Operator, is_word, line_kind, plain_kind};
@@ -33,14 +31,13 @@ use std::alloc::{AllocError, Global};
 /// `.sinclude`, the faults are those of expanding what follows the word.
 pub fn perform(
     alloc: Global,
-    variables: &mut Env,
+    env: &mut Env,
     loops: &[Iteration],
     text: &str,
     budget: &mut Budget,
 ) -> Result<Option<Request>, PureStop<FaultKind>>
-    ensures gives { GivesPurely (λ request. (variables.new, request)) result budget.new
-        (lines.perform variables.old (loops_of loops.now) text.now budget.old) }
-    ensures err { OnErr result (variables.new ≡ variables.old) }
+    ensures gives { Performs loops.now text.now (env.old, budget.old) (env.new, budget.new) result }
+    ensures err { OnErr result (env.new ≡ env.old) }
     ensures later { IsLater budget.old budget.new }
     ensures paid { IfOk result (Requests budget.old budget.new) }
 {
@@ -49,40 +46,39 @@ pub fn perform(
         return Ok(None);
     }
     budget.pay()?;
-    execute_in(alloc, variables, loops, text, kind, budget)
+    execute_in(alloc, env, loops, text, kind, budget)
 }
 
 /// Does what a line says whose text, as written, is of this kind.
 fn execute_in(
     alloc: Global,
-    variables: &mut Env,
+    env: &mut Env,
     loops: &[Iteration],
     text: &str,
     kind: LineKind<'_>,
     budget: &mut Budget,
 ) -> Result<Option<Request>, PureStop<FaultKind>>
-    ensures gives { GivesPurely (λ request. (variables.new, request)) result budget.new
-        (lines.execute_in variables.old (loops_of loops.now) text.now
-        (shown_kind kind.entry) budget.old) }
-    ensures err { OnErr result (variables.new ≡ variables.old) }
+    ensures gives { Executes loops.now text.now kind.entry
+        (env.old, budget.old) (env.new, budget.new) result }
+    ensures err { OnErr result (env.new ≡ env.old) }
     ensures later { IsLater budget.old budget.new }
 {
     if loops.is_empty() {
-        return execute_kind(alloc, variables, kind, budget);
+        return execute_kind(alloc, env, kind, budget);
     }
     match kind {
         LineKind::Directive { word, rest } => {
-            let put = put_words(alloc, variables, loops, rest, budget)?;
-            direct(alloc, variables, word, put_or(&put, rest), budget)
+            let put = put_words(alloc, env, loops, rest, budget)?;
+            direct(alloc, env, word, put_or(&put, rest), budget)
         }
         LineKind::Command => {
-            put_words(alloc, variables, loops, text, budget)?;
+            put_words(alloc, env, loops, text, budget)?;
             Ok(None)
         }
         _ => {
-            let put = put_words(alloc, variables, loops, text, budget)?;
+            let put = put_words(alloc, env, loops, text, budget)?;
             let kind = plain_kind(alloc, put_or(&put, text))?;
-            execute_kind(alloc, variables, kind, budget)
+            execute_kind(alloc, env, kind, budget)
         }
     }
 }
@@ -100,28 +96,27 @@ pub(crate) fn put_or<'a>(put: &'a Option<String>, written: &'a str) -> &'a str
 /// Does what a line of this kind says.
 fn execute_kind(
     alloc: Global,
-    variables: &mut Env,
+    env: &mut Env,
     kind: LineKind<'_>,
     budget: &mut Budget,
 ) -> Result<Option<Request>, PureStop<FaultKind>>
-    ensures gives { GivesPurely (λ request. (variables.new, request)) result budget.new
-        (lines.execute_kind variables.old (shown_kind kind.entry) budget.old) }
-    ensures err { OnErr result (variables.new ≡ variables.old) }
+    ensures gives { ExecutesKind kind.entry (env.old, budget.old) (env.new, budget.new) result }
+    ensures err { OnErr result (env.new ≡ env.old) }
     ensures later { IsLater budget.old budget.new }
 {
     match kind {
         LineKind::Blank | LineKind::Command | LineKind::Dependency => Ok(None),
-        LineKind::Directive { word, rest } => direct(alloc, variables, word, rest, budget),
+        LineKind::Directive { word, rest } => direct(alloc, env, word, rest, budget),
         LineKind::Assignment {
             operator,
             name,
             value,
         } => {
-            let name = expand(alloc, variables, name, budget)?;
+            let name = expand(alloc, env, name, budget)?;
             if !is_word(name.as_str()) {
                 return Err(PureStop::Fault(FaultKind::Line));
             }
-            assign(alloc, variables, operator, name.as_str(), value, budget)?;
+            assign(alloc, env, operator, name.as_str(), value, budget)?;
             Ok(None)
         }
         LineKind::Bad => Err(PureStop::Fault(FaultKind::Line)),
@@ -131,99 +126,93 @@ fn execute_kind(
 /// Assigns to the variable of this name.
 fn assign(
     alloc: Global,
-    variables: &mut Env,
+    env: &mut Env,
     operator: Operator,
     name: &str,
     text: &str,
     budget: &mut Budget,
 ) -> Result<(), PureStop<FaultKind>>
-    ensures gives { GivesPurely (λ _. variables.new) result budget.new
-        (lines.assign variables.old operator name.now text.now budget.old) }
-    ensures err { OnErr result (variables.new ≡ variables.old) }
+    ensures gives { Assigns operator name.now text.now
+        (env.old, budget.old) (env.new, budget.new) result }
+    ensures err { OnErr result (env.new ≡ env.old) }
     ensures later { IsLater budget.old budget.new }
 {
     match operator {
-        Operator::Set => store(variables, name, text),
-        Operator::Default => store_default(variables, name, text),
-        Operator::Append => append(variables, name, text),
+        Operator::Set => store(env, name, text),
+        Operator::Default => store_default(env, name, text),
+        Operator::Append => append(env, name, text),
         Operator::Expand => {
-            let found = expand_now(alloc, variables, text, budget)?;
-            store(variables, name, found.as_str())
+            let found = expand_now(alloc, env, text, budget)?;
+            store(env, name, found.as_str())
         }
         Operator::Shell => Err(PureStop::Fault(FaultKind::Shell)),
     }
 }
 
 /// Gives the variable this text. It is a fault if the text is too long.
-fn store(variables: &mut Env, name: &str, text: &str) -> Result<(), PureStop<FaultKind>>
-    ensures gives { (m : Meter)
-        → GivesPurely (λ _. variables.new) result m (lines.store variables.old name.now text.now m) }
-    ensures err { OnErr result (variables.new ≡ variables.old) }
+fn store(env: &mut Env, name: &str, text: &str) -> Result<(), PureStop<FaultKind>>
+    ensures gives { AssignsFreely operators.Set name.now text.now env.old env.new result }
+    ensures err { OnErr result (env.new ≡ env.old) }
 {
     if text.len() > TEXT_LIMIT {
         return Err(PureStop::Fault(FaultKind::Length));
     }
-    variables.set(name, text)?;
+    env.set(name, text)?;
     Ok(())
 }
 
 /// Gives the variable this text if it has none. It is a fault if that text is too long.
-fn store_default(variables: &mut Env, name: &str, text: &str) -> Result<(), PureStop<FaultKind>>
-    ensures gives { (m : Meter)
-        → GivesPurely (λ _. variables.new) result m
-        (lines.assign variables.old operators.Default name.now text.now m) }
-    ensures err { OnErr result (variables.new ≡ variables.old) }
+fn store_default(env: &mut Env, name: &str, text: &str) -> Result<(), PureStop<FaultKind>>
+    ensures gives { AssignsFreely operators.Default name.now text.now env.old env.new result }
+    ensures err { OnErr result (env.new ≡ env.old) }
 {
-    if text.len() > TEXT_LIMIT && !variables.defined(name) {
+    if text.len() > TEXT_LIMIT && !env.defined(name) {
         return Err(PureStop::Fault(FaultKind::Length));
     }
-    variables.default(name, text)?;
+    env.default(name, text)?;
     Ok(())
 }
 
 /// Adds the text to the end of the variable's text. It is a fault if the whole is too long.
-fn append(variables: &mut Env, name: &str, text: &str) -> Result<(), PureStop<FaultKind>>
-    ensures gives { (m : Meter)
-        → GivesPurely (λ _. variables.new) result m
-        (lines.assign variables.old operators.Append name.now text.now m) }
-    ensures err { OnErr result (variables.new ≡ variables.old) }
+fn append(env: &mut Env, name: &str, text: &str) -> Result<(), PureStop<FaultKind>>
+    ensures gives { AssignsFreely operators.Append name.now text.now env.old env.new result }
+    ensures err { OnErr result (env.new ≡ env.old) }
 {
-    let before = match variables.get(name) {
+    let before = match env.get(name) {
         Some(before) => before.len() + 1,
         None => 0,
     };
     if before + text.len() > TEXT_LIMIT {
         return Err(PureStop::Fault(FaultKind::Length));
     }
-    variables.append(name, text)?;
+    env.append(name, text)?;
     Ok(())
 }
 
 /// Does what a directive says that belongs to no block. Any other directive is a fault.
 fn direct(
     alloc: Global,
-    variables: &mut Env,
+    env: &mut Env,
     word: Directive,
     text: &str,
     budget: &mut Budget,
 ) -> Result<Option<Request>, PureStop<FaultKind>>
-    ensures gives { GivesPurely (λ request. (variables.new, request)) result budget.new
-        (lines.direct variables.old word text.now budget.old) }
-    ensures err { OnErr result (variables.new ≡ variables.old) }
+    ensures gives { Directs word text.now (env.old, budget.old) (env.new, budget.new) result }
+    ensures err { OnErr result (env.new ≡ env.old) }
     ensures later { IsLater budget.old budget.new }
 {
     match word {
         Directive::Undef => {
-            let found = expand(alloc, variables, text, budget)?;
-            undef_words(alloc, variables, found.as_str())?;
+            let found = expand(alloc, env, text, budget)?;
+            undef_words(alloc, env, found.as_str())?;
             Ok(None)
         }
         Directive::Include => {
-            let found = expand(alloc, variables, text, budget)?;
+            let found = expand(alloc, env, text, budget)?;
             Ok(Some(Request::new(found, false)))
         }
         Directive::Sinclude => {
-            let found = expand(alloc, variables, text, budget)?;
+            let found = expand(alloc, env, text, budget)?;
             Ok(Some(Request::new(found, true)))
         }
         _ => Err(PureStop::Fault(FaultKind::Line)),
@@ -231,12 +220,12 @@ fn direct(
 }
 
 /// Removes the variable of each word of this text.
-fn undef_words(alloc: Global, variables: &mut Env, text: &str) -> Result<(), AllocError>
-    ensures ok { OnOk result (variables.new ≡ lines.without variables.old (words_of text.now)) }
-    ensures err { OnErr result (variables.new ≡ variables.old) }
+fn undef_words(alloc: Global, env: &mut Env, text: &str) -> Result<(), AllocError>
+    ensures ok { OnOk result (env.new ≡ lines.without env.old (words_of text.now)) }
+    ensures err { OnErr result (env.new ≡ env.old) }
 {
     for span in &words(alloc, text)? {
-        variables.undef(span.of(text));
+        env.undef(span.of(text));
     }
     Ok(())
 }

@@ -1,16 +1,11 @@
 //! The lines that begin blocks and their branches.
-ghost use Rattle.std.specs.Prelude.{◌≡◌, IfOk, string_bytes};
+ghost use Rattle.std.specs.Prelude.{◌≡◌, IfOk};
 ghost use Rattle.mk_base.specs.Meter.{IsLater};
-ghost use Rattle.mk_base.specs.Stopping.{Gives, GivesPurely};
-ghost use Rattle.mk_ast.specs.Kinds.{shown_kind, line_kind};
-ghost use Rattle.mk_loop.specs.Places.{text_of};
-ghost use Rattle.mk_loop.specs.Scopes.{turns_in};
-ghost use Rattle.mk_files.specs.Asking.{account};
+ghost use Rattle.mk_ast.specs.Kinds.{shown_kind};
 ghost use Rattle.mk_files.specs.Working.{Asks};
 ghost use Rattle.mk_eval.specs.Heads as heads;
-ghost use Rattle.mk_eval.specs.Lines as lines;
-ghost use Rattle.mk_eval.specs.Running.{Pays};
-ghost use Rattle.mk_eval.specs.Views.{loops_of};
+ghost use Rattle.mk_eval.specs.LineParts.{PutsIn, GivesHead, GivesHeader, BeginsLoop, condition};
+ghost use Rattle.mk_eval.specs.Running.{Pays, Judges};
 
 use cond_grammar::Call;
 use mk_ast::{Directive, LineKind, line_kind};
@@ -61,8 +56,7 @@ fn put_in(
     text: &str,
     budget: &mut Budget,
 ) -> Result<Option<String>, PureStop<FaultKind>>
-    ensures gives { GivesPurely (text_of text.now) result budget.new
-        (lines.put_in variables.now (loops_of loops.now) text.now budget.old) }
+    ensures gives { PutsIn variables.now loops.now text.now result budget.old budget.new }
     ensures later { IsLater budget.old budget.new }
 {
     if loops.is_empty() {
@@ -80,8 +74,7 @@ fn head_text(
     kind: LineKind<'_>,
     budget: &mut Budget,
 ) -> Result<String, PureStop<FaultKind>>
-    ensures gives { GivesPurely string_bytes result budget.new
-        (heads.head_text variables.now (loops_of loops.now) (shown_kind kind.entry) budget.old) }
+    ensures gives { GivesHead variables.now loops.now kind.entry result budget.old budget.new }
     ensures later { IsLater budget.old budget.new }
     ensures paid { IfOk result (λ _. Pays budget.old budget.new) }
 {
@@ -106,9 +99,8 @@ pub(crate) fn judge<F: Names>(
     files: &mut F,
     budget: &mut Budget,
 ) -> Result<bool, Stop<FaultKind>>
-    ensures gives { Gives (λ held. held) result (account budget.new (F.view files.new))
-        (heads.judge (F.view files.old).files makefile.now variables.now (loops_of loops.now)
-        line.now (account budget.old (F.view files.old))) }
+    ensures gives { Judges (condition makefile.now variables.now loops.now line.now) result
+        (budget.old, F.view files.old) (budget.new, F.view files.new) }
     ensures asks { Asks F.fails_with result (F.view files.old) (F.view files.new) }
     ensures later { IsLater budget.old budget.new }
     ensures paid { IfOk result (λ held. Pays budget.old budget.new) }
@@ -136,8 +128,7 @@ pub(crate) fn header_text(
     line: &str,
     budget: &mut Budget,
 ) -> Result<String, PureStop<FaultKind>>
-    ensures gives { GivesPurely string_bytes result budget.new
-        (heads.head_text variables.now (loops_of loops.now) (line_kind line.now) budget.old) }
+    ensures gives { GivesHeader variables.now loops.now line.now result budget.old budget.new }
     ensures later { IsLater budget.old budget.new }
     ensures paid { IfOk result (λ _. Pays budget.old budget.new) }
 {
@@ -153,8 +144,7 @@ pub(crate) fn loop_turns(
     line: &str,
     budget: &mut Budget,
 ) -> Result<Rc<Iterations>, PureStop<FaultKind>>
-    ensures gives { GivesPurely (λ turns. turns_in turns.value) result budget.new
-        (heads.turns variables.now (loops_of loops.now) line.now budget.old) }
+    ensures gives { BeginsLoop variables.now loops.now line.now result budget.old budget.new }
     ensures later { IsLater budget.old budget.new }
 {
     let header = header_text(alloc, variables, loops, line, budget)?;

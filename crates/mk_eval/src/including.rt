@@ -1,14 +1,11 @@
 //! The files that lines ask for.
-ghost use Rattle.std.specs.Prelude.{◌≡◌, IfOk, option_map};
+ghost use Rattle.std.specs.Prelude.{◌≡◌, IfOk};
 ghost use Rattle.mk_base.specs.Meter.{IsLater};
-ghost use Rattle.mk_base.specs.Stopping.{Gives};
-ghost use Rattle.mk_paths.specs.FileName.{resolved, name_under};
-ghost use Rattle.mk_files.specs.Asking.{account};
-ghost use Rattle.mk_eval.specs.declared.state.EvalState.{EvalState};
 ghost use Rattle.mk_files.specs.Working.{Asks};
 ghost use Rattle.mk_eval.specs.Includes as includes;
-ghost use Rattle.mk_eval.specs.Running.{MayOpen};
-ghost use Rattle.mk_eval.specs.Views.{place_of, file_of};
+ghost use Rattle.mk_eval.specs.LineParts.{OpensInEveryState, asked_file, own_file, named_file};
+ghost use Rattle.mk_eval.specs.LineParts.{inner_file, file_if_there, port_file};
+ghost use Rattle.mk_eval.specs.Running.{MayOpen, OpensFile};
 
 use crate::forms::{Form, form_of};
 use crate::outcome::Kind;
@@ -55,11 +52,8 @@ pub(crate) fn open_request<F: Files>(
     files: &mut F,
     budget: &mut Budget,
 ) -> Result<Option<Included>, Stop<FaultKind>>
-    ensures gives { Gives (λ included. (state.new, option_map file_of included)) result
-        (account budget.new (F.view files.new))
-        (includes.open_form (place_of here.entry (F.view files.old).files) state.old
-        request.now.optional (includes.form_of request.now.text)
-        (account budget.old (F.view files.old))) }
+    ensures gives { OpensFile (asked_file here.entry request.now) (state.old, state.new) result
+        (budget.old, F.view files.old) (budget.new, F.view files.new) }
     ensures asks { Asks F.fails_with result (F.view files.old) (F.view files.new) }
     ensures later { IsLater budget.old budget.new }
     ensures opens { IfOk result (MayOpen here.entry.levels) }
@@ -85,11 +79,8 @@ fn open_own<F: Files>(
     files: &mut F,
     budget: &mut Budget,
 ) -> Result<Option<Included>, Stop<FaultKind>>
-    ensures gives { (state : EvalState)
-        → Gives (λ included. (state, option_map file_of included)) result
-        (account budget.new (F.view files.new))
-        (includes.open_own (place_of here.entry (F.view files.old).files) state optional file.now
-        (account budget.old (F.view files.old))) }
+    ensures gives { OpensInEveryState (own_file here.entry file.now optional) result
+        (budget.old, F.view files.old) (budget.new, F.view files.new) }
     ensures asks { Asks F.fails_with result (F.view files.old) (F.view files.new) }
     ensures later { IsLater budget.old budget.new }
     ensures opens { IfOk result (MayOpen here.entry.levels) }
@@ -111,11 +102,8 @@ fn open_named<F: Files>(
     files: &mut F,
     budget: &mut Budget,
 ) -> Result<Option<Included>, Stop<FaultKind>>
-    ensures gives { (state : EvalState)
-        → Gives (λ included. (state, option_map file_of included)) result
-        (account budget.new (F.view files.new))
-        (includes.open_named (F.view files.old).files state optional name
-        (account budget.old (F.view files.old))) }
+    ensures gives { OpensInEveryState (named_file name optional) result
+        (budget.old, F.view files.old) (budget.new, F.view files.new) }
     ensures asks { Asks F.fails_with result (F.view files.old) (F.view files.new) }
     ensures later { IsLater budget.old budget.new }
 {
@@ -151,10 +139,8 @@ fn open_port<F: Files>(
     files: &mut F,
     budget: &mut Budget,
 ) -> Result<Option<Included>, Stop<FaultKind>>
-    ensures gives { Gives (λ included. (state.new, option_map file_of included)) result
-        (account budget.new (F.view files.new))
-        (includes.open_port (place_of here.entry (F.view files.old).files) state.old
-        (account budget.old (F.view files.old))) }
+    ensures gives { OpensFile (port_file here.entry) (state.old, state.new) result
+        (budget.old, F.view files.old) (budget.new, F.view files.new) }
     ensures asks { Asks F.fails_with result (F.view files.old) (F.view files.new) }
     ensures later { IsLater budget.old budget.new }
     ensures opens { IfOk result (MayOpen here.entry.levels) }
@@ -177,12 +163,8 @@ pub(crate) fn open_if_there<F: Files>(
     files: &mut F,
     budget: &mut Budget,
 ) -> Result<Option<Included>, Stop<FaultKind>>
-    ensures gives { (state : EvalState)
-        → Gives (λ included. (state, option_map file_of included)) result
-        (account budget.new (F.view files.new))
-        (includes.open_if_there (place_of here.entry (F.view files.old).files) state
-        (resolved (name_under directory.now file.now))
-        (account budget.old (F.view files.old))) }
+    ensures gives { OpensInEveryState (file_if_there here.entry directory.now file.now) result
+        (budget.old, F.view files.old) (budget.new, F.view files.new) }
     ensures asks { Asks F.fails_with result (F.view files.old) (F.view files.new) }
     ensures later { IsLater budget.old budget.new }
     ensures opens { IfOk result (MayOpen here.entry.levels) }
@@ -202,11 +184,8 @@ fn open_inside<F: Files>(
     files: &mut F,
     budget: &mut Budget,
 ) -> Result<Option<Included>, Stop<FaultKind>>
-    ensures gives { (state : EvalState)
-        → Gives (λ included. (state, option_map file_of included)) result
-        (account budget.new (F.view files.new))
-        (includes.open_inside (place_of here.entry (F.view files.old).files) state optional name
-        (account budget.old (F.view files.old))) }
+    ensures gives { OpensInEveryState (inner_file here.entry name optional) result
+        (budget.old, F.view files.old) (budget.new, F.view files.new) }
     ensures asks { Asks F.fails_with result (F.view files.old) (F.view files.new) }
     ensures later { IsLater budget.old budget.new }
     ensures opens { IfOk result (MayOpen here.entry.levels) }

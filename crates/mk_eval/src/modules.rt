@@ -1,16 +1,12 @@
 //! The modules that a port names.
-ghost use Rattle.std.specs.Prelude.{◌≡◌, IfOk, Some, map, option_map, string_bytes};
+ghost use Rattle.std.specs.Prelude.{◌≡◌, IfOk, map, option_map, string_bytes};
 ghost use Rattle.mk_base.specs.Meter.{IsLater};
-ghost use Rattle.mk_base.specs.Outcome.{tell};
-ghost use Rattle.mk_base.specs.Stopping.{Gives, GivesPurely};
-ghost use Rattle.mk_files.specs.Asking.{account};
 ghost use Rattle.mk_files.specs.Working.{Asks};
 ghost use Rattle.text_parts.specs.Cuts.{now_all};
 ghost use Rattle.mk_text.specs.Words as splits;
-ghost use Rattle.mk_eval.specs.Meaning as meaning;
 ghost use Rattle.mk_eval.specs.Modules as modules;
-ghost use Rattle.mk_eval.specs.Running.{MayOpen};
-ghost use Rattle.mk_eval.specs.Views.{place_of, file_of};
+ghost use Rattle.mk_eval.specs.LineParts.{OpensInEveryState, first_file};
+ghost use Rattle.mk_eval.specs.Running.{MayOpen, OpensFile, GivesWords, module_at, words_at};
 
 use crate::including::{ExecutedFile, Included, open_if_there};
 use crate::state::EvalState;
@@ -50,9 +46,7 @@ pub fn module_words(
     state: &EvalState,
     budget: &mut Budget,
 ) -> Result<Vec<String>, PureStop<Fault>>
-    ensures gives { GivesPurely (λ words. map string_bytes words.items) result budget.new
-        (tell (meaning.at here.entry.file.now line)
-        (modules.module_words state.now.variables budget.old)) }
+    ensures gives { GivesWords result (words_at here.entry line state.now) budget.old budget.new }
     ensures later { IsLater budget.old budget.new }
 {
     match expanded_words(alloc, &state.variables, budget) {
@@ -67,8 +61,7 @@ fn expanded_words(
     variables: &Env,
     budget: &mut Budget,
 ) -> Result<Vec<String>, PureStop<FaultKind>>
-    ensures gives { GivesPurely (λ words. map string_bytes words.items) result budget.new
-        (modules.module_words variables.now budget.old) }
+    ensures gives { GivesWords result (modules.module_words variables.now) budget.old budget.new }
     ensures later { IsLater budget.old budget.new }
 {
     if !variables.defined("MODULES") {
@@ -107,11 +100,8 @@ pub fn open_module<F: Files>(
     files: &mut F,
     budget: &mut Budget,
 ) -> Result<Option<Included>, Stop<Fault>>
-    ensures gives { Gives (λ included. (state.now, option_map file_of included)) result
-        (account budget.new (F.view files.new))
-        (meaning.blamed (place_of here.entry (F.view files.old).files) line
-        (modules.open_module (place_of here.entry (F.view files.old).files) state.now word.now)
-        (account budget.old (F.view files.old))) }
+    ensures gives { OpensFile (module_at here.entry line word.now) (state.now, state.now) result
+        (budget.old, F.view files.old) (budget.new, F.view files.new) }
     ensures asks { Asks F.fails_with result (F.view files.old) (F.view files.new) }
     ensures later { IsLater budget.old budget.new }
     ensures opens { IfOk result (MayOpen here.entry.levels) }
@@ -145,12 +135,8 @@ fn open_first<F: Files>(
     files: &mut F,
     budget: &mut Budget,
 ) -> Result<Option<Included>, Stop<FaultKind>>
-    ensures gives { (state : EvalState)
-        → Gives (λ included. (state, option_map file_of included)) result
-        (account budget.new (F.view files.new))
-        (modules.open_first (place_of here.entry (F.view files.old).files)
-        (modules.names_in_trees (map string_bytes trees.now) (Some file.now)) state
-        (account budget.old (F.view files.old))) }
+    ensures gives { OpensInEveryState (first_file here.entry trees.now file.now) result
+        (budget.old, F.view files.old) (budget.new, F.view files.new) }
     ensures asks { Asks F.fails_with result (F.view files.old) (F.view files.new) }
     ensures later { IsLater budget.old budget.new }
     ensures opens { IfOk result (MayOpen here.entry.levels) }

@@ -1,12 +1,8 @@
 //! Lines that are executed in their places: those that frame no block, and conditions.
-ghost use Rattle.std.specs.Prelude.{IfOk, option_map};
+ghost use Rattle.std.specs.Prelude.{IfOk};
 ghost use Rattle.mk_base.specs.Meter.{IsLater};
-ghost use Rattle.mk_base.specs.Stopping.{Gives};
-ghost use Rattle.mk_files.specs.Asking.{account};
 ghost use Rattle.mk_files.specs.Working.{Asks};
-ghost use Rattle.mk_eval.specs.Meaning as meaning;
-ghost use Rattle.mk_eval.specs.Views.{loops_of, place_of, file_of};
-ghost use Rattle.mk_eval.specs.Running.{works_of, Opens, Pays};
+ghost use Rattle.mk_eval.specs.Running.{Opens, Pays, OpensFile, Judges, line_file, condition_at};
 
 use crate::executing::perform;
 use crate::heads::judge;
@@ -38,11 +34,8 @@ pub fn open_line<F: Files>(
     files: &mut F,
     budget: &mut Budget,
 ) -> Result<Option<Included>, Stop<Fault>>
-    ensures gives { Gives (λ included. (state.new, option_map file_of included)) result
-        (account budget.new (F.view files.new))
-        (meaning.blamed_at (place_of here.entry (F.view files.old).files) line.now
-        (meaning.open_line (place_of here.entry (F.view files.old).files) (loops_of loops.now)
-        line.now state.old) (account budget.old (F.view files.old))) }
+    ensures gives { OpensFile (line_file here.entry loops.now line.now) (state.old, state.new)
+        result (budget.old, F.view files.old) (budget.new, F.view files.new) }
     ensures asks { Asks F.fails_with result (F.view files.old) (F.view files.new) }
     ensures later { IsLater budget.old budget.new }
     ensures opens { IfOk result (Opens here.entry.levels budget.old budget.new) }
@@ -74,9 +67,8 @@ pub fn holds<F: Names>(
     files: &mut F,
     budget: &mut Budget,
 ) -> Result<bool, Stop<Fault>>
-    ensures gives { Gives (λ held. held) result (account budget.new (F.view files.new))
-        ((works_of here.entry (F.view files.old).files).holds (loops_of loops.now) line.now
-        state.now (account budget.old (F.view files.old))) }
+    ensures gives { Judges (condition_at here.entry loops.now line.now state.now) result
+        (budget.old, F.view files.old) (budget.new, F.view files.new) }
     ensures asks { Asks F.fails_with result (F.view files.old) (F.view files.new) }
     ensures later { IsLater budget.old budget.new }
     ensures paid { IfOk result (λ held. Pays budget.old budget.new) }

@@ -1,7 +1,7 @@
 //! The variables with which an evaluation begins.
-ghost use Rattle.std.specs.Prelude.{◌≡◌, IfOk, map, string_bytes, codes};
-ghost use Rattle.text_parts.specs.Order.{in_order};
+ghost use Rattle.std.specs.Prelude.{map, string_bytes, codes};
 ghost use Rattle.mk_eval.specs.Start as starts;
+ghost use Rattle.mk_eval.specs.Start.{Starts, JoinsTo};
 ghost use Rattle.mk_eval.specs.Views.{flavors_in};
 
 use mk_env::Env;
@@ -16,8 +16,7 @@ pub fn start(
     makefile: &Name,
     flavors: Option<&[String]>,
 ) -> Result<Env, AllocError>
-    ensures { IfOk result (λ variables. variables
-        ≡ starts.start settings.now makefile.now (flavors_in flavors.entry)) }
+    ensures { Starts result (starts.start settings.now makefile.now (flavors_in flavors.entry)) }
 {
     let variables = unflavored_start(alloc, settings, makefile)?;
     match flavors {
@@ -28,8 +27,7 @@ pub fn start(
 
 /// The variables with which it begins if no flavors are given.
 fn unflavored_start(alloc: Global, settings: &Settings, makefile: &Name) -> Result<Env, AllocError>
-    ensures { IfOk result (λ variables. variables
-        ≡ starts.unflavored_start settings.now makefile.now) }
+    ensures { Starts result (starts.unflavored_start settings.now makefile.now) }
 {
     let mut variables = Env::new(alloc, settings.profile);
     variables.set(".CURDIR", makefile.directory())?;
@@ -43,8 +41,7 @@ fn unflavored_start(alloc: Global, settings: &Settings, makefile: &Name) -> Resu
 
 /// The same with FLAVOR.
 fn with_flavors(alloc: Global, mut variables: Env, flavors: &[String]) -> Result<Env, AllocError>
-    ensures { IfOk result (λ flavored. flavored
-        ≡ starts.with_flavors variables (map string_bytes flavors.now)) }
+    ensures { Starts result (starts.with_flavors variables (map string_bytes flavors.now)) }
 {
     let text = flavor_text(alloc, flavors)?;
     variables.set("FLAVOR", text.as_str())?;
@@ -53,16 +50,14 @@ fn with_flavors(alloc: Global, mut variables: Env, flavors: &[String]) -> Result
 
 /// The trees of the search path, with colons between them.
 fn trees_text(alloc: Global, settings: &Settings) -> Result<String, AllocError>
-    ensures { IfOk result (λ text. string_bytes text
-        ≡ starts.between (codes ":") settings.now.path) }
+    ensures { JoinsTo result (starts.between (codes ":") settings.now.path) }
 {
     settings.path.trees().join(alloc, ":")
 }
 
 /// The flavors in the order of their bytes, each once, with spaces between them.
 fn flavor_text(alloc: Global, flavors: &[String]) -> Result<String, AllocError>
-    ensures { IfOk result (λ text. string_bytes text
-        ≡ starts.between (codes " ") (in_order (map string_bytes flavors.now))) }
+    ensures { JoinsTo result (starts.flavors_text (map string_bytes flavors.now)) }
 {
     let mut texts = clones_of(alloc, flavors)?;
     put_in_order(&mut texts);

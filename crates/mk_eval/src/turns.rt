@@ -1,15 +1,8 @@
 //! The iterations of a loop.
-ghost use Rattle.std.specs.Prelude.{◌≡◌, ◌<◌, Some, IfOk, length, slice_get};
-ghost use Rattle.mk_base.specs.Meter.{IsLater, pay};
-ghost use Rattle.mk_base.specs.Outcome.{tell};
-ghost use Rattle.mk_base.specs.Stopping.{GivesPurely};
-ghost use Rattle.mk_loop.specs.LoopWords.{LoopWords};
+ghost use Rattle.std.specs.Prelude.{◌<◌, IfOk, length};
+ghost use Rattle.mk_base.specs.Meter.{IsLater};
 ghost use Rattle.mk_loop.specs.Scopes.{turns_in};
-ghost use Rattle.mk_eval.specs.Heads as heads;
-ghost use Rattle.mk_eval.specs.Lines as lines;
-ghost use Rattle.mk_eval.specs.Meaning as meaning;
-ghost use Rattle.mk_eval.specs.Running.{Pays};
-ghost use Rattle.mk_eval.specs.Views.{loops_of};
+ghost use Rattle.mk_eval.specs.Running.{Pays, LoopAt, PaysAt, GoesInside};
 
 use crate::heads::loop_turns;
 use crate::including::ExecutedFile;
@@ -32,9 +25,7 @@ pub fn turns_at(
     state: &EvalState,
     budget: &mut Budget,
 ) -> Result<Rc<Iterations>, PureStop<Fault>>
-    ensures gives { GivesPurely (λ turns. turns_in turns.value) result budget.new
-        (tell (meaning.at here.entry.file.now line.now.line)
-        (heads.turns state.now.variables (loops_of loops.now) line.now.text budget.old)) }
+    ensures gives { LoopAt here.entry loops.now line.now state.now result (budget.old, budget.new) }
     ensures later { IsLater budget.old budget.new }
 {
     match loop_turns(alloc, &state.variables, loops, line.text(), budget) {
@@ -52,8 +43,7 @@ pub fn begin_turn(
     line: u64,
     budget: &mut Budget,
 ) -> Result<(), PureStop<Fault>>
-    ensures gives { GivesPurely (λ _. tt) result budget.new
-        (tell (meaning.at here.entry.file.now line) (pay budget.old)) }
+    ensures gives { PaysAt here.entry line result budget.old budget.new }
     ensures later { IsLater budget.old budget.new }
     ensures paid { IfOk result (λ _. Pays budget.old budget.new) }
 {
@@ -72,9 +62,7 @@ pub fn loops_at(
     index: usize,
 ) -> Result<Vec<Iteration>, AllocError>
     requires { index < length (turns_in turns.now.value) }
-    ensures { IfOk result (λ inner. (words : LoopWords)
-        × (slice_get (turns_in turns.now.value) index ≡ Some words)
-        × (loops_of inner.items ≡ lines.inside_turn (loops_of loops.now) words)) }
+    ensures { GoesInside loops.now turns.now.value index result }
 {
     inside(alloc, loops, Iteration::new(turns.clone()?, index))
 }

@@ -3,3 +3,4 @@ pub mod Points
 pub mod Paying
 pub mod Views
 pub mod Turning
+pub mod Steps

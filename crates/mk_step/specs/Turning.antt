@@ -1,6 +1,8 @@
 -- What a turn of a machine says, leaves and spends.
 use Rattle.std.specs.Prelude.{◌≡◌, ◌≤◌, ◌<◌, ◌+◌, ◌⊎◌, ℕ, Bool, true, false}
-use Rattle.std.specs.Prelude.{List, [], ◌++◌, Option, Result, Ok, Err}
+use Rattle.std.specs.Prelude.{List, [], ◌++◌, Option, Result, Ok, Err, String}
+use Rattle.std.specs.Borrow.{Bor}
+use Rattle.std.specs.Global.{Global}
 use Rattle.mk_base.specs.declared.stopping.Stop.{Stop}
 use Rattle.mk_base.specs.declared.stopping.Stop.TheVariants as stops
 use Rattle.mk_base.specs.declared.metering.TheConstants.{UNITS}
@@ -8,14 +10,16 @@ use Rattle.mk_base.specs.FaultAt.{FaultAt}
 use Rattle.mk_base.specs.Meter.{full}
 use Rattle.mk_base.specs.Outcome.{left}
 use Rattle.mk_paths.specs.World.{FileMap, World}
-use Rattle.mk_paths.specs.FilesView.{FilesView, Question, noted}
+use Rattle.mk_paths.specs.FilesView.{FilesView, Question, noted, world_of}
 use Rattle.mk_paths.specs.declared.search_path.Settings.{Settings}
 use Rattle.mk_paths.specs.declared.asking.FilesFault.{FilesFault}
 use Rattle.mk_paths.specs.declared.asking.FilesFault.TheVariants as faults
 use Rattle.mk_files.specs.Asking.{Account}
 use Rattle.mk_files.specs.Looking.{LeavesAtStop, stop_of}
-use Rattle.mk_eval.specs.Meaning.{questions_asked}
+use Rattle.mk_eval.specs.Meaning.{means, questions_asked}
 use Rattle.mk_eval.specs.Sharing.{questions_of, cost_of}
+use Rattle.mk_eval.specs.Telling.{Tells}
+use Rattle.mk_eval.specs.Views.{flavors_in}
 use Rattle.mk_eval.specs.declared.outcome.Evaluated.{Evaluated}
 use Rattle.mk_eval.specs.declared.outcome.Failed.{Failed}
 use Rattle.mk_eval.specs.declared.state.EvalState.{EvalState}
@@ -44,6 +48,31 @@ TellsIfDone (Ok (More machine)) meaning = Unit {0}
 TellsIfDone (Ok (Done answer)) meaning = meaning ≡ answer
 TellsIfDone (Err fault) meaning = Unit {0}
 
+-- The flavors that are given, as texts of the code.
+abbrev pub Flavors : Type 0
+Flavors = Option (Bor (List (String Global)))
+
+-- an evaluation told what the makefile of this name means, among these files, with these settings and flavors
+abbrev pub TellsMeaning : Result Evaluated (Stop Failed) → FilesView → Settings → List ℕ → Flavors → Type 0
+TellsMeaning result view settings name flavors = Tells (λ x. x) result (means (world_of view settings) name (flavors_in flavors))
+
+-- if it is done, the answer is that meaning
+abbrev pub MeansIfDone : Result Turned FilesFault → FilesView → Settings → List ℕ → Flavors → Type 0
+MeansIfDone result view settings name flavors = TellsIfDone result (means (world_of view settings) name (flavors_in flavors))
+
+-- what that evaluation asks, in a budget of this many units
+abbrev pub asked_in : FilesView → Settings → List ℕ → Flavors → ℕ → List Question
+asked_in view settings name flavors = questions_asked (world_of view settings) name (flavors_in flavors)
+
+-- if it is done, the answer is the meaning of each evaluation in which this machine was under way
+abbrev pub TellsEach : FilesView → Machine → Result Turned FilesFault → Type 0
+TellsEach view old result = ForEach view.files old (λ world name flavors asked. TellsIfDone result (means world name flavors))
+
+-- in each evaluation in which a machine is under way, this many units are no more than it costs in all
+abbrev pub IsWithinEach : Machine → ℕ → Type 0
+IsWithinEach machine units =
+    (files : FileMap) → ForEach files machine (λ world name flavors asked. units ≤ cost_of (means world name flavors))
+
 -- more questions were asked and answered, and nothing else happened to the files
 pub record AsksMore (old new : FilesView) (IsTrueOf : List Question → Type 0) : Type 0 where
   pub more : List Question
@@ -64,6 +93,17 @@ Leaves may old new world name flavors asked (Ok (More machine)) =
 Leaves may old new world name flavors asked (Ok (Done answer)) =
     AsksMore old new (λ more. questions_of world.0 world.1 name flavors ≡ asked ++ more)
 Leaves may old new world name flavors asked (Err fault) = LeavesAtFailure may old new fault
+
+-- what is left of the files and of an evaluation that has begun, of the makefile of this name with these flavors
+abbrev pub StartsAmong : (FilesFault → Type 0) → FilesView → FilesView → Settings → List ℕ × Flavors
+    → Result Turned FilesFault → Type 0
+StartsAmong may old new settings what result =
+    Leaves may old new (world_of old settings) what.0 (flavors_in what.1) [] result
+
+-- what is left of the files and of each evaluation in which this machine was under way
+abbrev pub LeavesEach : (FilesFault → Type 0) → FilesView → FilesView → Machine → Result Turned FilesFault → Type 0
+LeavesEach may old new machine result =
+    ForEach old.files machine (λ world name flavors asked. Leaves may old new world name flavors asked result)
 
 -- an evaluation that has only begun has spent nothing, and isn't at its end, unless at a fault
 abbrev pub IsNew : Result Turned FilesFault → Type 0

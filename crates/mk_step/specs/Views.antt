@@ -1,5 +1,7 @@
 -- What the code has, as the definitions see it.
-use Rattle.std.specs.Prelude.{ℕ, List, [], map, string_bytes, drop, reverse, option_map, Option}
+use Rattle.std.specs.Prelude.{ℕ, List, [], map, string_bytes, drop, reverse, option_map, Option, Vec}
+use Rattle.std.specs.Global.{Global}
+use Rattle.std.specs.declared.rc.Rc.{Rc}
 use Rattle.mk_ast.specs.declared.nodes.Node.{Node}
 use Rattle.mk_ast.specs.declared.nodes.Branch.{Branch}
 use Rattle.mk_ast.specs.Trees.{Branches}
@@ -30,11 +32,15 @@ later_from branches next otherwise = branches_from (map branch_of (drop next bra
 abbrev pub words_left : Search → List (List ℕ)
 words_left search = map string_bytes (drop search.next search.words.items)
 
+-- the nodes of the last branch, if there is one
+abbrev pub nodes_in : Option (Rc (Vec Node Global) Global) → Option (List Node)
+nodes_in otherwise = option_map (λ block. block.value.items) otherwise
+
 -- what is to be done at a site
 abbrev pub frame_at : machine.Site → ToDo → machine.Frame
 frame_at site (Lines block next) = machine.Lines site (block_of (drop next block.value.items))
 frame_at site (Later branches next otherwise) =
-    machine.Later site (later_from branches.value.items next (option_map (λ block. block.value.items) otherwise))
+    machine.Later site (later_from branches.value.items next (nodes_in otherwise))
 frame_at site (Turns line body turns next) = machine.Turns site line (block_of body.value.items) (drop next (turns_in turns.value))
 frame_at site (Modules line) = machine.Modules site line
 frame_at site (Searches search) = machine.Searches site search.line (words_left search)

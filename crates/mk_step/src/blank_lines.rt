@@ -1,10 +1,9 @@
 //! Blank lines, which cost nothing.
-ghost use Rattle.std.specs.Prelude.{◌≡◌, ◌<◌, ◌∷◌, ℕ, List, true, false, length, drop};
+ghost use Rattle.std.specs.Prelude.{◌≡◌, true, false};
 ghost use Rattle.mk_ast.specs.Kinds.{BlankLine, line_kind};
-ghost use Rattle.mk_ast.specs.Views.{tree_of, block_of};
-ghost use Rattle.mk_step.specs.Machine.{Site, Frame, Lines};
-ghost use Rattle.mk_step.specs.Paying.{Costs, TreeCosts, IsBlank};
-ghost use Rattle.mk_step.specs.Points.{AreAlike};
+ghost use Rattle.mk_ast.specs.Views.{tree_of};
+ghost use Rattle.mk_step.specs.Paying.{TreeCosts, IsBlank};
+ghost use Rattle.mk_step.specs.Steps.{AreAlikeFrom, CostsFrom};
 
 use mk_ast::Node;
 use mk_text::trim_blanks;
@@ -31,11 +30,8 @@ fn is_blank(node: &Node) -> bool
 /// The index of the first node, from this index on, that isn't a blank line. If there is none, it is how
 /// many nodes there are.
 pub(crate) fn skip_blank_lines(nodes: &[Node], from: usize) -> usize
-    ensures alike { (site : Site) (others : List Frame)
-        → AreAlike (Lines site (block_of (drop from nodes.now)) ∷ others)
-        (Lines site (block_of (drop result nodes.now)) ∷ others) }
-    ensures costs { (site : Site) → result < length nodes.now
-        → Costs (Lines site (block_of (drop result nodes.now))) }
+    ensures alike { AreAlikeFrom nodes.now from result }
+    ensures costs { CostsFrom nodes.now result }
 {
     for at in from..nodes.len() {
         if !is_blank(&nodes[at]) {

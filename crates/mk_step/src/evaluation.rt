@@ -1,11 +1,8 @@
 //! Evaluations from beginning to end.
-ghost use Rattle.std.specs.Prelude.{◌≡◌, ◌+◌, []};
+ghost use Rattle.std.specs.Prelude.{◌+◌};
 ghost use Rattle.mk_base.specs.declared.metering.TheConstants.{UNITS};
-ghost use Rattle.mk_paths.specs.FilesView.{world_of};
-ghost use Rattle.mk_eval.specs.Meaning.{means, questions_asked};
-ghost use Rattle.mk_eval.specs.Telling.{Tells, LeavesAsked, CostsAtMost};
-ghost use Rattle.mk_eval.specs.Views.{flavors_in};
-ghost use Rattle.mk_step.specs.Turning.{TellsIfDone, Leaves, HasSpent};
+ghost use Rattle.mk_eval.specs.Telling.{LeavesAsked, CostsAtMost};
+ghost use Rattle.mk_step.specs.Turning.{TellsMeaning, asked_in, MeansIfDone, StartsAmong, HasSpent};
 
 use crate::machine::{Machine, Turned};
 use mk_base::{Stop, UNITS};
@@ -53,11 +50,9 @@ pub fn evaluate<F: Files>(
     name: &Name,
     flavors: Option<&[String]>,
 ) -> Result<Evaluated, Stop<Failed>>
-    ensures means { Tells (λ x. x) result
-        (means (world_of (F.view files.old) settings.now) name.now (flavors_in flavors.entry)) }
+    ensures means { TellsMeaning result (F.view files.old) settings.now name.now flavors.entry }
     ensures files { LeavesAsked F.fails_with (F.view files.old) (F.view files.new)
-        (questions_asked (world_of (F.view files.old) settings.now) name.now
-        (flavors_in flavors.entry)) result }
+        (asked_in (F.view files.old) settings.now name.now flavors.entry) result }
     ensures within { CostsAtMost (λ evaluated. evaluated.cost) UNITS result }
 {
     let mut parses = Anew::new(alloc);
@@ -78,11 +73,9 @@ pub fn evaluate_with<F: Files, P: Parses>(
     name: &Name,
     flavors: Option<&[String]>,
 ) -> Result<Evaluated, Stop<Failed>>
-    ensures means { Tells (λ x. x) result
-        (means (world_of (F.view files.old) settings.now) name.now (flavors_in flavors.entry)) }
+    ensures means { TellsMeaning result (F.view files.old) settings.now name.now flavors.entry }
     ensures files { LeavesAsked F.fails_with (F.view files.old) (F.view files.new)
-        (questions_asked (world_of (F.view files.old) settings.now) name.now
-        (flavors_in flavors.entry)) result }
+        (asked_in (F.view files.old) settings.now name.now flavors.entry) result }
     ensures within { CostsAtMost (λ evaluated. evaluated.cost) UNITS result }
     ensures parses { P.becomes parses.old parses.new }
 {
@@ -104,10 +97,9 @@ fn in_one_turn<F: Files, P: Parses>(
     name: &Name,
     flavors: Option<&[String]>,
 ) -> Result<Turned, FilesFault>
-    ensures means { TellsIfDone result
-        (means (world_of (F.view files.old) settings.now) name.now (flavors_in flavors.entry)) }
-    ensures leaves { Leaves F.fails_with (F.view files.old) (F.view files.new)
-        (world_of (F.view files.old) settings.now) name.now (flavors_in flavors.entry) [] result }
+    ensures means { MeansIfDone result (F.view files.old) settings.now name.now flavors.entry }
+    ensures leaves { StartsAmong F.fails_with (F.view files.old) (F.view files.new)
+        settings.now (name.now, flavors.entry) result }
     ensures spent { HasSpent (UNITS + 1) result }
     ensures parses { P.becomes parses.old parses.new }
 {

@@ -1,12 +1,9 @@
 //! What is still to be done.
-ghost use Rattle.std.specs.Prelude.{◌≡◌, ◌∷◌, ◌<◌, ◌≤◌, ◌&&◌, ◌++◌, IfOk, OnOk, List, IfSome, option_map, [], None};
-ghost use Rattle.mk_step.specs.Machine as machine;
-ghost use Rattle.mk_step.specs.Machine.{before};
-ghost use Rattle.mk_step.specs.Paying.{Costs, weight};
-ghost use Rattle.mk_step.specs.Points.{AreAlike};
-ghost use Rattle.mk_step.specs.Views.{site_of, frame_at, frame_of, frames_of, inner_frames};
-ghost use Rattle.mk_ast.specs.Views.{block_of};
-ghost use Rattle.std.specs.Prelude.{drop};
+ghost use Rattle.std.specs.Prelude.{◌≡◌, ◌∷◌, ◌<◌, ◌≤◌, ◌&&◌, IfSome, [], None};
+ghost use Rattle.mk_step.specs.Paying.{Costs};
+ghost use Rattle.mk_step.specs.Views.{site_of, frame_at, frame_of, inner_frames};
+ghost use Rattle.mk_step.specs.Steps.{LeavesInner, PutsOn, PutsFirst, Settles, SettlesAt, SettlesAll};
+ghost use Rattle.mk_step.specs.Steps.{IsNoHeavier, AreNoHeavier, WeighsNothing};
 
 use crate::blank_lines::skip_blank_lines;
 use crate::searches::Search;
@@ -84,9 +81,7 @@ impl Inner {
         may_ask: bool,
         state: &EvalState,
     ) -> Result<Inner, AllocError>
-        ensures { IfOk result (λ inner. inner_frames inner
-            ≡ before (option_map frame_of lines)
-            (machine.modules_at (site_of site.now.value) line (may_ask && state.now.shared_asked))) }
+        ensures { LeavesInner site.now line lines (may_ask && state.now.shared_asked) result }
     {
         if !may_ask || !state.shared_asked {
             return Ok(Inner {
@@ -104,8 +99,7 @@ impl Inner {
 
     /// Puts what is to be done on top of other frames.
     pub(crate) fn push_onto(self, frames: &mut Vec<Frame>) -> Result<(), AllocError>
-        ensures { OnOk result (frames_of frames.new.items
-            ≡ inner_frames self ++ frames_of frames.old.items) }
+        ensures { PutsOn result (inner_frames self) frames.old.items frames.new.items }
     {
         let Inner { lines, modules } = self;
         match modules {
@@ -132,10 +126,8 @@ impl Frame {
     /// The frame without what it has to do first that costs nothing. It is `None` if nothing else is to be
     /// done.
     fn settled(self) -> Option<Frame>
-        ensures alike { (others : List machine.Frame) → AreAlike (frame_of self ∷ others)
-            (before (option_map frame_of result) others) }
-        ensures lighter { (others : List machine.Frame)
-            → weight (before (option_map frame_of result) others) ≤ weight (frame_of self ∷ others) }
+        ensures alike { Settles (frame_of self) result }
+        ensures lighter { IsNoHeavier (frame_of self) result }
         ensures costs { IfSome result (λ frame. Costs (frame_of frame)) }
     {
         let Frame { site, to_do } = self;
@@ -178,8 +170,7 @@ impl Frame {
 
 /// Puts a frame, if there is one, on top of others.
 fn push_if_there(frames: &mut Vec<Frame>, frame: Option<Frame>) -> Result<(), AllocError>
-    ensures { OnOk result (frames_of frames.new.items
-        ≡ before (option_map frame_of frame) (frames_of frames.old.items)) }
+    ensures { PutsFirst result frame frames.old.items frames.new.items }
 {
     match frame {
         None => Ok(()),
@@ -193,11 +184,8 @@ fn push_if_there(frames: &mut Vec<Frame>, frame: Option<Frame>) -> Result<(), Al
 /// The lines of a block from this index on, without the blank lines that they begin with. It is `None` if
 /// there are no others.
 fn lines_from(site: Rc<Site>, block: Block, next: usize) -> Option<Frame>
-    ensures alike { (others : List machine.Frame)
-        → AreAlike (machine.Lines (site_of site.value) (block_of (drop next block.value.items)) ∷ others)
-        (before (option_map frame_of result) others) }
-    ensures lighter { (others : List machine.Frame)
-        → weight (before (option_map frame_of result) others) ≤ weight others }
+    ensures alike { SettlesAt site (ToDo.Lines block next) result }
+    ensures lighter { WeighsNothing result }
     ensures costs { IfSome result (λ frame. Costs (frame_of frame)) }
 {
     let next = skip_blank_lines(block.as_slice(), next);
@@ -218,11 +206,8 @@ fn turns_from(
     turns: Rc<Iterations>,
     next: usize,
 ) -> Option<Frame>
-    ensures alike { (others : List machine.Frame)
-        → AreAlike (frame_at (site_of site.value) (ToDo.Turns line body turns next) ∷ others)
-        (before (option_map frame_of result) others) }
-    ensures lighter { (others : List machine.Frame)
-        → weight (before (option_map frame_of result) others) ≤ weight others }
+    ensures alike { SettlesAt site (ToDo.Turns line body turns next) result }
+    ensures lighter { WeighsNothing result }
     ensures costs { IfSome result (λ frame. Costs (frame_of frame)) }
 {
     if next < turns.count() {
@@ -239,12 +224,8 @@ fn turns_from(
 
 /// The modules of the words that are left. It is `None` if none is.
 fn searches_from(site: Rc<Site>, search: Search) -> Option<Frame>
-    ensures alike { (others : List machine.Frame)
-        → AreAlike (frame_at (site_of site.value) (ToDo.Searches search) ∷ others)
-        (before (option_map frame_of result) others) }
-    ensures lighter { (others : List machine.Frame)
-        → weight (before (option_map frame_of result) others)
-        ≤ weight (frame_at (site_of site.value) (ToDo.Searches search) ∷ others) }
+    ensures alike { SettlesAt site (ToDo.Searches search) result }
+    ensures lighter { IsNoHeavier (frame_at (site_of site.value) (ToDo.Searches search)) result }
     ensures costs { IfSome result (λ frame. Costs (frame_of frame)) }
 {
     if search.next < search.words.len() {
@@ -258,10 +239,8 @@ fn searches_from(site: Rc<Site>, search: Search) -> Option<Frame>
 /// before that. The frames inside it, in which nothing else is to be done, are dropped. It is `None` if
 /// there is no such frame.
 pub(crate) fn next_frame(frames: &mut Vec<Frame>) -> Option<Frame>
-    ensures alike { AreAlike (frames_of frames.old.items)
-        (before (option_map frame_of result) (frames_of frames.new.items)) }
-    ensures lighter { weight (before (option_map frame_of result) (frames_of frames.new.items))
-        ≤ weight (frames_of frames.old.items) }
+    ensures alike { SettlesAll frames.old.items frames.new.items result }
+    ensures lighter { AreNoHeavier frames.old.items frames.new.items result }
     ensures costs { IfSome result (λ frame. Costs (frame_of frame)) }
     ensures none { result ≡ None → frames.new.items ≡ [] }
 {

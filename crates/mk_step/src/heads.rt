@@ -1,9 +1,7 @@
 //! What the heads of blocks leave to be done.
-ghost use Rattle.std.specs.Prelude.{◌≡◌, ◌<◌, ◌+◌, length, option_map, IfOk, if◌then◌else◌};
-ghost use Rattle.mk_ast.specs.Views.{block_of};
-ghost use Rattle.mk_loop.specs.Scopes.{turns_in};
-ghost use Rattle.mk_step.specs.Machine as machine;
-ghost use Rattle.mk_step.specs.Views.{frame_at, later_from};
+ghost use Rattle.std.specs.Prelude.{◌≡◌, ◌<◌, ◌+◌, length, IfOk};
+ghost use Rattle.mk_step.specs.Views.{nodes_in};
+ghost use Rattle.mk_step.specs.Steps.{Chooses, Repeats};
 
 use crate::frames::ToDo;
 use mk_ast::{Block, Branches};
@@ -19,10 +17,7 @@ pub(crate) fn chosen(
     branches: &Branches,
     otherwise: &Option<Block>,
 ) -> Result<ToDo, AllocError>
-    ensures { IfOk result (λ to_do. (site : machine.Site) → frame_at site to_do
-        ≡ (if held then machine.Lines site (block_of body.now.value.items)
-        else machine.Later site (later_from branches.now.value.items 0
-        (option_map (λ block. block.value.items) otherwise.now)))) }
+    ensures { IfOk result (Chooses held body.now branches.now 0 otherwise.now) }
 {
     if held {
         return Ok(ToDo::Lines {
@@ -39,8 +34,7 @@ pub(crate) fn chosen(
 
 /// The same last branch once more.
 fn shared(otherwise: &Option<Block>) -> Result<Option<Block>, AllocError>
-    ensures { IfOk result (λ shared. option_map (λ block. block.value.items) shared
-        ≡ option_map (λ block. block.value.items) otherwise.now) }
+    ensures { IfOk result (λ shared. nodes_in shared ≡ nodes_in otherwise.now) }
 {
     match otherwise {
         Some(block) => Ok(Some(block.clone()?)),
@@ -50,8 +44,7 @@ fn shared(otherwise: &Option<Block>) -> Result<Option<Block>, AllocError>
 
 /// What is to be done of a loop once its header is read.
 pub(crate) fn begun(head: &Logical, body: &Block, turns: Rc<Iterations>) -> Result<ToDo, AllocError>
-    ensures { IfOk result (λ to_do. (site : machine.Site) → frame_at site to_do
-        ≡ machine.Turns site head.now.line (block_of body.now.value.items) (turns_in turns.value)) }
+    ensures { IfOk result (Repeats head.now.line body.now turns) }
 {
     Ok(ToDo::Turns {
         line: head.line(),
@@ -70,10 +63,7 @@ pub(crate) fn after_condition(
     otherwise: Option<Block>,
 ) -> ToDo
     requires { next < length branches.value.items }
-    ensures { (site : machine.Site) → frame_at site result
-        ≡ (if held then machine.Lines site (block_of body.value.items)
-        else machine.Later site (later_from branches.value.items (next + 1)
-        (option_map (λ block. block.value.items) otherwise))) }
+    ensures { Chooses held body branches (next + 1) otherwise result }
 {
     if held {
         return ToDo::Lines {

@@ -1,13 +1,9 @@
 //! A machine that evaluates a makefile, turn by turn.
-ghost use Rattle.std.specs.Prelude.{◌≡◌, ◌≤◌, ◌+◌, [], true, false, OnOk};
+ghost use Rattle.std.specs.Prelude.{◌≡◌};
 ghost use Rattle.mk_base.specs.Meter.{IsLater};
-ghost use Rattle.mk_paths.specs.FilesView.{world_of};
-ghost use Rattle.mk_paths.specs.World.{FileMap};
-ghost use Rattle.mk_eval.specs.Meaning.{means};
-ghost use Rattle.mk_eval.specs.Sharing.{cost_of};
-ghost use Rattle.mk_eval.specs.Views.{flavors_in};
-ghost use Rattle.mk_step.specs.Turning.{ForEach, TellsIfDone, Leaves, Spends, RunsOn, Begins, IsNew, stopped};
-ghost use Rattle.mk_step.specs.Views.{point_of};
+ghost use Rattle.mk_step.specs.Turning.{MeansIfDone, StartsAmong, TellsEach, LeavesEach, Spends};
+ghost use Rattle.mk_step.specs.Turning.{IsNew, IsWithinEach, stopped};
+ghost use Rattle.mk_step.specs.Steps.{RunsFor, BeginsAmong, outcome_of};
 
 use crate::frames::{Frame, next_frame};
 use crate::steps::lines_in;
@@ -59,11 +55,9 @@ impl Machine {
         parses: &mut P,
         files: &mut F,
     ) -> Result<Turned, FilesFault>
-        ensures means { TellsIfDone result
-            (means (world_of (F.view files.old) settings.now) name.now (flavors_in flavors.entry)) }
-        ensures leaves { Leaves F.fails_with (F.view files.old) (F.view files.new)
-            (world_of (F.view files.old) settings.now) name.now (flavors_in flavors.entry) []
-            result }
+        ensures means { MeansIfDone result (F.view files.old) settings.now name.now flavors.entry }
+        ensures leaves { StartsAmong F.fails_with (F.view files.old) (F.view files.new)
+            settings.now (name.now, flavors.entry) result }
         ensures free { IsNew result }
         ensures parses { P.becomes parses.old parses.new }
     {
@@ -87,11 +81,8 @@ impl Machine {
         files: &mut F,
         units: u64,
     ) -> Result<Turned, FilesFault>
-        ensures means { ForEach (F.view files.old).files self (λ world name flavors asked.
-            TellsIfDone result (means world name flavors)) }
-        ensures leaves { ForEach (F.view files.old).files self (λ world name flavors asked.
-            Leaves F.fails_with (F.view files.old) (F.view files.new) world name flavors asked
-            result) }
+        ensures means { TellsEach (F.view files.old) self result }
+        ensures leaves { LeavesEach F.fails_with (F.view files.old) (F.view files.new) self result }
         ensures spends { Spends (F.view files.old).files units self result }
         ensures parses { P.becomes parses.old parses.new }
     {
@@ -113,8 +104,8 @@ impl Machine {
         files: &mut F,
         units: u64,
     ) -> Result<bool, Stop<Fault>>
-        ensures runs { RunsOn F.fails_with (F.view files.old) (F.view files.new)
-            (point_of self.old) (point_of self.new) units result }
+        ensures runs { RunsFor F.fails_with F.view (self.old, files.old) (self.new, files.new)
+            units result }
         ensures later { IsLater self.old.budget self.new.budget }
         ensures parses { P.becomes parses.old parses.new }
     {
@@ -130,11 +121,7 @@ impl Machine {
 
     /// What the evaluation gives at its end.
     fn finish(self) -> Evaluated
-        ensures { result ≡ record {
-          kind = self.state.kind;
-          env = self.state.variables;
-          cost = self.budget.spent;
-        } }
+        ensures { result ≡ outcome_of self }
     {
         let Machine { state, budget, .. } = self;
         let EvalState {
@@ -152,8 +139,7 @@ impl Machine {
     /// The units that were spent so far. They aren't more than the whole evaluation costs.
     pub fn spent(&self) -> u64
         ensures units { result ≡ self.now.budget.spent }
-        ensures within { (files : FileMap) → ForEach files self.now (λ world name flavors asked.
-            result ≤ cost_of (means world name flavors)) }
+        ensures within { IsWithinEach self.now result }
     {
         self.budget.spent()
     }
@@ -168,8 +154,8 @@ fn begin<F: Files, P: Parses>(
     parses: &mut P,
     files: &mut F,
 ) -> Result<Machine, Stop<Fault>>
-    ensures begins { Begins F.fails_with (F.view files.old) (F.view files.new)
-        (world_of (F.view files.old) settings.now) name.now (flavors_in flavors.entry) result }
+    ensures begins { BeginsAmong F.fails_with (F.view files.old) (F.view files.new)
+        settings.now (name.now, flavors.entry) result }
     ensures parses { P.becomes parses.old parses.new }
 {
     let Some(content) = look_read(files, name)? else {

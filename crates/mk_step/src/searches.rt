@@ -1,13 +1,9 @@
 //! The search for the modules that a line asks for.
-ghost use Rattle.std.specs.Prelude.{◌≡◌, option_map, IfOk};
+ghost use Rattle.std.specs.Prelude.{◌≡◌, IfOk};
 ghost use Rattle.mk_base.specs.Meter.{IsLater};
-ghost use Rattle.mk_base.specs.Stopping.{Gives};
-ghost use Rattle.mk_files.specs.Asking.{account};
 ghost use Rattle.mk_files.specs.Working.{Asks};
 ghost use Rattle.mk_eval.specs.Running.{MayOpen};
-ghost use Rattle.mk_eval.specs.Views.{place_of, file_of};
-ghost use Rattle.mk_step.specs.Machine as machine;
-ghost use Rattle.mk_step.specs.Views.{words_left};
+ghost use Rattle.mk_step.specs.Steps.{FindsModule};
 
 use mk_base::{Budget, Fault, Stop};
 use mk_eval::{EvalState, ExecutedFile, Included, open_module};
@@ -37,10 +33,8 @@ impl Search {
         files: &mut F,
         budget: &mut Budget,
     ) -> Result<Option<Included>, Stop<Fault>>
-        ensures gives { Gives (λ found. ((state.now, option_map file_of found), words_left self.new))
-            result (account budget.new (F.view files.new))
-            (machine.next_module (place_of here.entry (F.view files.old).files) self.old.line
-            (words_left self.old) state.now (account budget.old (F.view files.old))) }
+        ensures gives { FindsModule here.entry state.now (self.old, self.new) result
+            (budget.old, F.view files.old) (budget.new, F.view files.new) }
         ensures asks { Asks F.fails_with result (F.view files.old) (F.view files.new) }
         ensures later { IsLater budget.old budget.new }
         ensures opens { IfOk result (MayOpen here.entry.levels) }

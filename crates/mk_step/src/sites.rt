@@ -1,12 +1,7 @@
 //! Where lines are.
-ghost use Rattle.std.specs.Prelude.{◌≡◌, ◌<◌, length, slice_get, Some, None, IfOk};
-ghost use Rattle.mk_loop.specs.LoopWords.{LoopWords};
+ghost use Rattle.std.specs.Prelude.{◌<◌, length};
 ghost use Rattle.mk_loop.specs.Scopes.{turns_in};
-ghost use Rattle.mk_paths.specs.World.{FileMap};
-ghost use Rattle.mk_eval.specs.Lines.{inside_turn};
-ghost use Rattle.mk_eval.specs.Views.{place_of};
-ghost use Rattle.mk_step.specs.Machine.{place_at};
-ghost use Rattle.mk_step.specs.Views.{site_of};
+ghost use Rattle.mk_step.specs.Steps.{IsOutside, EntersLoop, IsHere};
 
 use mk_eval::{ExecutedFile, loops_at};
 use mk_loop::{Iteration, Iterations};
@@ -28,8 +23,7 @@ pub(crate) struct Site {
 impl Site {
     /// In a file, outside any loop.
     pub(crate) fn outside(alloc: Global, file: Name, levels: u32) -> Result<Rc<Site>, AllocError>
-        ensures { IfOk result (λ site. site_of site.value
-            ≡ record { file = file; levels = levels; loops = None }) }
+        ensures { IsOutside file levels result }
     {
         let site = Site {
             file: Rc::new(alloc, file)?,
@@ -47,10 +41,7 @@ impl Site {
         index: usize,
     ) -> Result<Rc<Site>, AllocError>
         requires { index < length (turns_in turns.now.value) }
-        ensures { (turn : LoopWords) → slice_get (turns_in turns.now.value) index ≡ Some turn
-            → IfOk result (λ site. site_of site.value ≡ record (site_of self.now) {
-              loops = inside_turn (site_of self.now).loops turn;
-            }) }
+        ensures { EntersLoop self.now turns.now.value index result }
     {
         let site = Site {
             file: self.file.clone()?,
@@ -62,8 +53,7 @@ impl Site {
 
     /// The same in the evaluation of this makefile.
     pub(crate) fn here<'a>(&'a self, makefile: &'a Name) -> ExecutedFile<'a>
-        ensures { (files : FileMap) → place_of result files
-            ≡ place_at files makefile.now (site_of self.now) }
+        ensures { IsHere makefile.now self.now result }
     {
         ExecutedFile {
             makefile,

@@ -1,19 +1,11 @@
 //! The things that a machine does, one after another.
-ghost use Rattle.std.specs.Prelude.{◌≡◌, ◌<◌, List, Option, length, drop, Some};
+ghost use Rattle.std.specs.Prelude.{◌≡◌, ◌<◌, length};
 ghost use Rattle.mk_base.specs.Meter.{IsLater};
-ghost use Rattle.mk_base.specs.Stopping.{Gives, GivesPurely};
-ghost use Rattle.mk_ast.specs.Parsing.{parsed};
-ghost use Rattle.mk_ast.specs.Views.{tree_of, block_of};
-ghost use Rattle.mk_files.specs.Asking.{Account, account};
 ghost use Rattle.mk_files.specs.Working.{Asks};
-ghost use Rattle.mk_paths.specs.World.{FileMap};
-ghost use Rattle.mk_paths.specs.FilesView.{Question};
 ghost use Rattle.mk_loop.specs.Scopes.{turns_in};
-ghost use Rattle.mk_eval.specs.declared.state.EvalState.{EvalState};
-ghost use Rattle.mk_step.specs.Machine as machine;
-ghost use Rattle.mk_step.specs.Machine.{read_lines, do_line, do_tree, advance};
 ghost use Rattle.mk_step.specs.Paying.{Costs};
-ghost use Rattle.mk_step.specs.Views.{site_of, frame_at, frame_of, frames_of, inner_frames};
+ghost use Rattle.mk_step.specs.Views.{frame_of};
+ghost use Rattle.mk_step.specs.Steps.{Advances, StepsAt, StepsAlone, DoesNode, DoesLine, ReadsLines};
 
 use crate::frames::{Frame, Inner, ToDo};
 use crate::heads::{after_condition, begun, chosen};
@@ -41,11 +33,7 @@ impl Machine {
         files: &mut F,
     ) -> Result<(), Stop<Fault>>
         requires { Costs (frame_of frame) }
-        ensures gives { Gives (λ _. (self.new.state, frames_of self.new.frames.items)) result
-            (account self.new.budget (F.view files.new))
-            (advance (F.view files.old).files self.old.makefile (frame_of frame)
-            (frames_of self.old.frames.items) self.old.state
-            (account self.old.budget (F.view files.old))) }
+        ensures gives { Advances F.view frame (self.old, files.old) (self.new, files.new) result }
         ensures asks { Asks F.fails_with result (F.view files.old) (F.view files.new) }
         ensures later { IsLater self.old.budget self.new.budget }
         ensures makefile { self.new.makefile ≡ self.old.makefile }
@@ -81,12 +69,8 @@ impl Machine {
         files: &mut F,
     ) -> Result<(), Stop<Fault>>
         requires { next < length block.value.items }
-        ensures gives { Gives (λ _. (self.new.state, frames_of self.new.frames.items)) result
-            (account self.new.budget (F.view files.new))
-            (advance (F.view files.old).files self.old.makefile
-            (machine.Lines (site_of site.value) (block_of (drop next block.value.items)))
-            (frames_of self.old.frames.items) self.old.state
-            (account self.old.budget (F.view files.old))) }
+        ensures gives { StepsAt F.view site (ToDo.Lines block next)
+            (self.old, files.old) (self.new, files.new) result }
         ensures asks { Asks F.fails_with result (F.view files.old) (F.view files.new) }
         ensures later { IsLater self.old.budget self.new.budget }
         ensures makefile { self.new.makefile ≡ self.old.makefile }
@@ -112,10 +96,8 @@ impl Machine {
         parses: &mut P,
         files: &mut F,
     ) -> Result<Inner, Stop<Fault>>
-        ensures gives { Gives (λ inner. (self.new.state, inner_frames inner)) result
-            (account self.new.budget (F.view files.new))
-            (do_tree (F.view files.old).files self.old.makefile (site_of site.now.value)
-            (tree_of node.now) self.old.state (account self.old.budget (F.view files.old))) }
+        ensures gives { DoesNode F.view site.now node.now
+            (self.old, files.old) (self.new, files.new) result }
         ensures asks { Asks F.fails_with result (F.view files.old) (F.view files.new) }
         ensures later { IsLater self.old.budget self.new.budget }
         ensures frames { self.new.frames ≡ self.old.frames }
@@ -162,10 +144,8 @@ impl Machine {
         parses: &mut P,
         files: &mut F,
     ) -> Result<Inner, Stop<Fault>>
-        ensures gives { Gives (λ inner. (self.new.state, inner_frames inner)) result
-            (account self.new.budget (F.view files.new))
-            (do_line (F.view files.old).files self.old.makefile (site_of site.now.value)
-            line.now self.old.state (account self.old.budget (F.view files.old))) }
+        ensures gives { DoesLine F.view site.now line.now
+            (self.old, files.old) (self.new, files.new) result }
         ensures asks { Asks F.fails_with result (F.view files.old) (F.view files.new) }
         ensures later { IsLater self.old.budget self.new.budget }
         ensures frames { self.new.frames ≡ self.old.frames }
@@ -196,12 +176,8 @@ impl Machine {
         files: &mut F,
     ) -> Result<(), Stop<Fault>>
         requires { next < length branches.value.items }
-        ensures gives { Gives (λ _. (self.new.state, frames_of self.new.frames.items)) result
-            (account self.new.budget (F.view files.new))
-            (advance (F.view files.old).files self.old.makefile
-            (frame_at (site_of site.value) (ToDo.Later branches next otherwise))
-            (frames_of self.old.frames.items) self.old.state
-            (account self.old.budget (F.view files.old))) }
+        ensures gives { StepsAt F.view site (ToDo.Later branches next otherwise)
+            (self.old, files.old) (self.new, files.new) result }
         ensures asks { Asks F.fails_with result (F.view files.old) (F.view files.new) }
         ensures later { IsLater self.old.budget self.new.budget }
         ensures makefile { self.new.makefile ≡ self.old.makefile }
@@ -236,13 +212,7 @@ impl Machine {
         next: usize,
     ) -> Result<(), PureStop<Fault>>
         requires { next < length (turns_in turns.value) }
-        ensures gives { (files : FileMap) (log : Option (List Question))
-            → GivesPurely (λ _. (self.new.state, frames_of self.new.frames.items)) result
-            (record { meter = self.new.budget; log = log })
-            (advance files self.old.makefile
-            (frame_at (site_of site.value) (ToDo.Turns line body turns next))
-            (frames_of self.old.frames.items) self.old.state
-            (record { meter = self.old.budget; log = log })) }
+        ensures gives { StepsAlone site (ToDo.Turns line body turns next) self.old self.new result }
         ensures later { IsLater self.old.budget self.new.budget }
         ensures makefile { self.new.makefile ≡ self.old.makefile }
     {
@@ -277,12 +247,7 @@ impl Machine {
         site: Rc<Site>,
         line: u64,
     ) -> Result<(), PureStop<Fault>>
-        ensures gives { (files : FileMap) (log : Option (List Question))
-            → GivesPurely (λ _. (self.new.state, frames_of self.new.frames.items)) result
-            (record { meter = self.new.budget; log = log })
-            (advance files self.old.makefile (machine.Modules (site_of site.value) line)
-            (frames_of self.old.frames.items) self.old.state
-            (record { meter = self.old.budget; log = log })) }
+        ensures gives { StepsAlone site (ToDo.Modules line) self.old self.new result }
         ensures later { IsLater self.old.budget self.new.budget }
         ensures makefile { self.new.makefile ≡ self.old.makefile }
     {
@@ -306,12 +271,8 @@ impl Machine {
         parses: &mut P,
         files: &mut F,
     ) -> Result<(), Stop<Fault>>
-        ensures gives { Gives (λ _. (self.new.state, frames_of self.new.frames.items)) result
-            (account self.new.budget (F.view files.new))
-            (advance (F.view files.old).files self.old.makefile
-            (frame_at (site_of site.value) (ToDo.Searches search))
-            (frames_of self.old.frames.items) self.old.state
-            (account self.old.budget (F.view files.old))) }
+        ensures gives { StepsAt F.view site (ToDo.Searches search)
+            (self.old, files.old) (self.new, files.new) result }
         ensures asks { Asks F.fails_with result (F.view files.old) (F.view files.new) }
         ensures later { IsLater self.old.budget self.new.budget }
         ensures makefile { self.new.makefile ≡ self.old.makefile }
@@ -343,9 +304,7 @@ pub(crate) fn lines_in<P: Parses>(
     levels: u32,
     parses: &mut P,
 ) -> Result<Frame, PureStop<Fault>>
-    ensures gives { (s : EvalState) (a : Account)
-        → GivesPurely (λ frame. (s, Some (frame_of frame))) result a
-        (read_lines included.name levels (parsed included.content) s a) }
+    ensures gives { ReadsLines included levels result }
     ensures parses { P.becomes parses.old parses.new }
 {
     let Included { name, content } = included;

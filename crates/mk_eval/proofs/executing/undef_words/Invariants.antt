@@ -6,4 +6,4 @@ use Rattle.mk_eval.proofs.executing.undef_words.Given as goal
 -- to take away the words that are left, from here, is to take away all of them from the start
 abbrev pub invariant-loop-span : goal.invariant-loop-span
 invariant-loop-span l =
-    without l.initial.variables (map (span_text l.text) l.span-items) ≡ without l.variables (map (span_text l.text) (drop l.span-index l.span-items))
+    without l.initial.env (map (span_text l.text) l.span-items) ≡ without l.env (map (span_text l.text) (drop l.span-index l.span-items))
