@@ -85,7 +85,6 @@ steady-package_base variables subpackage =
     (bind (steady-value_or variables (codes "PKGNAME") (codes "DISTNAME")) (λ found. steady-give _)))
 
 steady-made_name : (variables : Variables) (marks : List (List ℕ)) (subpackage base : List ℕ) → Steady (made_name variables marks subpackage base)
-unfolding made_name
 steady-made_name variables marks subpackage base =
     bind (steady-package_value variables (codes "REVISION") subpackage) (λ revision. bind (steady-package_value variables (codes "EPOCH") subpackage)
     (λ epoch. bind (steady-readable (split_name base)) (λ name. steady-readable _)))

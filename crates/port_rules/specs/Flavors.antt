@@ -1,7 +1,8 @@
 -- The flavors of a port (bsd.port.mk(5), "FLAVORS AND MULTI_PACKAGES"): FLAVORS and PSEUDO_FLAVORS are those
 -- that it has, and FLAVOR those that are chosen. That they are lowered, and the order in which they are
 -- asked, is this project's choice.
-use Rattle.std.specs.Prelude.{ℕ, ◌||◌, if◌then◌else◌, Bool, List, filter, codes}
+use Rattle.std.specs.Prelude.{ℕ, ◌||◌, if◌then◌else◌, Bool, List, filter, map, codes, String, string_bytes}
+use Rattle.std.specs.Global.{Global}
 use Rattle.std.specs.List.{list_all}
 use Rattle.mk_base.specs.declared.faults.FaultKind.{FaultKind}
 use Rattle.mk_base.specs.declared.faults.FaultKind.TheVariants as kinds
@@ -21,6 +22,10 @@ pub record FlavorsValue : Type 0 where
 -- flavors of these three kinds
 abbrev pub make_flavors : List (List ℕ) → List (List ℕ) → List (List ℕ) → FlavorsValue
 make_flavors chosen proper pseudo = record { chosen = chosen; proper = proper; pseudo = pseudo }
+
+-- the flavors in these lists
+abbrev pub flavors_with : List (String Global) → List (String Global) → List (String Global) → FlavorsValue
+flavors_with chosen proper pseudo = make_flavors (map string_bytes chosen) (map string_bytes proper) (map string_bytes pseudo)
 
 -- each chosen flavor is one that the port has
 abbrev pub has_chosen : FlavorsValue → Bool

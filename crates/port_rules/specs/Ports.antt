@@ -1,5 +1,6 @@
 -- What a port is, by its variables (bsd.port.mk(5)).
-use Rattle.std.specs.Prelude.{ℕ, Bool, List, codes}
+use Rattle.std.specs.Prelude.{◌≡◌, ℕ, Bool, List, map, codes, Result, IfOk, String, Vec, string_bytes}
+use Rattle.std.specs.Global.{Global}
 use Rattle.std.specs.List.{list_any}
 use Rattle.std.specs.Str.{bytes_eq}
 use Rattle.mk_base.specs.declared.faults.FaultKind.{FaultKind}
@@ -23,6 +24,13 @@ pub record PortValue : Type 0 where
 abbrev pub make_port : FlavorsValue → List ℕ → List (List ℕ) → List PackageValue → List DependValue → PortValue
 make_port flavors maintainer categories packages depends =
     record { flavors = flavors; maintainer = maintainer; categories = categories; packages = packages; depends = depends }
+
+-- where it succeeds, the answer is the port of these parts
+abbrev pub MakesPort : {E : Type 0} → Result PortValue E → FlavorsValue → String Global
+    → Vec (String Global) Global → Vec PackageValue Global → Vec DependValue Global → Type 0
+MakesPort result flavors maintainer categories packages depends =
+    IfOk result (λ made. made
+    ≡ make_port flavors (string_bytes maintainer) (map string_bytes categories.items) packages.items depends.items)
 
 -- one of a port's packages has this name
 abbrev pub has_package : PortValue → List ℕ → Bool

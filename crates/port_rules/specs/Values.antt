@@ -1,9 +1,13 @@
 -- Variables that are asked for a record: their values, as make(1) expands them, over one budget.
-use Rattle.std.specs.Prelude.{ℕ, if◌then◌else◌, is_some, List, [], ◌++◌, Option, Some, None, codes}
+use Rattle.std.specs.Prelude.{ℕ, if◌then◌else◌, is_some, List, [], ◌++◌, map, Option, Some, None, option_map, Result, codes}
+use Rattle.std.specs.Prelude.{String, Vec, string_bytes}
+use Rattle.std.specs.Global.{Global}
 use Rattle.std.specs.Str.{bytes_eq, str_to_ascii_lowercase}
 use Rattle.mk_base.specs.declared.faults.FaultKind.{FaultKind}
 use Rattle.mk_base.specs.Meter.{Meter}
 use Rattle.mk_base.specs.Outcome.{Work, give, ◌>>=◌}
+use Rattle.mk_base.specs.Stopping.{GivesPurely}
+use Rattle.mk_base.specs.declared.stopping.PureStop.{PureStop}
 use Rattle.mk_text.specs.Words.{words_of}
 use Rattle.mk_env.specs.Texts.{Variables, text_in}
 use Rattle.mk_env.specs.Expansion.{variable}
@@ -54,3 +58,38 @@ package_text variables name subpackage m = (package_value variables name subpack
 
 unfoldable pub package_words : Variables → List ℕ → List ℕ → Work Meter FaultKind (List (List ℕ))
 package_words variables name subpackage m = (package_value variables name subpackage >>= λ found. give (words_of (text_of found))) m
+
+-- an answer is the value that this work finds, or that there is none; the meter goes from one to the other
+abbrev pub MayGive : Result (Option (String Global)) (PureStop FaultKind)
+    → Work Meter FaultKind (Option (List ℕ)) → Meter → Meter → Type 0
+MayGive result work before after = GivesPurely (option_map string_bytes) result after (work before)
+
+-- an answer is the text that this work gives
+abbrev pub GivesText : Result (String Global) (PureStop FaultKind) → Work Meter FaultKind (List ℕ) → Meter
+    → Meter → Type 0
+GivesText result work before after = GivesPurely string_bytes result after (work before)
+
+-- an answer is the words that this work gives
+abbrev pub GivesWords : Result (Vec (String Global) Global) (PureStop FaultKind)
+    → Work Meter FaultKind (List (List ℕ)) → Meter → Meter → Type 0
+GivesWords result work before after = GivesPurely (λ found. map string_bytes found.items) result after (work before)
+
+-- an answer is the value of a variable for a package
+abbrev pub MayGiveFor : Result (Option (String Global)) (PureStop FaultKind) → Variables → List ℕ → List ℕ
+    → Meter → Meter → Type 0
+MayGiveFor result variables name subpackage = MayGive result (package_value variables name subpackage)
+
+-- an answer is the value of the variable whose name has the package's ending
+abbrev pub GivesOwn : Result (Option (String Global)) (PureStop FaultKind) → Variables → List ℕ → List ℕ
+    → Meter → Meter → Type 0
+GivesOwn result variables name subpackage = MayGive result (value variables (name ++ ending subpackage))
+
+-- an answer is the text of a variable for a package
+abbrev pub GivesTextFor : Result (String Global) (PureStop FaultKind) → Variables → List ℕ → List ℕ → Meter
+    → Meter → Type 0
+GivesTextFor result variables name subpackage = GivesText result (package_text variables name subpackage)
+
+-- an answer is the words of a variable for a package
+abbrev pub GivesWordsFor : Result (Vec (String Global) Global) (PureStop FaultKind) → Variables → List ℕ
+    → List ℕ → Meter → Meter → Type 0
+GivesWordsFor result variables name subpackage = GivesWords result (package_words variables name subpackage)

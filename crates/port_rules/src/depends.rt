@@ -1,9 +1,8 @@
 //! What a port depends on.
-ghost use Rattle.std.specs.Prelude.{◌≡◌, ◌++◌, [], map, string_bytes, IfOk, OnOk};
+ghost use Rattle.std.specs.Prelude.{◌≡◌, string_bytes, IfOk};
 ghost use Rattle.std.specs.Rc.{rc_str_bytes};
-ghost use Rattle.mk_base.specs.Outcome.{each};
-ghost use Rattle.mk_base.specs.Stopping.{GivesPurely};
 ghost use Rattle.port_rules.specs.Depends as depends;
+ghost use Rattle.port_rules.specs.Depends.{AddsDepends, GivesAllDepends, GivesMoreDepends, GivesNextDepends};
 
 use crate::values::{asked_words, package_words};
 use mk_base::{Budget, FaultKind, PureStop};
@@ -122,57 +121,55 @@ fn shared_name(
 #[tactic(auto, unfolding(crate::specs::Depends::depends_of))]
 pub(crate) fn read_depends(
     alloc: Global,
-    variables: &Env,
+    env: &Env,
     subpackages: &[String],
     budget: &mut Budget,
 ) -> Result<Vec<Depend>, PureStop<FaultKind>>
-    ensures { GivesPurely (λ found. found.items) result budget.new
-        (depends.depends_of variables.now (map string_bytes subpackages.now) budget.old) }
+    ensures { GivesAllDepends result env.now subpackages.now budget.old budget.new }
 {
-    let build = asked_words(alloc, variables, "BUILD_DEPENDS", budget)?;
+    let build = asked_words(alloc, env, "BUILD_DEPENDS", budget)?;
     let mut found = Vec::new(alloc);
     put_depends(alloc, &mut found, DependKind::Build, "", build)?;
-    add_each(alloc, variables, &mut found, subpackages, budget)?;
-    let test = asked_words(alloc, variables, "TEST_DEPENDS", budget)?;
+    let mut found = with_each(alloc, env, found, subpackages, budget)?;
+    let test = asked_words(alloc, env, "TEST_DEPENDS", budget)?;
     put_depends(alloc, &mut found, DependKind::Test, "", test)?;
     Ok(found)
 }
 
-/// Adds the dependencies of each package.
-fn add_each(
+/// Dependencies with those of each package after them.
+fn with_each(
     alloc: Global,
-    variables: &Env,
-    found: &mut Vec<Depend>,
+    env: &Env,
+    found: Vec<Depend>,
     subpackages: &[String],
     budget: &mut Budget,
-) -> Result<(), PureStop<FaultKind>>
-    ensures { GivesPurely (λ _. found.new.items) result budget.new
-        (each (depends.add_depends variables.now) found.old.items
-        (map string_bytes subpackages.now) budget.old) }
+) -> Result<Vec<Depend>, PureStop<FaultKind>>
+    ensures { GivesMoreDepends result env.now found.items subpackages.now budget.old budget.new }
 {
+    let mut found = found;
     for subpackage in subpackages {
-        add_depends(alloc, variables, found, subpackage, budget)?;
+        found = with_depends(alloc, env, found, subpackage, budget)?;
     }
-    Ok(())
+    Ok(found)
 }
 
-/// Adds the dependencies of a package.
+/// Dependencies with those of a package after them.
 #[tactic(auto, unfolding(crate::specs::Depends::add_depends))]
-fn add_depends(
+fn with_depends(
     alloc: Global,
-    variables: &Env,
-    found: &mut Vec<Depend>,
+    env: &Env,
+    found: Vec<Depend>,
     subpackage: &str,
     budget: &mut Budget,
-) -> Result<(), PureStop<FaultKind>>
-    ensures { GivesPurely (λ _. found.new.items) result budget.new
-        (depends.add_depends variables.now found.old.items subpackage.now budget.old) }
+) -> Result<Vec<Depend>, PureStop<FaultKind>>
+    ensures { GivesNextDepends result env.now found.items subpackage.now budget.old budget.new }
 {
-    let lib = package_words(alloc, variables, "LIB_DEPENDS", subpackage, budget)?;
-    let run = package_words(alloc, variables, "RUN_DEPENDS", subpackage, budget)?;
-    put_depends(alloc, found, DependKind::Lib, subpackage, lib)?;
-    put_depends(alloc, found, DependKind::Run, subpackage, run)?;
-    Ok(())
+    let mut found = found;
+    let lib = package_words(alloc, env, "LIB_DEPENDS", subpackage, budget)?;
+    let run = package_words(alloc, env, "RUN_DEPENDS", subpackage, budget)?;
+    put_depends(alloc, &mut found, DependKind::Lib, subpackage, lib)?;
+    put_depends(alloc, &mut found, DependKind::Run, subpackage, run)?;
+    Ok(found)
 }
 
 /// Adds dependencies of one kind.
@@ -183,8 +180,7 @@ fn put_depends(
     subpackage: &str,
     items: Vec<String>,
 ) -> Result<(), AllocError>
-    ensures { OnOk result (found.new.items ≡ found.old.items
-        ++ depends.depends kind subpackage.now (map string_bytes items.items)) }
+    ensures { AddsDepends result found.old.items kind subpackage.now items.items found.new.items }
 {
     for item in items {
         let depend = Depend::new(alloc, found.last(), kind, subpackage, item)?;

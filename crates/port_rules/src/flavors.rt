@@ -1,9 +1,8 @@
 //! The flavors of a port.
-ghost use Rattle.std.specs.Prelude.{◌≡◌, ◌||◌, map, string_bytes, IfOk};
-ghost use Rattle.std.specs.List.{list_all};
+ghost use Rattle.std.specs.Prelude.{◌≡◌, map, string_bytes, IfOk};
 ghost use Rattle.mk_base.specs.Stopping.{GivesPurely};
 ghost use Rattle.text_parts.specs.Cuts.{now_all};
-ghost use Rattle.port_rules.specs.TextSets.{holds};
+ghost use Rattle.port_rules.specs.TextSets.{are_held};
 ghost use Rattle.port_rules.specs.Flavors as flavors;
 
 use crate::text_sets::TextSet;
@@ -39,8 +38,7 @@ impl PortFlavors {
     /// The flavors that are chosen, and those that the port has: the proper ones, and those that mark
     /// no name.
     pub fn new(chosen: Vec<String>, proper: Vec<String>, pseudo: Vec<String>) -> PortFlavors
-        ensures { result ≡ flavors.make_flavors (map string_bytes chosen.items)
-            (map string_bytes proper.items) (map string_bytes pseudo.items) }
+        ensures { result ≡ flavors.flavors_with chosen.items proper.items pseudo.items }
     {
         PortFlavors {
             chosen,
@@ -96,9 +94,7 @@ impl PortFlavors {
 
 /// Whether each of these texts is in one of the sets.
 fn are_known<'a>(texts: &'a [String], one: &TextSet<'a>, other: &TextSet<'a>) -> bool
-    ensures { result
-        ≡ list_all (λ text. holds one.now text || holds other.now text)
-        (map string_bytes texts.now) }
+    ensures { result ≡ are_held one.now other.now texts.now }
 {
     for text in texts {
         if !one.contains(text) && !other.contains(text) {
@@ -115,14 +111,14 @@ fn are_known<'a>(texts: &'a [String], one: &TextSet<'a>, other: &TextSet<'a>) ->
 #[tactic(auto, unfolding(crate::specs::Flavors::flavors_of))]
 pub(crate) fn read_flavors(
     alloc: Global,
-    variables: &Env,
+    env: &Env,
     budget: &mut Budget,
 ) -> Result<PortFlavors, PureStop<FaultKind>>
-    ensures { GivesPurely (λ x. x) result budget.new (flavors.flavors_of variables.now budget.old) }
+    ensures { GivesPurely (λ x. x) result budget.new (flavors.flavors_of env.now budget.old) }
 {
-    let chosen = lowercase_words(alloc, variables, "FLAVOR", budget)?;
-    let proper = lowercase_words(alloc, variables, "FLAVORS", budget)?;
-    let pseudo = lowercase_words(alloc, variables, "PSEUDO_FLAVORS", budget)?;
+    let chosen = lowercase_words(alloc, env, "FLAVOR", budget)?;
+    let proper = lowercase_words(alloc, env, "FLAVORS", budget)?;
+    let pseudo = lowercase_words(alloc, env, "PSEUDO_FLAVORS", budget)?;
     let flavors = PortFlavors::new(chosen, proper, pseudo);
     if !flavors.has_chosen(alloc)? {
         return Err(PureStop::Fault(FaultKind::Flavor));

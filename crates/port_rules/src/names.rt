@@ -1,13 +1,12 @@
 //! The full names of packages.
-ghost use Rattle.std.specs.Prelude.{◌≡◌, ◌<◌, ◌++◌, ◌∷◌, option_map, string_bytes, IfOk, OnOk, OnErr};
-ghost use Rattle.std.specs.List.{flat_map};
-ghost use Rattle.mk_base.specs.Meter.{Meter};
-ghost use Rattle.mk_base.specs.Stopping.{GivesOnly, GivesPurely};
-ghost use Rattle.text_parts.specs.Cuts.{now_all};
+ghost use Rattle.std.specs.Prelude.{◌≡◌, ◌<◌, ◌++◌, ◌∷◌, string_bytes, OnOk};
 ghost use Rattle.pkg_name.specs.Name.{split_name, dash};
 ghost use Rattle.port_rules.specs.Packages as packages;
+ghost use Rattle.port_rules.specs.Packages.{GivesDefaultName, GivesFullName, GivesMarkedName};
+ghost use Rattle.port_rules.specs.Packages.{AddsLettered, Extends, GivesNameFreely, GivesPresent};
+ghost use Rattle.port_rules.specs.Values.{MayGive};
 
-use crate::values::{ending, package_value, value, value_or, with_ending};
+use crate::values::{ending, own_value, package_value, value_or};
 use mk_base::{Budget, FaultKind, PureStop};
 use mk_env::Env;
 use pkg_name::{NameFault, PkgName};
@@ -22,63 +21,61 @@ use std::alloc::{AllocError, Global};
 #[tactic(auto, unfolding(crate::specs::Packages::full_name))]
 pub(crate) fn full_name(
     alloc: Global,
-    variables: &Env,
+    env: &Env,
     marks: &[&str],
     subpackage: &str,
     budget: &mut Budget,
 ) -> Result<PkgName, PureStop<FaultKind>>
-    ensures { GivesPurely (λ x. x) result budget.new
-        (packages.full_name variables.now (now_all marks.now) subpackage.now budget.old) }
+    ensures { GivesFullName result env.now marks.now subpackage.now budget.old budget.new }
 {
-    let own = with_ending(alloc, "FULLPKGNAME", subpackage)?;
-    match value(alloc, variables, own.as_str(), budget)? {
+    match own_value(alloc, env, "FULLPKGNAME", subpackage, budget)? {
         Some(text) => whole_name(alloc, text),
-        None => default_name(alloc, variables, marks, subpackage, budget),
+        None => default_name(alloc, env, marks, subpackage, budget),
     }
 }
 
 /// The full name that FULLPKGNAME is.
 fn whole_name(alloc: Global, text: String) -> Result<PkgName, PureStop<FaultKind>>
-    ensures { (m : Meter)
-        → GivesPurely (λ x. x) result m (packages.whole_name (string_bytes text) m) }
+    ensures { GivesNameFreely result (packages.whole_name (string_bytes text)) }
 {
     let text = present(Some(text))?;
     read_name(alloc, text.as_str())
 }
 
 /// The full name of a package that is made from PKGNAME.
+///
+/// REVISION and EPOCH are asked before PKGNAME is read as a name.
 #[tactic(auto, unfolding(crate::specs::Packages::default_name))]
 fn default_name(
     alloc: Global,
-    variables: &Env,
+    env: &Env,
     marks: &[&str],
     subpackage: &str,
     budget: &mut Budget,
 ) -> Result<PkgName, PureStop<FaultKind>>
-    ensures { GivesPurely (λ x. x) result budget.new
-        (packages.default_name variables.now (now_all marks.now) subpackage.now budget.old) }
+    ensures { GivesDefaultName result env.now marks.now subpackage.now budget.old budget.new }
 {
-    let base = package_base(alloc, variables, subpackage, budget)?;
+    let base = package_base(alloc, env, subpackage, budget)?;
     let base = present(base)?;
-    made_name(alloc, variables, marks, subpackage, base.as_str(), budget)
+    let revision = package_value(alloc, env, "REVISION", subpackage, budget)?;
+    let epoch = package_value(alloc, env, "EPOCH", subpackage, budget)?;
+    marked_name(alloc, base.as_str(), &revision, &epoch, marks)
 }
 
 /// PKGNAME of a package.
 #[tactic(auto, unfolding(crate::specs::Packages::package_base))]
 fn package_base(
     alloc: Global,
-    variables: &Env,
+    env: &Env,
     subpackage: &str,
     budget: &mut Budget,
 ) -> Result<Option<String>, PureStop<FaultKind>>
-    ensures { GivesPurely (option_map string_bytes) result budget.new
-        (packages.package_base variables.now subpackage.now budget.old) }
+    ensures { MayGive result (packages.package_base env.now subpackage.now) budget.old budget.new }
 {
-    let own = with_ending(alloc, "PKGNAME", subpackage)?;
-    if let Some(text) = value(alloc, variables, own.as_str(), budget)? {
+    if let Some(text) = own_value(alloc, env, "PKGNAME", subpackage, budget)? {
         return Ok(Some(text));
     }
-    match value_or(alloc, variables, "PKGNAME", "DISTNAME", budget)? {
+    match value_or(alloc, env, "PKGNAME", "DISTNAME", budget)? {
         Some(text) => {
             let mut text = text;
             text.push_str(added_ending(subpackage))?;
@@ -101,8 +98,7 @@ fn added_ending(subpackage: &str) -> &str
 
 /// A name that must be there and not be empty.
 fn present(found: Option<String>) -> Result<String, FaultKind>
-    ensures { (m : Meter)
-        → GivesOnly string_bytes result m (packages.present (option_map string_bytes found) m) }
+    ensures { GivesPresent result found }
 {
     match found {
         Some(text) if !text.is_empty() => Ok(text),
@@ -112,8 +108,7 @@ fn present(found: Option<String>) -> Result<String, FaultKind>
 
 /// The name that a text is.
 fn read_name(alloc: Global, text: &str) -> Result<PkgName, PureStop<FaultKind>>
-    ensures { (m : Meter)
-        → GivesPurely (λ x. x) result m (packages.readable (split_name text.now) m) }
+    ensures { GivesNameFreely result (packages.readable (split_name text.now)) }
 {
     match PkgName::split(alloc, text) {
         Ok(name) => Ok(name),
@@ -122,23 +117,18 @@ fn read_name(alloc: Global, text: &str) -> Result<PkgName, PureStop<FaultKind>>
     }
 }
 
-/// The full name of a package whose PKGNAME is `base`.
-#[tactic(auto, unfolding(crate::specs::Packages::made_name))]
-fn made_name(
+/// The full name of a package whose PKGNAME is `base`, with its revision, its epoch and the marks.
+fn marked_name(
     alloc: Global,
-    variables: &Env,
-    marks: &[&str],
-    subpackage: &str,
     base: &str,
-    budget: &mut Budget,
+    revision: &Option<String>,
+    epoch: &Option<String>,
+    marks: &[&str],
 ) -> Result<PkgName, PureStop<FaultKind>>
-    ensures { GivesPurely (λ x. x) result budget.new
-        (packages.made_name variables.now (now_all marks.now) subpackage.now base.now budget.old) }
+    ensures { GivesMarkedName result base.now revision.now epoch.now marks.now }
 {
-    let revision = package_value(alloc, variables, "REVISION", subpackage, budget)?;
-    let epoch = package_value(alloc, variables, "EPOCH", subpackage, budget)?;
     let name = read_name(alloc, base)?;
-    let extended = extended(alloc, &name, &revision, &epoch, marks)?;
+    let extended = extended(alloc, &name, revision, epoch, marks)?;
     read_name(alloc, extended.as_str())
 }
 
@@ -150,9 +140,7 @@ fn extended(
     epoch: &Option<String>,
     marks: &[&str],
 ) -> Result<String, AllocError>
-    ensures { IfOk result (λ text. string_bytes text
-        ≡ packages.extended name.now (option_map string_bytes revision.now)
-        (option_map string_bytes epoch.now) (now_all marks.now)) }
+    ensures { Extends result name.now revision.now epoch.now marks.now }
 {
     let mut text = format!(in alloc; "{}-{}", name.stem(), name.version())?;
     put_lettered(&mut text, 'p', revision)?;
@@ -169,8 +157,7 @@ fn extended(
 /// Adds a letter and a value after it, if there is a value.
 fn put_lettered(text: &mut String, letter: char, value: &Option<String>) -> Result<(), AllocError>
     requires { letter < 128 }
-    ensures { OnOk result (string_bytes text.new ≡ string_bytes text.old
-        ++ packages.lettered letter (option_map string_bytes value.now)) }
+    ensures { AddsLettered result text.old letter value.now text.new }
 {
     if let Some(value) = value {
         text.push(letter)?;

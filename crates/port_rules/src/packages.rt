@@ -1,10 +1,9 @@
 //! The packages of a port.
 ghost use Rattle.std.specs.Prelude.{◌≡◌, map, string_bytes, IfOk};
 ghost use Rattle.std.specs.List.{list_all};
-ghost use Rattle.mk_base.specs.Stopping.{GivesPurely};
-ghost use Rattle.text_parts.specs.Cuts.{now_all};
-ghost use Rattle.port_rules.specs.Flavors.{marks_of};
 ghost use Rattle.port_rules.specs.Packages as packages;
+ghost use Rattle.port_rules.specs.Packages.{GivesEach, GivesPackage, GivesPackages};
+ghost use Rattle.port_rules.specs.Values.{GivesWords};
 
 use crate::flavors::PortFlavors;
 use crate::names::full_name;
@@ -36,8 +35,7 @@ impl Model for Package {
 impl Package {
     /// The package of this name among the port's packages, with its full name and its comment.
     pub fn new(subpackage: String, name: PkgName, comment: String) -> Package
-        ensures { result
-            ≡ packages.make_package (string_bytes subpackage) name (string_bytes comment) }
+        ensures { result ≡ packages.package_in subpackage name comment }
     {
         Package {
             subpackage,
@@ -76,13 +74,12 @@ impl Package {
 #[tactic(auto, unfolding(crate::specs::Packages::subpackages_of))]
 pub(crate) fn read_subpackages(
     alloc: Global,
-    variables: &Env,
+    env: &Env,
     budget: &mut Budget,
 ) -> Result<Vec<String>, PureStop<FaultKind>>
-    ensures { GivesPurely (λ found. map string_bytes found.items) result budget.new
-        (packages.subpackages_of variables.now budget.old) }
+    ensures { GivesWords result (packages.subpackages_of env.now) budget.old budget.new }
 {
-    let mut names = asked_words(alloc, variables, "MULTI_PACKAGES", budget)?;
+    let mut names = asked_words(alloc, env, "MULTI_PACKAGES", budget)?;
     if !are_subpackages(alloc, &names)? {
         return Err(PureStop::Fault(FaultKind::BadName));
     }
@@ -121,34 +118,30 @@ fn is_named(word: &str) -> bool
 /// The packages of a port, in order: for each, first the name is read and then the comment.
 pub(crate) fn read_packages(
     alloc: Global,
-    variables: &Env,
+    env: &Env,
     flavors: &PortFlavors,
     subpackages: &[String],
     budget: &mut Budget,
 ) -> Result<Vec<Package>, PureStop<FaultKind>>
-    ensures { GivesPurely (λ found. found.items) result budget.new
-        (packages.packages_of variables.now (marks_of flavors.now)
-        (map string_bytes subpackages.now) budget.old) }
+    ensures { GivesPackages result env.now flavors.now subpackages.now budget.old budget.new }
 {
     let marks = flavors.marks(alloc)?;
-    read_each(alloc, variables, &marks, subpackages, budget)
+    read_each(alloc, env, &marks, subpackages, budget)
 }
 
 /// The same; `marks` are those of the chosen flavors.
 fn read_each(
     alloc: Global,
-    variables: &Env,
+    env: &Env,
     marks: &[&str],
     subpackages: &[String],
     budget: &mut Budget,
 ) -> Result<Vec<Package>, PureStop<FaultKind>>
-    ensures { GivesPurely (λ found. found.items) result budget.new
-        (packages.packages_of variables.now (now_all marks.now)
-        (map string_bytes subpackages.now) budget.old) }
+    ensures { GivesEach result env.now marks.now subpackages.now budget.old budget.new }
 {
     let mut found = Vec::new(alloc);
     for subpackage in subpackages {
-        found.push(read_package(alloc, variables, marks, subpackage, budget)?)?;
+        found.push(read_package(alloc, env, marks, subpackage, budget)?)?;
     }
     Ok(found)
 }
@@ -156,16 +149,15 @@ fn read_each(
 #[tactic(auto, unfolding(crate::specs::Packages::package_of))]
 fn read_package(
     alloc: Global,
-    variables: &Env,
+    env: &Env,
     marks: &[&str],
     subpackage: &str,
     budget: &mut Budget,
 ) -> Result<Package, PureStop<FaultKind>>
-    ensures { GivesPurely (λ x. x) result budget.new
-        (packages.package_of variables.now (now_all marks.now) subpackage.now budget.old) }
+    ensures { GivesPackage result env.now marks.now subpackage.now budget.old budget.new }
 {
-    let name = full_name(alloc, variables, marks, subpackage, budget)?;
-    let comment = package_text(alloc, variables, "COMMENT", subpackage, budget)?;
+    let name = full_name(alloc, env, marks, subpackage, budget)?;
+    let comment = package_text(alloc, env, "COMMENT", subpackage, budget)?;
     let subpackage = String::from_str(alloc, subpackage)?;
     Ok(Package::new(subpackage, name, comment))
 }

@@ -1,7 +1,8 @@
 //! The record of a port.
-ghost use Rattle.std.specs.Prelude.{◌≡◌, map, string_bytes, IfOk};
+ghost use Rattle.std.specs.Prelude.{◌≡◌, map, string_bytes};
 ghost use Rattle.mk_base.specs.Stopping.{GivesPurely};
 ghost use Rattle.port_rules.specs.Ports as ports;
+ghost use Rattle.port_rules.specs.Ports.{MakesPort};
 
 use crate::depends::{Depend, read_depends};
 use crate::flavors::{PortFlavors, read_flavors};
@@ -54,8 +55,7 @@ impl PortRecord {
         packages: Vec<Package>,
         depends: Vec<Depend>,
     ) -> Result<PortRecord, AllocError>
-        ensures { IfOk result (λ made. made ≡ ports.make_port flavors (string_bytes maintainer)
-            (map string_bytes categories.items) packages.items depends.items) }
+        ensures { MakesPort result flavors maintainer categories packages depends }
     {
         let port = Port {
             flavors,
@@ -120,16 +120,16 @@ impl PortRecord {
 #[tactic(auto, unfolding(crate::specs::Ports::port_of))]
 pub(crate) fn read_port(
     alloc: Global,
-    variables: &Env,
+    env: &Env,
     budget: &mut Budget,
 ) -> Result<PortRecord, PureStop<FaultKind>>
-    ensures { GivesPurely (λ x. x) result budget.new (ports.port_of variables.now budget.old) }
+    ensures { GivesPurely (λ x. x) result budget.new (ports.port_of env.now budget.old) }
 {
-    let flavors = read_flavors(alloc, variables, budget)?;
-    let subpackages = read_subpackages(alloc, variables, budget)?;
-    let maintainer = asked_text(alloc, variables, "MAINTAINER", budget)?;
-    let categories = asked_words(alloc, variables, "CATEGORIES", budget)?;
-    let packages = read_packages(alloc, variables, &flavors, &subpackages, budget)?;
-    let depends = read_depends(alloc, variables, &subpackages, budget)?;
+    let flavors = read_flavors(alloc, env, budget)?;
+    let subpackages = read_subpackages(alloc, env, budget)?;
+    let maintainer = asked_text(alloc, env, "MAINTAINER", budget)?;
+    let categories = asked_words(alloc, env, "CATEGORIES", budget)?;
+    let packages = read_packages(alloc, env, &flavors, &subpackages, budget)?;
+    let depends = read_depends(alloc, env, &subpackages, budget)?;
     Ok(PortRecord::new(alloc, flavors, maintainer, categories, packages, depends)?)
 }

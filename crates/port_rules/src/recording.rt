@@ -1,5 +1,4 @@
 //! Records of ports, each in a budget of its own.
-ghost use Rattle.std.specs.Prelude.{◌≡◌};
 ghost use Rattle.mk_eval.specs.Telling as telling;
 ghost use Rattle.port_rules.specs.Records.{record_of};
 

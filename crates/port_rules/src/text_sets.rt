@@ -1,8 +1,6 @@
 //! Texts that are found by their bytes.
-ghost use Rattle.std.specs.Prelude.{◌≡◌, ◌||◌, ℕ, not, List, map, false, string_bytes, IfOk, OnOk};
-ghost use Rattle.std.specs.Str.{bytes_eq};
-ghost use Rattle.mk_env.specs.Expansion.{is_among};
-ghost use Rattle.port_rules.specs.TextSets.{holds};
+ghost use Rattle.std.specs.Prelude.{◌≡◌, ℕ, not, List, map, false, string_bytes, IfOk, OnOk};
+ghost use Rattle.port_rules.specs.TextSets.{holds, HoldsMore, HoldsThese};
 ghost use Rattle.port_rules.specs.Packages as packages;
 
 use std::alloc::{AllocError, AllocFailed, Global};
@@ -26,8 +24,7 @@ impl<'a> TextSet<'a> {
 
     /// These texts.
     pub(crate) fn of(alloc: Global, texts: &'a [String]) -> Result<TextSet<'a>, AllocError>
-        ensures { IfOk result (λ set. (text : List ℕ)
-            → holds set text ≡ is_among text (map string_bytes texts.now)) }
+        ensures { IfOk result (λ set. HoldsThese set texts.now) }
     {
         let mut set = TextSet::new(alloc);
         for text in texts {
@@ -39,8 +36,7 @@ impl<'a> TextSet<'a> {
     /// Adds a text, and says whether it is new.
     pub(crate) fn insert(&mut self, text: &'a str) -> Result<bool, AllocError>
         ensures new { IfOk result (λ is_new. is_new ≡ not (holds self.old text.now)) }
-        ensures more { OnOk result ((other : List ℕ)
-            → holds self.new other ≡ (bytes_eq other text.now || holds self.old other)) }
+        ensures more { OnOk result (HoldsMore self.new text.now self.old) }
     {
         match self.texts.insert(text) {
             Ok(is_new) => Ok(is_new),

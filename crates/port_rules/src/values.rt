@@ -1,9 +1,9 @@
 //! Variables that are asked for a record, over its one budget.
 ghost use Rattle.std.specs.Prelude.{◌≡◌, ◌++◌, map, option_map, string_bytes, IfOk};
-ghost use Rattle.std.specs.Str.{str_to_ascii_lowercase};
-ghost use Rattle.mk_base.specs.Stopping.{GivesPurely};
 ghost use Rattle.mk_text.specs.Words.{words_of};
 ghost use Rattle.port_rules.specs.Values as values;
+ghost use Rattle.port_rules.specs.Values.{GivesOwn, GivesText, GivesTextFor};
+ghost use Rattle.port_rules.specs.Values.{GivesWords, GivesWordsFor, MayGive, MayGiveFor};
 
 use mk_base::{Budget, FaultKind, PureStop};
 use mk_env::{Env, expand_variable};
@@ -14,17 +14,16 @@ use std::alloc::{AllocError, Global};
 #[tactic(auto, unfolding(crate::specs::Values::value))]
 pub(crate) fn value(
     alloc: Global,
-    variables: &Env,
+    env: &Env,
     name: &str,
     budget: &mut Budget,
 ) -> Result<Option<String>, PureStop<FaultKind>>
-    ensures { GivesPurely (option_map string_bytes) result budget.new
-        (values.value variables.now name.now budget.old) }
+    ensures { MayGive result (values.value env.now name.now) budget.old budget.new }
 {
-    if !variables.defined(name) {
+    if !env.defined(name) {
         return Ok(None);
     }
-    let text = expand_variable(alloc, variables, name, budget)?;
+    let text = expand_variable(alloc, env, name, budget)?;
     Ok(Some(text))
 }
 
@@ -32,38 +31,56 @@ pub(crate) fn value(
 #[tactic(auto, unfolding(crate::specs::Values::value_or))]
 pub(crate) fn value_or(
     alloc: Global,
-    variables: &Env,
+    env: &Env,
     name: &str,
     other: &str,
     budget: &mut Budget,
 ) -> Result<Option<String>, PureStop<FaultKind>>
-    ensures { GivesPurely (option_map string_bytes) result budget.new
-        (values.value_or variables.now name.now other.now budget.old) }
+    ensures { MayGive result (values.value_or env.now name.now other.now) budget.old budget.new }
 {
-    match value(alloc, variables, name, budget)? {
+    match value(alloc, env, name, budget)? {
         Some(text) => Ok(Some(text)),
-        None => value(alloc, variables, other, budget),
+        None => value(alloc, env, other, budget),
     }
 }
 
 /// The value of a variable for a package: of the variable with the package's ending, or of the one
-/// without if that isn't defined.
+/// without if that isn't defined. For `-`, whose ending is empty, both are the same variable.
 pub(crate) fn package_value(
     alloc: Global,
-    variables: &Env,
+    env: &Env,
     name: &str,
     subpackage: &str,
     budget: &mut Budget,
 ) -> Result<Option<String>, PureStop<FaultKind>>
-    ensures { GivesPurely (option_map string_bytes) result budget.new
-        (values.package_value variables.now name.now subpackage.now budget.old) }
+    ensures { MayGiveFor result env.now name.now subpackage.now budget.old budget.new }
 {
+    if subpackage == "-" {
+        return value(alloc, env, name, budget);
+    }
     let own = with_ending(alloc, name, subpackage)?;
-    value_or(alloc, variables, own.as_str(), name, budget)
+    value_or(alloc, env, own.as_str(), name, budget)
+}
+
+/// The value of a package's own variable: of the one whose name has the package's ending.
+pub(crate) fn own_value(
+    alloc: Global,
+    env: &Env,
+    name: &str,
+    subpackage: &str,
+    budget: &mut Budget,
+) -> Result<Option<String>, PureStop<FaultKind>>
+    ensures { GivesOwn result env.now name.now subpackage.now budget.old budget.new }
+{
+    if subpackage == "-" {
+        return value(alloc, env, name, budget);
+    }
+    let own = with_ending(alloc, name, subpackage)?;
+    value(alloc, env, own.as_str(), budget)
 }
 
 /// The name of a package's own variable.
-pub(crate) fn with_ending(alloc: Global, name: &str, subpackage: &str) -> Result<String, AllocError>
+fn with_ending(alloc: Global, name: &str, subpackage: &str) -> Result<String, AllocError>
     ensures { IfOk result (λ own. string_bytes own ≡ name.now ++ values.ending subpackage.now) }
 {
     let ending = ending(subpackage);
@@ -81,14 +98,13 @@ pub(crate) fn ending(subpackage: &str) -> &str
 #[tactic(auto, unfolding(crate::specs::Values::asked_text))]
 pub(crate) fn asked_text(
     alloc: Global,
-    variables: &Env,
+    env: &Env,
     name: &str,
     budget: &mut Budget,
 ) -> Result<String, PureStop<FaultKind>>
-    ensures { GivesPurely string_bytes result budget.new
-        (values.asked_text variables.now name.now budget.old) }
+    ensures { GivesText result (values.asked_text env.now name.now) budget.old budget.new }
 {
-    let found = value(alloc, variables, name, budget)?;
+    let found = value(alloc, env, name, budget)?;
     Ok(text_of(alloc, found))
 }
 
@@ -96,14 +112,13 @@ pub(crate) fn asked_text(
 #[tactic(auto, unfolding(crate::specs::Values::asked_words))]
 pub(crate) fn asked_words(
     alloc: Global,
-    variables: &Env,
+    env: &Env,
     name: &str,
     budget: &mut Budget,
 ) -> Result<Vec<String>, PureStop<FaultKind>>
-    ensures { GivesPurely (λ found. map string_bytes found.items) result budget.new
-        (values.asked_words variables.now name.now budget.old) }
+    ensures { GivesWords result (values.asked_words env.now name.now) budget.old budget.new }
 {
-    let found = value(alloc, variables, name, budget)?;
+    let found = value(alloc, env, name, budget)?;
     let text = text_of(alloc, found);
     Ok(words_in(alloc, text.as_str())?)
 }
@@ -112,14 +127,13 @@ pub(crate) fn asked_words(
 #[tactic(auto, unfolding(crate::specs::Values::lowercase_words))]
 pub(crate) fn lowercase_words(
     alloc: Global,
-    variables: &Env,
+    env: &Env,
     name: &str,
     budget: &mut Budget,
 ) -> Result<Vec<String>, PureStop<FaultKind>>
-    ensures { GivesPurely (λ found. map string_bytes found.items) result budget.new
-        (values.lowercase_words variables.now name.now budget.old) }
+    ensures { GivesWords result (values.lowercase_words env.now name.now) budget.old budget.new }
 {
-    let found = value(alloc, variables, name, budget)?;
+    let found = value(alloc, env, name, budget)?;
     let text = text_of(alloc, found);
     let lowered = text.as_str().to_ascii_lowercase(alloc)?;
     Ok(words_in(alloc, lowered.as_str())?)
@@ -129,15 +143,14 @@ pub(crate) fn lowercase_words(
 #[tactic(auto, unfolding(crate::specs::Values::package_text))]
 pub(crate) fn package_text(
     alloc: Global,
-    variables: &Env,
+    env: &Env,
     name: &str,
     subpackage: &str,
     budget: &mut Budget,
 ) -> Result<String, PureStop<FaultKind>>
-    ensures { GivesPurely string_bytes result budget.new
-        (values.package_text variables.now name.now subpackage.now budget.old) }
+    ensures { GivesTextFor result env.now name.now subpackage.now budget.old budget.new }
 {
-    let found = package_value(alloc, variables, name, subpackage, budget)?;
+    let found = package_value(alloc, env, name, subpackage, budget)?;
     Ok(text_of(alloc, found))
 }
 
@@ -145,15 +158,14 @@ pub(crate) fn package_text(
 #[tactic(auto, unfolding(crate::specs::Values::package_words))]
 pub(crate) fn package_words(
     alloc: Global,
-    variables: &Env,
+    env: &Env,
     name: &str,
     subpackage: &str,
     budget: &mut Budget,
 ) -> Result<Vec<String>, PureStop<FaultKind>>
-    ensures { GivesPurely (λ found. map string_bytes found.items) result budget.new
-        (values.package_words variables.now name.now subpackage.now budget.old) }
+    ensures { GivesWordsFor result env.now name.now subpackage.now budget.old budget.new }
 {
-    let found = package_value(alloc, variables, name, subpackage, budget)?;
+    let found = package_value(alloc, env, name, subpackage, budget)?;
     let text = text_of(alloc, found);
     Ok(words_in(alloc, text.as_str())?)
 }

@@ -7,5 +7,5 @@ use Rattle.port_rules.proofs.packages.read_each.Given as goal
 
 abbrev pub invariant-loop-subpackage : goal.invariant-loop-subpackage
 invariant-loop-subpackage l =
-    each (add_package l.variables (now_all l.marks)) [] (map string_bytes l.subpackages) l.initial.budget
-    ≡ each (add_package l.variables (now_all l.marks)) l.found.items (map string_bytes (drop l.subpackage-index l.subpackages)) l.budget
+    each (add_package l.env (now_all l.marks)) [] (map string_bytes l.subpackages) l.initial.budget
+    ≡ each (add_package l.env (now_all l.marks)) l.found.items (map string_bytes (drop l.subpackage-index l.subpackages)) l.budget

@@ -2,7 +2,7 @@ use Rattle.std.proofs.Common.{rules, ap, ◌∙◌, Err}
 use Rattle.std.proofs.lemmas.Result.{err_from_is_err_and}
 use Rattle.port_rules.specs.Depends.{add_depends}
 use Rattle.port_rules.proofs.Exits.{exit}
-use Rattle.port_rules.proofs.depends.add_depends.Goals as goal
+use Rattle.port_rules.proofs.depends.with_depends.Goals as goal
 
 pub returns-in_err-run : goal.returns-in_err-run
 unfolding add_depends
