@@ -85,6 +85,10 @@ question_on (Ok path) (Some kinds) (Some depth) = Ok (record { path = path; kind
 question_on (Ok path) (Some kinds) None = Err bad_kind
 question_on (Ok path) None depth = Err bad_kind
 
+-- the same of a path, given the texts that name kinds and a depth
+abbrev pub question_about : PathValue → List ℕ → List ℕ → Result DependencyQuestion ReplyMessage
+question_about path kind depth = question_on (Ok path) (kinds_of kind) (depth_of depth)
+
 -- the same, given the texts of the parameters, if each is there once or not at all
 abbrev pub question_of : Result PathValue ReplyMessage → Option (List ℕ) → Option (List ℕ) → Result DependencyQuestion ReplyMessage
 question_of path (Some kind) (Some depth) = question_on path (kinds_of kind) (depth_of depth)
@@ -99,6 +103,10 @@ question_in query = question_of (path_in query) (optional (codes "kind") query) 
 abbrev pub dependencies_at : List RootEdgeValue → PathValue → Kinds → Depth → Data
 dependencies_at edges path kinds Direct = dependencies_body (first_edges_of kinds path edges)
 dependencies_at edges path kinds All = reached_body (reached_of kinds (first_edges_of kinds path edges) edges)
+
+-- what the port that a question names depends on, followed to this depth
+abbrev pub dependencies_to_depth : List RootEdgeValue → DependencyQuestion → Depth → Data
+dependencies_to_depth edges question depth = dependencies_at edges question.path question.kinds depth
 
 abbrev pub dependencies_body_of : List RootEdgeValue → DependencyQuestion → Data
 dependencies_body_of edges question = dependencies_at edges question.path question.kinds question.depth
@@ -117,6 +125,10 @@ abbrev pub dependencies_in : List RootValue → List RootEdgeValue → Dependenc
 dependencies_in roots edges question =
     dependencies_by edges question (option_map (λ (root : RootValue). root.state) (root_named roots (port_path question.path)))
 
+-- the same over a world
+abbrev pub dependencies_over : World → DependencyQuestion → ReplyMessage
+dependencies_over world question = dependencies_in (roots world) (edges world) question
+
 -- what depends on a port: the dependencies that lead to it, of whatever status, or all ports that reach
 -- it over those that are met
 abbrev pub dependents_at : List RootEdgeValue → PathValue → Kinds → Depth → Data
@@ -125,6 +137,10 @@ dependents_at edges path kinds All = reaching_body (reaching_of kinds path edges
 
 abbrev pub dependents_body_of : List RootEdgeValue → DependencyQuestion → Data
 dependents_body_of edges question = dependents_at edges question.path question.kinds question.depth
+
+-- the same over a world
+abbrev pub dependents_over : World → DependencyQuestion → Data
+dependents_over world question = dependents_body_of (edges world) question
 
 -- the reply to a question about dependencies, or about dependents
 abbrev pub reply_to : List RootValue → List RootEdgeValue → Direction → DependencyQuestion → ReplyMessage

@@ -15,6 +15,7 @@ pub mod Trimming
 pub mod IndexRoutes
 pub mod Variables
 pub mod Plain
+pub mod Outcomes
 pub mod Questions
 pub mod Answers
 pub mod Resting

@@ -19,12 +19,20 @@ use Rattle.ports_plain.specs.PortBody.{texts_body}
 abbrev pub list_body : List ℕ → List Data → Data
 list_body name items = object (member name (array (items_of items)) no_members)
 
+-- the same, if the items are texts
+abbrev pub texts_list : List ℕ → List (List ℕ) → Data
+texts_list name texts = list_body name (map string texts)
+
 -- a package: its full name, the path of its port, and which package of the port it is
 abbrev pub listed_body : ListedValue → Data
 listed_body listed =
     object (member (codes "name") (string listed.name)
     (member (codes "path") (string listed.path)
     (member (codes "subpackage") (string listed.subpackage) no_members)))
+
+-- the same, given its texts
+abbrev pub listing : List ℕ → List ℕ → List ℕ → Data
+listing name path subpackage = listed_body (record { name = name; path = path; subpackage = subpackage })
 
 abbrev pub packages_body : List ListedValue → Data
 packages_body packages = list_body (codes "packages") (map listed_body packages)
@@ -54,6 +62,10 @@ dependent_body edge =
     (member (codes "path") (string edge.root)
     (member (codes "status") (string (status_word edge.edge.status))
     (member (codes "subpackage") (string edge.edge.subpackage) no_members)))))
+
+-- the same, given the path of the port that depends
+abbrev pub dependent_of : List ℕ → EdgeValue → Data
+dependent_of root edge = dependent_body (record { root = root; edge = edge })
 
 abbrev pub dependents_body : List RootEdgeValue → Data
 dependents_body edges = list_body (codes "rdeps") (map dependent_body edges)

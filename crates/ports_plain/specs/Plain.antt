@@ -1,6 +1,6 @@
 -- The plain service: the reply to one request over one tenant's world, and the world after it. It knows
 -- nothing of connections, of other tenants, of work that waits or is shared.
-use Rattle.std.specs.Prelude.{ℕ, if◌then◌else◌, List, Option, Some, None, Result, Ok, Err, option_map, codes}
+use Rattle.std.specs.Prelude.{◌≡◌, ◌==◌, false, ℕ, if◌then◌else◌, List, Option, Some, None, Result, Ok, Err, option_map, codes}
 use Rattle.std.specs.Option.{option_map_or}
 use Rattle.std.specs.Str.{is_utf8, bytes_eq}
 use Rattle.std.specs.FinMap.{get, contains_key}
@@ -131,6 +131,10 @@ abbrev pub get_variable : World → List ℕ → ReplyMessage
 get_variable world query =
     option_map_or (λ name. reply_or_refusal (variable_of world name) (path_in query)) (parameter (codes "name") query) bad_parameter
 
+-- the reply with the value of a variable of an evaluated makefile
+abbrev pub value_told : Evaluated → List ℕ → List ℕ → ReplyMessage
+value_told evaluated makefile name = value_reply (value_after makefile name (Ok evaluated))
+
 -- the record of a makefile of this kind, if it describes a port
 abbrev pub record_by : Kind → Result Recorded Failed → Result (Option Recorded) Failed
 record_by kinds.Port (Ok recorded) = Ok (Some recorded)
@@ -153,6 +157,14 @@ abbrev pub port_reply : PathValue → Result (Option Recorded) Failed → ReplyM
 port_reply path (Ok (Some recorded)) = port_told path recorded.port
 port_reply path (Ok None) = no_port
 port_reply path (Err failed) = faulty failed.fault
+
+-- the reply with the record of an evaluated makefile, if it describes a port
+abbrev pub record_told : Evaluated → List ℕ → PathValue → ReplyMessage
+record_told evaluated makefile path = port_reply path (record_after makefile (Ok evaluated))
+
+-- the reply with the record of an evaluated makefile that describes a port
+abbrev pub described : Evaluated → List ℕ → PathValue → ReplyMessage
+described evaluated makefile path = port_reply path (record_by kinds.Port (record_of evaluated.env makefile))
 
 -- the port of a makefile
 abbrev pub port_at : World → PathValue → Option (List ℕ) → ReplyMessage
@@ -219,3 +231,7 @@ Served = ReplyMessage × World
 -- The plain service: the reply to a request, and the world after it.
 abbrev pub plain : World → PlainRequest → Served
 plain world request = settle_change world (answer world request).0 (answer world request).1
+
+-- the plain service never answers 503
+abbrev pub NeverAnswers503 : Type 0
+NeverAnswers503 = (world : World) (request : PlainRequest) → ((plain world request).0.status == 503) ≡ false

@@ -1,5 +1,6 @@
 -- What a port is, as JSON: the members of each object in the order of their names' bytes (RFC 8259).
-use Rattle.std.specs.Prelude.{ℕ, List, map, codes}
+use Rattle.std.specs.Prelude.{ℕ, List, map, codes, String, string_bytes}
+use Rattle.std.specs.Global.{Global}
 use Rattle.pkg_path.specs.Paths.{PathValue, port_path}
 use Rattle.pkg_name.specs.Name.{name_text}
 use Rattle.port_rules.specs.Packages.{PackageValue}
@@ -11,6 +12,10 @@ use Rattle.serde_json.specs.View.{items_of}
 -- a list of texts
 abbrev pub texts_body : List (List ℕ) → Data
 texts_body texts = array (items_of (map string texts))
+
+-- the same, given texts as a port has them
+abbrev pub strings_body : List (String Global) → Data
+strings_body texts = texts_body (map string_bytes texts)
 
 -- a package: its comment, its full name, and which package of the port it is
 abbrev pub package_body : PackageValue → Data

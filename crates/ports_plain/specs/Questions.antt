@@ -60,6 +60,10 @@ resolved_question method body (Err fault) = refused bad_name
 abbrev pub file_question : Method → List ℕ → Option (List ℕ) → Question
 file_question method body name = with_parameter (λ text. resolved_question method body (resolved text)) name
 
+-- the same, by the query
+abbrev pub file_question_in : Method → List ℕ → List ℕ → Question
+file_question_in method body query = file_question method body (parameter (codes "name") query)
+
 -- GET /v1/var?path=&name=
 abbrev pub variable_question : List ℕ → Question
 variable_question query =
@@ -122,8 +126,7 @@ profile_question body Delete = refused (not_allowed Language)
 -- the question on a route
 abbrev pub question_on_route : PlainRequest → Option Route → Question
 question_on_route request None = refused no_route
-question_on_route request (Some File) =
-    file_question request.method request.body (parameter (codes "name") (query_of_target request.target))
+question_on_route request (Some File) = file_question_in request.method request.body (query_of_target request.target)
 question_on_route request (Some Path) = path_question request.body request.method
 question_on_route request (Some Language) = profile_question request.body request.method
 question_on_route request (Some route) = query_question (query_of_target request.target) route request.method

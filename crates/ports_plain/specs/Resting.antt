@@ -48,6 +48,10 @@ abbrev pub value_cost_after : List ℕ → List ℕ → Result Evaluated Failed 
 value_cost_after makefile name (Ok evaluated) = with_cost evaluated.cost (value_units (value_of evaluated.env makefile name))
 value_cost_after makefile name (Err failed) = failed.cost
 
+-- the same of an evaluated makefile
+abbrev pub value_cost : Evaluated → List ℕ → List ℕ → ℕ
+value_cost evaluated makefile name = value_cost_after makefile name (Ok evaluated)
+
 -- the units of a makefile of this kind, and then those of the record if it describes a port
 abbrev pub record_cost_by : Kind → ℕ → ℕ → ℕ
 record_cost_by kinds.Port spent more = with_cost spent more
@@ -57,6 +61,10 @@ record_cost_by kinds.Other spent more = spent
 abbrev pub record_cost_after : List ℕ → Result Evaluated Failed → ℕ
 record_cost_after makefile (Ok evaluated) = record_cost_by evaluated.kind evaluated.cost (record_units (record_of evaluated.env makefile))
 record_cost_after makefile (Err failed) = failed.cost
+
+-- the units of an evaluated makefile that describes a port, and then those of the record
+abbrev pub described_cost : Evaluated → List ℕ → ℕ
+described_cost evaluated makefile = with_cost evaluated.cost (record_units (record_of evaluated.env makefile))
 
 -- what is found at a makefile costs nothing if the makefile isn't there
 abbrev pub cost_if_there : Option ℕ → ℕ

@@ -1,10 +1,11 @@
 -- What is added to a JSON text as it is written, in tokens.
-use Rattle.std.specs.Prelude.{◌≡◌, ℕ, List, [], ◌∷◌, ◌++◌, flat_map}
+use Rattle.std.specs.Prelude.{◌≡◌, ℕ, List, [], ◌∷◌, ◌++◌, map, flat_map, Result, OnOk}
 use Rattle.std.specs.Borrow.{Bor}
 use Rattle.json.specs.Token.{Token, begin_object, begin_array, key}
 use Rattle.json.specs.Tree.{json_tokens}
 use Rattle.json.specs.Written.{Written}
-use Rattle.serde_json.specs.Data.{Data, string, number, unsigned, object, Members, no_members, member}
+use Rattle.serde_json.specs.Data.{Data, string, number, unsigned, array, object, Members, no_members, member}
+use Rattle.serde_json.specs.View.{items_of}
 use Rattle.serde_json.specs.Written.{outline}
 use Rattle.ports_plain.specs.declared.writing.Scalar.{Scalar}
 use Rattle.ports_plain.specs.declared.writing.Scalar.TheVariants.{Number, Text}
@@ -52,6 +53,10 @@ tokens_of one = key one.0 ∷ value_tokens one.1
 -- to what was written, a member is added
 abbrev pub AddsMember : Written → Written → List ℕ → Data → Type 0
 AddsMember old new name value = AddsTokens old new (tokens_of (name, value))
+
+-- where a function succeeds, it adds a member of this name, which is the list of these items
+abbrev pub AddsList : {A R E : Type 0} → Result R E → Written → List ℕ → (A → Data) → List A → Written → Type 0
+AddsList result old name body items new = OnOk result (AddsMember old new name (array (items_of (map body items))))
 
 -- so far the text is an object that isn't ended, which has these members
 pub record HasMembers (text : Written) (members : List Member) : Type 0 where

@@ -1,8 +1,8 @@
-// Requests, and what they ask.
-ghost use Rattle.std.specs.Prelude.{◌≡◌, IfOk};
+//! Requests, and what they ask.
 ghost use Rattle.ports_plain.specs.Plain.{plain_request};
 ghost use Rattle.ports_plain.specs.Questions as questions;
 ghost use Rattle.ports_plain.specs.Questions.{question_of};
+ghost use Rattle.ports_plain.specs.Outcomes.{Makes};
 
 use crate::dependencies::{Direction, dependency_question};
 use crate::files::file_question;
@@ -75,8 +75,7 @@ impl Plain {
         target: &str,
         body: &[u8],
     ) -> Result<Question, AllocError>
-        ensures { IfOk result (λ question. question
-            ≡ question_of (plain_request method target.now body.now)) }
+        ensures { Makes result (question_of (plain_request method target.now body.now)) }
     {
         let (path, query) = path_and_query(target);
         let Some(route) = self.routes.find(path) else {
@@ -97,15 +96,14 @@ impl Plain {
     }
 }
 
-// The question on a route that is asked by a query.
+/// The question on a route that is asked by a query.
 fn query_question(
     alloc: Global,
     route: Route,
     method: Method,
     query: &str,
 ) -> Result<Question, AllocError>
-    ensures { IfOk result (λ question. question
-        ≡ questions.query_question query.now route method) }
+    ensures { Makes result (questions.query_question query.now route method) }
 {
     match method {
         Method::Get => get_question(alloc, route, query),
@@ -113,9 +111,9 @@ fn query_question(
     }
 }
 
-// The question of a GET on a route.
+/// The question of a GET on a route.
 fn get_question(alloc: Global, route: Route, query: &str) -> Result<Question, AllocError>
-    ensures { IfOk result (λ question. question ≡ questions.get_question query.now route) }
+    ensures { Makes result (questions.get_question query.now route) }
 {
     match route {
         Route::Deps => dependency_question(alloc, Direction::Dependencies, query),

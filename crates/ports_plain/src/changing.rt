@@ -1,4 +1,4 @@
-// What a request changes.
+//! What a request changes.
 use mk_files::Content;
 use mk_paths::{Name, SearchPath};
 use mk_text::Profile;
@@ -33,7 +33,7 @@ pub struct Prepared {
 impl Prepared {
     ghost use Rattle.std.specs.Prelude.{◌≡◌, None};
 
-    // A reply, and no change.
+    /// A reply, and no change.
     pub(crate) fn reply_alone(reply: Reply) -> Prepared
         ensures { result ≡ record { reply = reply; change = None } }
     {

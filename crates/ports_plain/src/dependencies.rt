@@ -1,14 +1,10 @@
-// The routes of dependencies, both ways.
-ghost use Rattle.std.specs.Prelude.{◌≡◌, IfOk, Ok};
-ghost use Rattle.mk_paths.specs.World.{World};
-ghost use Rattle.serde_json.specs.Written.{compact_text};
-ghost use Rattle.pkg_path.specs.Paths.{port_path};
-ghost use Rattle.ports_index.specs.Index as indexed;
-ghost use Rattle.ports_index.specs.Known.{IsIndexOf};
-ghost use Rattle.ports_query.specs.Kinds.{kinds_of};
+//! The routes of dependencies, both ways.
+ghost use Rattle.std.specs.Prelude.{Ok};
 ghost use Rattle.ports_plain.specs.IndexRoutes as routes;
+ghost use Rattle.ports_plain.specs.IndexRoutes.{dependency_reply as reply_over};
 ghost use Rattle.ports_plain.specs.Questions as questions;
 ghost use Rattle.ports_plain.specs.declared.depth.Depth.TheVariants.{Direct, All};
+ghost use Rattle.ports_plain.specs.Outcomes.{WritesDependencies, Makes, RepliesOver, WritesJson, WritesOver};
 
 use crate::depth::Depth;
 use crate::index_questions::IndexQuestion;
@@ -44,14 +40,15 @@ pub struct DependencyQuestion {
     pub depth: Depth,
 }
 
-// The question of a query about the dependencies of a path.
+/// The question of a query about the dependencies of a path. It is settled by a refusal: `Parameter` if a parameter
+/// is not as it must be, `Path` if `path` is no package path, and `Kind` if `kind` or `depth` names none. It fails
+/// only if memory runs out.
 pub fn dependency_question(
     alloc: Global,
     direction: Direction,
     query: &str,
 ) -> Result<Question, AllocError>
-    ensures { IfOk result (λ question. question
-        ≡ questions.dependency_question direction query.now) }
+    ensures { Makes result (questions.dependency_question direction query.now) }
 {
     match question_in(alloc, query)? {
         Ok(asked) => { Ok(Question::OfIndex(IndexQuestion::Dependencies(direction, asked))) }
@@ -59,9 +56,9 @@ pub fn dependency_question(
     }
 }
 
-// What a query asks about a path's dependencies, or the refusal.
+/// What a query asks about a path's dependencies, or the refusal.
 fn question_in(alloc: Global, query: &str) -> Result<Result<DependencyQuestion, Reply>, AllocError>
-    ensures { IfOk result (λ question. question ≡ routes.question_in query.now) }
+    ensures { Makes result (routes.question_in query.now) }
 {
     let kind = optional(alloc, query, "kind")?;
     let depth = optional(alloc, query, "depth")?;
@@ -74,15 +71,14 @@ fn question_in(alloc: Global, query: &str) -> Result<Result<DependencyQuestion, 
     }
 }
 
-// The question about a path that kinds and a depth make, or the refusal.
+/// The question about a path that kinds and a depth make, or the refusal.
 fn question_on(
     alloc: Global,
     path: PkgPath,
     kind: &str,
     depth: &str,
 ) -> Result<Result<DependencyQuestion, Reply>, AllocError>
-    ensures { IfOk result (λ question. question
-        ≡ routes.question_on (Ok path) (kinds_of kind.now) (routes.depth_of depth.now)) }
+    ensures { Makes result (routes.question_about path kind.now depth.now) }
 {
     match (Kinds::read(kind), Depth::read(depth)) {
         (Some(kinds), Some(depth)) => Ok(Ok(DependencyQuestion { path, kinds, depth })),
@@ -90,15 +86,14 @@ fn question_on(
     }
 }
 
-// What a port depends on, or what depends on it.
+/// The reply that lists what a port depends on, or what depends on it. It fails only if memory runs out.
 pub fn dependency_reply(
     alloc: Global,
     index: &KnownIndex,
     direction: Direction,
     question: &DependencyQuestion,
 ) -> Result<Reply, AllocError>
-    ensures { (world : World) → IsIndexOf world index.now
-        → IfOk result (λ reply. reply ≡ routes.dependency_reply world direction question.now) }
+    ensures { RepliesOver index.now result (λ world. reply_over world direction question.now) }
 {
     match direction {
         Direction::Dependencies => dependencies_reply(alloc, index, question),
@@ -109,14 +104,13 @@ pub fn dependency_reply(
     }
 }
 
-// What a port depends on. The port must have the subpackage, if one is named.
+/// What a port depends on. The port must have the subpackage, if one is named.
 fn dependencies_reply(
     alloc: Global,
     index: &KnownIndex,
     question: &DependencyQuestion,
 ) -> Result<Reply, AllocError>
-    ensures { (world : World) → IsIndexOf world index.now → IfOk result (λ reply. reply
-        ≡ routes.dependencies_in (indexed.roots world) (indexed.edges world) question.now) }
+    ensures { RepliesOver index.now result (λ world. routes.dependencies_over world question.now) }
 {
     let path = question.path.port_path(alloc)?;
     let Some(root) = index.root_at(path.as_str()) else {
@@ -134,17 +128,15 @@ fn dependencies_reply(
     }
 }
 
-// The dependencies of the port at the question's path, which is this one without its subpackage: its own, or all ports that
-// it reaches.
+/// The dependencies of the port at the question's path, which is this one without its subpackage: its own, or
+/// all ports that it reaches.
 fn dependencies_body(
     alloc: Global,
     index: &KnownIndex,
     path: &str,
     question: &DependencyQuestion,
 ) -> Result<Vec<u8>, AllocError>
-    ensures { (world : World) → IsIndexOf world index.now → path.now ≡ port_path question.now.path
-        → IfOk result (λ text. text.items
-        ≡ compact_text (routes.dependencies_body_of (indexed.edges world) question.now)) }
+    ensures { WritesDependencies index.now path.now question.now result }
 {
     match question.depth {
         Depth::Direct => {
@@ -161,40 +153,37 @@ fn dependencies_body(
     }
 }
 
-// The dependencies of the port at the question's path, by these.
+/// The dependencies of the port at the question's path, by these.
 fn first_body(
     alloc: Global,
     edges: &[RootEdge],
     question: &DependencyQuestion,
 ) -> Result<Vec<u8>, AllocError>
-    ensures { IfOk result (λ text. text.items
-        ≡ compact_text (routes.dependencies_at edges.now question.now.path question.now.kinds Direct)) }
+    ensures { WritesJson result (routes.dependencies_to_depth edges.now question.now Direct) }
 {
     let first = first_edges(alloc, question.kinds, &question.path, edges)?;
     list_bodies::dependencies(alloc, &first)
 }
 
-// The ports that the port at the question's path reaches over these dependencies.
+/// The ports that the port at the question's path reaches over these dependencies.
 fn reached_body(
     alloc: Global,
     edges: &[RootEdge],
     question: &DependencyQuestion,
 ) -> Result<Vec<u8>, AllocError>
-    ensures { IfOk result (λ text. text.items
-        ≡ compact_text (routes.dependencies_at edges.now question.now.path question.now.kinds All)) }
+    ensures { WritesJson result (routes.dependencies_to_depth edges.now question.now All) }
 {
     let paths = reached(alloc, question.kinds, &question.path, edges)?;
     list_bodies::reached(alloc, &paths)
 }
 
-// What depends on the port at the question's path.
+/// What depends on the port at the question's path.
 fn dependents_body(
     alloc: Global,
     index: &KnownIndex,
     question: &DependencyQuestion,
 ) -> Result<Vec<u8>, AllocError>
-    ensures { (world : World) → IsIndexOf world index.now → IfOk result (λ text. text.items
-        ≡ compact_text (routes.dependents_body_of (indexed.edges world) question.now)) }
+    ensures { WritesOver index.now result (λ world. routes.dependents_over world question.now) }
 {
     match &index.edges {
         Some(edges) => dependents_over(alloc, edges, question),
@@ -205,14 +194,13 @@ fn dependents_body(
     }
 }
 
-// The same, given the dependencies of all ports.
+/// The same, given the dependencies of all ports.
 fn dependents_over(
     alloc: Global,
     edges: &[RootEdge],
     question: &DependencyQuestion,
 ) -> Result<Vec<u8>, AllocError>
-    ensures { IfOk result (λ text. text.items
-        ≡ compact_text (routes.dependents_body_of edges.now question.now)) }
+    ensures { WritesJson result (routes.dependents_body_of edges.now question.now) }
 {
     match question.depth {
         Depth::Direct => {

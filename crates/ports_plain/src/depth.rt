@@ -1,4 +1,4 @@
-// How far dependencies are followed.
+//! How far dependencies are followed.
 ghost use Rattle.std.specs.Prelude.{◌≡◌};
 ghost use Rattle.ports_plain.specs.IndexRoutes.{depth_of};
 
@@ -12,7 +12,7 @@ pub enum Depth {
 }
 
 impl Depth {
-    // The depth that a text names: `1` or `all`. An empty text is `1`. `None` for any other text.
+    /// The depth that a text names: `1` or `all`. An empty text is `1`. `None` for any other text.
     pub fn read(text: &str) -> Option<Depth>
         ensures { result ≡ depth_of text.now }
     {

@@ -1,10 +1,10 @@
-// The route of files.
-ghost use Rattle.std.specs.Prelude.{◌≡◌, IfOk, codes};
+//! The route of files.
+ghost use Rattle.std.specs.Prelude.{◌≡◌};
 ghost use Rattle.ports_plain.specs.Answers.{file_answer, file_asked};
-ghost use Rattle.ports_plain.specs.Parameters.{parameter as parameter_of};
 ghost use Rattle.ports_plain.specs.Plain.{reply_alone};
 ghost use Rattle.ports_plain.specs.Questions as questions;
 ghost use Rattle.ports_plain.specs.Replies.{no_file as no_file_reply};
+ghost use Rattle.ports_plain.specs.Outcomes.{Makes, Prepares};
 
 use crate::changing::{Change, Prepared};
 use crate::parameters::parameter;
@@ -24,15 +24,16 @@ pub enum FileQuestion {
     Remove(Name),
 }
 
-// The question about the file that the query names: that it is shown, stored with this body, or removed.
+/// The question about the file that the query names: that it is shown, stored with this body, or removed. It is
+/// settled by the refusal `Parameter` if `name` is missing, empty or there twice, and by `Name` if it names no file.
+/// It fails only if memory runs out.
 pub fn file_question(
     alloc: Global,
     method: Method,
     query: &str,
     body: &[u8],
 ) -> Result<Question, AllocError>
-    ensures { IfOk result (λ question. question
-        ≡ questions.file_question method body.now (parameter_of (codes "name") query.now)) }
+    ensures { Makes result (questions.file_question_in method body.now query.now) }
 {
     let Some(text) = parameter(alloc, query, "name")? else {
         return Question::refused(alloc, StatusCode::BAD_REQUEST, "Parameter");
@@ -52,8 +53,7 @@ fn named_file_question(
     name: Name,
     body: &[u8],
 ) -> Result<Question, AllocError>
-    ensures { IfOk result (λ question. question
-        ≡ questions.named_file_question method body.now name) }
+    ensures { Makes result (questions.named_file_question method body.now name) }
 {
     match method {
         Method::Get => Ok(Question::OfFile(FileQuestion::Show(name))),
@@ -62,10 +62,9 @@ fn named_file_question(
     }
 }
 
-// The change that stores a file, whether or not it was there, with its reply.
+/// The change that stores a file, whether or not it was there, with its reply.
 fn store_file(alloc: Global, name: Name, body: &[u8]) -> Result<Question, AllocError>
-    ensures { IfOk result (λ question. question
-        ≡ questions.named_file_question Method.Put body.now name) }
+    ensures { Makes result (questions.named_file_question Method.Put body.now name) }
 {
     let reply = stored(alloc)?;
     let content = Content::new(alloc, Vec::from_slice(alloc, body)?)?;
@@ -86,7 +85,7 @@ impl FileQuestion {
     /// The answer, if the file has this content, or isn't there: its bytes, or the change that removes it. It fails only
     /// if memory runs out.
     pub fn answer(self, alloc: Global, content: Option<Content>) -> Result<Prepared, AllocError>
-        ensures { IfOk result (λ prepared. (prepared.reply, prepared.change) ≡ file_answer self content) }
+        ensures { Prepares result (file_answer self content) }
     {
         let Some(content) = content else {
             return no_file(alloc);
@@ -105,8 +104,7 @@ impl FileQuestion {
 }
 
 fn no_file(alloc: Global) -> Result<Prepared, AllocError>
-    ensures { IfOk result (λ prepared. (prepared.reply, prepared.change)
-        ≡ reply_alone no_file_reply) }
+    ensures { Prepares result (reply_alone no_file_reply) }
 {
     let reply = refusal(alloc, StatusCode::NOT_FOUND, "NoFile")?;
     Ok(Prepared::reply_alone(reply))

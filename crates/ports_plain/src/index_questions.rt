@@ -1,8 +1,7 @@
 //! What is asked of all ports, by the index.
-ghost use Rattle.std.specs.Prelude.{◌≡◌, IfOk};
-ghost use Rattle.mk_paths.specs.World.{World};
-ghost use Rattle.ports_index.specs.Known.{IsIndexOf};
+ghost use Rattle.std.specs.Prelude.{◌≡◌};
 ghost use Rattle.ports_plain.specs.Answers.{follows_all, follows_edges, index_reply};
+ghost use Rattle.ports_plain.specs.Outcomes.{RepliesOver};
 
 use crate::dependencies::{DependencyQuestion, Direction, dependency_reply};
 use crate::depth::Depth;
@@ -39,8 +38,7 @@ impl IndexQuestion {
 
     /// The reply, by the index of a world. It fails only if memory runs out.
     pub fn reply(&self, alloc: Global, index: &KnownIndex) -> Result<Reply, AllocError>
-        ensures { (world : World) → IsIndexOf world index.now
-            → IfOk result (λ reply. reply ≡ index_reply world self.now) }
+        ensures { RepliesOver index.now result (λ world. index_reply world self.now) }
     {
         match self {
             IndexQuestion::List(conditions) => list_reply(alloc, index, conditions),
@@ -53,7 +51,7 @@ impl IndexQuestion {
     }
 }
 
-// Whether dependencies that are followed this way, so far, are those of all ports.
+/// Whether dependencies that are followed this way, so far, are those of all ports.
 fn follows_all(direction: Direction, depth: Depth) -> bool
     ensures { result ≡ follows_all direction depth }
 {

@@ -1,16 +1,13 @@
-// What holds of every answer, as functions that do nothing.
-ghost use Rattle.std.specs.Prelude.{◌≡◌, ◌==◌, false};
-ghost use Rattle.mk_paths.specs.World.{World};
+//! What holds of every answer, as functions that do nothing.
 ghost use Rattle.ports_plain.specs.Answers.{QuestionsHaveTheAnswers};
 ghost use Rattle.ports_plain.specs.Languages.{OthersKeepTheProfile};
-ghost use Rattle.ports_plain.specs.Plain.{PlainRequest, plain};
+ghost use Rattle.ports_plain.specs.Plain.{NeverAnswers503};
 ghost use Rattle.ports_plain.specs.Resting.{RestsOnEachOnce};
 ghost use Rattle.ports_plain.specs.Spending.{ChecksNoMore, SpendsAllUnchecked, SpendsNoMore};
 
 /// The plain service never answers 503. A service over many tenants answers that if it fails.
 pub fn never_answers_503()
-    ensures { (world : World) (request : PlainRequest)
-        → ((plain world request).0.status == 503) ≡ false }
+    ensures { NeverAnswers503 }
 {}
 
 /// In every world the answer to a request is the answer to the question that it asks.

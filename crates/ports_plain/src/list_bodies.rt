@@ -1,11 +1,10 @@
-// Lists of packages, dependencies and faults, as JSON texts.
-ghost use Rattle.std.specs.Prelude.{◌≡◌, IfOk, OnOk, map, string_bytes, option_to_list};
+//! Lists of packages, dependencies and faults, as JSON texts.
+ghost use Rattle.std.specs.Prelude.{◌≡◌, OnOk, map, string_bytes, option_to_list};
 ghost use Rattle.std.specs.Option.{option_copied};
-ghost use Rattle.serde_json.specs.Data.{string};
-ghost use Rattle.serde_json.specs.Written.{compact_text};
 ghost use Rattle.ports_query.specs.Edges.{edges_lent};
 ghost use Rattle.ports_plain.specs.ListBodies as bodies;
 ghost use Rattle.ports_plain.specs.Writing.{Adds, AddsItems};
+ghost use Rattle.ports_plain.specs.Outcomes.{MakesText, WritesJson};
 
 use crate::writing::Scalar::{Number, Text};
 use crate::writing::{begin_list, end_list, write_object};
@@ -16,9 +15,9 @@ use port_deps::{Edge, Root, RootEdge};
 use ports_query::Listed;
 use std::alloc::{AllocError, Global};
 
-// Packages.
+/// The body that lists these packages. It fails only if memory runs out.
 pub fn packages(alloc: Global, packages: &[Listed<'_>]) -> Result<Vec<u8>, AllocError>
-    ensures { IfOk result (λ text. text.items ≡ compact_text (bodies.packages_body packages.now)) }
+    ensures { WritesJson result (bodies.packages_body packages.now) }
 {
     let mut out = begin_list(alloc, "packages")?;
     for one in packages {
@@ -34,15 +33,14 @@ fn listed(alloc: Global, out: &mut Writer, one: &Listed<'_>) -> Result<(), Alloc
     listed_as(out, name.as_str(), one.path(), one.subpackage())
 }
 
-// A package, given its texts.
+/// A package, given its texts.
 fn listed_as<'a>(
     out: &mut Writer,
     name: &'a str,
     path: &'a str,
     subpackage: &'a str,
 ) -> Result<(), AllocError>
-    ensures { OnOk result (Adds out.old out.new
-        (bodies.listed_body (record { name = name.now; path = path.now; subpackage = subpackage.now }))) }
+    ensures { OnOk result (Adds out.old out.new (bodies.listing name.now path.now subpackage.now)) }
 {
     write_object(
         out,
@@ -54,10 +52,9 @@ fn listed_as<'a>(
     )
 }
 
-// What a port depends on.
+/// The body that lists what a port depends on: each dependency. It fails only if memory runs out.
 pub fn dependencies(alloc: Global, edges: &[&RootEdge]) -> Result<Vec<u8>, AllocError>
-    ensures { IfOk result (λ text. text.items
-        ≡ compact_text (bodies.dependencies_body (edges_lent edges.now))) }
+    ensures { WritesJson result (bodies.dependencies_body (edges_lent edges.now)) }
 {
     let mut out = begin_list(alloc, "deps")?;
     for edge in edges {
@@ -73,7 +70,7 @@ fn dependency(alloc: Global, out: &mut Writer, edge: &Edge) -> Result<(), AllocE
     dependency_on(out, edge, target.as_str())
 }
 
-// A dependency, given the path that its item names.
+/// A dependency, given the path that its item names.
 fn dependency_on<'a>(out: &mut Writer, edge: &'a Edge, target: &'a str) -> Result<(), AllocError>
     requires { target.now ≡ bodies.target_text edge.now.target }
     ensures { OnOk result (Adds out.old out.new (bodies.dependency_body edge.now)) }
@@ -90,10 +87,9 @@ fn dependency_on<'a>(out: &mut Writer, edge: &'a Edge, target: &'a str) -> Resul
     )
 }
 
-// The path that an item names. It is empty if the item can't be read.
+/// The path that an item names. It is empty if the item can't be read.
 fn target_text(alloc: Global, target: Option<&PkgPath>) -> Result<String, AllocError>
-    ensures { IfOk result (λ text. string_bytes text
-        ≡ bodies.target_text (option_copied target.entry)) }
+    ensures { MakesText result (bodies.target_text (option_copied target.entry)) }
 {
     match target {
         Some(path) => path.canonical(alloc),
@@ -101,10 +97,10 @@ fn target_text(alloc: Global, target: Option<&PkgPath>) -> Result<String, AllocE
     }
 }
 
-// What depends on a port.
+/// The body that lists what depends on a port: each dependency, with the path of its port. It fails only if
+/// memory runs out.
 pub fn dependents(alloc: Global, edges: &[&RootEdge]) -> Result<Vec<u8>, AllocError>
-    ensures { IfOk result (λ text. text.items
-        ≡ compact_text (bodies.dependents_body (edges_lent edges.now))) }
+    ensures { WritesJson result (bodies.dependents_body (edges_lent edges.now)) }
 {
     let mut out = begin_list(alloc, "rdeps")?;
     for edge in edges {
@@ -114,8 +110,7 @@ pub fn dependents(alloc: Global, edges: &[&RootEdge]) -> Result<Vec<u8>, AllocEr
 }
 
 fn dependent<'a>(out: &mut Writer, root: &'a str, edge: &'a Edge) -> Result<(), AllocError>
-    ensures { OnOk result (Adds out.old out.new
-        (bodies.dependent_body (record { root = root.now; edge = edge.now }))) }
+    ensures { OnOk result (Adds out.old out.new (bodies.dependent_of root.now edge.now)) }
 {
     write_object(
         out,
@@ -129,25 +124,22 @@ fn dependent<'a>(out: &mut Writer, root: &'a str, edge: &'a Edge) -> Result<(), 
     )
 }
 
-// The paths of ports that are reached.
+/// The body that lists the paths of ports that are reached. It fails only if memory runs out.
 pub fn reached(alloc: Global, paths: &[String]) -> Result<Vec<u8>, AllocError>
-    ensures { IfOk result (λ text. text.items
-        ≡ compact_text (bodies.reached_body (map string_bytes paths.now))) }
+    ensures { WritesJson result (bodies.reached_body (map string_bytes paths.now)) }
 {
     texts(alloc, "deps", paths)
 }
 
-// The paths of ports that reach one.
+/// The body that lists the paths of ports that reach one. It fails only if memory runs out.
 pub fn reaching(alloc: Global, paths: &[String]) -> Result<Vec<u8>, AllocError>
-    ensures { IfOk result (λ text. text.items
-        ≡ compact_text (bodies.reaching_body (map string_bytes paths.now))) }
+    ensures { WritesJson result (bodies.reaching_body (map string_bytes paths.now)) }
 {
     texts(alloc, "rdeps", paths)
 }
 
 fn texts(alloc: Global, name: &str, texts: &[String]) -> Result<Vec<u8>, AllocError>
-    ensures { IfOk result (λ text. text.items
-        ≡ compact_text (bodies.list_body name.now (map string (map string_bytes texts.now)))) }
+    ensures { WritesJson result (bodies.texts_list name.now (map string_bytes texts.now)) }
 {
     let mut out = begin_list(alloc, name)?;
     for text in texts {
@@ -156,9 +148,10 @@ fn texts(alloc: Global, name: &str, texts: &[String]) -> Result<Vec<u8>, AllocEr
     end_list(out)
 }
 
-// The faults of roots.
+/// The body that lists the faults at these roots. A root without a fault adds nothing. It fails only if memory
+/// runs out.
 pub fn faults(alloc: Global, roots: &[Root<'_>]) -> Result<Vec<u8>, AllocError>
-    ensures { IfOk result (λ text. text.items ≡ compact_text (bodies.faults_body roots.now)) }
+    ensures { WritesJson result (bodies.faults_body roots.now) }
 {
     let mut out = begin_list(alloc, "faults")?;
     for root in roots {
@@ -167,7 +160,7 @@ pub fn faults(alloc: Global, roots: &[Root<'_>]) -> Result<Vec<u8>, AllocError>
     end_list(out)
 }
 
-// Writes the fault of a root, if it has one.
+/// Writes the fault of a root, if it has one.
 fn add_fault(out: &mut Writer, root: &Root<'_>) -> Result<(), AllocError>
     ensures { OnOk result (AddsItems out.old out.new (option_to_list (bodies.fault_at root.now))) }
 {

@@ -1,10 +1,9 @@
-// The routes of lists: of packages, and of faults.
-ghost use Rattle.std.specs.Prelude.{◌≡◌, IfOk};
-ghost use Rattle.mk_paths.specs.World.{World};
-ghost use Rattle.ports_index.specs.Known.{IsIndexOf};
+//! The routes of lists: of packages, and of faults.
+ghost use Rattle.std.specs.Prelude.{◌≡◌};
 ghost use Rattle.ports_plain.specs.IndexRoutes as routes;
 ghost use Rattle.ports_plain.specs.Questions as questions;
 ghost use Rattle.ports_query.specs.Listing.{admits_one};
+ghost use Rattle.ports_plain.specs.Outcomes.{Makes, RepliesOver};
 
 use crate::index_questions::IndexQuestion;
 use crate::list_bodies;
@@ -17,9 +16,11 @@ use ports_index::KnownIndex;
 use ports_query::{Listed, Query, QueryFault, admits_one, admitted, answer};
 use std::alloc::{AllocError, Global};
 
-// The question about the packages that meet the conditions that the query gives.
+/// The question about the packages that meet the conditions that the query gives as `where`. It is settled by the
+/// refusal `Parameter` if `where` is there twice, and by `Query` if it has no conditions. It fails only if memory
+/// runs out.
 pub fn list_question(alloc: Global, query: &str) -> Result<Question, AllocError>
-    ensures { IfOk result (λ question. question ≡ questions.list_question query.now) }
+    ensures { Makes result (questions.list_question query.now) }
 {
     let Some(text) = optional(alloc, query, "where")? else {
         return Question::refused(alloc, StatusCode::BAD_REQUEST, "Parameter");
@@ -31,23 +32,24 @@ pub fn list_question(alloc: Global, query: &str) -> Result<Question, AllocError>
     }
 }
 
-// The packages that meet all these conditions.
+/// The reply that lists the packages that meet all these conditions. It fails only if memory runs out.
 pub fn list_reply(
     alloc: Global,
     index: &KnownIndex,
     conditions: &Query,
 ) -> Result<Reply, AllocError>
-    ensures { (world : World) → IsIndexOf world index.now
-        → IfOk result (λ reply. reply ≡ routes.list_reply world conditions.now) }
+    ensures { RepliesOver index.now result (λ world. routes.list_reply world conditions.now) }
 {
     let roots = index.roots(alloc)?;
     let packages = answer(alloc, conditions, &roots)?;
     packages_reply(alloc, &packages)
 }
 
-// The question about the packages that are admitted by the spec that the query gives.
+/// The question about the packages that are admitted by the spec that the query gives as `spec`. It is settled by
+/// the refusal `Parameter` if `spec` is missing, empty or there twice, and by `Spec` if it is no spec. It fails only
+/// if memory runs out.
 pub fn match_question(alloc: Global, query: &str) -> Result<Question, AllocError>
-    ensures { IfOk result (λ question. question ≡ questions.match_question query.now) }
+    ensures { Makes result (questions.match_question query.now) }
 {
     let Some(text) = parameter(alloc, query, "spec")? else {
         return Question::refused(alloc, StatusCode::BAD_REQUEST, "Parameter");
@@ -59,10 +61,9 @@ pub fn match_question(alloc: Global, query: &str) -> Result<Question, AllocError
     }
 }
 
-// The packages that a spec admits.
+/// The reply that lists the packages that a spec admits. It fails only if memory runs out.
 pub fn match_reply(alloc: Global, index: &KnownIndex, spec: &Spec) -> Result<Reply, AllocError>
-    ensures { (world : World) → IsIndexOf world index.now
-        → IfOk result (λ reply. reply ≡ routes.match_reply world spec.now) }
+    ensures { RepliesOver index.now result (λ world. routes.match_reply world spec.now) }
 {
     let ports = index.ports_that(
         alloc,
@@ -74,18 +75,17 @@ pub fn match_reply(alloc: Global, index: &KnownIndex, spec: &Spec) -> Result<Rep
     packages_reply(alloc, &packages)
 }
 
-// The reply that lists packages.
+/// The reply that lists packages.
 fn packages_reply(alloc: Global, packages: &[Listed<'_>]) -> Result<Reply, AllocError>
-    ensures { IfOk result (λ reply. reply ≡ routes.packages_reply packages.now) }
+    ensures { Makes result (routes.packages_reply packages.now) }
 {
     let body = list_bodies::packages(alloc, packages)?;
     Ok(Reply::of_bytes(StatusCode::OK, Some(Content::Json), body))
 }
 
-// The faults of ports and lists.
+/// The reply that lists the faults of ports and lists. It fails only if memory runs out.
 pub fn faults_reply(alloc: Global, index: &KnownIndex) -> Result<Reply, AllocError>
-    ensures { (world : World) → IsIndexOf world index.now
-        → IfOk result (λ reply. reply ≡ routes.get_faults world) }
+    ensures { RepliesOver index.now result (λ world. routes.get_faults world) }
 {
     let roots = index.roots(alloc)?;
     let body = list_bodies::faults(alloc, &roots)?;

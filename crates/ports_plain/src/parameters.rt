@@ -1,9 +1,8 @@
-// The parameters of a query.
-ghost use Rattle.std.specs.Prelude.{◌≡◌, IfOk, option_map};
-ghost use Rattle.std.specs.Cow.{cow_str_bytes};
+//! The parameters of a query.
 ghost use Rattle.ports_plain.specs.Parameters as parameters;
-ghost use Rattle.ports_plain.specs.ParametersSeen.{found_seen};
+ghost use Rattle.ports_plain.specs.ParametersSeen.{GivesParameter, SaysTimes};
 ghost use Rattle.ports_plain.specs.PathParameter.{path_in as path_in_query};
+ghost use Rattle.ports_plain.specs.Outcomes.{Makes};
 
 use crate::replies::refusal;
 use form_urlencoded::parse;
@@ -12,7 +11,7 @@ use ports_http::{Reply, StatusCode};
 use std::alloc::{AllocError, Global};
 use std::borrow::CowStr;
 
-// How often a query has a parameter.
+/// How often a query has a parameter.
 #[derive(Drop)]
 enum Found<'a> {
     Never,
@@ -20,15 +19,14 @@ enum Found<'a> {
     Often,
 }
 
-// The value of the one parameter of this name, decoded. `None` if it is missing, empty or there more than
-// once. It doesn't matter which other names the query has.
+/// The value of the one parameter of this name, decoded. `None` if it is missing, empty or there more than
+/// once. It doesn't matter which other names the query has. It fails only if memory runs out.
 pub fn parameter<'a>(
     alloc: Global,
     query: &'a str,
     name: &str,
 ) -> Result<Option<CowStr<'a>>, AllocError>
-    ensures { IfOk result (λ value. option_map cow_str_bytes value
-        ≡ parameters.parameter name.now query.now) }
+    ensures { GivesParameter result (parameters.parameter name.now query.now) }
 {
     match find(alloc, query, name)? {
         Found::Once(value) if !value.as_str().is_empty() => Ok(Some(value)),
@@ -36,14 +34,14 @@ pub fn parameter<'a>(
     }
 }
 
-// The same of a parameter that may be left out and is then empty. `None` if it is there more than once.
+/// The value of the one parameter of this name, decoded, and an empty text if it is missing. `None` if it is there
+/// more than once. It fails only if memory runs out.
 pub fn optional<'a>(
     alloc: Global,
     query: &'a str,
     name: &str,
 ) -> Result<Option<CowStr<'a>>, AllocError>
-    ensures { IfOk result (λ value. option_map cow_str_bytes value
-        ≡ parameters.optional name.now query.now) }
+    ensures { GivesParameter result (parameters.optional name.now query.now) }
 {
     match find(alloc, query, name)? {
         Found::Never => Ok(Some(CowStr::Borrowed(""))),
@@ -52,9 +50,10 @@ pub fn optional<'a>(
     }
 }
 
-// The package path that the parameter `path` names, or the refusal.
+/// The package path that the parameter `path` names, or the refusal: `Parameter` if it is missing, empty or there
+/// twice, and `Path` if it is no package path. It fails only if memory runs out.
 pub fn path_in(alloc: Global, query: &str) -> Result<Result<PkgPath, Reply>, AllocError>
-    ensures { IfOk result (λ path. path ≡ path_in_query query.now) }
+    ensures { Makes result (path_in_query query.now) }
 {
     let Some(text) = parameter(alloc, query, "path")? else {
         return Ok(Err(refusal(alloc, StatusCode::BAD_REQUEST, "Parameter")?));
@@ -66,10 +65,9 @@ pub fn path_in(alloc: Global, query: &str) -> Result<Result<PkgPath, Reply>, All
     }
 }
 
-// How often a query has a parameter, and its value, decoded.
+/// How often a query has a parameter, and its value, decoded.
 fn find<'a>(alloc: Global, query: &'a str, name: &str) -> Result<Found<'a>, AllocError>
-    ensures { IfOk result (λ found. found_seen found
-        ≡ parameters.times (parameters.values_under name.now query.now)) }
+    ensures { SaysTimes result name.now query.now }
 {
     let mut found: Option<CowStr<'a>> = None;
     for pair in parse(alloc, query.as_bytes()) {

@@ -1,9 +1,9 @@
-// The route of the search path.
-ghost use Rattle.std.specs.Prelude.{◌≡◌, IfOk};
+//! The route of the search path.
 ghost use Rattle.ports_plain.specs.Plain.{set_path as set_path_of, set_trees as set_trees_of, reply_alone};
 ghost use Rattle.ports_plain.specs.Questions as questions;
 ghost use Rattle.ports_plain.specs.Replies.{bad_path as bad_path_reply};
 ghost use Rattle.mk_paths.specs.SearchPath.{search_path};
+ghost use Rattle.ports_plain.specs.Outcomes.{Makes, Prepares};
 
 use crate::changing::{Change, Prepared};
 use crate::questions::Question;
@@ -14,9 +14,10 @@ use mk_paths::{PathFault, SearchPath};
 use ports_http::{Method, StatusCode};
 use std::alloc::{AllocError, Global};
 
-// The question about the search path, which a PUT sets and nothing shows.
+/// The question about the search path, which a PUT sets and nothing shows. It is settled by the refusal `Path` if
+/// the body of a PUT names no search path, and by `Method` for any other method. It fails only if memory runs out.
 pub fn path_question(alloc: Global, method: Method, body: &[u8]) -> Result<Question, AllocError>
-    ensures { IfOk result (λ question. question ≡ questions.path_question body.now method) }
+    ensures { Makes result (questions.path_question body.now method) }
 {
     match method {
         Method::Put => Ok(Question::Settled(set_path(alloc, body)?)),
@@ -24,9 +25,9 @@ pub fn path_question(alloc: Global, method: Method, body: &[u8]) -> Result<Quest
     }
 }
 
-// The change that sets the search path in a body, without the blanks and line feeds at its ends.
+/// The change that sets the search path in a body, without the blanks and line feeds at its ends.
 fn set_path(alloc: Global, body: &[u8]) -> Result<Prepared, AllocError>
-    ensures { IfOk result (λ prepared. (prepared.reply, prepared.change) ≡ set_path_of body.now) }
+    ensures { Prepares result (set_path_of body.now) }
 {
     match str::from_utf8(trimmed(body)) {
         Ok(text) => set_trees(alloc, text),
@@ -35,8 +36,7 @@ fn set_path(alloc: Global, body: &[u8]) -> Result<Prepared, AllocError>
 }
 
 fn set_trees(alloc: Global, text: &str) -> Result<Prepared, AllocError>
-    ensures { IfOk result (λ prepared. (prepared.reply, prepared.change)
-        ≡ set_trees_of text.now (search_path text.now)) }
+    ensures { Prepares result (set_trees_of text.now (search_path text.now)) }
 {
     match SearchPath::read(alloc, text) {
         Ok(trees) => Ok(Prepared {
@@ -49,8 +49,7 @@ fn set_trees(alloc: Global, text: &str) -> Result<Prepared, AllocError>
 }
 
 fn bad_path(alloc: Global) -> Result<Prepared, AllocError>
-    ensures { IfOk result (λ prepared. (prepared.reply, prepared.change)
-        ≡ reply_alone bad_path_reply) }
+    ensures { Prepares result (reply_alone bad_path_reply) }
 {
     let reply = refusal(alloc, StatusCode::BAD_REQUEST, "Path")?;
     Ok(Prepared::reply_alone(reply))

@@ -1,11 +1,10 @@
-// What a port is, as a JSON text.
-ghost use Rattle.std.specs.Prelude.{◌≡◌, IfOk, OnOk, codes, map, string_bytes};
+//! What a port is, as a JSON text.
+ghost use Rattle.std.specs.Prelude.{◌≡◌, OnOk, codes};
 ghost use Rattle.pkg_name.specs.Name.{name_text};
-ghost use Rattle.serde_json.specs.Data.{array, string};
-ghost use Rattle.serde_json.specs.View.{items_of};
-ghost use Rattle.serde_json.specs.Written.{compact_text};
+ghost use Rattle.serde_json.specs.Data.{string};
 ghost use Rattle.ports_plain.specs.PortBody as bodies;
-ghost use Rattle.ports_plain.specs.Writing.{Adds, AddsMember};
+ghost use Rattle.ports_plain.specs.Writing.{Adds, AddsList, AddsMember};
+ghost use Rattle.ports_plain.specs.Outcomes.{WritesJson};
 
 use crate::writing::Scalar::Text;
 use crate::writing::{begin_members, end_members, write_object};
@@ -14,9 +13,10 @@ use pkg_path::PkgPath;
 use port_rules::{Depend, Package, PortRecord};
 use std::alloc::{AllocError, Global};
 
-// The port that a path names. The path's subpackage doesn't count.
+/// The body that says what the port is that a path names. The path's subpackage doesn't count. It fails
+/// only if memory runs out.
 pub fn port(alloc: Global, path: &PkgPath, port: &PortRecord) -> Result<Vec<u8>, AllocError>
-    ensures { IfOk result (λ text. text.items ≡ compact_text (bodies.port_body path.now port.now)) }
+    ensures { WritesJson result (bodies.port_body path.now port.now) }
 {
     let flavors = port.flavors();
     let path = path.port_path(alloc)?;
@@ -32,7 +32,7 @@ pub fn port(alloc: Global, path: &PkgPath, port: &PortRecord) -> Result<Vec<u8>,
     end_members(out)
 }
 
-// Writes a member that is a text.
+/// Writes a member that is a text.
 fn write_text(out: &mut Writer, name: &str, text: &str) -> Result<(), AllocError>
     ensures { OnOk result (AddsMember out.old out.new name.now (string text.now)) }
 {
@@ -40,10 +40,9 @@ fn write_text(out: &mut Writer, name: &str, text: &str) -> Result<(), AllocError
     out.string(text)
 }
 
-// Writes a member that is a list of texts.
+/// Writes a member that is a list of texts.
 fn write_texts(out: &mut Writer, name: &str, texts: &[String]) -> Result<(), AllocError>
-    ensures { OnOk result (AddsMember out.old out.new name.now
-        (bodies.texts_body (map string_bytes texts.now))) }
+    ensures { OnOk result (AddsMember out.old out.new name.now (bodies.strings_body texts.now)) }
 {
     out.key(name)?;
     out.begin_array()?;
@@ -53,10 +52,9 @@ fn write_texts(out: &mut Writer, name: &str, texts: &[String]) -> Result<(), All
     out.end_array()
 }
 
-// Writes the packages of a port.
+/// Writes the packages of a port.
 fn write_packages(alloc: Global, out: &mut Writer, packages: &[Package]) -> Result<(), AllocError>
-    ensures { OnOk result (AddsMember out.old out.new (codes "packages")
-        (array (items_of (map bodies.package_body packages.now)))) }
+    ensures { AddsList result out.old (codes "packages") bodies.package_body packages.now out.new }
 {
     out.key("packages")?;
     out.begin_array()?;
@@ -73,7 +71,7 @@ fn write_package(alloc: Global, out: &mut Writer, one: &Package) -> Result<(), A
     write_named(out, one, name.as_str())
 }
 
-// Writes a package, given its full name.
+/// Writes a package, given its full name.
 fn write_named<'a>(out: &mut Writer, one: &'a Package, name: &'a str) -> Result<(), AllocError>
     requires { name.now ≡ name_text one.now.name }
     ensures { OnOk result (Adds out.old out.new (bodies.package_body one.now)) }
@@ -88,10 +86,9 @@ fn write_named<'a>(out: &mut Writer, one: &'a Package, name: &'a str) -> Result<
     )
 }
 
-// Writes what a port depends on.
+/// Writes what a port depends on.
 fn write_depends(out: &mut Writer, depends: &[Depend]) -> Result<(), AllocError>
-    ensures { OnOk result (AddsMember out.old out.new (codes "depends")
-        (array (items_of (map bodies.depend_body depends.now)))) }
+    ensures { AddsList result out.old (codes "depends") bodies.depend_body depends.now out.new }
 {
     out.key("depends")?;
     out.begin_array()?;

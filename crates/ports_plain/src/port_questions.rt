@@ -1,14 +1,13 @@
 //! What is asked of one port, by the evaluation of its makefile.
-ghost use Rattle.std.specs.Prelude.{◌≡◌, IfOk, Ok, string_bytes};
-ghost use Rattle.port_rules.specs.Records.{record_of};
-ghost use Rattle.ports_index.specs.PathOutcomes.{with_cost};
+ghost use Rattle.std.specs.Prelude.{◌≡◌, Ok, string_bytes};
 ghost use Rattle.mk_eval.specs.declared.outcome.Kind.{Kind};
 ghost use Rattle.ports_plain.specs.Answers.{reply_after};
 ghost use Rattle.ports_plain.specs.Plain as plain;
 ghost use Rattle.ports_plain.specs.Questions as questions;
-ghost use Rattle.ports_plain.specs.Replies.{no_port as no_port_reply, variable as variable_of};
+ghost use Rattle.ports_plain.specs.Replies.{no_port as no_port_reply};
 ghost use Rattle.ports_plain.specs.Resting as resting;
 ghost use Rattle.ports_plain.specs.Subpackages.{has_named as has_named_in};
+ghost use Rattle.ports_plain.specs.Outcomes.{Makes, TellsCost, TellsReply};
 
 use crate::parameters::{parameter, path_in};
 use crate::questions::Question;
@@ -31,9 +30,11 @@ pub enum PortQuestion {
     Record(PkgPath),
 }
 
-// The question about the variable that the query names, of the port whose path it gives.
+/// The question about the variable that the query names, of the port whose path it gives. It is settled by the
+/// refusal `Parameter` if `name` or `path` is missing, empty or there twice, and by `Path` if `path` is no package
+/// path. It fails only if memory runs out.
 pub fn variable_question(alloc: Global, query: &str) -> Result<Question, AllocError>
-    ensures { IfOk result (λ question. question ≡ questions.variable_question query.now) }
+    ensures { Makes result (questions.variable_question query.now) }
 {
     let Some(name) = parameter(alloc, query, "name")? else {
         return Question::refused(alloc, StatusCode::BAD_REQUEST, "Parameter");
@@ -48,9 +49,10 @@ pub fn variable_question(alloc: Global, query: &str) -> Result<Question, AllocEr
     }
 }
 
-// The question about the port whose path the query gives.
+/// The question about the port whose path the query gives. It is settled by the refusal `Parameter` if `path` is
+/// missing, empty or there twice, and by `Path` if it is no package path. It fails only if memory runs out.
 pub fn port_question(alloc: Global, query: &str) -> Result<Question, AllocError>
-    ensures { IfOk result (λ question. question ≡ questions.port_question query.now) }
+    ensures { Makes result (questions.port_question query.now) }
 {
     match path_in(alloc, query)? {
         Ok(path) => Ok(Question::OfPort(PortQuestion::Record(path))),
@@ -77,8 +79,8 @@ impl PortQuestion {
         outcome: &Result<Evaluated, Failed>,
         makefile: &Name,
     ) -> Result<(Reply, u64), AllocError>
-        ensures reply { IfOk result (λ told. told.0 ≡ reply_after self.now makefile.now outcome.now) }
-        ensures cost { IfOk result (λ told. told.1 ≡ resting.cost_after self.now makefile.now outcome.now) }
+        ensures reply { TellsReply result (reply_after self.now makefile.now outcome.now) }
+        ensures cost { TellsCost result (resting.cost_after self.now makefile.now outcome.now) }
     {
         let evaluated = match outcome {
             Ok(evaluated) => evaluated,
@@ -93,22 +95,20 @@ impl PortQuestion {
 
 /// The reply if a port's makefile isn't there: 404 `{"error":"NoPort"}`. It fails only if memory runs out.
 pub fn no_port(alloc: Global) -> Result<Reply, AllocError>
-    ensures { IfOk result (λ reply. reply ≡ no_port_reply) }
+    ensures { Makes result no_port_reply }
 {
     refusal(alloc, StatusCode::NOT_FOUND, "NoPort")
 }
 
-// The reply with the value of a variable of an evaluated makefile, and the units of both.
+/// The reply with the value of a variable of an evaluated makefile, and the units of both.
 fn value_reply(
     alloc: Global,
     evaluated: &Evaluated,
     makefile: &Name,
     name: &str,
 ) -> Result<(Reply, u64), AllocError>
-    ensures reply { IfOk result (λ told. told.0
-        ≡ plain.value_reply (plain.value_after makefile.now name.now (Ok evaluated.now))) }
-    ensures cost { IfOk result (λ told. told.1
-        ≡ resting.value_cost_after makefile.now name.now (Ok evaluated.now)) }
+    ensures reply { TellsReply result (plain.value_told evaluated.now makefile.now name.now) }
+    ensures cost { TellsCost result (resting.value_cost evaluated.now makefile.now name.now) }
 {
     let (reply, more) = match value(alloc, evaluated, makefile, name) {
         Ok(Some(known)) => (variable(alloc, Some(known.text()))?, known.cost()),
@@ -119,17 +119,15 @@ fn value_reply(
     Ok((reply, evaluated.cost.saturating_add(more)))
 }
 
-// The reply with the record of an evaluated makefile, if it describes a port, and the units of both.
+/// The reply with the record of an evaluated makefile, if it describes a port, and the units of both.
 fn record_reply(
     alloc: Global,
     evaluated: &Evaluated,
     makefile: &Name,
     path: &PkgPath,
 ) -> Result<(Reply, u64), AllocError>
-    ensures reply { IfOk result (λ told. told.0
-        ≡ plain.port_reply path.now (plain.record_after makefile.now (Ok evaluated.now))) }
-    ensures cost { IfOk result (λ told. told.1
-        ≡ resting.record_cost_after makefile.now (Ok evaluated.now)) }
+    ensures reply { TellsReply result (plain.record_told evaluated.now makefile.now path.now) }
+    ensures cost { TellsCost result (resting.record_cost_after makefile.now (Ok evaluated.now)) }
 {
     match evaluated.kind {
         Kind::Port => described(alloc, evaluated, makefile, path),
@@ -137,17 +135,15 @@ fn record_reply(
     }
 }
 
-// The reply with the record of a port, and the units of its evaluation and of the record.
+/// The reply with the record of a port, and the units of its evaluation and of the record.
 fn described(
     alloc: Global,
     evaluated: &Evaluated,
     makefile: &Name,
     path: &PkgPath,
 ) -> Result<(Reply, u64), AllocError>
-    ensures reply { IfOk result (λ told. told.0 ≡ plain.port_reply path.now
-        (plain.record_by Kind.Port (record_of evaluated.now.env makefile.now))) }
-    ensures cost { IfOk result (λ told. told.1
-        ≡ with_cost evaluated.now.cost (resting.record_units (record_of evaluated.now.env makefile.now))) }
+    ensures reply { TellsReply result (plain.described evaluated.now makefile.now path.now) }
+    ensures cost { TellsCost result (resting.described_cost evaluated.now makefile.now) }
 {
     let (reply, more) = match record(alloc, evaluated, makefile) {
         Ok(recorded) => (port_reply(alloc, path, &recorded.port)?, recorded.cost),
@@ -157,9 +153,9 @@ fn described(
     Ok((reply, evaluated.cost.saturating_add(more)))
 }
 
-// The reply with a port, which must have the subpackage, if its path names one.
+/// The reply with a port, which must have the subpackage, if its path names one.
 fn port_reply(alloc: Global, path: &PkgPath, found: &PortRecord) -> Result<Reply, AllocError>
-    ensures { IfOk result (λ reply. reply ≡ plain.port_told path.now found.now) }
+    ensures { Makes result (plain.port_told path.now found.now) }
 {
     if has_named(path, found) {
         port(alloc, path, found)
@@ -168,7 +164,7 @@ fn port_reply(alloc: Global, path: &PkgPath, found: &PortRecord) -> Result<Reply
     }
 }
 
-// Whether a port has the package that a path names, if it names one.
+/// Whether a port has the package that a path names, if it names one.
 pub fn has_named(path: &PkgPath, port: &PortRecord) -> bool
     ensures { result ≡ has_named_in path.now.subpackage port.now }
 {
@@ -195,7 +191,7 @@ impl Model for VariableQuestion {
 }
 
 impl VariableQuestion {
-    // The question about this variable.
+    /// The question about this variable.
     fn new(path: PkgPath, name: String) -> VariableQuestion
         ensures { result ≡ record { path = path; name = string_bytes name } }
     {

@@ -1,7 +1,8 @@
-// The route of the profile.
-ghost use Rattle.std.specs.Prelude.{◌≡◌, IfOk};
+//! The route of the profile.
+ghost use Rattle.std.specs.Prelude.{◌≡◌};
 ghost use Rattle.ports_plain.specs.Plain.{profile_named, set_profile as set_profile_of};
 ghost use Rattle.ports_plain.specs.Questions as questions;
+ghost use Rattle.ports_plain.specs.Outcomes.{Makes, Prepares};
 
 use crate::changing::{Change, Prepared};
 use crate::questions::Question;
@@ -12,9 +13,10 @@ use mk_text::Profile;
 use ports_http::{Method, StatusCode};
 use std::alloc::{AllocError, Global};
 
-// The question about the profile, which a PUT sets and nothing shows.
+/// The question about the profile, which a PUT sets and nothing shows. It is settled by the refusal `Profile` if
+/// the body of a PUT is no profile's number, and by `Method` for any other method. It fails only if memory runs out.
 pub fn profile_question(alloc: Global, method: Method, body: &[u8]) -> Result<Question, AllocError>
-    ensures { IfOk result (λ question. question ≡ questions.profile_question body.now method) }
+    ensures { Makes result (questions.profile_question body.now method) }
 {
     match method {
         Method::Put => Ok(Question::Settled(set_profile(alloc, body)?)),
@@ -22,10 +24,9 @@ pub fn profile_question(alloc: Global, method: Method, body: &[u8]) -> Result<Qu
     }
 }
 
-// The change that sets the profile whose number a body is, without the blanks and line feeds at its ends.
+/// The change that sets the profile whose number a body is, without the blanks and line feeds at its ends.
 fn set_profile(alloc: Global, body: &[u8]) -> Result<Prepared, AllocError>
-    ensures { IfOk result (λ prepared. (prepared.reply, prepared.change)
-        ≡ set_profile_of body.now) }
+    ensures { Prepares result (set_profile_of body.now) }
 {
     match profile_named(trimmed(body)) {
         Some(profile) => Ok(Prepared {
@@ -39,7 +40,7 @@ fn set_profile(alloc: Global, body: &[u8]) -> Result<Prepared, AllocError>
     }
 }
 
-// The profile that a text is the number of.
+/// The profile that a text is the number of.
 fn profile_named(text: &[u8]) -> Option<Profile>
     ensures { result ≡ profile_named text.now }
 {

@@ -1,7 +1,8 @@
 //! What a request asks of a world.
-ghost use Rattle.std.specs.Prelude.{◌≡◌, IfOk};
+ghost use Rattle.std.specs.Prelude.{◌≡◌};
 ghost use Rattle.ports_plain.specs.Questions as questions;
 ghost use Rattle.ports_plain.specs.Replies.{refusal as refusal_of};
+ghost use Rattle.ports_plain.specs.Outcomes.{Makes};
 
 use crate::changing::Prepared;
 use crate::files::FileQuestion;
@@ -26,21 +27,20 @@ pub enum Question {
 }
 
 impl Question {
-    // What is answered by this reply alone, over every world.
+    /// What is answered by this reply alone, over every world.
     pub(crate) fn settled(reply: Reply) -> Question
         ensures { result ≡ questions.refused reply }
     {
         Question::Settled(Prepared::reply_alone(reply))
     }
 
-    // What is answered by a refusal, over every world.
+    /// What is answered by a refusal, over every world.
     pub(crate) fn refused(
         alloc: Global,
         status: StatusCode,
         word: &str,
     ) -> Result<Question, AllocError>
-        ensures { IfOk result (λ question. question
-            ≡ questions.refused (refusal_of status word.now)) }
+        ensures { Makes result (questions.refused (refusal_of status word.now)) }
     {
         Ok(Question::settled(refusal(alloc, status, word)?))
     }

@@ -1,4 +1,4 @@
-// The routes of the service.
+//! The routes of the service.
 ghost use Rattle.std.specs.Prelude.{◌≡◌, OnOk, Ok};
 ghost use Rattle.matchit.specs.Route.{parse_route};
 ghost use Rattle.matchit.specs.Router.{InsertsRead};
@@ -85,7 +85,7 @@ impl Library for Matchit {
     }
 }
 
-// Adds a route that reads well and conflicts with no earlier one.
+/// Adds a route that reads well and conflicts with no earlier one.
 fn add(router: &mut Router<Route>, path: &str, route: Route) -> Result<(), AllocError>
     requires { IsFree path.now router.old }
     ensures { OnOk result (InsertsRead (parse_route path.now) route router.old router.new (Ok tt)) }

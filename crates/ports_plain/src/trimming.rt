@@ -1,15 +1,15 @@
-// Texts in the bodies of requests.
+//! Texts in the bodies of requests.
 ghost use Rattle.std.specs.Prelude.{◌≡◌, reverse};
 ghost use Rattle.ports_plain.specs.Trimming.{is_space as is_space_byte, skip_spaces, trimmed as trimmed_text};
 
-// The bytes without the blanks and line feeds at both ends.
+/// The bytes without the blanks and line feeds at both ends.
 pub fn trimmed(bytes: &[u8]) -> &[u8]
     ensures { result.now ≡ trimmed_text bytes.now }
 {
     without_last_spaces(without_first_spaces(bytes))
 }
 
-// Whether a byte is a blank or a line feed.
+/// Whether a byte is a blank or a line feed.
 fn is_space(byte: u8) -> bool
     ensures { result ≡ is_space_byte byte }
 {

@@ -1,22 +1,23 @@
-// JSON texts as they are written: objects of numbers and texts, an object with one member, a list, and an object of
-// any members.
-ghost use Rattle.std.specs.Prelude.{◌≡◌, ℕ, List, [], IfOk, OnOk};
-ghost use Rattle.serde_json.specs.Data.{Data, object};
-ghost use Rattle.serde_json.specs.Written.{compact_text};
-ghost use Rattle.ports_plain.specs.ListBodies.{list_body};
-ghost use Rattle.ports_plain.specs.Writing.{Adds, HasItems, HasMembers, Member, members_of, object_of, value_of};
+//! JSON texts as they are written: objects of numbers and texts, an object with one member, a list, and an object of
+//! any members.
+ghost use Rattle.std.specs.Prelude.{[], IfOk, OnOk};
+ghost use Rattle.serde_json.specs.Data.{object};
+ghost use Rattle.ports_plain.specs.Writing.{Adds, HasItems, HasMembers, members_of, value_of};
+ghost use Rattle.ports_plain.specs.Outcomes.{EndsList, EndsMembers};
 
 use json::Writer;
 use std::alloc::{AllocError, Global};
 
-// A number or a text.
+/// A number or a text.
 #[derive(Clone, Copy)]
 pub enum Scalar<'a> {
+    /// This number.
     Number(u64),
+    /// This text.
     Text(&'a str),
 }
 
-// Writes an object with these members.
+/// Writes an object with these members. It fails only if memory runs out.
 pub fn write_object(out: &mut Writer, members: &[(&str, Scalar<'_>)]) -> Result<(), AllocError>
     ensures { OnOk result (Adds out.old out.new (object (members_of members.now))) }
 {
@@ -37,7 +38,7 @@ fn write_scalar(out: &mut Writer, value: Scalar<'_>) -> Result<(), AllocError>
     }
 }
 
-// Begins an object whose one member is a list.
+/// Begins an object whose one member, of this name, is a list. It fails only if memory runs out.
 pub fn begin_list(alloc: Global, name: &str) -> Result<Writer, AllocError>
     ensures { IfOk result (λ out. HasItems out name.now []) }
 {
@@ -48,17 +49,16 @@ pub fn begin_list(alloc: Global, name: &str) -> Result<Writer, AllocError>
     Ok(out)
 }
 
-// Ends such an object, which is the whole text.
+/// Ends the object that `begin_list` began, which is the whole text. It fails only if memory runs out.
 pub fn end_list(mut out: Writer) -> Result<Vec<u8>, AllocError>
-    ensures { (name : List ℕ) (items : List Data) → HasItems out name items
-        → IfOk result (λ text. text.items ≡ compact_text (list_body name items)) }
+    ensures { EndsList out result }
 {
     out.end_array()?;
     out.end_object()?;
     Ok(out.into_inner())
 }
 
-// Begins an object.
+/// Begins an object of any members. It fails only if memory runs out.
 pub fn begin_members(alloc: Global) -> Result<Writer, AllocError>
     ensures { IfOk result (λ out. HasMembers out []) }
 {
@@ -67,10 +67,9 @@ pub fn begin_members(alloc: Global) -> Result<Writer, AllocError>
     Ok(out)
 }
 
-// Ends such an object, which is the whole text.
+/// Ends the object that `begin_members` began, which is the whole text. It fails only if memory runs out.
 pub fn end_members(mut out: Writer) -> Result<Vec<u8>, AllocError>
-    ensures { (members : List Member) → HasMembers out members
-        → IfOk result (λ text. text.items ≡ compact_text (object_of members)) }
+    ensures { EndsMembers out result }
 {
     out.end_object()?;
     Ok(out.into_inner())
