@@ -52,8 +52,8 @@ run() { # run SCRIPT: runs it once, and prints the microseconds, the instruction
         awk '/Collected/ { print $NF }' "$work/counted" >"$work/number"
         ;;
     allocations)
-        counted "$1" --tool=memcheck --undef-value-errors=no --leak-check=no
-        awk '/total heap usage/ { gsub(",", ""); print $5 }' "$work/counted" >"$work/number"
+        counted "$1" --tool=memcheck --undef-value-errors=no --leak-check=no --trace-malloc=yes
+        grep -cE '^--[0-9]+-- [mc]alloc\(' "$work/counted" >"$work/number"
         ;;
     *)
         from=$(date +%s%N)
