@@ -28,6 +28,7 @@ use Rattle.mk_eval.specs.Includes as includes
 use Rattle.mk_eval.specs.Modules as modules
 use Rattle.mk_eval.specs.Running.{Opening, OpensFile}
 use Rattle.mk_eval.specs.Views.{loops_of, place_of}
+use Rattle.mk_eval.specs.declared.heads.Head.{Head}
 use Rattle.mk_eval.specs.declared.including.ExecutedFile.{ExecutedFile}
 use Rattle.mk_eval.specs.declared.including.Included.{Included}
 use Rattle.mk_eval.specs.declared.state.EvalState.{EvalState}
@@ -75,21 +76,22 @@ abbrev pub GivesHead : Variables → List Iteration → LineKind → Result (Str
 GivesHead variables loops kind result old new =
     GivesPurely string_bytes result new (heads.head_text variables (loops_of loops) (shown_kind kind) old)
 
--- what follows the word of a line with this text is given so
-abbrev pub GivesHeader : Variables → List Iteration → List ℕ → Result (String Global) (PureStop FaultKind)
-    → Meter → Meter → Type 0
-GivesHeader variables loops line result old new =
-    GivesPurely string_bytes result new (heads.head_text variables (loops_of loops) (line_kind line) old)
+-- what follows the word of such a line is given so
+abbrev pub GivesHeader : Head → Result (String Global) (PureStop FaultKind) → Meter → Meter → Type 0
+GivesHeader head result old new =
+    GivesPurely string_bytes result new
+    (heads.head_text head.variables.now (loops_of head.loops.now) (line_kind head.text.now) old)
 
--- the iterations are given of the loop that a line with this text begins
-abbrev pub BeginsLoop : Variables → List Iteration → List ℕ → Result (Rc Iterations Global) (PureStop FaultKind)
-    → Meter → Meter → Type 0
-BeginsLoop variables loops line result old new =
-    GivesPurely (λ turns. turns_in turns.value) result new (heads.turns variables (loops_of loops) line old)
+-- the iterations are given of the loop that such a line begins
+abbrev pub BeginsLoop : Head → Result (Rc Iterations Global) (PureStop FaultKind) → Meter → Meter → Type 0
+BeginsLoop head result old new =
+    GivesPurely (λ turns. turns_in turns.value) result new
+    (heads.turns head.variables.now (loops_of head.loops.now) head.text.now old)
 
--- the condition of a line with this text, in the makefile of this name
-abbrev pub condition : List ℕ → Variables → List Iteration → List ℕ → FileMap → Work Account FaultKind Bool
-condition makefile variables loops line files = heads.judge files makefile variables (loops_of loops) line
+-- the condition of such a line, in the makefile of this name
+abbrev pub condition : List ℕ → Head → FileMap → Work Account FaultKind Bool
+condition makefile head files =
+    heads.judge files makefile head.variables.now (loops_of head.loops.now) head.text.now
 
 -- ---- what a line opens
 

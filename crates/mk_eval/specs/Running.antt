@@ -66,12 +66,12 @@ abbrev pub Performs : List Iteration → List ℕ → Variables × Meter → Var
 Performs loops text old new result =
     GivesPurely (λ request. (new.0, request)) result new.1 (lines.perform old.0 (loops_of loops) text old.1)
 
--- the iterations are given of the loop that a line of an executed file begins, from the first budget to the second
-abbrev pub LoopAt : ExecutedFile → List Iteration → LogicalLine → EvalState
-    → Result (Rc Iterations Global) (PureStop FaultAt) → Meter × Meter → Type 0
-LoopAt here loops line state result budgets =
-    GivesPurely (λ turns. turns_in turns.value) result budgets.1
-    (tell (meaning.at here.file.now line.line) (heads.turns state.variables (loops_of loops) line.text budgets.0))
+-- the iterations are given of the loop that a line of an executed file begins, from one budget to the next
+abbrev pub LoopAt : ExecutedFile → LogicalLine → EvalState → Result (Rc Iterations Global) (PureStop FaultAt)
+    → Meter → Meter → Type 0
+LoopAt here line state result old new =
+    GivesPurely (λ turns. turns_in turns.value) result new
+    (tell (meaning.at here.file.now line.line) (heads.turns state.variables (loops_of here.loops.now) line.text old))
 
 -- a unit is spent at the line with this number, or that is a fault there
 abbrev pub PaysAt : {R : Type 0} → ExecutedFile → ℕ → Result R (PureStop FaultAt) → Meter → Meter → Type 0
@@ -90,8 +90,8 @@ abbrev pub Judges : {F : Type 0} → (FileMap → Work Account F Bool) → Resul
 Judges work result old new = Gives (λ held. held) result (account new.0 new.1) (work old.1.files (account old.0 old.1))
 
 -- the condition of a line of an executed file
-abbrev pub condition_at : ExecutedFile → List Iteration → LogicalLine → EvalState → FileMap → Work Account FaultAt Bool
-condition_at here loops line state files = (works_of here files).holds (loops_of loops) line state
+abbrev pub condition_at : ExecutedFile → LogicalLine → EvalState → FileMap → Work Account FaultAt Bool
+condition_at here line state files = (works_of here files).holds (loops_of here.loops.now) line state
 
 -- the file that a line opens, if it opens one, for the state before it, among files
 abbrev pub Opening : Type 0 → Type 0
@@ -110,9 +110,10 @@ module_at here line word files state =
     meaning.blamed (place_of here files) line (modules.open_module (place_of here files) state word)
 
 -- what a line of an executed file opens, after it has done what it does by itself
-abbrev pub line_file : ExecutedFile → List Iteration → LogicalLine → Opening FaultAt
-line_file here loops line files state =
-    meaning.blamed_at (place_of here files) line (meaning.open_line (place_of here files) (loops_of loops) line state)
+abbrev pub line_file : ExecutedFile → LogicalLine → Opening FaultAt
+line_file here line files state =
+    meaning.blamed_at (place_of here files) line
+    (meaning.open_line (place_of here files) (loops_of here.loops.now) line state)
 
 -- words are given as this work gives them, from one budget to the next
 abbrev pub GivesWords : {F : Type 0} → Result (Vec (String Global) Global) (PureStop F) → Work Meter F (List (List ℕ))

@@ -17,6 +17,17 @@ use mk_paths::{Name, Names};
 use std::alloc::{AllocError, Global};
 use std::rc::Rc;
 
+/// A line that begins a block or a branch, before the words of loops are put in.
+#[derive(Clone, Copy)]
+pub(crate) struct Head<'a> {
+    /// The variables.
+    pub(crate) variables: &'a Env,
+    /// The loops around the line, of which the innermost is the last.
+    pub(crate) loops: &'a [Iteration],
+    /// Its text.
+    pub(crate) text: &'a str,
+}
+
 /// What the directive makes of its condition; `None` if it has none.
 fn form_of(word: Directive) -> Option<Form>
     ensures { result ≡ heads.form_of word }
@@ -93,25 +104,23 @@ fn head_text(
 pub(crate) fn judge<F: Names>(
     alloc: Global,
     makefile: &Name,
-    variables: &Env,
-    loops: &[Iteration],
-    line: &str,
+    head: Head<'_>,
     files: &mut F,
     budget: &mut Budget,
 ) -> Result<bool, Stop<FaultKind>>
-    ensures gives { Judges (condition makefile.now variables.now loops.now line.now) result
+    ensures gives { Judges (condition makefile.now head.entry) result
         (budget.old, F.view files.old) (budget.new, F.view files.new) }
     ensures asks { Asks F.fails_with result (F.view files.old) (F.view files.new) }
     ensures later { IsLater budget.old budget.new }
     ensures paid { IfOk result (λ held. Pays budget.old budget.new) }
 {
-    let kind = line_kind(alloc, line)?;
-    let text = head_text(alloc, variables, loops, kind, budget)?;
+    let kind = line_kind(alloc, head.text)?;
+    let text = head_text(alloc, head.variables, head.loops, kind, budget)?;
     let Some(form) = form_in(kind) else {
         return Err(Stop::Fault(FaultKind::Condition)); // no other line has a condition
     };
     let setting = Setting {
-        variables,
+        variables: head.variables,
         makefile,
         form,
         text: text.as_str(),
@@ -123,31 +132,27 @@ pub(crate) fn judge<F: Names>(
 /// a unit, before anything else.
 pub(crate) fn header_text(
     alloc: Global,
-    variables: &Env,
-    loops: &[Iteration],
-    line: &str,
+    head: Head<'_>,
     budget: &mut Budget,
 ) -> Result<String, PureStop<FaultKind>>
-    ensures gives { GivesHeader variables.now loops.now line.now result budget.old budget.new }
+    ensures gives { GivesHeader head.entry result budget.old budget.new }
     ensures later { IsLater budget.old budget.new }
     ensures paid { IfOk result (λ _. Pays budget.old budget.new) }
 {
-    let kind = line_kind(alloc, line)?;
-    head_text(alloc, variables, loops, kind, budget)
+    let kind = line_kind(alloc, head.text)?;
+    head_text(alloc, head.variables, head.loops, kind, budget)
 }
 
 /// The iterations of the loop that this line begins.
 pub(crate) fn loop_turns(
     alloc: Global,
-    variables: &Env,
-    loops: &[Iteration],
-    line: &str,
+    head: Head<'_>,
     budget: &mut Budget,
 ) -> Result<Rc<Iterations>, PureStop<FaultKind>>
-    ensures gives { BeginsLoop variables.now loops.now line.now result budget.old budget.new }
+    ensures gives { BeginsLoop head.entry result budget.old budget.new }
     ensures later { IsLater budget.old budget.new }
 {
-    let header = header_text(alloc, variables, loops, line, budget)?;
-    let turns = read_header(alloc, variables, header.as_str(), budget)?;
+    let header = header_text(alloc, head, budget)?;
+    let turns = read_header(alloc, head.variables, header.as_str(), budget)?;
     Ok(Rc::new(alloc, turns)?)
 }

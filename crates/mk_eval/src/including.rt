@@ -13,10 +13,11 @@ use crate::requests::Request;
 use crate::state::EvalState;
 use mk_base::{Budget, FaultKind, Stop};
 use mk_files::{Content, Files, ask_read};
+use mk_loop::Iteration;
 use mk_paths::{Name, NameFault};
 use std::alloc::Global;
 
-/// A file whose lines are executed.
+/// Where a line is executed: in which file, and in which loops.
 #[derive(Clone, Copy)]
 pub struct ExecutedFile<'a> {
     /// The makefile that is evaluated.
@@ -25,6 +26,8 @@ pub struct ExecutedFile<'a> {
     pub file: &'a Name,
     /// How many levels deep files may still include one another.
     pub levels: u32,
+    /// The loops around the line, of which the innermost is the last.
+    pub loops: &'a [Iteration],
 }
 
 /// A file that is to be executed.

@@ -5,12 +5,11 @@ ghost use Rattle.mk_files.specs.Working.{Asks};
 ghost use Rattle.mk_eval.specs.Running.{Opens, Pays, OpensFile, Judges, line_file, condition_at};
 
 use crate::executing::perform;
-use crate::heads::judge;
+use crate::heads::{Head, judge};
 use crate::including::{ExecutedFile, Included, open_request};
 use crate::state::EvalState;
 use mk_base::{Budget, Fault, Stop};
 use mk_files::Files;
-use mk_loop::Iteration;
 use mk_paths::{Name, Names};
 use mk_text::Logical;
 use std::alloc::Global;
@@ -28,19 +27,18 @@ use std::alloc::Global;
 pub fn open_line<F: Files>(
     alloc: Global,
     here: ExecutedFile<'_>,
-    loops: &[Iteration],
     line: &Logical,
     state: &mut EvalState,
     files: &mut F,
     budget: &mut Budget,
 ) -> Result<Option<Included>, Stop<Fault>>
-    ensures gives { OpensFile (line_file here.entry loops.now line.now) (state.old, state.new)
-        result (budget.old, F.view files.old) (budget.new, F.view files.new) }
+    ensures gives { OpensFile (line_file here.entry line.now) (state.old, state.new) result
+        (budget.old, F.view files.old) (budget.new, F.view files.new) }
     ensures asks { Asks F.fails_with result (F.view files.old) (F.view files.new) }
     ensures later { IsLater budget.old budget.new }
     ensures opens { IfOk result (Opens here.entry.levels budget.old budget.new) }
 {
-    let opened = match perform(alloc, &mut state.variables, loops, line.text(), budget) {
+    let opened = match perform(alloc, &mut state.variables, here.loops, line.text(), budget) {
         Ok(None) => Ok(None),
         Ok(Some(request)) => open_request(alloc, here, state, &request, files, budget),
         Err(stop) => Err(Stop::from(stop)),
@@ -61,28 +59,23 @@ pub fn open_line<F: Files>(
 pub fn holds<F: Names>(
     alloc: Global,
     here: ExecutedFile<'_>,
-    loops: &[Iteration],
     line: &Logical,
     state: &EvalState,
     files: &mut F,
     budget: &mut Budget,
 ) -> Result<bool, Stop<Fault>>
-    ensures gives { Judges (condition_at here.entry loops.now line.now state.now) result
+    ensures gives { Judges (condition_at here.entry line.now state.now) result
         (budget.old, F.view files.old) (budget.new, F.view files.new) }
     ensures asks { Asks F.fails_with result (F.view files.old) (F.view files.new) }
     ensures later { IsLater budget.old budget.new }
     ensures paid { IfOk result (λ held. Pays budget.old budget.new) }
 {
-    let variables = &state.variables;
-    match judge(
-        alloc,
-        here.makefile,
-        variables,
-        loops,
-        line.text(),
-        files,
-        budget,
-    ) {
+    let head = Head {
+        variables: &state.variables,
+        loops: here.loops,
+        text: line.text(),
+    };
+    match judge(alloc, here.makefile, head, files, budget) {
         Ok(held) => Ok(held),
         Err(stop) => Err(stop.blame(alloc, here.file.as_str(), line.line())),
     }

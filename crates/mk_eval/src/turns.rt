@@ -4,7 +4,7 @@ ghost use Rattle.mk_base.specs.Meter.{IsLater};
 ghost use Rattle.mk_loop.specs.Scopes.{turns_in};
 ghost use Rattle.mk_eval.specs.Running.{Pays, LoopAt, PaysAt, GoesInside};
 
-use crate::heads::loop_turns;
+use crate::heads::{Head, loop_turns};
 use crate::including::ExecutedFile;
 use crate::state::EvalState;
 use mk_base::{Budget, Fault, PureStop};
@@ -20,15 +20,19 @@ use std::rc::Rc;
 pub fn turns_at(
     alloc: Global,
     here: ExecutedFile<'_>,
-    loops: &[Iteration],
     line: &Logical,
     state: &EvalState,
     budget: &mut Budget,
 ) -> Result<Rc<Iterations>, PureStop<Fault>>
-    ensures gives { LoopAt here.entry loops.now line.now state.now result (budget.old, budget.new) }
+    ensures gives { LoopAt here.entry line.now state.now result budget.old budget.new }
     ensures later { IsLater budget.old budget.new }
 {
-    match loop_turns(alloc, &state.variables, loops, line.text(), budget) {
+    let head = Head {
+        variables: &state.variables,
+        loops: here.loops,
+        text: line.text(),
+    };
+    match loop_turns(alloc, head, budget) {
         Ok(turns) => Ok(turns),
         Err(stop) => Err(stop.blame(alloc, here.file.as_str(), line.line())),
     }

@@ -1,6 +1,8 @@
 //! Where lines are.
-ghost use Rattle.std.specs.Prelude.{◌<◌, length};
+ghost use Rattle.std.specs.Prelude.{◌≡◌, ◌<◌, length};
 ghost use Rattle.mk_loop.specs.Scopes.{turns_in};
+ghost use Rattle.mk_eval.specs.Views.{loops_of};
+ghost use Rattle.mk_step.specs.Views.{site_of};
 ghost use Rattle.mk_step.specs.Steps.{IsOutside, EntersLoop, IsHere};
 
 use mk_eval::{ExecutedFile, loops_at};
@@ -53,12 +55,14 @@ impl Site {
 
     /// The same in the evaluation of this makefile.
     pub(crate) fn here<'a>(&'a self, makefile: &'a Name) -> ExecutedFile<'a>
-        ensures { IsHere makefile.now self.now result }
+        ensures place { IsHere makefile.now self.now result }
+        ensures loops { loops_of result.loops.now ≡ (site_of self.now).loops }
     {
         ExecutedFile {
             makefile,
             file: &*self.file,
             levels: self.levels,
+            loops: self.loops.as_slice(),
         }
     }
 }

@@ -105,7 +105,6 @@ impl Machine {
         ensures parses { P.becomes parses.old parses.new }
     {
         let here = site.here(&self.makefile);
-        let loops = site.loops.as_slice();
         match node {
             Node::Line(line) => self.do_line(alloc, site, line, parses, files),
             Node::Choice {
@@ -114,20 +113,12 @@ impl Machine {
                 branches,
                 otherwise,
             } => {
-                let held = holds(
-                    alloc,
-                    here,
-                    loops,
-                    head,
-                    &self.state,
-                    files,
-                    &mut self.budget,
-                )?;
+                let held = holds(alloc, here, head, &self.state, files, &mut self.budget)?;
                 let to_do = chosen(held, body, branches, otherwise)?;
                 Ok(Inner::of_block(site.clone()?, to_do))
             }
             Node::Loop { head, body } => {
-                let turns = turns_at(alloc, here, loops, head, &self.state, &mut self.budget)?;
+                let turns = turns_at(alloc, here, head, &self.state, &mut self.budget)?;
                 let to_do = begun(head, body, turns)?;
                 Ok(Inner::of_block(site.clone()?, to_do))
             }
@@ -153,10 +144,9 @@ impl Machine {
         ensures parses { P.becomes parses.old parses.new }
     {
         let here = site.here(&self.makefile);
-        let loops = site.loops.as_slice();
         let may_ask = may_ask_modules(&self.state);
         let (state, budget) = (&mut self.state, &mut self.budget);
-        match open_line(alloc, here, loops, line, state, files, budget)? {
+        match open_line(alloc, here, line, state, files, budget)? {
             None => Ok(Inner::of_line(site, line.line(), None, may_ask, &self.state)?),
             Some(included) => {
                 let lines = lines_in(alloc, included, site.levels - 1, parses)?;
@@ -183,18 +173,9 @@ impl Machine {
         ensures makefile { self.new.makefile ≡ self.old.makefile }
     {
         let here = site.here(&self.makefile);
-        let loops = site.loops.as_slice();
         let branch = &branches.as_slice()[next];
         let head = &branch.head;
-        let held = holds(
-            alloc,
-            here,
-            loops,
-            head,
-            &self.state,
-            files,
-            &mut self.budget,
-        )?;
+        let held = holds(alloc, here, head, &self.state, files, &mut self.budget)?;
         let body = branch.body.clone()?;
         let to_do = after_condition(held, body, branches, next, otherwise);
         self.frames.push(Frame { site, to_do })?;

@@ -4,7 +4,7 @@ use Rattle.mk_base.specs.Stopping.{StopsPurelyAt}
 use Rattle.mk_ast.specs.Parsing.{parsed}
 use Rattle.mk_files.specs.Asking.{account}
 use Rattle.mk_eval.specs.Includes.{Place}
-use Rattle.mk_eval.specs.Views.{loops_of, file_of}
+use Rattle.mk_eval.specs.Views.{file_of}
 use Rattle.mk_step.specs.Machine.{place_at, read_lines, modules_at}
 use Rattle.mk_step.specs.Views.{site_of, frame_of, inner_frames}
 use Rattle.mk_step.proofs.Stepping.{line-stops, line-alone, line-reads, line-unread, may-open, found-some}
@@ -14,7 +14,7 @@ pub overflow_sub-deref : goal.overflow_sub-deref
 overflow_sub-deref g c =
     let files = (g.F.Names.view c.args.files.now).files in
     let site = c.args.site.now.value in
-    let placed = c.here-here.ensures files ∙ ap (λ site. place_at files c.args.self.now.makefile (site_of site)) c.deref.ensures in
+    let placed = c.here-here.ensures.place files ∙ ap (λ site. place_at files c.args.self.now.makefile (site_of site)) c.deref.ensures in
     let some : site.levels ≡ 0 → ⊥ = may-open c.here-here.result.levels site.levels c.args.self.now.budget c.open_line.new.budget c.in_ok-open_line.field-0 c.in-Some.included (ap (λ (place : Place). place.levels) placed) c.in-Some.is c.in_ok-open_line.ensures.opens in
     let same : c.deref-in-Some.result.now.levels ≡ site.levels = ap (λ site. site.levels) c.deref-in-Some.ensures in
     omega (arith, some, same)
@@ -25,9 +25,9 @@ returns-in_err-open_line-clause-gives g c =
     let files = (view c.args.files.now).files in
     let p = err_from_is_err_and c.from_residual.result c.from_residual.ensures.1 in
     rw (p.1, p.2)
-    (line-stops c.here-here.result files c.args.self.now.makefile (site_of c.args.site.now.value) c.as_slice-loops.result.now
-    (c.here-here.ensures files ∙ ap (λ site. place_at files c.args.self.now.makefile (site_of site)) c.deref.ensures)
-    (ap loops_of (c.as_slice-loops.ensures.value ∙ ap (λ site. site.loops.items) c.deref-2.ensures))
+    (line-stops c.here-here.result files c.args.self.now.makefile (site_of c.args.site.now.value) c.here-here.result.loops.now
+    (c.here-here.ensures.place files ∙ ap (λ site. place_at files c.args.self.now.makefile (site_of site)) c.deref.ensures)
+    (c.here-here.ensures.loops ∙ ap (λ site. (site_of site).loops) c.deref.ensures)
     c.args.line.now c.args.self.now.state (account c.args.self.now.budget (view c.args.files.now)) c.in_err-open_line.field-0.0 (account c.open_line.new.budget (view c.open_line.new.files)) c.in_err-open_line.ensures.gives)
 
 pub returns-in_ok-of_line-in-None-clause-gives : goal.returns-in_ok-of_line-in-None-clause-gives
@@ -37,9 +37,9 @@ returns-in_ok-of_line-in-None-clause-gives g c =
     let site = site_of c.args.site.now.value in
     let new = c.open_line.new.state in
     let end = account c.open_line.new.budget (view c.open_line.new.files) in
-    line-alone c.here-here.result files c.args.self.now.makefile site c.as_slice-loops.result.now
-    (c.here-here.ensures files ∙ ap (λ site. place_at files c.args.self.now.makefile (site_of site)) c.deref.ensures)
-    (ap loops_of (c.as_slice-loops.ensures.value ∙ ap (λ site. site.loops.items) c.deref-2.ensures))
+    line-alone c.here-here.result files c.args.self.now.makefile site c.here-here.result.loops.now
+    (c.here-here.ensures.place files ∙ ap (λ site. place_at files c.args.self.now.makefile (site_of site)) c.deref.ensures)
+    (c.here-here.ensures.loops ∙ ap (λ site. (site_of site).loops) c.deref.ensures)
     c.args.line.now c.args.self.now.state (account c.args.self.now.budget (view c.args.files.now)) new end (inner_frames c.in_ok-of_line-in-None.field-0)
     (found-some _ new c.in_ok-open_line.field-0 end None c.in-None.is c.in_ok-open_line.ensures.gives)
     (c.in_ok-of_line-in-None.ensures
@@ -55,9 +55,9 @@ returns-in_ok-of_line-in-Some-clause-gives g c =
     let end = account c.open_line.new.budget (view c.open_line.new.files) in
     let included = c.in-Some.included in
     let frame = frame_of c.in_ok-lines-in-Some.lines in
-    let placed = c.here-here.ensures files ∙ ap (λ site. place_at files c.args.self.now.makefile (site_of site)) c.deref.ensures in
-    line-reads c.here-here.result files c.args.self.now.makefile site c.as_slice-loops.result.now placed
-    (ap loops_of (c.as_slice-loops.ensures.value ∙ ap (λ site. site.loops.items) c.deref-2.ensures))
+    let placed = c.here-here.ensures.place files ∙ ap (λ site. place_at files c.args.self.now.makefile (site_of site)) c.deref.ensures in
+    line-reads c.here-here.result files c.args.self.now.makefile site c.here-here.result.loops.now placed
+    (c.here-here.ensures.loops ∙ ap (λ site. (site_of site).loops) c.deref.ensures)
     c.args.line.now c.args.self.now.state (account c.args.self.now.budget (view c.args.files.now)) new (file_of included) end frame (inner_frames c.in_ok-of_line-in-Some.field-0)
     (found-some _ new c.in_ok-open_line.field-0 end (Some included) c.in-Some.is c.in_ok-open_line.ensures.gives)
     (may-open c.here-here.result.levels site.levels c.args.self.now.budget c.open_line.new.budget c.in_ok-open_line.field-0 included (ap (λ (place : Place). place.levels) placed) c.in-Some.is c.in_ok-open_line.ensures.opens)
@@ -75,11 +75,11 @@ returns-in_err-lines-in-Some-clause-gives g c =
     let end = account c.open_line.new.budget (view c.open_line.new.files) in
     let included = c.in-Some.included in
     let stop = c.in_err-lines-in-Some.field-0.0 in
-    let placed = c.here-here.ensures files ∙ ap (λ site. place_at files c.args.self.now.makefile (site_of site)) c.deref.ensures in
+    let placed = c.here-here.ensures.place files ∙ ap (λ site. place_at files c.args.self.now.makefile (site_of site)) c.deref.ensures in
     let p = err_from_is_err_and c.from_residual-in_err-lines-in-Some.result c.from_residual-in_err-lines-in-Some.ensures.1 in
     rw (p.1, p.2)
-    (line-unread c.here-here.result files c.args.self.now.makefile site c.as_slice-loops.result.now placed
-    (ap loops_of (c.as_slice-loops.ensures.value ∙ ap (λ site. site.loops.items) c.deref-2.ensures))
+    (line-unread c.here-here.result files c.args.self.now.makefile site c.here-here.result.loops.now placed
+    (c.here-here.ensures.loops ∙ ap (λ site. (site_of site).loops) c.deref.ensures)
     c.args.line.now c.args.self.now.state (account c.args.self.now.budget (view c.args.files.now)) new (file_of included) end stop
     (found-some _ new c.in_ok-open_line.field-0 end (Some included) c.in-Some.is c.in_ok-open_line.ensures.gives)
     (may-open c.here-here.result.levels site.levels c.args.self.now.budget c.open_line.new.budget c.in_ok-open_line.field-0 included (ap (λ (place : Place). place.levels) placed) c.in-Some.is c.in_ok-open_line.ensures.opens)

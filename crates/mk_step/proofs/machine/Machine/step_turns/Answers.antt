@@ -20,14 +20,14 @@ returns-in_err-begin_turn-clause-gives c = λ files log.
     let p = err_from_is_err_and c.from_residual.result c.from_residual.ensures.1 in
     rw (p.1, p.2)
     (turns-stop c.here.result files c.args.self.now.makefile (site_of c.args.site.value)
-    (c.here.ensures files ∙ ap (λ site. place_at files c.args.self.now.makefile (site_of site)) c.deref.ensures)
+    (c.here.ensures.place files ∙ ap (λ site. place_at files c.args.self.now.makefile (site_of site)) c.deref.ensures)
     (frames_of c.args.self.now.frames.items) c.args.self.now.state c.args.self.now.budget log c.args.line (block_of c.args.body.value.items) (turns_in c.args.turns.value) c.args.next c.requires
     c.in_err-begin_turn.field-0.0 c.begin_turn.new.budget c.in_err-begin_turn.ensures.gives)
 
 pub returns-clause-gives : goal.returns-clause-gives
 returns-clause-gives c = λ files log.
     turns-go c.here.result files c.args.self.now.makefile (site_of c.args.site.value)
-    (c.here.ensures files ∙ ap (λ site. place_at files c.args.self.now.makefile (site_of site)) c.deref.ensures)
+    (c.here.ensures.place files ∙ ap (λ site. place_at files c.args.self.now.makefile (site_of site)) c.deref.ensures)
     (frames_of c.args.self.now.frames.items) c.args.self.now.state c.args.self.now.budget log c.args.line (block_of c.args.body.value.items) (turns_in c.args.turns.value) c.args.next c.requires
     c.begin_turn.new.budget _ c.in_ok-begin_turn.ensures.gives
     (let turn = get_or (turns_in c.args.turns.value) c.args.next [] in
