@@ -52,6 +52,14 @@ signed text =
 abbrev pub is_comparison : List ℕ → Bool
 is_comparison text = is_version (signed text).version
 
+-- the comparison that a text is, if it is one
+abbrev pub comparison_of : List ℕ → Option ComparisonValue
+comparison_of text = if is_comparison text then Some (signed text) else None
+
+-- the comparisons that texts are, if all of them are comparisons
+abbrev pub comparisons_in : List (List ℕ) → Option (List ComparisonValue)
+comparisons_in texts = if list_all is_comparison texts then Some (map signed texts) else None
+
 -- the comparisons between the commas of a text
 abbrev pub pieces_of : List ℕ → List (List ℕ)
 pieces_of versions = slice_split (λ byte. byte == comma) versions
@@ -66,10 +74,22 @@ are_versions versions = is_any versions || list_all is_comparison (pieces_of ver
 abbrev pub comparisons_of : List ℕ → List ComparisonValue
 comparisons_of versions = if is_any versions then [] else map signed (pieces_of versions)
 
+-- the comparisons of the versions that a text is, if it is versions
+abbrev pub versions_of : List ℕ → Option (List ComparisonValue)
+versions_of text = if are_versions text then Some (comparisons_of text) else None
+
 -- a flavor after `!` is forbidden, and any other is wanted
 abbrev pub forbids : List ℕ → Bool
 forbids [] = false
 forbids (first ∷ name) = first == bang
+
+-- the wanted ones of flavors
+abbrev pub wanted_among : List (List ℕ) → List (List ℕ)
+wanted_among flavors = filter (λ flavor. not (forbids flavor)) flavors
+
+-- the names of the forbidden ones, without their `!`
+abbrev pub forbidden_among : List (List ℕ) → List (List ℕ)
+forbidden_among flavors = map (drop 1) (filter forbids flavors)
 
 -- a flavor has a name
 abbrev pub has_name : List ℕ → Bool
@@ -91,8 +111,8 @@ alternative_of_words stem (versions ∷ flavors) =
     then Ok (record {
       stem = stem;
       comparisons = comparisons_of versions;
-      wanted = filter (λ flavor. not (forbids flavor)) flavors;
-      forbidden = map (drop 1) (filter forbids flavors);
+      wanted = wanted_among flavors;
+      forbidden = forbidden_among flavors;
     })
     else Err BadVersion
 

@@ -1,3 +1,4 @@
 pub mod Alternatives
 pub mod Admitting
 pub mod Seen
+pub mod Giving

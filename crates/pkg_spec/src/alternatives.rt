@@ -5,9 +5,11 @@ ghost use Rattle.std.specs.List.{list_all, list_any, slice_split};
 ghost use Rattle.std.specs.Str.{bytes_eq};
 ghost use Rattle.std.specs.String.{string_bytes};
 ghost use Rattle.pkg_spec.specs.Alternatives.{alternative_of, at_versions, begins_versions, forbids, has_name};
+ghost use Rattle.pkg_spec.specs.Alternatives.{wanted_among, forbidden_among};
 ghost use Rattle.text_parts.specs.Cuts.{now_all};
-ghost use Rattle.pkg_spec.specs.Admitting.{set_of_alternative, with_stem, meeting, having, lacking};
-ghost use Rattle.pkg_spec.specs.Seen.{comparison_seen};
+ghost use Rattle.pkg_spec.specs.Admitting.{set_of_alternative, with_stem, having};
+ghost use Rattle.pkg_spec.specs.Seen.{meets_comparisons, has_all, has_none};
+ghost use Rattle.pkg_spec.specs.Giving.{ReadsAlternative, RefusesAs, GivesCut, GivesFlavors, GivesForbidden};
 
 use crate::comparisons::{Comparison, read_versions};
 use crate::faults::SpecFault;
@@ -25,18 +27,14 @@ pub(crate) struct Alternative {
 }
 
 impl Alternative {
-    ghost use Rattle.pkg_spec.specs.Seen.{alternative_seen, comparison_seen, admits_flavors};
+    ghost use Rattle.pkg_spec.specs.Seen.{alternative_seen, admits_after_stem, admits_flavors};
 
     /// The alternative that a text is, or the refusal that fits.
     pub(crate) fn read(alloc: Global, text: &str) -> Result<Alternative, SpecFault>
-        ensures ok { IfOk result (λ alternative. alternative_of text.now
-            ≡ Ok (alternative_seen alternative)) }
-        ensures no_stem { IsErrOf result SpecFault.NoStem
-            → alternative_of text.now ≡ Err SpecFault.NoStem }
-        ensures bad_version { IsErrOf result SpecFault.BadVersion
-            → alternative_of text.now ≡ Err SpecFault.BadVersion }
-        ensures empty { IsErrOf result SpecFault.EmptyAlternative
-            → alternative_of text.now ≡ Err SpecFault.EmptyAlternative }
+        ensures ok { ReadsAlternative result text.now }
+        ensures no_stem { RefusesAs result SpecFault.NoStem (alternative_of text.now) }
+        ensures bad_version { RefusesAs result SpecFault.BadVersion (alternative_of text.now) }
+        ensures empty { RefusesAs result SpecFault.EmptyAlternative (alternative_of text.now) }
     {
         if text.is_empty() {
             return Err(SpecFault::EmptyAlternative);
@@ -74,10 +72,7 @@ impl Alternative {
 
     // Whether the version and the flavors of a name are those that are asked for.
     fn admits_after_stem(&self, name: &PkgName) -> bool
-        ensures { result
-            ≡ (list_all (λ comparison. meeting
-            (comparison_seen comparison) name.now) self.now.comparisons.items
-            && admits_flavors self.now name.now) }
+        ensures { result ≡ admits_after_stem self.now name.now }
     {
         all_hold(&self.comparisons, name) && self.admits_flavors(name)
     }
@@ -99,8 +94,7 @@ fn fits_stem(stem: &str, name: &PkgName) -> bool
 
 // Whether the version of a name meets each comparison.
 fn all_hold(comparisons: &[Comparison], name: &PkgName) -> bool
-    ensures { result
-        ≡ list_all (λ comparison. meeting (comparison_seen comparison) name.now) comparisons.now }
+    ensures { result ≡ meets_comparisons comparisons.now name.now }
 {
     let version = name.version();
     comparisons
@@ -110,7 +104,7 @@ fn all_hold(comparisons: &[Comparison], name: &PkgName) -> bool
 
 // Whether a name has each of these flavors.
 fn has_all(name: &PkgName, wanted: &[String]) -> bool
-    ensures { result ≡ list_all (λ flavor. having (string_bytes flavor) name.now) wanted.now }
+    ensures { result ≡ has_all wanted.now name.now }
 {
     wanted
         .iter()
@@ -119,7 +113,7 @@ fn has_all(name: &PkgName, wanted: &[String]) -> bool
 
 // Whether a name has none of these flavors.
 fn has_none(name: &PkgName, forbidden: &[String]) -> bool
-    ensures { result ≡ list_all (λ flavor. lacking (string_bytes flavor) name.now) forbidden.now }
+    ensures { result ≡ has_none forbidden.now name.now }
 {
     forbidden
         .iter()
@@ -142,8 +136,7 @@ fn is_among(others: &[String], text: &str) -> bool
 
 // What is before the first dash that a digit, `*` or a sign follows, and what follows that dash.
 fn cut_at_versions(text: &str) -> Option<(&str, &str)>
-    ensures { MatchOption result (at_versions text.now ≡ None)
-        (λ cut. at_versions text.now ≡ Some (record { before = cut.0.now; behind = cut.1.now })) }
+    ensures { GivesCut result (at_versions text.now) }
 {
     cut_where(text, '-', begins_versions)
 }
@@ -174,8 +167,7 @@ fn has_name(flavor: &str) -> bool
 
 // The name of a forbidden flavor; `None` if the flavor isn't forbidden.
 fn forbidden_name(flavor: &str) -> Option<&str>
-    ensures { MatchOption result (forbids flavor.now ≡ false)
-        (λ name. (forbids flavor.now ≡ true) × (name.now ≡ drop 1 flavor.now)) }
+    ensures { GivesForbidden result flavor.now }
 {
     flavor.strip_prefix('!')
 }
@@ -189,8 +181,7 @@ fn forbids(flavor: &str) -> bool
 
 // The flavors that must be there.
 fn wanted_of(alloc: Global, flavors: &[&str]) -> Result<Vec<String>, AllocError>
-    ensures { IfOk result (λ wanted. map string_bytes wanted.items
-        ≡ filter (λ flavor. not (forbids flavor)) (now_all flavors.now)) }
+    ensures { GivesFlavors result (wanted_among (now_all flavors.now)) }
 {
     let mut wanted = Vec::new(alloc);
     for flavor in flavors {
@@ -203,8 +194,7 @@ fn wanted_of(alloc: Global, flavors: &[&str]) -> Result<Vec<String>, AllocError>
 
 // The flavors that must not be there.
 fn forbidden_of(alloc: Global, flavors: &[&str]) -> Result<Vec<String>, AllocError>
-    ensures { IfOk result (λ forbidden. map string_bytes forbidden.items
-        ≡ map (drop 1) (filter forbids (now_all flavors.now))) }
+    ensures { GivesFlavors result (forbidden_among (now_all flavors.now)) }
 {
     let mut forbidden = Vec::new(alloc);
     for flavor in flavors {

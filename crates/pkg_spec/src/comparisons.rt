@@ -1,11 +1,10 @@
 // The comparisons of a spec.
-ghost use Rattle.std.specs.Prelude.{◌≡◌, IfOk, option_map, map, if◌then◌else◌, Some, None};
-ghost use Rattle.std.specs.List.{list_all};
+ghost use Rattle.std.specs.Prelude.{◌≡◌};
 ghost use Rattle.pkg_name.specs.Order.{version_cmp};
-ghost use Rattle.pkg_spec.specs.Alternatives.{signed, is_comparison, pieces_of, are_versions, comparisons_of};
+ghost use Rattle.pkg_spec.specs.Alternatives.{signed, versions_of, comparisons_in};
 ghost use Rattle.pkg_spec.specs.Admitting.{holds};
 ghost use Rattle.text_parts.specs.Cuts.{now_all};
-ghost use Rattle.pkg_spec.specs.Seen.{comparison_seen};
+ghost use Rattle.pkg_spec.specs.Giving.{ReadsComparison, ReadsComparisons};
 
 use pkg_name::{Version, VersionFault};
 use std::alloc::{AllocError, Global};
@@ -37,8 +36,7 @@ pub(crate) struct Comparison {
 impl Comparison {
     /// The comparison that a text is; `None` if what follows its sign is no version.
     fn read(alloc: Global, text: &str) -> Result<Option<Comparison>, AllocError>
-        ensures { IfOk result (λ read. option_map comparison_seen read
-            ≡ (if is_comparison text.now then Some (signed text.now) else None)) }
+        ensures { ReadsComparison result text.now }
     {
         let (sign, version) = signed(text);
         match Version::read(alloc, version) {
@@ -91,9 +89,7 @@ pub(crate) fn read_versions(
     alloc: Global,
     versions: &str,
 ) -> Result<Option<Vec<Comparison>>, AllocError>
-    ensures { IfOk result (λ read. option_map
-        (λ comparisons. map comparison_seen comparisons.items) read
-        ≡ (if are_versions versions.now then Some (comparisons_of versions.now) else None)) }
+    ensures { ReadsComparisons result (versions_of versions.now) }
 {
     if versions == "*" {
         return Ok(Some(Vec::new(alloc)));
@@ -104,10 +100,7 @@ pub(crate) fn read_versions(
 
 // The comparisons of texts; `None` if one of them is no comparison.
 fn read_comparisons(alloc: Global, texts: &[&str]) -> Result<Option<Vec<Comparison>>, AllocError>
-    ensures { IfOk result (λ read. option_map
-        (λ comparisons. map comparison_seen comparisons.items) read
-        ≡ (if list_all is_comparison (now_all texts.now)
-        then Some (map signed (now_all texts.now)) else None)) }
+    ensures { ReadsComparisons result (comparisons_in (now_all texts.now)) }
 {
     let mut comparisons = Vec::new(alloc);
     for text in texts {

@@ -2,11 +2,11 @@
 ghost use Rattle.std.specs.Prelude.{◌≡◌, ◌==◌, ◌++◌, ◌||◌, IfOk, IsErrOf, Some, IsOk, map, option_to_list};
 ghost use Rattle.std.specs.List.{slice_split, filter_map, list_any};
 ghost use Rattle.std.specs.Result.{result_ok};
-ghost use Rattle.pkg_spec.specs.Alternatives.{spec_of, alternative_of, is_refused, bar};
+ghost use Rattle.pkg_spec.specs.Alternatives.{spec_of, bar};
 ghost use Rattle.text_parts.specs.Cuts.{now_all};
-ghost use Rattle.pkg_spec.specs.Seen.{alternative_seen, ReadsParts};
-ghost use Rattle.pkg_spec.specs.Admitting.{admitted_by, set_of_alternative};
-ghost use Rattle.pkg_spec.specs.declared.faults.SpecFault.TheVariants.{NoStem, BadVersion, EmptyAlternative};
+ghost use Rattle.pkg_spec.specs.Seen.{one_admits, ReadsParts};
+ghost use Rattle.pkg_spec.specs.Giving.{RefusesAs, AddsIfRead, NotesRefusal};
+ghost use Rattle.pkg_spec.specs.Admitting.{admitted_by};
 
 use crate::alternatives::Alternative;
 use crate::faults::SpecFault;
@@ -55,12 +55,9 @@ impl Spec {
     pub fn read(alloc: Global, text: &str) -> Result<Spec, SpecFault>
         ensures text { IfOk result (λ spec. spec ≡ text.now) }
         ensures ok { IfOk result (λ spec. IsOk (spec_of spec)) }
-        ensures no_stem { IsErrOf result SpecFault.NoStem
-            → spec_of text.now ≡ Err SpecFault.NoStem }
-        ensures bad_version { IsErrOf result SpecFault.BadVersion
-            → spec_of text.now ≡ Err SpecFault.BadVersion }
-        ensures empty { IsErrOf result SpecFault.EmptyAlternative
-            → spec_of text.now ≡ Err SpecFault.EmptyAlternative }
+        ensures no_stem { RefusesAs result SpecFault.NoStem (spec_of text.now) }
+        ensures bad_version { RefusesAs result SpecFault.BadVersion (spec_of text.now) }
+        ensures empty { RefusesAs result SpecFault.EmptyAlternative (spec_of text.now) }
     {
         let parts = split_at(alloc, text, '|')?;
         let reading = read_parts(alloc, &parts)?;
@@ -108,9 +105,7 @@ impl fmt::Display for Spec {
 
 // Whether one of the alternatives admits a name.
 fn one_admits(alternatives: &[Alternative], name: &PkgName) -> bool
-    ensures { result
-        ≡ list_any (λ alternative. set_of_alternative
-        (alternative_seen alternative) name.now) alternatives.now }
+    ensures { result ≡ one_admits alternatives.now name.now }
 {
     alternatives
         .iter()
@@ -127,20 +122,12 @@ struct Reading {
 }
 
 impl Reading {
-    ghost use Rattle.pkg_spec.specs.Seen.{alternative_seen};
-
     // With one more alternative.
     fn with(mut self, alloc: Global, text: &str) -> Result<Reading, AllocError>
-        ensures alternatives { IfOk result (λ reading.
-            map alternative_seen reading.alternatives.items
-            ≡ map alternative_seen self.alternatives.items
-            ++ option_to_list (result_ok (alternative_of text.now))) }
-        ensures no_stem { IfOk result (λ reading. reading.no_stem
-            ≡ (self.no_stem || is_refused NoStem (alternative_of text.now))) }
-        ensures bad_version { IfOk result (λ reading. reading.bad_version
-            ≡ (self.bad_version || is_refused BadVersion (alternative_of text.now))) }
-        ensures empty { IfOk result (λ reading. reading.empty
-            ≡ (self.empty || is_refused EmptyAlternative (alternative_of text.now))) }
+        ensures alternatives { AddsIfRead result self text.now }
+        ensures no_stem { NotesRefusal result SpecFault.NoStem self text.now }
+        ensures bad_version { NotesRefusal result SpecFault.BadVersion self text.now }
+        ensures empty { NotesRefusal result SpecFault.EmptyAlternative self text.now }
     {
         match Alternative::read(alloc, text) {
             Ok(alternative) => self.alternatives.push(alternative)?,
