@@ -16,13 +16,13 @@ use Rattle.ports_plain.specs.ListBodies.{list_body}
 use Rattle.ports_plain.specs.Plain.{Answer}
 use Rattle.ports_plain.specs.Writing.{HasItems, HasMembers, Member, object_of}
 
--- where a function succeeds, it makes this
-abbrev pub Makes : {A E : Type 0} → Result A E → A → Type 0
-Makes result value = IfOk result (λ made. made ≡ value)
+-- where something is made, it is this
+abbrev pub IfMade : {A E : Type 0} → Result A E → A → Type 0
+IfMade result value = IfOk result (λ made. made ≡ value)
 
--- where a function succeeds, it makes this text
-abbrev pub MakesText : {Z E : Type 0} → Result (String Z) E → List ℕ → Type 0
-MakesText result text = IfOk result (λ made. string_bytes made ≡ text)
+-- where a text is made, it is this one
+abbrev pub IfTextMade : {Z E : Type 0} → Result (String Z) E → List ℕ → Type 0
+IfTextMade result text = IfOk result (λ made. string_bytes made ≡ text)
 
 -- where a function succeeds, it prepares this answer
 abbrev pub Prepares : {E : Type 0} → Result Prepared E → Answer → Type 0

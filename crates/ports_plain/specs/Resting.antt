@@ -49,8 +49,8 @@ value_cost_after makefile name (Ok evaluated) = with_cost evaluated.cost (value_
 value_cost_after makefile name (Err failed) = failed.cost
 
 -- the same of an evaluated makefile
-abbrev pub value_cost : Evaluated → List ℕ → List ℕ → ℕ
-value_cost evaluated makefile name = value_cost_after makefile name (Ok evaluated)
+abbrev pub told_value_cost : Evaluated → List ℕ → List ℕ → ℕ
+told_value_cost evaluated makefile name = value_cost_after makefile name (Ok evaluated)
 
 -- the units of a makefile of this kind, and then those of the record if it describes a port
 abbrev pub record_cost_by : Kind → ℕ → ℕ → ℕ

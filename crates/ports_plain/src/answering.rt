@@ -2,7 +2,7 @@
 ghost use Rattle.ports_plain.specs.Plain.{plain_request};
 ghost use Rattle.ports_plain.specs.Questions as questions;
 ghost use Rattle.ports_plain.specs.Questions.{question_of};
-ghost use Rattle.ports_plain.specs.Outcomes.{Makes};
+ghost use Rattle.ports_plain.specs.Outcomes.{IfMade};
 
 use crate::dependencies::{Direction, dependency_question};
 use crate::files::file_question;
@@ -75,7 +75,7 @@ impl Plain {
         target: &str,
         body: &[u8],
     ) -> Result<Question, AllocError>
-        ensures { Makes result (question_of (plain_request method target.now body.now)) }
+        ensures { IfMade result (question_of (plain_request method target.now body.now)) }
     {
         let (path, query) = path_and_query(target);
         let Some(route) = self.routes.find(path) else {
@@ -103,7 +103,7 @@ fn query_question(
     method: Method,
     query: &str,
 ) -> Result<Question, AllocError>
-    ensures { Makes result (questions.query_question query.now route method) }
+    ensures { IfMade result (questions.query_question query.now route method) }
 {
     match method {
         Method::Get => get_question(alloc, route, query),
@@ -113,7 +113,7 @@ fn query_question(
 
 /// The question of a GET on a route.
 fn get_question(alloc: Global, route: Route, query: &str) -> Result<Question, AllocError>
-    ensures { Makes result (questions.get_question query.now route) }
+    ensures { IfMade result (questions.get_question query.now route) }
 {
     match route {
         Route::Deps => dependency_question(alloc, Direction::Dependencies, query),

@@ -4,7 +4,7 @@ ghost use Rattle.ports_plain.specs.IndexRoutes as routes;
 ghost use Rattle.ports_plain.specs.IndexRoutes.{dependency_reply as reply_over};
 ghost use Rattle.ports_plain.specs.Questions as questions;
 ghost use Rattle.ports_plain.specs.declared.depth.Depth.TheVariants.{Direct, All};
-ghost use Rattle.ports_plain.specs.Outcomes.{WritesDependencies, Makes, RepliesOver, WritesJson, WritesOver};
+ghost use Rattle.ports_plain.specs.Outcomes.{WritesDependencies, IfMade, RepliesOver, WritesJson, WritesOver};
 
 use crate::depth::Depth;
 use crate::index_questions::IndexQuestion;
@@ -48,7 +48,7 @@ pub fn dependency_question(
     direction: Direction,
     query: &str,
 ) -> Result<Question, AllocError>
-    ensures { Makes result (questions.dependency_question direction query.now) }
+    ensures { IfMade result (questions.dependency_question direction query.now) }
 {
     match question_in(alloc, query)? {
         Ok(asked) => { Ok(Question::OfIndex(IndexQuestion::Dependencies(direction, asked))) }
@@ -58,7 +58,7 @@ pub fn dependency_question(
 
 /// What a query asks about a path's dependencies, or the refusal.
 fn question_in(alloc: Global, query: &str) -> Result<Result<DependencyQuestion, Reply>, AllocError>
-    ensures { Makes result (routes.question_in query.now) }
+    ensures { IfMade result (routes.question_in query.now) }
 {
     let kind = optional(alloc, query, "kind")?;
     let depth = optional(alloc, query, "depth")?;
@@ -78,7 +78,7 @@ fn question_on(
     kind: &str,
     depth: &str,
 ) -> Result<Result<DependencyQuestion, Reply>, AllocError>
-    ensures { Makes result (routes.question_about path kind.now depth.now) }
+    ensures { IfMade result (routes.question_about path kind.now depth.now) }
 {
     match (Kinds::read(kind), Depth::read(depth)) {
         (Some(kinds), Some(depth)) => Ok(Ok(DependencyQuestion { path, kinds, depth })),

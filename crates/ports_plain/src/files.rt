@@ -4,7 +4,7 @@ ghost use Rattle.ports_plain.specs.Answers.{file_answer, file_asked};
 ghost use Rattle.ports_plain.specs.Plain.{reply_alone};
 ghost use Rattle.ports_plain.specs.Questions as questions;
 ghost use Rattle.ports_plain.specs.Replies.{no_file as no_file_reply};
-ghost use Rattle.ports_plain.specs.Outcomes.{Makes, Prepares};
+ghost use Rattle.ports_plain.specs.Outcomes.{IfMade, Prepares};
 
 use crate::changing::{Change, Prepared};
 use crate::parameters::parameter;
@@ -33,7 +33,7 @@ pub fn file_question(
     query: &str,
     body: &[u8],
 ) -> Result<Question, AllocError>
-    ensures { Makes result (questions.file_question_in method body.now query.now) }
+    ensures { IfMade result (questions.file_question_in method body.now query.now) }
 {
     let Some(text) = parameter(alloc, query, "name")? else {
         return Question::refused(alloc, StatusCode::BAD_REQUEST, "Parameter");
@@ -53,7 +53,7 @@ fn named_file_question(
     name: Name,
     body: &[u8],
 ) -> Result<Question, AllocError>
-    ensures { Makes result (questions.named_file_question method body.now name) }
+    ensures { IfMade result (questions.named_file_question method body.now name) }
 {
     match method {
         Method::Get => Ok(Question::OfFile(FileQuestion::Show(name))),
@@ -64,7 +64,7 @@ fn named_file_question(
 
 /// The change that stores a file, whether or not it was there, with its reply.
 fn store_file(alloc: Global, name: Name, body: &[u8]) -> Result<Question, AllocError>
-    ensures { Makes result (questions.named_file_question Method.Put body.now name) }
+    ensures { IfMade result (questions.named_file_question Method.Put body.now name) }
 {
     let reply = stored(alloc)?;
     let content = Content::new(alloc, Vec::from_slice(alloc, body)?)?;

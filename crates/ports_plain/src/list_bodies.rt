@@ -4,7 +4,7 @@ ghost use Rattle.std.specs.Option.{option_copied};
 ghost use Rattle.ports_query.specs.Edges.{edges_lent};
 ghost use Rattle.ports_plain.specs.ListBodies as bodies;
 ghost use Rattle.ports_plain.specs.Writing.{Adds, AddsItems};
-ghost use Rattle.ports_plain.specs.Outcomes.{MakesText, WritesJson};
+ghost use Rattle.ports_plain.specs.Outcomes.{IfTextMade, WritesJson};
 
 use crate::writing::Scalar::{Number, Text};
 use crate::writing::{begin_list, end_list, write_object};
@@ -89,7 +89,7 @@ fn dependency_on<'a>(out: &mut Writer, edge: &'a Edge, target: &'a str) -> Resul
 
 /// The path that an item names. It is empty if the item can't be read.
 fn target_text(alloc: Global, target: Option<&PkgPath>) -> Result<String, AllocError>
-    ensures { MakesText result (bodies.target_text (option_copied target.entry)) }
+    ensures { IfTextMade result (bodies.target_text (option_copied target.entry)) }
 {
     match target {
         Some(path) => path.canonical(alloc),

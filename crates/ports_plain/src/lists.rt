@@ -3,7 +3,7 @@ ghost use Rattle.std.specs.Prelude.{◌≡◌};
 ghost use Rattle.ports_plain.specs.IndexRoutes as routes;
 ghost use Rattle.ports_plain.specs.Questions as questions;
 ghost use Rattle.ports_query.specs.Listing.{admits_one};
-ghost use Rattle.ports_plain.specs.Outcomes.{Makes, RepliesOver};
+ghost use Rattle.ports_plain.specs.Outcomes.{IfMade, RepliesOver};
 
 use crate::index_questions::IndexQuestion;
 use crate::list_bodies;
@@ -20,7 +20,7 @@ use std::alloc::{AllocError, Global};
 /// refusal `Parameter` if `where` is there twice, and by `Query` if it has no conditions. It fails only if memory
 /// runs out.
 pub fn list_question(alloc: Global, query: &str) -> Result<Question, AllocError>
-    ensures { Makes result (questions.list_question query.now) }
+    ensures { IfMade result (questions.list_question query.now) }
 {
     let Some(text) = optional(alloc, query, "where")? else {
         return Question::refused(alloc, StatusCode::BAD_REQUEST, "Parameter");
@@ -49,7 +49,7 @@ pub fn list_reply(
 /// the refusal `Parameter` if `spec` is missing, empty or there twice, and by `Spec` if it is no spec. It fails only
 /// if memory runs out.
 pub fn match_question(alloc: Global, query: &str) -> Result<Question, AllocError>
-    ensures { Makes result (questions.match_question query.now) }
+    ensures { IfMade result (questions.match_question query.now) }
 {
     let Some(text) = parameter(alloc, query, "spec")? else {
         return Question::refused(alloc, StatusCode::BAD_REQUEST, "Parameter");
@@ -77,7 +77,7 @@ pub fn match_reply(alloc: Global, index: &KnownIndex, spec: &Spec) -> Result<Rep
 
 /// The reply that lists packages.
 fn packages_reply(alloc: Global, packages: &[Listed<'_>]) -> Result<Reply, AllocError>
-    ensures { Makes result (routes.packages_reply packages.now) }
+    ensures { IfMade result (routes.packages_reply packages.now) }
 {
     let body = list_bodies::packages(alloc, packages)?;
     Ok(Reply::of_bytes(StatusCode::OK, Some(Content::Json), body))

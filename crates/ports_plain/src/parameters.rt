@@ -2,7 +2,7 @@
 ghost use Rattle.ports_plain.specs.Parameters as parameters;
 ghost use Rattle.ports_plain.specs.ParametersSeen.{GivesParameter, SaysTimes};
 ghost use Rattle.ports_plain.specs.PathParameter.{path_in as path_in_query};
-ghost use Rattle.ports_plain.specs.Outcomes.{Makes};
+ghost use Rattle.ports_plain.specs.Outcomes.{IfMade};
 
 use crate::replies::refusal;
 use form_urlencoded::parse;
@@ -53,7 +53,7 @@ pub fn optional<'a>(
 /// The package path that the parameter `path` names, or the refusal: `Parameter` if it is missing, empty or there
 /// twice, and `Path` if it is no package path. It fails only if memory runs out.
 pub fn path_in(alloc: Global, query: &str) -> Result<Result<PkgPath, Reply>, AllocError>
-    ensures { Makes result (path_in_query query.now) }
+    ensures { IfMade result (path_in_query query.now) }
 {
     let Some(text) = parameter(alloc, query, "path")? else {
         return Ok(Err(refusal(alloc, StatusCode::BAD_REQUEST, "Parameter")?));

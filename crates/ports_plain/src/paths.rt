@@ -3,7 +3,7 @@ ghost use Rattle.ports_plain.specs.Plain.{set_path as set_path_of, set_trees as 
 ghost use Rattle.ports_plain.specs.Questions as questions;
 ghost use Rattle.ports_plain.specs.Replies.{bad_path as bad_path_reply};
 ghost use Rattle.mk_paths.specs.SearchPath.{search_path};
-ghost use Rattle.ports_plain.specs.Outcomes.{Makes, Prepares};
+ghost use Rattle.ports_plain.specs.Outcomes.{IfMade, Prepares};
 
 use crate::changing::{Change, Prepared};
 use crate::questions::Question;
@@ -17,7 +17,7 @@ use std::alloc::{AllocError, Global};
 /// The question about the search path, which a PUT sets and nothing shows. It is settled by the refusal `Path` if
 /// the body of a PUT names no search path, and by `Method` for any other method. It fails only if memory runs out.
 pub fn path_question(alloc: Global, method: Method, body: &[u8]) -> Result<Question, AllocError>
-    ensures { Makes result (questions.path_question body.now method) }
+    ensures { IfMade result (questions.path_question body.now method) }
 {
     match method {
         Method::Put => Ok(Question::Settled(set_path(alloc, body)?)),

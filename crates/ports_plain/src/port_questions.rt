@@ -7,7 +7,7 @@ ghost use Rattle.ports_plain.specs.Questions as questions;
 ghost use Rattle.ports_plain.specs.Replies.{no_port as no_port_reply};
 ghost use Rattle.ports_plain.specs.Resting as resting;
 ghost use Rattle.ports_plain.specs.Subpackages.{has_named as has_named_in};
-ghost use Rattle.ports_plain.specs.Outcomes.{Makes, TellsCost, TellsReply};
+ghost use Rattle.ports_plain.specs.Outcomes.{IfMade, TellsCost, TellsReply};
 
 use crate::parameters::{parameter, path_in};
 use crate::questions::Question;
@@ -34,7 +34,7 @@ pub enum PortQuestion {
 /// refusal `Parameter` if `name` or `path` is missing, empty or there twice, and by `Path` if `path` is no package
 /// path. It fails only if memory runs out.
 pub fn variable_question(alloc: Global, query: &str) -> Result<Question, AllocError>
-    ensures { Makes result (questions.variable_question query.now) }
+    ensures { IfMade result (questions.variable_question query.now) }
 {
     let Some(name) = parameter(alloc, query, "name")? else {
         return Question::refused(alloc, StatusCode::BAD_REQUEST, "Parameter");
@@ -52,7 +52,7 @@ pub fn variable_question(alloc: Global, query: &str) -> Result<Question, AllocEr
 /// The question about the port whose path the query gives. It is settled by the refusal `Parameter` if `path` is
 /// missing, empty or there twice, and by `Path` if it is no package path. It fails only if memory runs out.
 pub fn port_question(alloc: Global, query: &str) -> Result<Question, AllocError>
-    ensures { Makes result (questions.port_question query.now) }
+    ensures { IfMade result (questions.port_question query.now) }
 {
     match path_in(alloc, query)? {
         Ok(path) => Ok(Question::OfPort(PortQuestion::Record(path))),
@@ -95,7 +95,7 @@ impl PortQuestion {
 
 /// The reply if a port's makefile isn't there: 404 `{"error":"NoPort"}`. It fails only if memory runs out.
 pub fn no_port(alloc: Global) -> Result<Reply, AllocError>
-    ensures { Makes result no_port_reply }
+    ensures { IfMade result no_port_reply }
 {
     refusal(alloc, StatusCode::NOT_FOUND, "NoPort")
 }
@@ -108,7 +108,7 @@ fn value_reply(
     name: &str,
 ) -> Result<(Reply, u64), AllocError>
     ensures reply { TellsReply result (plain.value_told evaluated.now makefile.now name.now) }
-    ensures cost { TellsCost result (resting.value_cost evaluated.now makefile.now name.now) }
+    ensures cost { TellsCost result (resting.told_value_cost evaluated.now makefile.now name.now) }
 {
     let (reply, more) = match value(alloc, evaluated, makefile, name) {
         Ok(Some(known)) => (variable(alloc, Some(known.text()))?, known.cost()),
@@ -155,7 +155,7 @@ fn described(
 
 /// The reply with a port, which must have the subpackage, if its path names one.
 fn port_reply(alloc: Global, path: &PkgPath, found: &PortRecord) -> Result<Reply, AllocError>
-    ensures { Makes result (plain.port_told path.now found.now) }
+    ensures { IfMade result (plain.port_told path.now found.now) }
 {
     if has_named(path, found) {
         port(alloc, path, found)

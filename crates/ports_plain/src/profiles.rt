@@ -2,7 +2,7 @@
 ghost use Rattle.std.specs.Prelude.{◌≡◌};
 ghost use Rattle.ports_plain.specs.Plain.{profile_named, set_profile as set_profile_of};
 ghost use Rattle.ports_plain.specs.Questions as questions;
-ghost use Rattle.ports_plain.specs.Outcomes.{Makes, Prepares};
+ghost use Rattle.ports_plain.specs.Outcomes.{IfMade, Prepares};
 
 use crate::changing::{Change, Prepared};
 use crate::questions::Question;
@@ -16,7 +16,7 @@ use std::alloc::{AllocError, Global};
 /// The question about the profile, which a PUT sets and nothing shows. It is settled by the refusal `Profile` if
 /// the body of a PUT is no profile's number, and by `Method` for any other method. It fails only if memory runs out.
 pub fn profile_question(alloc: Global, method: Method, body: &[u8]) -> Result<Question, AllocError>
-    ensures { Makes result (questions.profile_question body.now method) }
+    ensures { IfMade result (questions.profile_question body.now method) }
 {
     match method {
         Method::Put => Ok(Question::Settled(set_profile(alloc, body)?)),

@@ -2,7 +2,7 @@
 ghost use Rattle.std.specs.Prelude.{◌≡◌};
 ghost use Rattle.ports_plain.specs.Questions as questions;
 ghost use Rattle.ports_plain.specs.Replies.{refusal as refusal_of};
-ghost use Rattle.ports_plain.specs.Outcomes.{Makes};
+ghost use Rattle.ports_plain.specs.Outcomes.{IfMade};
 
 use crate::changing::Prepared;
 use crate::files::FileQuestion;
@@ -40,7 +40,7 @@ impl Question {
         status: StatusCode,
         word: &str,
     ) -> Result<Question, AllocError>
-        ensures { Makes result (questions.refused (refusal_of status word.now)) }
+        ensures { IfMade result (questions.refused (refusal_of status word.now)) }
     {
         Ok(Question::settled(refusal(alloc, status, word)?))
     }

@@ -8,7 +8,7 @@ ghost use Rattle.ports_plain.specs.Replies.{not_allowed as not_allowed_on, metho
 ghost use Rattle.ports_plain.specs.Replies.{faulty as faulty_at, file_shown as file_shown_as, stored as stored_reply};
 ghost use Rattle.ports_plain.specs.Replies.{removed as removed_reply, path_set as path_set_to};
 ghost use Rattle.ports_plain.specs.Replies.{profile_set as profile_set_to, variable as variable_reply, port_shown};
-ghost use Rattle.ports_plain.specs.Outcomes.{Makes};
+ghost use Rattle.ports_plain.specs.Outcomes.{IfMade};
 
 use crate::routing::Route;
 use crate::{bodies, port_bodies};
@@ -23,7 +23,7 @@ use std::alloc::{AllocError, Global};
 /// The reply of this status with a JSON value. It fails only if memory runs out.
 pub fn json_reply(alloc: Global, status: StatusCode, value: &Value) -> Result<Reply, AllocError>
     requires { has_float (view value.now) ≡ false }
-    ensures { Makes result (json_reply_of status (view value.now)) }
+    ensures { IfMade result (json_reply_of status (view value.now)) }
 {
     let text = value.to_string(alloc)?;
     Ok(Reply::of_bytes(status, Some(Content::Json), text.into_bytes()))
@@ -31,7 +31,7 @@ pub fn json_reply(alloc: Global, status: StatusCode, value: &Value) -> Result<Re
 
 /// The refusal of this status, by its word. It fails only if memory runs out.
 pub fn refusal(alloc: Global, status: StatusCode, word: &str) -> Result<Reply, AllocError>
-    ensures { Makes result (refusal_of status word.now) }
+    ensures { IfMade result (refusal_of status word.now) }
 {
     let body = bodies::error(alloc, word)?;
     json_reply(alloc, status, &body)
@@ -50,7 +50,7 @@ fn methods_of_route(route: Route) -> &'static [Method]
 
 /// The refusal of a method that the route doesn't have, with the methods that it has. It fails only if memory runs out.
 pub fn not_allowed(alloc: Global, route: Route) -> Result<Reply, AllocError>
-    ensures { Makes result (not_allowed_on route) }
+    ensures { IfMade result (not_allowed_on route) }
 {
     let reply = refusal(alloc, StatusCode::METHOD_NOT_ALLOWED, "Method")?;
     Ok(reply.with_allow(methods_of_route(route)))
@@ -60,14 +60,14 @@ pub fn not_allowed(alloc: Global, route: Route) -> Result<Reply, AllocError>
 /// 8,388,608 bytes of contents: 409 `{"error":"Full"}`. Whoever carries out the change finds that out, and
 /// then changes nothing. It fails only if memory runs out.
 pub fn full(alloc: Global) -> Result<Reply, AllocError>
-    ensures { Makes result full_reply }
+    ensures { IfMade result full_reply }
 {
     refusal(alloc, StatusCode::CONFLICT, "Full")
 }
 
 /// The reply about a makefile at fault: 422. It fails only if memory runs out.
 pub fn faulty(alloc: Global, fault: &Fault) -> Result<Reply, AllocError>
-    ensures { Makes result (faulty_at fault.now) }
+    ensures { IfMade result (faulty_at fault.now) }
 {
     let body = bodies::fault(alloc, fault.kind().number(), fault.line(), fault.name())?;
     json_reply(alloc, StatusCode::UNPROCESSABLE_ENTITY, &body)
@@ -75,7 +75,7 @@ pub fn faulty(alloc: Global, fault: &Fault) -> Result<Reply, AllocError>
 
 /// The reply with the content of a file. It fails only if memory runs out.
 pub fn file_shown(alloc: Global, content: &[u8]) -> Result<Reply, AllocError>
-    ensures { Makes result (file_shown_as content.now) }
+    ensures { IfMade result (file_shown_as content.now) }
 {
     let body = Vec::from_slice(alloc, content)?;
     Ok(Reply::of_bytes(StatusCode::OK, Some(Content::Octets), body))
@@ -83,7 +83,7 @@ pub fn file_shown(alloc: Global, content: &[u8]) -> Result<Reply, AllocError>
 
 /// The reply that a file was stored. It fails only if memory runs out.
 pub fn stored(alloc: Global) -> Result<Reply, AllocError>
-    ensures { Makes result stored_reply }
+    ensures { IfMade result stored_reply }
 {
     let body = bodies::stored(alloc)?;
     json_reply(alloc, StatusCode::OK, &body)
@@ -91,7 +91,7 @@ pub fn stored(alloc: Global) -> Result<Reply, AllocError>
 
 /// The reply that a file was removed. It fails only if memory runs out.
 pub fn removed(alloc: Global) -> Result<Reply, AllocError>
-    ensures { Makes result removed_reply }
+    ensures { IfMade result removed_reply }
 {
     let body = bodies::removed(alloc)?;
     json_reply(alloc, StatusCode::OK, &body)
@@ -99,7 +99,7 @@ pub fn removed(alloc: Global) -> Result<Reply, AllocError>
 
 /// The reply that the search path was set. It fails only if memory runs out.
 pub fn path_set(alloc: Global, path: &str) -> Result<Reply, AllocError>
-    ensures { Makes result (path_set_to path.now) }
+    ensures { IfMade result (path_set_to path.now) }
 {
     let body = bodies::path(alloc, path)?;
     json_reply(alloc, StatusCode::OK, &body)
@@ -107,7 +107,7 @@ pub fn path_set(alloc: Global, path: &str) -> Result<Reply, AllocError>
 
 /// The reply that the profile was set. It fails only if memory runs out.
 pub fn profile_set(alloc: Global, profile: Profile) -> Result<Reply, AllocError>
-    ensures { Makes result (profile_set_to profile) }
+    ensures { IfMade result (profile_set_to profile) }
 {
     let body = bodies::profile(alloc, profile.number())?;
     json_reply(alloc, StatusCode::OK, &body)
@@ -115,7 +115,7 @@ pub fn profile_set(alloc: Global, profile: Profile) -> Result<Reply, AllocError>
 
 /// The reply with the value of a variable, or that it isn't defined. It fails only if memory runs out.
 pub fn variable(alloc: Global, value: Option<&str>) -> Result<Reply, AllocError>
-    ensures { Makes result (variable_reply (option_copied value.entry)) }
+    ensures { IfMade result (variable_reply (option_copied value.entry)) }
 {
     let body = bodies::variable(alloc, value)?;
     json_reply(alloc, StatusCode::OK, &body)
@@ -123,7 +123,7 @@ pub fn variable(alloc: Global, value: Option<&str>) -> Result<Reply, AllocError>
 
 /// The reply with what the port is that a path names. It fails only if memory runs out.
 pub fn port(alloc: Global, path: &PkgPath, port: &PortRecord) -> Result<Reply, AllocError>
-    ensures { Makes result (port_shown path.now port.now) }
+    ensures { IfMade result (port_shown path.now port.now) }
 {
     let body = port_bodies::port(alloc, path, port)?;
     Ok(Reply::of_bytes(StatusCode::OK, Some(Content::Json), body))
