@@ -13,6 +13,13 @@ arrow_seen arrow = record { from = arrow.from.now; to = arrow.to.now }
 abbrev pub arrows_seen : List Arrow → List ArrowValue
 arrows_seen arrows = map arrow_seen arrows
 
+-- the texts where arrows begin, and those where they end
+abbrev pub beginnings_of : List ArrowValue → List (List ℕ)
+beginnings_of arrows = map (λ (arrow : ArrowValue). arrow.from) arrows
+
+abbrev pub ends_of : List ArrowValue → List (List ℕ)
+ends_of arrows = map (λ (arrow : ArrowValue). arrow.to) arrows
+
 -- arrows, one after another, lead from a text to a text: each begins where the one before it ended; an
 -- empty list leads from a text to itself
 unfoldable pub Lead : List ArrowValue → List ℕ → List ℕ → Type 0

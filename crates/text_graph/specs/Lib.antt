@@ -4,3 +4,4 @@ pub mod Searching
 pub mod Slots
 pub mod Numbering
 pub mod Listed
+pub mod Giving

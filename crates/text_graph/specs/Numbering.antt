@@ -1,7 +1,7 @@
 -- Texts and their numbers. A text's number is its place among the texts that were met.
 use Rattle.std.specs.Prelude.{◌≡◌, ◌<◌, ℕ, suc, nat_eq, if◌then◌else◌, Bool, false, Option, Some, None, option_map}
 use Rattle.std.specs.Prelude.{List, [], ◌∷◌, ◌++◌, map, filter, fold, length, get_or}
-use Rattle.std.specs.List.{list_any}
+use Rattle.std.specs.List.{All, list_any}
 use Rattle.std.specs.Str.{bytes_eq}
 use Rattle.text_parts.specs.Cuts.{now_all}
 use Rattle.text_graph.specs.Slots.{first_in, other_of}
@@ -31,6 +31,27 @@ AreNumbers met numbers texts = map Some numbers ≡ map (place_of met) texts
 -- the texts that were met, in the order of their numbers
 abbrev pub texts_met : Numbers → List (List ℕ)
 texts_met numbers = now_all numbers.texts.items
+
+-- this is the number of a text that was met
+abbrev pub IsNumberOf : ℕ → Numbers → List ℕ → Type 0
+IsNumberOf number numbers text = place_of (texts_met numbers) text ≡ Some number
+
+-- if this is the number of a text that was met, it is that of another text
+abbrev pub IsOfAnother : ℕ → Numbers → List ℕ → Type 0
+IsOfAnother number numbers text =
+    number < length (texts_met numbers) → bytes_eq text (text_at (texts_met numbers) number) ≡ false
+
+-- the texts at these places
+abbrev pub texts_at : List (List ℕ) → List ℕ → List (List ℕ)
+texts_at texts places = map (text_at texts) places
+
+-- each of these numbers is below the count
+abbrev pub AreWithin : ℕ → List ℕ → Type 0
+AreWithin count numbers = All (λ number. number < count) numbers
+
+-- the number where each of these arrows begins is below the count
+abbrev pub BeginWithin : ℕ → List NumberedArrow → Type 0
+BeginWithin count arrows = All (λ (arrow : NumberedArrow). arrow.from < count) arrows
 
 -- the place of a text: that of the first of its slot, if that is this text, and else that among the others
 abbrev pub place_kept : List (List ℕ) → List ℕ → Option ℕ → Option ℕ → Option ℕ

@@ -2,7 +2,7 @@
 use Rattle.std.specs.Prelude.{◌≡◌, ◌↔◌, ℕ, Contains, true, if◌then◌else◌, Bool, List, [], ◌∷◌, ◌++◌, map, filter, fold}
 use Rattle.std.specs.List.{list_any}
 use Rattle.std.specs.Str.{bytes_eq}
-use Rattle.text_graph.specs.Arrows.{ArrowValue, Way}
+use Rattle.text_graph.specs.Arrows.{ArrowValue, Way, ends_of}
 
 -- a text is one of these
 abbrev pub is_among : List ℕ → List (List ℕ) → Bool
@@ -12,9 +12,12 @@ is_among text texts = list_any (bytes_eq text) texts
 abbrev pub turned : ArrowValue → ArrowValue
 turned arrow = record { from = arrow.to; to = arrow.from }
 
+abbrev pub all_turned : List ArrowValue → List ArrowValue
+all_turned arrows = map turned arrows
+
 -- where the arrows from a text lead
 abbrev pub next_of : List ArrowValue → List ℕ → List (List ℕ)
-next_of arrows text = map (λ (arrow : ArrowValue). arrow.to) (filter (λ (arrow : ArrowValue). bytes_eq text arrow.from) arrows)
+next_of arrows text = ends_of (filter (λ (arrow : ArrowValue). bytes_eq text arrow.from) arrows)
 
 -- the texts with one more, unless it is one of them
 abbrev pub added : List (List ℕ) → List ℕ → List (List ℕ)

@@ -1,8 +1,7 @@
 //! Arrows from text to text.
-ghost use Rattle.std.specs.Prelude.{◌≡◌, IfOk, map};
-ghost use Rattle.text_parts.specs.Cuts.{now_all};
-ghost use Rattle.text_graph.specs.Arrows.{ArrowValue, arrows_seen};
-ghost use Rattle.text_graph.specs.Searching as searching;
+ghost use Rattle.text_graph.specs.Arrows.{arrows_seen, ends_of};
+ghost use Rattle.text_graph.specs.Searching.{all_turned, next_of};
+ghost use Rattle.text_graph.specs.Giving.{GivesArrows, LendsTexts};
 
 use std::alloc::{AllocError, Global};
 
@@ -17,8 +16,7 @@ pub struct Arrow<'a> {
 
 /// The same arrows, turned: each from its end to its beginning.
 pub(crate) fn turned<'a>(alloc: Global, arrows: &[Arrow<'a>]) -> Result<Vec<Arrow<'a>>, AllocError>
-    ensures { IfOk result (λ turned. arrows_seen turned.items
-        ≡ map searching.turned (arrows_seen arrows.now)) }
+    ensures { GivesArrows result (all_turned (arrows_seen arrows.now)) }
 {
     let mut turned = Vec::with_capacity(alloc, arrows.len())?;
     for arrow in arrows {
@@ -32,8 +30,7 @@ pub(crate) fn turned<'a>(alloc: Global, arrows: &[Arrow<'a>]) -> Result<Vec<Arro
 
 /// The texts where these arrows end.
 pub(crate) fn ends<'a>(alloc: Global, arrows: &[Arrow<'a>]) -> Result<Vec<&'a str>, AllocError>
-    ensures { IfOk result (λ ends. now_all ends.items
-        ≡ map (λ (arrow : ArrowValue). arrow.to) (arrows_seen arrows.now)) }
+    ensures { LendsTexts result (ends_of (arrows_seen arrows.now)) }
 {
     let mut ends = Vec::with_capacity(alloc, arrows.len())?;
     for arrow in arrows {
@@ -48,8 +45,7 @@ pub(crate) fn beginnings<'a>(
     arrows: &[Arrow<'a>],
     goal: &str,
 ) -> Result<Vec<&'a str>, AllocError>
-    ensures { IfOk result (λ beginnings. now_all beginnings.items
-        ≡ searching.next_of (map searching.turned (arrows_seen arrows.now)) goal.now) }
+    ensures { LendsTexts result (next_of (all_turned (arrows_seen arrows.now)) goal.now) }
 {
     let mut beginnings = Vec::new(alloc);
     for arrow in arrows {

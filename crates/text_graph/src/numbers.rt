@@ -1,12 +1,12 @@
 //! Texts and their numbers.
-ghost use Rattle.std.specs.Prelude.{◌≡◌, ◌<◌, ℕ, fold, Some, None, IfOk, OnOk, length, map, true, false};
-ghost use Rattle.std.specs.List.{All};
-ghost use Rattle.std.specs.Str.{bytes_eq};
+ghost use Rattle.std.specs.Prelude.{◌≡◌, ◌<◌, fold, None, IfOk, OnOk, length, true, false};
 ghost use Rattle.text_parts.specs.Cuts.{now_all};
-ghost use Rattle.text_graph.specs.Arrows.{ArrowValue, arrows_seen};
-ghost use Rattle.text_graph.specs.Numbering.{place_of, text_at, texts_met, AreNumbers, IsNumbering, IsNoFirst, MeetsMore};
+ghost use Rattle.text_graph.specs.Arrows.{arrows_seen, beginnings_of, ends_of};
+ghost use Rattle.text_graph.specs.Numbering.{texts_met, texts_at, IsNumbering, IsNoFirst, MeetsMore};
+ghost use Rattle.text_graph.specs.Numbering.{IsNumberOf, IsOfAnother, AreWithin};
+ghost use Rattle.text_graph.specs.Giving.{GivesNumber, GivesNumbers, BeginsAtNumber, EndsAtNumber};
+ghost use Rattle.text_graph.specs.Giving.{BeginAtNumbers, EndAtNumbers, LendsTexts};
 ghost use Rattle.text_graph.specs.Slots.{slot_of, spread, first_in};
-ghost use Rattle.text_graph.specs.declared.numbers.NumberedArrow.{NumberedArrow};
 ghost use Rattle.text_graph.specs.declared.numbers.TheConstants.{SLOTS};
 
 use crate::arrow::Arrow;
@@ -66,8 +66,7 @@ impl<'a> Numbers<'a> {
         texts: &[&'a str],
     ) -> Result<Vec<usize>, AllocError>
         requires { IsNumbering self.old }
-        ensures numbers { IfOk result (λ numbers. AreNumbers (texts_met self.new)
-            numbers.items (now_all texts.now)) }
+        ensures numbers { GivesNumbers result self.new (now_all texts.now) }
         ensures more { OnOk result (MeetsMore self.old self.new) }
     {
         let mut numbers = Vec::with_capacity(alloc, texts.len())?;
@@ -85,12 +84,8 @@ impl<'a> Numbers<'a> {
         arrows: &[Arrow<'a>],
     ) -> Result<Vec<NumberedArrow>, AllocError>
         requires { IsNumbering self.old }
-        ensures from { IfOk result (λ numbered. AreNumbers (texts_met self.new)
-            (map (λ (arrow : NumberedArrow). arrow.from) numbered.items)
-            (map (λ (arrow : ArrowValue). arrow.from) (arrows_seen arrows.now))) }
-        ensures to { IfOk result (λ numbered. AreNumbers (texts_met self.new)
-            (map (λ (arrow : NumberedArrow). arrow.to) numbered.items)
-            (map (λ (arrow : ArrowValue). arrow.to) (arrows_seen arrows.now))) }
+        ensures from { BeginAtNumbers result self.new (beginnings_of (arrows_seen arrows.now)) }
+        ensures to { EndAtNumbers result self.new (ends_of (arrows_seen arrows.now)) }
         ensures more { OnOk result (MeetsMore self.old self.new) }
     {
         let mut numbered = Vec::with_capacity(alloc, arrows.len())?;
@@ -109,10 +104,8 @@ impl<'a> Numbers<'a> {
         before: NumberedArrow,
     ) -> Result<NumberedArrow, AllocError>
         requires { IsNumbering self.old }
-        ensures from { IfOk result (λ numbered. place_of (texts_met self.new) arrow.now.from.now
-            ≡ Some numbered.from) }
-        ensures to { IfOk result (λ numbered. place_of (texts_met self.new) arrow.now.to.now
-            ≡ Some numbered.to) }
+        ensures from { BeginsAtNumber result self.new arrow.now.from.now }
+        ensures to { EndsAtNumber result self.new arrow.now.to.now }
         ensures more { OnOk result (MeetsMore self.old self.new) }
     {
         let from = self.of_text(arrow.from, before.from)?;
@@ -124,8 +117,7 @@ impl<'a> Numbers<'a> {
     /// up.
     fn of_text(&mut self, text: &'a str, before: usize) -> Result<usize, AllocError>
         requires { IsNumbering self.old }
-        ensures number { IfOk result (λ number. place_of (texts_met self.new) text.now
-            ≡ Some number) }
+        ensures number { GivesNumber result self.new text.now }
         ensures more { OnOk result (MeetsMore self.old self.new) }
     {
         if self.is_at(before, text) {
@@ -142,9 +134,8 @@ impl<'a> Numbers<'a> {
     /// Whether this is the number of a text.
     fn is_at(&self, number: usize, text: &str) -> bool
         requires { IsNumbering self.now }
-        ensures is { result ≡ true → place_of (texts_met self.now) text.now ≡ Some number }
-        ensures differs { result ≡ false → number < length (texts_met self.now)
-            → bytes_eq text.now (text_at (texts_met self.now) number) ≡ false }
+        ensures is { result ≡ true → IsNumberOf number self.now text.now }
+        ensures differs { result ≡ false → IsOfAnother number self.now text.now }
     {
         number < self.texts.len() && self.texts[number] == text
     }
@@ -155,8 +146,7 @@ impl<'a> Numbers<'a> {
         requires slot { slot ≡ slot_of text.now }
         requires inside { slot < SLOTS }
         requires none { first_in self.old text.now ≡ None }
-        ensures number { IfOk result (λ number. place_of (texts_met self.new) text.now
-            ≡ Some number) }
+        ensures number { GivesNumber result self.new text.now }
         ensures more { OnOk result (MeetsMore self.old self.new) }
     {
         let number = self.texts.len();
@@ -169,8 +159,7 @@ impl<'a> Numbers<'a> {
     fn of_other(&mut self, text: &'a str) -> Result<usize, AllocError>
         requires numbering { IsNumbering self.old }
         requires other { IsNoFirst self.old text.now }
-        ensures number { IfOk result (λ number. place_of (texts_met self.new) text.now
-            ≡ Some number) }
+        ensures number { GivesNumber result self.new text.now }
         ensures more { OnOk result (MeetsMore self.old self.new) }
     {
         if let Some(number) = self.others.get(&text) {
@@ -188,9 +177,8 @@ impl<'a> Numbers<'a> {
         alloc: Global,
         numbers: &[usize],
     ) -> Result<Vec<&'a str>, AllocError>
-        requires { All (λ number. number < length (texts_met self.now)) numbers.now }
-        ensures { IfOk result (λ texts. now_all texts.items
-            ≡ map (text_at (texts_met self.now)) numbers.now) }
+        requires { AreWithin (length (texts_met self.now)) numbers.now }
+        ensures { LendsTexts result (texts_at (texts_met self.now) numbers.now) }
     {
         let mut texts = Vec::with_capacity(alloc, numbers.len())?;
         for number in numbers {

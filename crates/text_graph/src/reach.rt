@@ -1,9 +1,10 @@
 //! All texts that are reached, and all that reach a text.
-ghost use Rattle.std.specs.Prelude.{◌≡◌, IfOk};
+ghost use Rattle.std.specs.Prelude.{◌≡◌};
 ghost use Rattle.text_parts.specs.Order.{in_order};
 ghost use Rattle.text_parts.specs.Cuts.{now_all};
 ghost use Rattle.text_graph.specs.Arrows.{arrows_seen};
 ghost use Rattle.text_graph.specs.Listed.{reached_list, reaching_list};
+ghost use Rattle.text_graph.specs.Giving.{LendsTexts};
 
 use crate::arrow::{Arrow, beginnings, ends, turned};
 use crate::searching::search;
@@ -17,8 +18,7 @@ pub fn reached<'a>(
     first: &[Arrow<'a>],
     arrows: &[Arrow<'a>],
 ) -> Result<Vec<&'a str>, AllocError>
-    ensures { IfOk result (λ texts. now_all texts.items
-        ≡ reached_list (arrows_seen first.now) (arrows_seen arrows.now)) }
+    ensures { LendsTexts result (reached_list (arrows_seen first.now) (arrows_seen arrows.now)) }
 {
     let starts = ends(alloc, first)?;
     let mut texts = search(alloc, &starts, arrows)?;
@@ -33,8 +33,7 @@ pub fn reaching<'a>(
     arrows: &[Arrow<'a>],
     goal: &str,
 ) -> Result<Vec<&'a str>, AllocError>
-    ensures { IfOk result (λ texts. now_all texts.items
-        ≡ reaching_list (arrows_seen arrows.now) goal.now) }
+    ensures { LendsTexts result (reaching_list (arrows_seen arrows.now) goal.now) }
 {
     let starts = beginnings(alloc, arrows, goal)?;
     let back = turned(alloc, arrows)?;

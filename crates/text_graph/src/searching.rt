@@ -1,10 +1,10 @@
 //! A search for all texts that are reached, breadth first.
-ghost use Rattle.std.specs.Prelude.{◌≡◌, ◌<◌, [], IfOk, length};
-ghost use Rattle.std.specs.List.{All};
+ghost use Rattle.std.specs.Prelude.{◌<◌, [], IfOk};
 ghost use Rattle.text_parts.specs.Cuts.{now_all};
 ghost use Rattle.text_graph.specs.Arrows.{arrows_seen};
-ghost use Rattle.text_graph.specs.Numbering.{number_added, numbers_added, KnowsItsNumbers};
-ghost use Rattle.text_graph.specs.Searching.{FindsAll};
+ghost use Rattle.text_graph.specs.Numbering.{number_added, numbers_added, numbers_found, marks_count};
+ghost use Rattle.text_graph.specs.Numbering.{KnowsItsNumbers, AreWithin};
+ghost use Rattle.text_graph.specs.Giving.{FindsNumbers, HasMarks, FindsReached};
 
 use crate::arrow::Arrow;
 use crate::numbers::Numbers;
@@ -22,9 +22,9 @@ struct Found {
 impl Found {
     /// None of so many texts is found yet.
     fn new(alloc: Global, count: usize) -> Result<Found, AllocError>
-        ensures numbers { IfOk result (λ found. found.numbers.items ≡ []) }
+        ensures numbers { FindsNumbers result [] }
         ensures knows { IfOk result KnowsItsNumbers }
-        ensures count { IfOk result (λ found. length found.known.items ≡ count) }
+        ensures count { HasMarks result count }
     {
         Ok(Found {
             numbers: Vec::new(alloc),
@@ -35,12 +35,10 @@ impl Found {
     /// The same with one more text, if it is new.
     fn with(mut self, number: usize) -> Result<Found, AllocError>
         requires knows { KnowsItsNumbers self }
-        requires inside { number < length self.known.items }
-        ensures numbers { IfOk result (λ found. found.numbers.items
-            ≡ number_added self.numbers.items number) }
+        requires inside { number < marks_count self }
+        ensures numbers { FindsNumbers result (number_added (numbers_found self) number) }
         ensures knows { IfOk result KnowsItsNumbers }
-        ensures count { IfOk result (λ found. length found.known.items
-            ≡ length self.known.items) }
+        ensures count { HasMarks result (marks_count self) }
     {
         if self.known[number] {
             return Ok(self);
@@ -53,12 +51,10 @@ impl Found {
     /// The same with those of these texts that are new.
     fn with_all(self, numbers: &[usize]) -> Result<Found, AllocError>
         requires knows { KnowsItsNumbers self }
-        requires inside { All (λ number. number < length self.known.items) numbers.now }
-        ensures numbers { IfOk result (λ found. found.numbers.items
-            ≡ numbers_added self.numbers.items numbers.now) }
+        requires inside { AreWithin (marks_count self) numbers.now }
+        ensures numbers { FindsNumbers result (numbers_added (numbers_found self) numbers.now) }
         ensures knows { IfOk result KnowsItsNumbers }
-        ensures count { IfOk result (λ found. length found.known.items
-            ≡ length self.known.items) }
+        ensures count { HasMarks result (marks_count self) }
     {
         let mut found = self;
         for number in numbers {
@@ -74,8 +70,7 @@ pub(crate) fn search<'a>(
     starts: &[&'a str],
     arrows: &[Arrow<'a>],
 ) -> Result<Vec<&'a str>, AllocError>
-    ensures { IfOk result (λ texts. FindsAll (now_all starts.now) (arrows_seen arrows.now)
-        (now_all texts.items)) }
+    ensures { FindsReached result (now_all starts.now) (arrows_seen arrows.now) }
 {
     let mut numbers = Numbers::new(alloc)?;
     let numbered = numbers.of_arrows(alloc, arrows)?;

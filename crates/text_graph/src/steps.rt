@@ -1,8 +1,8 @@
 //! Where the arrows from each text lead.
-ghost use Rattle.std.specs.Prelude.{◌≡◌, ◌<◌, ℕ, [], IfOk, length};
+ghost use Rattle.std.specs.Prelude.{◌≡◌, ◌<◌, [], IfOk, length};
 ghost use Rattle.std.specs.List.{All};
-ghost use Rattle.text_graph.specs.Numbering.{next_numbers, next_kept};
-ghost use Rattle.text_graph.specs.declared.numbers.NumberedArrow.{NumberedArrow};
+ghost use Rattle.text_graph.specs.Numbering.{next_kept, BeginWithin};
+ghost use Rattle.text_graph.specs.Giving.{StepsOver};
 
 use crate::numbers::NumberedArrow;
 use std::alloc::{AllocError, Global};
@@ -20,10 +20,9 @@ impl Steps {
         count: usize,
         arrows: &[NumberedArrow],
     ) -> Result<Steps, AllocError>
-        requires { All (λ (arrow : NumberedArrow). arrow.from < count) arrows.now }
+        requires { BeginWithin count arrows.now }
         ensures count { IfOk result (λ steps. length steps.next.items ≡ count) }
-        ensures next { IfOk result (λ steps. (number : ℕ) → number < count
-            → next_kept steps number ≡ next_numbers arrows.now number) }
+        ensures next { StepsOver result count arrows.now }
     {
         let mut next = nowhere(alloc, count)?;
         for arrow in arrows {
